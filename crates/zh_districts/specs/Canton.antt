@@ -1,0 +1,51 @@
+-- The set-up of an election: the house, the constituencies with their municipalities, and the groups of lists.
+use Rattle.std.specs.Prelude.{◌≡◌, ℕ, ◌-◌, ◌≤◌, Bool, false, ◌&&◌, nat_le, List, length, slice_get, unwrap_or, All}
+use Rattle.std.specs.Option.{option_map_or}
+
+-- a constituency: its name in UTF-8, and how many persons live there
+pub record Constituency : Type 0 where
+  pub name : List ℕ
+  pub persons : ℕ
+
+-- a municipality: its name in UTF-8, and the number of its constituency, from 1
+pub record Municipality : Type 0 where
+  pub name : List ℕ
+  pub constituency : ℕ
+
+-- a group, one list number for the whole canton: its name in UTF-8, and for each constituency in order whether it stands there
+pub record Group : Type 0 where
+  pub name : List ℕ
+  pub stands : List Bool
+
+-- the set-up; constituencies, municipalities and groups are numbered from 1 in these orders
+pub record Canton : Type 0 where
+  pub house : ℕ
+  pub constituencies : List Constituency
+  pub municipalities : List Municipality
+  pub groups : List Group
+
+-- whether the set-up has a municipality of this number
+abbrev pub has_municipality : Canton → ℕ → Bool
+has_municipality canton m = nat_le 1 m && nat_le m (length canton.municipalities)
+
+-- the persons of constituency d
+abbrev pub persons_of : Canton → ℕ → ℕ
+persons_of canton d = option_map_or (λ x. x.persons) (slice_get canton.constituencies (d - 1)) 0
+
+-- the number of the constituency in which municipality m lies
+abbrev pub constituency_of : Canton → ℕ → ℕ
+constituency_of canton m = option_map_or (λ x. x.constituency) (slice_get canton.municipalities (m - 1)) 0
+
+-- whether a list of this number stands in constituency d
+abbrev pub stands : Canton → ℕ → ℕ → Bool
+stands canton d list = nat_le 1 list && option_map_or (λ x. unwrap_or (slice_get x.stands (d - 1)) false) (slice_get canton.groups (list - 1)) false
+
+-- the limits of a set-up
+pub record IsCanton (canton : Canton) : Type 0 where
+  pub house : (1 ≤ canton.house) × (canton.house ≤ 400)
+  pub constituencies : (1 ≤ length canton.constituencies) × (length canton.constituencies ≤ 32)
+  pub municipalities : (1 ≤ length canton.municipalities) × (length canton.municipalities ≤ 512)
+  pub groups : (1 ≤ length canton.groups) × (length canton.groups ≤ 32)
+  pub persons : All (λ x. (1 ≤ x.persons) × (x.persons ≤ 10000000)) canton.constituencies
+  pub within : All (λ x. (1 ≤ x.constituency) × (x.constituency ≤ length canton.constituencies)) canton.municipalities
+  pub stands : All (λ x. length x.stands ≡ length canton.constituencies) canton.groups

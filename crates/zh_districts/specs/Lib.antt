@@ -1,0 +1,4 @@
+pub mod Canton
+pub mod Rehearsal
+pub mod Parts
+pub mod Inside

@@ -1,0 +1,9 @@
+//! The set-up of an election: the house, the constituencies with their municipalities, and the groups.
+#![tactic(auto)]
+
+mod parts;
+mod example;
+mod setup;
+
+pub use example::rehearsal;
+pub use setup::Setup;

@@ -1,0 +1,27 @@
+//! The parts of a set-up.
+
+ghost use Rattle.std.specs.Prelude.{◌≡◌, IfOk};
+ghost use Rattle.zh_districts.specs.Canton as canton;
+
+use std::alloc::{AllocError, Global};
+
+/// A constituency and how many persons live there, 1 to 10,000,000.
+#[derive(Debug, Drop)]
+pub struct Constituency {
+    pub name: String,
+    pub persons: u32,
+}
+
+/// A municipality and the number of its constituency, from 1.
+#[derive(Debug, Drop)]
+pub struct Municipality {
+    pub name: String,
+    pub constituency: u32,
+}
+
+/// A group, and for each constituency in order whether it stands there.
+#[derive(Debug, Drop)]
+pub struct Group {
+    pub name: String,
+    pub stands: Vec<bool>,
+}

@@ -1,0 +1,143 @@
+//! The set-up of an election.
+
+ghost use Rattle.std.specs.Prelude.{◌≡◌, ◌≤◌, ◌-◌, ◌+◌, length, slice_get, option_map};
+ghost use Rattle.zh_districts.specs.Canton.{Canton, IsCanton, persons_of, constituency_of, stands};
+
+use crate::parts::{Constituency, Group, Municipality};
+use std::marker::Model;
+
+/// The house, the constituencies with their municipalities, and the groups. Each is numbered from 1, in the order of
+/// the set-up text. There are 1 to 32 constituencies, 1 to 512 municipalities and 1 to 32 groups.
+#[derive(Debug, Drop)]
+pub struct Setup {
+    house: u32,
+    constituencies: Vec<Constituency>,
+    municipalities: Vec<Municipality>,
+    groups: Vec<Group>,
+}
+
+impl Model for Setup {
+    ghost use Rattle.std.specs.Prelude.{map};
+    ghost use Rattle.zh_districts.specs.Canton.{Canton, IsCanton};
+
+    ghost Value = { Canton };
+
+    ghost use Rattle.zh_districts.specs.Inside.{canton_of};
+
+    ghost view = { canton_of };
+
+    ghost invariant = { λ s. IsCanton (canton_of s) };
+}
+
+impl Setup {
+    ghost use Rattle.std.specs.Prelude.{map};
+    ghost use Rattle.zh_districts.specs.Parts.{canton_from};
+
+    /// The set-up of these parts.
+    pub(crate) fn assembled(
+        house: u32,
+        constituencies: Vec<Constituency>,
+        municipalities: Vec<Municipality>,
+        groups: Vec<Group>,
+    ) -> Setup
+        requires { IsCanton (canton_from house constituencies.items municipalities.items groups.items) }
+        ensures { result ≡ canton_from house constituencies.items municipalities.items groups.items }
+    {
+        Setup {
+            house,
+            constituencies,
+            municipalities,
+            groups,
+        }
+    }
+
+    /// The seats of the parliament, 1 to 400.
+    pub fn house(&self) -> u32
+        ensures house { result ≡ self.now.house }
+        ensures limits { IsCanton self.now }
+    {
+        self.house
+    }
+
+    /// The number of constituencies.
+    pub fn constituencies(&self) -> u32
+        ensures count { result ≡ length self.now.constituencies }
+        ensures limits { IsCanton self.now }
+    {
+        self.constituencies.len() as u32
+    }
+
+    /// The persons who live in a constituency, 1 to 10,000,000.
+    pub fn persons(&self, constituency: u32) -> u32
+        requires from_one { 1 ≤ constituency }
+        requires there { constituency ≤ length self.now.constituencies }
+        ensures { result ≡ persons_of self.now constituency }
+    {
+        self.constituencies[(constituency - 1) as usize].persons
+    }
+
+    /// The name of a constituency, 1 to 40 bytes.
+    pub fn constituency_name(&self, constituency: u32) -> &str
+        requires from_one { 1 ≤ constituency }
+        requires there { constituency ≤ length self.now.constituencies }
+        ensures { option_map (λ x. x.name) (slice_get self.now.constituencies (constituency - 1)) ≡ Some result.now }
+    {
+        self.constituencies[(constituency - 1) as usize].name.as_str()
+    }
+
+    /// The number of municipalities.
+    pub fn municipalities(&self) -> u32
+        ensures count { result ≡ length self.now.municipalities }
+        ensures limits { IsCanton self.now }
+    {
+        self.municipalities.len() as u32
+    }
+
+    /// The number of the constituency in which a municipality lies.
+    pub fn constituency_of(&self, municipality: u32) -> u32
+        requires from_one { 1 ≤ municipality }
+        requires there { municipality ≤ length self.now.municipalities }
+        ensures number { result ≡ constituency_of self.now municipality }
+        ensures from_one { 1 ≤ result }
+        ensures there { result ≤ length self.now.constituencies }
+    {
+        self.municipalities[(municipality - 1) as usize].constituency
+    }
+
+    /// The name of a municipality, 1 to 40 bytes.
+    pub fn municipality_name(&self, municipality: u32) -> &str
+        requires from_one { 1 ≤ municipality }
+        requires there { municipality ≤ length self.now.municipalities }
+        ensures { option_map (λ x. x.name) (slice_get self.now.municipalities (municipality - 1)) ≡ Some result.now }
+    {
+        self.municipalities[(municipality - 1) as usize].name.as_str()
+    }
+
+    /// The number of groups.
+    pub fn groups(&self) -> u32
+        ensures count { result ≡ length self.now.groups }
+        ensures limits { IsCanton self.now }
+    {
+        self.groups.len() as u32
+    }
+
+    /// Whether a group stands in a constituency.
+    pub fn stands(&self, constituency: u32, group: u32) -> bool
+        requires from_one { 1 ≤ constituency }
+        requires there { constituency ≤ length self.now.constituencies }
+        requires group_from_one { 1 ≤ group }
+        requires group_there { group ≤ length self.now.groups }
+        ensures { result ≡ stands self.now constituency group }
+    {
+        self.groups[(group - 1) as usize].stands[(constituency - 1) as usize]
+    }
+
+    /// The name of a group, 1 to 40 bytes.
+    pub fn group_name(&self, group: u32) -> &str
+        requires from_one { 1 ≤ group }
+        requires there { group ≤ length self.now.groups }
+        ensures { option_map (λ x. x.name) (slice_get self.now.groups (group - 1)) ≡ Some result.now }
+    {
+        self.groups[(group - 1) as usize].name.as_str()
+    }
+}
