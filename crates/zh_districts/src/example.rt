@@ -17,11 +17,7 @@ fn constituency(alloc: Global, name: &str, persons: u32) -> Result<Constituency,
     })
 }
 
-fn municipality(
-    alloc: Global,
-    name: &str,
-    constituency: u32,
-) -> Result<Municipality, AllocError>
+fn municipality(alloc: Global, name: &str, constituency: u32) -> Result<Municipality, AllocError>
     ensures name { IfOk result (λ x. string_bytes x.name ≡ name.now) }
     ensures constituency { IfOk result (λ x. x.constituency ≡ constituency) }
 {

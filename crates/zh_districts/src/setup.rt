@@ -82,7 +82,9 @@ impl Setup {
         requires there { constituency ≤ length self.now.constituencies }
         ensures { option_map (λ x. x.name) (slice_get self.now.constituencies (constituency - 1)) ≡ Some result.now }
     {
-        self.constituencies[(constituency - 1) as usize].name.as_str()
+        self.constituencies[(constituency - 1) as usize]
+            .name
+            .as_str()
     }
 
     /// The number of municipalities.
@@ -110,7 +112,9 @@ impl Setup {
         requires there { municipality ≤ length self.now.municipalities }
         ensures { option_map (λ x. x.name) (slice_get self.now.municipalities (municipality - 1)) ≡ Some result.now }
     {
-        self.municipalities[(municipality - 1) as usize].name.as_str()
+        self.municipalities[(municipality - 1) as usize]
+            .name
+            .as_str()
     }
 
     /// The number of groups.

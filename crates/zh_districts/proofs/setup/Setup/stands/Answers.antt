@@ -13,8 +13,11 @@ index-requires-2 c =
     let view = c.self.view_is in
     let within : c.args.group - 1 < length s.groups.items = omega (arith, length-map s.groups.items group, ap (λ (v : Canton). length v.groups) view) in
     omega (
-      arith, columns_of s c.self.invariant _ c.index.result.now within c.index.ensures, c.index.result.now.stands.ok.0,
-      length-map s.constituencies.items constituency, ap (λ (v : Canton). length v.constituencies) view
+      arith,
+      columns_of s c.self.invariant _ c.index.result.now within c.index.ensures,
+      c.index.result.now.stands.ok.0,
+      length-map s.constituencies.items constituency,
+      ap (λ (v : Canton). length v.constituencies) view,
     )
 
 pub returns : goal.returns
@@ -26,8 +29,10 @@ returns c =
     let from_one : nat_le 1 c.args.group ≡ true = search rules in
     let places = c.index.result.now.stands.items in
     let in_place : c.args.constituency - 1 < length places = omega (
-      arith, columns_of s c.self.invariant _ c.index.result.now within c.index.ensures,
-      length-map s.constituencies.items constituency, ap (λ (v : Canton). length v.constituencies) view
+      arith,
+      columns_of s c.self.invariant _ c.index.result.now within c.index.ensures,
+      length-map s.constituencies.items constituency,
+      ap (λ (v : Canton). length v.constituencies) view,
     ) in
     let read : slice_get places (c.args.constituency - 1) ≡ Some c.index-2.result.now = slice_get_read places (length places) _ c.index-2.result.now refl in_place c.index-2.ensures in
     rw (← view) (rw found (rw (from_one, read) refl))

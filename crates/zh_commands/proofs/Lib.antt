@@ -1,0 +1,5 @@
+pub mod Fronts
+pub mod Decimals
+pub mod Splits
+pub mod Requests
+pub mod Spellings

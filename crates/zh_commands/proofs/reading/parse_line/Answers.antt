@@ -1,0 +1,50 @@
+use Rattle.std.proofs.Common.{ap, ◌∙◌, arith, length, get_or, List, ℕ, rules}
+use Rattle.zh_commands.proofs.Splits.{rest_is}
+use Rattle.zh_commands.proofs.Spellings.{split_spelling, NamesDesk, length-spelling}
+use Rattle.zh_commands.proofs.reading.parse_line.Goals as goal
+
+pub returns-then-bytes-gt-LONGEST : goal.returns-then-bytes-gt-LONGEST
+returns-then-bytes-gt-LONGEST c =
+    let long = c.if-bytes-gt-LONGEST.true in
+    record { reads = (λ names. omega (arith, names.0, long), λ line is e. omega (arith, ap length e, length-spelling line is, long)) }
+
+pub returns-in_default : goal.returns-in_default
+returns-in_default c =
+    let split = c.split_word.ensures in
+    let none = c.in_default.ensures in
+    record {
+      reads = (
+        λ names. none names.1.0 names.1.1 (split.word ∙ names.1.3),
+        λ line is e. none line.desk (omega (arith, is.0.1)) (split_spelling _ _ _ line split.word split.whole is e).0,
+      );
+    }
+
+pub returns-in_default-rest : goal.returns-in_default-rest
+returns-in_default-rest c =
+    let split = c.split_word.ensures in
+    record {
+      reads = (
+        NamesDesk _ _ c.in-Some.desk split.word (c.is_desk.ensures.0 c.if-not-is_desk.false) c.in-Some.ensures.1,
+        λ line is e. let (_, left) = split_spelling _ _ _ line split.word split.whole is e in absurd (omega (arith, ap length left, c.in_default-rest.len_below)),
+      );
+    }
+
+pub returns-in_default-rest-2 : goal.returns-in_default-rest-2
+returns-in_default-rest-2 c =
+    let split = c.split_word.ensures in
+    record {
+      reads = (
+        NamesDesk _ _ c.in-Some.desk split.word (c.is_desk.ensures.0 c.if-not-is_desk.false) c.in-Some.ensures.1,
+        λ line is e. let (_, left) = split_spelling _ _ _ line split.word split.whole is e in let first = ap (λ (l : List ℕ). get_or l 0 0) left in absurd (search rules),
+      );
+    }
+
+pub returns-in_default-kind_of : goal.returns-in_default-kind_of
+returns-in_default-kind_of c =
+    let split = c.split_word.ensures in
+    record {
+      reads = (
+        NamesDesk _ _ c.in-Some.desk split.word (c.is_desk.ensures.0 c.if-not-is_desk.false) c.in-Some.ensures.1,
+        λ line is e. c.in_default-kind_of.ensures line.kind is.1 (rest_is _ _ 32 (split_spelling _ _ _ line split.word split.whole is e).1),
+      );
+    }

@@ -1,0 +1,55 @@
+-- The lines of the desks as bytes. A numeral is `decimal n`, with n below 2 ^ 32; 32 is the space.
+use Rattle.std.specs.Prelude.{◌≡◌, ◌≢◌, ◌==◌, ◌&&◌, ◌-◌, ◌^◌, ◌<◌, ◌≤◌, ℕ, List, [], ◌∷◌, ◌++◌, length, codes, decimal, nat_le, if◌then◌else◌, Result, Ok, Err}
+use Rattle.zh_commands.specs.Words.{first_word, numerals}
+use Rattle.zh_returns.specs.declared.row.Row.{Row}
+use Rattle.zh_commands.specs.declared.lines.Kind.{Kind}
+use Rattle.zh_commands.specs.declared.lines.Kind.TheVariants.{Return, Show}
+use Rattle.zh_commands.specs.declared.lines.Line.{Line}
+use Rattle.zh_commands.specs.declared.lines.LineFault.{LineFault}
+use Rattle.zh_commands.specs.declared.lines.LineFault.TheVariants.{Syntax, Desk}
+
+-- the text behind the desk
+abbrev pub request : Kind → List ℕ
+request (Return row) = codes "return " ++ decimal row.municipality ++ 32 ∷ decimal row.list ++ 32 ∷ decimal row.number ++ 32 ∷ decimal row.votes
+request (Show municipality list) = codes "show " ++ decimal municipality ++ 32 ∷ decimal list
+
+-- the one spelling of a line: its desk, a space, the request
+abbrev pub spelling : Line → List ℕ
+spelling line = decimal line.desk ++ 32 ∷ request line.kind
+
+-- the desks are 1 to 8
+abbrev pub IsDesk : ℕ → Type 0
+IsDesk desk = (1 ≤ desk) × (desk ≤ 8)
+
+-- the numerals have 32 bits, and a replacement number is at least 1
+abbrev pub IsRow : Row → Type 0
+IsRow row = (row.municipality < 2 ^ 32) × (row.list < 2 ^ 32) × (1 ≤ row.number) × (row.number < 2 ^ 32) × (row.votes < 2 ^ 32)
+
+-- the numbers of a row in their order, each behind a space
+abbrev pub row_text : Row → List ℕ
+row_text row = numerals (row.municipality ∷ row.list ∷ row.number ∷ row.votes ∷ [])
+
+-- what stands behind the desk can be said in a line
+abbrev pub IsRequest : Kind → Type 0
+IsRequest (Return row) = IsRow row
+IsRequest (Show municipality list) = (municipality < 2 ^ 32) × (list < 2 ^ 32)
+
+-- the line can be said: a desk that there is, and a request
+abbrev pub IsLine : Line → Type 0
+IsLine line = IsDesk line.desk × IsRequest line.kind
+
+-- at most 120 bytes, of which the first word is the number of a desk that there is not
+abbrev pub NamesNoDesk : List ℕ → Type 0
+NamesNoDesk bytes = (length bytes ≤ 120) × ((n : ℕ) × (n < 2 ^ 32) × ¬ IsDesk n × (first_word bytes ≡ decimal n))
+
+-- what reading a line gives: the line with this spelling, or else the fault that it has
+abbrev pub Reads : List ℕ → Result Line LineFault → Type 0
+Reads bytes (Ok line) = IsLine line × (bytes ≡ spelling line)
+Reads bytes (Err Desk) = NamesNoDesk bytes
+Reads bytes (Err Syntax) = ¬ NamesNoDesk bytes × ((line : Line) → IsLine line → bytes ≢ spelling line)
+
+-- the digit where the bytes begin with 1 to 8 and a space, else 0
+abbrev pub desk_of : List ℕ → ℕ
+desk_of [] = 0
+desk_of (digit ∷ []) = 0
+desk_of (digit ∷ next ∷ rest) = if nat_le 49 digit && nat_le digit 56 && next == 32 then digit - 48 else 0

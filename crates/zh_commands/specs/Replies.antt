@@ -1,0 +1,43 @@
+-- The replies to the desks as bytes: 32 is the space, 10 the end of a line.
+use Rattle.std.specs.Prelude.{ℕ, List, [], ◌∷◌, ◌++◌, codes, decimal}
+use Rattle.zh_commands.specs.declared.replies.Reply.{Reply}
+use Rattle.zh_commands.specs.declared.replies.Reply.TheVariants.{Stored, Same, Held, Dropped, Nothing, Shows, ShowsWithdrawn, Refused}
+use Rattle.zh_commands.specs.declared.replies.Refusal.{Refusal}
+use Rattle.zh_commands.specs.declared.replies.Refusal.TheVariants as refusals
+
+-- the name of a refusal
+abbrev pub name : Refusal → List ℕ
+name refusals.Syntax = codes "syntax"
+name refusals.Desk = codes "desk"
+name refusals.Municipality = codes "municipality"
+name refusals.List = codes "list"
+name refusals.Votes = codes "votes"
+name refusals.Closed = codes "closed"
+name refusals.Stale = codes "stale"
+name refusals.Gap = codes "gap"
+name refusals.Conflict = codes "conflict"
+name refusals.Twice = codes "twice"
+name refusals.NoBatch = codes "nobatch"
+name refusals.BatchFull = codes "batchfull"
+name (refusals.NotClosed municipality) = codes "notclosed " ++ decimal municipality
+name refusals.Memory = codes "memory"
+name refusals.Device = codes "device"
+name refusals.ReopenDisk = codes "reopen-disk"
+name refusals.Spent = codes "spent"
+name refusals.BatchOpen = codes "batchopen"
+name refusals.Full = codes "full"
+
+-- what a reply says behind the desk
+abbrev pub answer : Reply → List ℕ
+answer (Stored accepted) = codes "stored " ++ decimal accepted
+answer Same = codes "same"
+answer (Held rows) = codes "held " ++ decimal rows
+answer (Dropped rows) = codes "dropped " ++ decimal rows
+answer Nothing = codes "none"
+answer (Shows number votes) = codes "shows " ++ decimal number ++ 32 ∷ decimal votes
+answer (ShowsWithdrawn number) = codes "shows " ++ decimal number ++ codes " withdrawn"
+answer (Refused refusal) = codes "refused " ++ name refusal
+
+-- the bytes of a reply: the desk, a space, the answer, the end of the line
+abbrev pub reply_text : ℕ → Reply → List ℕ
+reply_text desk reply = decimal desk ++ 32 ∷ answer reply ++ 10 ∷ []

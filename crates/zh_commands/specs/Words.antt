@@ -1,0 +1,16 @@
+-- The words of a line: parted by one space each, 32.
+use Rattle.std.specs.Prelude.{◌==◌, ◌^◌, ◌<◌, ℕ, List, [], ◌∷◌, ◌++◌, decimal, All}
+use Rattle.std.specs.List.{before_first}
+
+-- the bytes up to the first space, or all of them
+abbrev pub first_word : List ℕ → List ℕ
+first_word bytes = before_first (λ byte. byte == 32) bytes
+
+-- the numbers have numerals of 32 bits
+abbrev pub AreNumerals : List ℕ → Type 0
+AreNumerals numbers = All (λ n. n < 2 ^ 32) numbers
+
+-- the numerals, a space before each
+abbrev pub numerals : List ℕ → List ℕ
+numerals [] = []
+numerals (n ∷ numbers) = 32 ∷ decimal n ++ numerals numbers

@@ -1,0 +1,23 @@
+//! What holds of the definitions of lines and replies. The functions do nothing: their contracts are the laws.
+
+ghost use Rattle.std.specs.Prelude.{◌≡◌, ◌≤◌, ℕ, List, Result, Ok, length};
+ghost use Rattle.zh_commands.specs.declared.lines.Line.{Line};
+ghost use Rattle.zh_commands.specs.declared.lines.LineFault.{LineFault};
+ghost use Rattle.zh_commands.specs.Lines.{spelling, IsLine, Reads, desk_of};
+
+/// A text is read in one way.
+pub fn one_reading()
+    ensures { (bytes : List ℕ) (a b : Result Line LineFault) → Reads bytes a → Reads bytes b → a ≡ b }
+{}
+
+/// A line has one spelling, which is short enough to be read, and a spelling is of one line.
+pub fn one_spelling()
+    ensures same { (a b : Line) → IsLine a → IsLine b → spelling a ≡ spelling b → a ≡ b }
+    ensures short { (line : Line) → IsLine line → length (spelling line) ≤ 120 }
+    ensures read { (line : Line) → IsLine line → Reads (spelling line) (Ok line) }
+{}
+
+/// A line that is read is answered under its own desk.
+pub fn one_desk()
+    ensures { (bytes : List ℕ) (line : Line) → Reads bytes (Ok line) → desk_of bytes ≡ line.desk }
+{}

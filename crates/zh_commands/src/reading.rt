@@ -1,0 +1,92 @@
+ghost use Rattle.std.specs.Prelude.{◌≡◌, ◌≢◌, ◌↔◌, IsTrue, MatchOption};
+ghost use Rattle.zh_commands.specs.Lines.{request, row_text, IsDesk, IsRow, IsRequest, Reads, desk_of};
+
+use crate::lines::{Kind, Line, LineFault};
+use crate::words::{numbers, numeral, split_word};
+use zh_returns::Row;
+
+// The bytes that a line has at most.
+const LONGEST: usize = 120;
+
+// The first words of the requests.
+const RETURN: &[u8] = b"return";
+
+const SHOW: &[u8] = b"show";
+
+/// Reads a line, without its end, as `docs/FORMATS.md`, "Lines", has it. It takes no memory.
+pub fn parse_line(bytes: &[u8]) -> Result<Line, LineFault>
+    ensures reads { Reads bytes.now result }
+{
+    if bytes.len() > LONGEST {
+        return Err(LineFault::Syntax);
+    }
+    let (word, rest) = split_word(bytes);
+    let Some(desk) = numeral(word) else {
+        return Err(LineFault::Syntax);
+    };
+    if !is_desk(desk) {
+        return Err(LineFault::Desk);
+    }
+    let [b' ', text @ ..] = rest else {
+        return Err(LineFault::Syntax);
+    };
+    let Some(kind) = kind_of(text) else {
+        return Err(LineFault::Syntax);
+    };
+    Ok(Line {
+        desk: desk as u8,
+        kind,
+    })
+}
+
+// Whether there is such a desk.
+fn is_desk(number: u32) -> bool
+    ensures { IsTrue result ↔ IsDesk number }
+{
+    (1..=8).contains(&number)
+}
+
+// What the text behind the desk and the space asks for.
+fn kind_of(text: &[u8]) -> Option<Kind>
+    ensures { MatchOption result ((kind : Kind) → IsRequest kind → text.now ≢ request kind)
+        (λ kind. IsRequest kind × (text.now ≡ request kind)) }
+{
+    let (word, rest) = split_word(text);
+    if word == RETURN {
+        let row = row_of(rest)?;
+        return Some(Kind::Return(row));
+    }
+    if word == SHOW {
+        let [municipality, list] = numbers::<2>(rest)?;
+        return Some(Kind::Show { municipality, list });
+    }
+    None
+}
+
+// The row of four numerals, each behind a space.
+fn row_of(text: &[u8]) -> Option<Row>
+    ensures { MatchOption result ((row : Row) → IsRow row → text.now ≢ row_text row)
+        (λ row. IsRow row × (text.now ≡ row_text row)) }
+{
+    let [municipality, list, number, votes] = numbers::<4>(text)?;
+    if number == 0 {
+        return None;
+    }
+    Some(Row {
+        municipality,
+        list,
+        number,
+        votes,
+    })
+}
+
+/// The desk under which a line is answered, whatever the line is: the digit where it begins with 1 to 8 and a space,
+/// else 0.
+pub fn desk_of(bytes: &[u8]) -> u8
+    ensures { result ≡ desk_of bytes.now }
+{
+    match bytes {
+        [digit @ b'1'..=b'8', b' ', ..] => *digit - b'0',
+        _ => 0,
+    }
+}

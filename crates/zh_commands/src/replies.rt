@@ -1,0 +1,45 @@
+/// What a desk is told about its line.
+#[derive(Clone, Copy, Debug, PartialEq, Eq)]
+pub enum Reply {
+    /// The command is stored. With it this many commands were accepted.
+    Stored(u64),
+    /// The command says what the count holds already.
+    Same,
+    /// The desk holds this many rows now, 0 behind `open`.
+    Held(u32),
+    /// The desk gave up this many rows.
+    Dropped(u32),
+    /// Nothing is held for the list in the municipality.
+    Nothing,
+    /// The replacement number and the votes that are held.
+    Shows(u32, u32),
+    /// The replacement number of a withdrawal.
+    ShowsWithdrawn(u32),
+    /// Nothing was changed, for this reason.
+    Refused(Refusal),
+}
+
+/// Why a line was refused, in the order of `docs/FORMATS.md`, "Replies".
+#[derive(Clone, Copy, Debug, PartialEq, Eq)]
+pub enum Refusal {
+    Syntax,
+    Desk,
+    Municipality,
+    List,
+    Votes,
+    Closed,
+    Stale,
+    Gap,
+    Conflict,
+    Twice,
+    NoBatch,
+    BatchFull,
+    /// The first municipality that is not closed.
+    NotClosed(u32),
+    Memory,
+    Device,
+    ReopenDisk,
+    Spent,
+    BatchOpen,
+    Full,
+}

@@ -1,0 +1,181 @@
+-- Answering the lines of a block one by one.
+use Rattle.std.proofs.Common.{◌≡◌, ℕ, ◌+◌, ◌≤◌, ◌<◌, ◌-◌, List, [], ◌∷◌, ◌++◌, map, take, length, refl, sym, ap, ◌∙◌, subst, arith, append_assoc, Option, Some, None, Result, Ok, Err, length-append}
+use Rattle.std.proofs.lemmas.List.{append-nil, take_all}
+use Rattle.std.specs.Io.KnownBytes.{Appends, Consumes}
+use Rattle.zh_commands.specs.Lines.{desk_of}
+use Rattle.zh_commands.specs.Replies.{reply_text}
+use Rattle.zh_commands.specs.declared.replies.Reply.{Reply}
+use Rattle.zh_office.specs.Office.{State}
+use Rattle.zh_office.specs.Runs.{Runs, Turn}
+use Rattle.zh_office.specs.Text.{HasNoEnd, ended, unfinished, heard, ended_lines, last_line, lines_of}
+use Rattle.zh_office.specs.Served.{BreaksOff, TakesBlock, Writes}
+use Rattle.zh_commands.specs.declared.output.WriteFault.{WriteFault}
+use Rattle.zh_office.proofs.Texts.{ended_none, ended_first, unfinished_all, unfinished_first, HasNoEnd-append, HasNoEnd-take}
+use Rattle.zh_office.proofs.Running.{Runs-append, Runs-one}
+
+-- what is appended in two parts
+pub Appends-append : (a b c : Option (List ℕ)) (xs ys : List ℕ) → Appends a b xs → Appends b c ys → Appends a c (xs ++ ys)
+Appends-append None b c xs ys f g = tt
+Appends-append (Some a) None c xs ys f g = absurd f
+Appends-append (Some a) (Some b) None xs ys f g = absurd g
+Appends-append (Some a) (Some b) (Some c) xs ys f g = g ∙ ap (λ zs. zs ++ ys) f ∙ append_assoc a xs ys
+
+pub Consumes-append : (a b c : Option (List ℕ)) (xs ys : List ℕ) → Consumes a b xs → Consumes b c ys → Consumes a c (xs ++ ys)
+Consumes-append None b c xs ys f g = tt
+Consumes-append (Some a) None c xs ys f g = absurd f
+Consumes-append (Some a) (Some b) None xs ys f g = absurd g
+Consumes-append (Some a) (Some b) (Some c) xs ys f g = f ∙ ap (λ zs. xs ++ zs) g ∙ sym (append_assoc xs ys c)
+
+pub Appends-none : (a : Option (List ℕ)) → Appends a a []
+Appends-none None = tt
+Appends-none (Some a) = sym (append-nil a)
+
+pub Consumes-none : (a : Option (List ℕ)) → Consumes a a []
+Consumes-none None = tt
+Consumes-none (Some a) = refl
+
+-- of these lines some are answered, and what is left gives the others and what is unfinished behind them
+pub record Progress (first writer : Option (List ℕ)) (old now : State) (all : List (List ℕ)) (end line rest : List ℕ) (count : ℕ) : Type 0 where
+  pub answered : List (List ℕ)
+  pub out : List ℕ
+  pub written : Appends first writer out
+  pub run : Runs old answered out now
+  pub lines : all ≡ answered ++ ended_lines (line ++ rest)
+  pub left : heard (unfinished (line ++ rest)) ≡ end
+  pub counted : count ≡ length answered
+  pub clean : HasNoEnd line
+
+-- before the first line
+pub Progress-start : (writer : Option (List ℕ)) (old : State) (line block : List ℕ) → HasNoEnd line → Progress writer writer old old (ended_lines (line ++ block)) (heard (unfinished (line ++ block))) line block 0
+Progress-start writer old line block clean = record {
+  answered = [];
+  out = [];
+  written = Appends-none writer;
+  run = (refl, refl);
+  lines = refl;
+  left = refl;
+  counted = refl;
+  clean = clean;
+}
+
+-- the next line of what is left
+next_line : (line part others rest : List ℕ) → HasNoEnd line → HasNoEnd part → rest ≡ part ++ 10 ∷ others → ended_lines (line ++ rest) ≡ heard (line ++ part) ∷ ended_lines others
+next_line line part others rest clean part_clean rest_is =
+    ap (λ xs. ended_lines (line ++ xs)) rest_is ∙ ap ended_lines (sym (append_assoc line part (10 ∷ others)))
+    ∙ ap (map heard) (ended_first (line ++ part) others (HasNoEnd-append line part clean part_clean))
+
+behind_line : (line part others rest : List ℕ) → HasNoEnd line → HasNoEnd part → rest ≡ part ++ 10 ∷ others → heard (unfinished (line ++ rest)) ≡ heard (unfinished others)
+behind_line line part others rest clean part_clean rest_is =
+    ap (λ xs. heard (unfinished (line ++ xs))) rest_is ∙ ap (λ xs. heard (unfinished xs)) (sym (append_assoc line part (10 ∷ others)))
+    ∙ ap heard (unfinished_first (line ++ part) others (HasNoEnd-append line part clean part_clean))
+
+-- the next line is answered
+pub Progress-more : (first writer writer' : Option (List ℕ)) (old now new : State) (all : List (List ℕ)) (end line rest part others : List ℕ) (count : ℕ) (reply : Reply)
+    → Progress first writer old now all end line rest count → HasNoEnd part → rest ≡ part ++ 10 ∷ others
+    → Turn now (heard (line ++ part)) reply new → Appends writer writer' (reply_text (desk_of (heard (line ++ part))) reply)
+    → Progress first writer' old new all end [] others (count + 1)
+Progress-more first writer writer' old now new all end line rest part others count reply p part_clean rest_is turn written =
+    let next = heard (line ++ part) in
+    record {
+      answered = p.answered ++ next ∷ [];
+      out = p.out ++ reply_text (desk_of next) reply;
+      written = Appends-append first writer writer' p.out (reply_text (desk_of next) reply) p.written written;
+      run = Runs-append old now new p.answered (next ∷ []) p.out (reply_text (desk_of next) reply) p.run (Runs-one now new next reply turn);
+      lines = p.lines ∙ ap (λ ls. p.answered ++ ls) (next_line line part others rest p.clean part_clean rest_is) ∙ sym (append_assoc p.answered (next ∷ []) (ended_lines others));
+      left = sym (behind_line line part others rest p.clean part_clean rest_is) ∙ p.left;
+      counted = omega (arith, p.counted, length-append p.answered (next ∷ []));
+      clean = refl;
+    }
+
+-- the answer to the next line is not written whole
+pub Progress-breaks : (first writer writer' : Option (List ℕ)) (old now new : State) (all : List (List ℕ)) (end line rest part others : List ℕ) (count : ℕ) (reply : Reply) (front : ℕ)
+    → Progress first writer old now all end line rest count → HasNoEnd part → rest ≡ part ++ 10 ∷ others
+    → Turn now (heard (line ++ part)) reply new → Appends writer writer' (take front (reply_text (desk_of (heard (line ++ part))) reply))
+    → BreaksOff all first writer' old new
+Progress-breaks first writer writer' old now new all end line rest part others count reply front p part_clean rest_is turn written =
+    let next = heard (line ++ part) in
+    record {
+      answered = p.answered;
+      last = next;
+      others = ended_lines others;
+      lines_are = p.lines ∙ ap (λ ls. p.answered ++ ls) (next_line line part others rest p.clean part_clean rest_is);
+      out = p.out;
+      mid = now;
+      run = p.run;
+      reply = reply;
+      turn = turn;
+      front = front;
+      written = Appends-append first writer writer' p.out (take front (reply_text (desk_of next) reply)) p.written written;
+    }
+
+-- the next line was answered by a call that succeeded
+pub Progress-answered : (first writer writer' : Option (List ℕ)) (old now new : State) (all : List (List ℕ)) (end line rest part others bytes : List ℕ) (count : ℕ) (result : Result (Unit {0}) WriteFault) (done : Unit {0})
+    → Progress first writer old now all end line rest count → HasNoEnd part → rest ≡ part ++ 10 ∷ others → bytes ≡ heard (line ++ part)
+    → Writes writer writer' now bytes result new → result ≡ Ok done → Progress first writer' old new all end [] others (count + 1)
+Progress-answered first writer writer' old now new all end line rest part others bytes count result done p part_clean rest_is bytes_are w ok =
+    let v : Writes writer writer' now (heard (line ++ part)) result new = subst (λ b. Writes writer writer' now b result new) bytes_are w in
+    let all_written = rw ok at v.ok in
+    Progress-more first writer writer' old now new all end line rest part others count v.reply p part_clean rest_is v.turn all_written
+
+-- the next line was answered by a call that failed
+pub Progress-failed : (first writer writer' : Option (List ℕ)) (old now new : State) (all : List (List ℕ)) (end line rest part others bytes : List ℕ) (count : ℕ) (result : Result (Unit {0}) WriteFault) (fault : WriteFault)
+    → Progress first writer old now all end line rest count → HasNoEnd part → rest ≡ part ++ 10 ∷ others → bytes ≡ heard (line ++ part)
+    → Writes writer writer' now bytes result new → result ≡ Err fault → BreaksOff all first writer' old new
+Progress-failed first writer writer' old now new all end line rest part others bytes count result fault p part_clean rest_is bytes_are w err =
+    let v : Writes writer writer' now (heard (line ++ part)) result new = subst (λ b. Writes writer writer' now b result new) bytes_are w in
+    let front = rw err at v.err in
+    Progress-breaks first writer writer' old now new all end line rest part others count v.reply front.0 p part_clean rest_is v.turn front.1
+
+-- a last line of bytes that fit
+pub last_line_is : (line : List ℕ) → 0 < length line → length line ≤ 121 → last_line line ≡ line ∷ []
+last_line_is [] some fits = absurd (omega arith)
+last_line_is (byte ∷ line) some fits = ap (λ l. l ∷ []) (take_all 121 (byte ∷ line) fits)
+
+-- the last line was answered by a call that failed
+pub last_failed : (writer writer' : Option (List ℕ)) (old new : State) (line bytes : List ℕ) (result : Result (Unit {0}) WriteFault) (fault : WriteFault)
+    → 0 < length line → length line ≤ 121 → bytes ≡ line → Writes writer writer' old bytes result new → result ≡ Err fault → BreaksOff (last_line line) writer writer' old new
+last_failed writer writer' old new line bytes result fault some fits bytes_are w err =
+    let v : Writes writer writer' old line result new = subst (λ b. Writes writer writer' old b result new) bytes_are w in
+    let front = rw err at v.err in
+    record {
+      answered = [];
+      last = line;
+      others = [];
+      lines_are = last_line_is line some fits;
+      out = [];
+      mid = old;
+      run = (refl, refl);
+      reply = v.reply;
+      turn = v.turn;
+      front = front.0;
+      written = front.1;
+    }
+
+-- the last line was answered by a call that succeeded
+pub last_answered : (writer writer' : Option (List ℕ)) (old new : State) (line bytes : List ℕ) (result : Result (Unit {0}) WriteFault) (done : Unit {0})
+    → 0 < length line → length line ≤ 121 → bytes ≡ line → Writes writer writer' old bytes result new → result ≡ Ok done
+    → (out : List ℕ) × Appends writer writer' out × Runs old (last_line line) out new × (1 ≡ length (last_line line))
+last_answered writer writer' old new line bytes result done some fits bytes_are w ok =
+    let v : Writes writer writer' old line result new = subst (λ b. Writes writer writer' old b result new) bytes_are w in
+    let all_written = rw ok at v.ok in
+    let one = last_line_is line some fits in (
+      reply_text (desk_of line) v.reply,
+      all_written,
+      subst (λ ls. Runs old ls (reply_text (desk_of line) v.reply) new) (sym one) (Runs-one old new line v.reply v.turn),
+      ap length (sym one),
+    )
+
+-- no line ends in what is left
+pub Progress-end : (first writer : Option (List ℕ)) (old now : State) (line block part rest : List ℕ) (count : ℕ)
+    → Progress first writer old now (ended_lines (line ++ block)) (heard (unfinished (line ++ block))) part rest count → HasNoEnd rest
+    → TakesBlock first writer old line block now (heard (part ++ rest)) count
+Progress-end first writer old now line block part rest count p rest_clean =
+    let clean = HasNoEnd-append part rest p.clean rest_clean in
+    let all : ended_lines (line ++ block) ≡ p.answered = p.lines ∙ ap (λ ls. p.answered ++ map heard ls) (ended_none (part ++ rest) clean) ∙ append-nil p.answered in
+    record {
+      out = p.out;
+      written = p.written;
+      run = subst (λ ls. Runs old ls p.out now) (sym all) p.run;
+      left = ap heard (sym (unfinished_all (part ++ rest) clean)) ∙ p.left;
+      counted = p.counted ∙ ap length (sym all);
+    }

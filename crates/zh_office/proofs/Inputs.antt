@@ -1,0 +1,152 @@
+-- Serving an input block by block.
+use Rattle.std.proofs.Common.{◌≡◌, ℕ, ◌+◌, ◌≤◌, ◌<◌, ◌-◌, ◌^◌, min, List, [], ◌∷◌, ◌++◌, map, take, length, refl, sym, ap, ◌∙◌, subst, arith, append_assoc, Option, Some, None, Result, Ok, Err, length-append}
+use Rattle.std.proofs.lemmas.List.{append-nil, map-append}
+use Rattle.std.specs.Io.KnownBytes.{Appends, Consumes, Keeps, IsAtEnd}
+use Rattle.zh_commands.specs.Lines.{desk_of}
+use Rattle.zh_commands.specs.Replies.{reply_text}
+use Rattle.zh_office.specs.Office.{State}
+use Rattle.zh_office.specs.Runs.{Runs}
+use Rattle.zh_office.specs.Text.{HasNoEnd, ended, unfinished, heard, ended_lines, last_line, lines_of}
+use Rattle.zh_office.specs.Served.{BreaksOff, TakesBlock, ServesAll, ServesEnded, ServesFront}
+use Rattle.zh_office.proofs.Texts.{ended-append, unfinished-append, unfinished_has_no_end, HasNoEnd-take, ended_lines-heard, unfinished-heard, heard-heard, last_line-heard}
+use Rattle.zh_office.proofs.Running.{Runs-append}
+use Rattle.zh_office.proofs.Blocks.{Appends-append, Appends-none, Consumes-append, Consumes-none}
+
+-- what was read so far has been answered up to its last LF, and what counts of the rest is held
+pub record Serving (first reader begun writer : Option (List ℕ)) (old now : State) (line : List ℕ) (count : ℕ) : Type 0 where
+  pub input : List ℕ
+  pub out : List ℕ
+  pub read : Consumes first reader input
+  pub written : Appends begun writer out
+  pub run : Runs old (ended_lines input) out now
+  pub held : line ≡ heard (unfinished input)
+  pub counted : count ≡ min (length (ended_lines input)) (2 ^ 64 - 1)
+
+pub Serving-start : (reader writer : Option (List ℕ)) (old : State) (line : List ℕ) → line ≡ [] → Serving reader reader writer writer old old line 0
+Serving-start reader writer old line none = record {
+  input = [];
+  out = [];
+  read = Consumes-none reader;
+  written = Appends-none writer;
+  run = (refl, refl);
+  held = none;
+  counted = refl;
+}
+
+-- what is held has no end of a line
+pub Serving-clean : (first reader begun writer : Option (List ℕ)) (old now : State) (line : List ℕ) (count : ℕ) → Serving first reader begun writer old now line count → HasNoEnd line
+Serving-clean first reader begun writer old now line count s =
+    subst (λ l. HasNoEnd l) (sym s.held) (HasNoEnd-take 121 (unfinished s.input) (unfinished_has_no_end s.input))
+
+-- the ended lines of an input and a block behind it
+more_lines : (input line block : List ℕ) → line ≡ heard (unfinished input) → ended_lines (input ++ block) ≡ ended_lines input ++ ended_lines (line ++ block)
+more_lines input line block held =
+    let rest = unfinished input in
+    let clean = unfinished_has_no_end input in
+    ap (map heard) (ended-append input block) ∙ map-append heard (ended input) (ended (rest ++ block))
+    ∙ ap (λ ls. ended_lines input ++ ls)
+    (sym (ap (λ l. ended_lines (l ++ block)) held ∙ ended_lines-heard (heard rest) rest block (HasNoEnd-take 121 rest clean) clean (heard-heard rest)))
+
+more_rest : (input line block : List ℕ) → line ≡ heard (unfinished input) → heard (unfinished (line ++ block)) ≡ heard (unfinished (input ++ block))
+more_rest input line block held =
+    let rest = unfinished input in
+    let clean = unfinished_has_no_end input in
+    ap (λ l. heard (unfinished (l ++ block))) held ∙ unfinished-heard (heard rest) rest block (HasNoEnd-take 121 rest clean) clean (heard-heard rest)
+    ∙ ap heard (sym (unfinished-append input block))
+
+-- a block was read, and its lines are answered
+pub Serving-more : (first reader reader' begun writer writer' : Option (List ℕ)) (old now new : State) (line block line' : List ℕ) (count more total : ℕ)
+    → Serving first reader begun writer old now line count → Consumes reader reader' block → TakesBlock writer writer' now line block new line' more
+    → total ≡ min (count + more) (2 ^ 64 - 1) → Serving first reader' begun writer' old new line' total
+Serving-more first reader reader' begun writer writer' old now new line block line' count more total s read b total_is =
+    let lines = more_lines s.input line block s.held in
+    record {
+      input = s.input ++ block;
+      out = s.out ++ b.out;
+      read = Consumes-append first reader reader' s.input block s.read read;
+      written = Appends-append begun writer writer' s.out b.out s.written b.written;
+      run = subst (λ ls. Runs old ls (s.out ++ b.out) new) (sym lines) (Runs-append old now new (ended_lines s.input) (ended_lines (line ++ block)) s.out b.out s.run b.run);
+      held = b.left ∙ more_rest s.input line block s.held;
+      counted = omega (arith, total_is, s.counted, b.counted, simp length-append at (ap length lines));
+    }
+
+regrouped : {X : Type 0} (a b : List X) (x : X) (c d : List X) → (a ++ (b ++ x ∷ c)) ++ d ≡ (a ++ b) ++ x ∷ (c ++ d)
+regrouped a b x c d = simp append_assoc
+
+-- the lines before those of a run that breaks off
+pub BreaksOff-after : (begun writer writer' : Option (List ℕ)) (old now new : State) (lines all : List (List ℕ)) (others : List (List ℕ)) (out : List ℕ) (front : List (List ℕ))
+    → Appends begun writer out → Runs old front out now → BreaksOff lines writer writer' now new → all ≡ (front ++ lines) ++ others → BreaksOff all begun writer' old new
+BreaksOff-after begun writer writer' old now new lines all others out front written run b all_is = record {
+  answered = front ++ b.answered;
+  last = b.last;
+  others = b.others ++ others;
+  lines_are = all_is ∙ ap (λ ls. (front ++ ls) ++ others) b.lines_are ∙ regrouped front b.answered b.last b.others others;
+  out = out ++ b.out;
+  mid = b.mid;
+  run = Runs-append old now b.mid front b.answered out b.out run b.run;
+  reply = b.reply;
+  turn = b.turn;
+  front = b.front;
+  written =
+      subst (λ xs. Appends begun writer' xs) (sym (append_assoc out b.out (take b.front (reply_text (desk_of b.last) b.reply))))
+      (Appends-append begun writer writer' out (b.out ++ take b.front (reply_text (desk_of b.last) b.reply)) written b.written);
+}
+
+-- an answer within a block was not written whole
+pub Serving-breaks : (first reader reader' begun writer writer' : Option (List ℕ)) (old now new : State) (line block : List ℕ) (count : ℕ)
+    → Serving first reader begun writer old now line count → Consumes reader reader' block → BreaksOff (ended_lines (line ++ block)) writer writer' now new
+    → ServesFront first reader' begun writer' old new
+Serving-breaks first reader reader' begun writer writer' old now new line block count s read b = record {
+  input = s.input ++ block;
+  read = Consumes-append first reader reader' s.input block s.read read;
+  breaks = BreaksOff-after begun writer writer' old now new (ended_lines (line ++ block)) (lines_of (s.input ++ block)) (last_line (unfinished (s.input ++ block))) s.out (ended_lines s.input)
+      s.written s.run b (ap (λ ls. ls ++ last_line (unfinished (s.input ++ block))) (more_lines s.input line block s.held));
+}
+
+-- the last line of the input by what is held of it
+last_held : (input line : List ℕ) → line ≡ heard (unfinished input) → last_line line ≡ last_line (unfinished input)
+last_held input line held = ap last_line held ∙ last_line-heard (heard (unfinished input)) (unfinished input) (heard-heard (unfinished input))
+
+-- the answer to the last line was not written whole
+pub Serving-last_breaks : (first reader reader' begun writer writer' : Option (List ℕ)) (old now new : State) (line : List ℕ) (count : ℕ)
+    → Serving first reader begun writer old now line count → Consumes reader reader' [] → BreaksOff (last_line line) writer writer' now new → ServesFront first reader' begun writer' old new
+Serving-last_breaks first reader reader' begun writer writer' old now new line count s read b = record {
+  input = s.input;
+  read = subst (λ xs. Consumes first reader' xs) (append-nil s.input) (Consumes-append first reader reader' s.input [] s.read read);
+  breaks = BreaksOff-after begun writer writer' old now new (last_line line) (lines_of s.input) [] s.out (ended_lines s.input)
+      s.written s.run b (ap (λ ls. ended_lines s.input ++ ls) (sym (last_held s.input line s.held)) ∙ sym (append-nil (ended_lines s.input ++ last_line line)));
+}
+
+-- the reader or the turns ended before the input
+pub Serving-stops : (first reader reader' begun writer : Option (List ℕ)) (old now : State) (line : List ℕ) (count : ℕ)
+    → Serving first reader begun writer old now line count → Consumes reader reader' [] → ServesEnded first reader' begun writer old now
+Serving-stops first reader reader' begun writer old now line count s read = record {
+  input = s.input;
+  out = s.out;
+  read = subst (λ xs. Consumes first reader' xs) (append-nil s.input) (Consumes-append first reader reader' s.input [] s.read read);
+  written = s.written;
+  run = s.run;
+}
+
+-- the input ended, and its last line is answered
+pub Serving-ends : (first reader reader' begun writer writer' : Option (List ℕ)) (old now new : State) (line : List ℕ) (count more total : ℕ) (out : List ℕ)
+    → Serving first reader begun writer old now line count → Consumes reader reader' [] → IsAtEnd reader'
+    → Appends writer writer' out → Runs now (last_line line) out new → more ≡ length (last_line line) → total ≡ min (count + more) (2 ^ 64 - 1)
+    → ServesAll first reader' begun writer' old new total
+Serving-ends first reader reader' begun writer writer' old now new line count more total out s read at_end written run more_is total_is =
+    let last = last_held s.input line s.held in
+    record {
+      input = s.input;
+      out = s.out ++ out;
+      read = subst (λ xs. Consumes first reader' xs) (append-nil s.input) (Consumes-append first reader reader' s.input [] s.read read);
+      end = at_end;
+      written = Appends-append begun writer writer' s.out out s.written written;
+      run = subst (λ ls. Runs old (ended_lines s.input ++ ls) (s.out ++ out) new) last (Runs-append old now new (ended_lines s.input) (last_line line) s.out out s.run run);
+      counted = omega (arith, total_is, s.counted, more_is, ap length last, length-append (ended_lines s.input) (last_line (unfinished s.input)));
+    }
+
+-- what keeps its bytes consumes none
+pub Consumes-kept : (a b : Option (List ℕ)) → Keeps a b → Consumes a b []
+Consumes-kept None b h = tt
+Consumes-kept (Some a) None h = absurd h
+Consumes-kept (Some a) (Some b) h = sym h

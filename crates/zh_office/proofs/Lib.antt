@@ -1,0 +1,4 @@
+pub mod Texts
+pub mod Running
+pub mod Blocks
+pub mod Inputs

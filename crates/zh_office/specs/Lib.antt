@@ -1,0 +1,5 @@
+pub mod Text
+pub mod Office
+pub mod Code
+pub mod Runs
+pub mod Served

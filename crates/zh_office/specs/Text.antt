@@ -1,0 +1,39 @@
+-- The lines of a text. 10 is the byte LF.
+use Rattle.std.specs.Prelude.{◌≡◌, ◌≢◌, ℕ, ◌==◌, if◌then◌else◌, Bool, false, List, [], ◌∷◌, ◌++◌, map, take}
+use Rattle.std.specs.List.{list_any}
+
+-- no line ends in the text
+abbrev pub HasNoEnd : List ℕ → Type 0
+HasNoEnd text = list_any (λ byte. byte == 10) text ≡ false
+
+-- a byte at the front of the first line
+abbrev pub onto_first : ℕ → List (List ℕ) → List (List ℕ)
+onto_first byte [] = []
+onto_first byte (line ∷ lines) = (byte ∷ line) ∷ lines
+
+-- the lines that are ended: what stands before each LF
+abbrev pub ended : List ℕ → List (List ℕ)
+ended [] = []
+ended (byte ∷ text) = if byte == 10 then [] ∷ ended text else onto_first byte (ended text)
+
+-- what stands behind the last LF
+abbrev pub unfinished : List ℕ → List ℕ
+unfinished [] = []
+unfinished (byte ∷ text) = if list_any (λ b. b == 10) (byte ∷ text) then unfinished text else byte ∷ text
+
+-- of a line the first 121 bytes count
+abbrev pub heard : List ℕ → List ℕ
+heard line = take 121 line
+
+-- the lines that are ended, as they count
+abbrev pub ended_lines : List ℕ → List (List ℕ)
+ended_lines text = map heard (ended text)
+
+-- a last line that isn't ended counts where it has a byte
+abbrev pub last_line : List ℕ → List (List ℕ)
+last_line [] = []
+last_line (byte ∷ line) = heard (byte ∷ line) ∷ []
+
+-- the lines of a whole text, as they count
+abbrev pub lines_of : List ℕ → List (List ℕ)
+lines_of text = ended_lines text ++ last_line (unfinished text)

@@ -1,0 +1,30 @@
+//! The part of a line that counts.
+
+ghost use Rattle.std.specs.Prelude.{◌≡◌, ◌++◌, ◌∷◌, MatchOption};
+ghost use Rattle.zh_office.specs.Text.{heard, HasNoEnd};
+
+use arrayvec::ArrayVec;
+use memchr::memchr;
+
+/// How many bytes of a line count: one more than a line may have, so that a longer one is told.
+pub(crate) const HEARD: usize = 121;
+
+/// The bytes that count of a line that isn't ended yet.
+pub(crate) type Line = ArrayVec<u8, HEARD>;
+
+/// Takes more bytes of a line.
+pub(crate) fn hear(line: &mut Line, more: &[u8])
+    ensures { line.new.items ≡ heard (line.old.items ++ more.now) }
+{
+    let count = more.len().min(line.remaining_capacity());
+    line.try_extend_from_slice(&more[..count]).unwrap();
+}
+
+/// The bytes before the first LF, and those behind it.
+pub(crate) fn split_line(bytes: &[u8]) -> Option<(&[u8], &[u8])>
+    ensures { MatchOption result (HasNoEnd bytes.now)
+        (λ parts. HasNoEnd parts.0.now × (bytes.now ≡ parts.0.now ++ 10 ∷ parts.1.now)) }
+{
+    let end = memchr(b'\n', bytes)?;
+    Some((&bytes[..end], &bytes[end + 1..]))
+}

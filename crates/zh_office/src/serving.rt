@@ -1,0 +1,124 @@
+//! Serving the lines of a reader.
+
+ghost use Rattle.std.specs.Prelude.{◌≡◌, ◌++◌, ℕ, ◌≤◌, List, length, MatchResult, IfOk, IsErrOf, OnErr};
+ghost use Rattle.std.specs.Io.KnownBytes.{Appends};
+ghost use Rattle.zh_office.specs.Text.{HasNoEnd, ended_lines, last_line};
+ghost use Rattle.zh_office.specs.Runs.{Runs};
+ghost use Rattle.zh_office.specs.Served.{TakesBlock, BreaksOff, ServesAll, ServesEnded, ServesFront};
+
+use crate::hearing::{Line, hear, split_line};
+use crate::office::Office;
+use std::io::{Read, Write};
+use thiserror::Error;
+use zh_commands::WriteFault;
+
+/// How many bytes a read asks for at most.
+const BLOCK: usize = 8192;
+
+/// Why serving ended before the end of the input.
+#[derive(Clone, Copy, Debug, PartialEq, Eq, Error)]
+pub enum ServeFault {
+    /// The reader failed.
+    #[error("read")]
+    Read,
+    /// The writer failed, or took no byte.
+    #[error("write")]
+    Write,
+    /// So many reads as were allowed were made, and the end of the input was not met.
+    #[error("turns")]
+    Turns,
+}
+
+impl From<WriteFault> for ServeFault {
+    ghost use Rattle.zh_office.specs.declared.serving.ServeFault.TheVariants as faults;
+
+    ghost from_gives = { λ _ e. e ≡ faults.Write };
+
+    fn from(_: WriteFault) -> Self {
+        ServeFault::Write
+    }
+}
+
+impl<'s> Office<'s> {
+    /// Answers the lines that end in a block of bytes behind those of `line`, and keeps the bytes of the line behind them.
+    fn take_block<W: Write>(
+        &mut self,
+        line: &mut Line,
+        block: &[u8],
+        writer: &mut W,
+    ) -> Result<usize, WriteFault>
+        requires { HasNoEnd line.old.items }
+        ensures taken { MatchResult result
+            (λ count. TakesBlock (W.contents writer.old) (W.contents writer.new) self.old line.old.items block.now self.new line.new.items count)
+            (λ _. BreaksOff (ended_lines (line.old.items ++ block.now)) (W.contents writer.old) (W.contents writer.new) self.old self.new) }
+    {
+        let mut rest = block;
+        let mut count = 0;
+        while let Some((ended, others)) = split_line(rest) {
+            hear(line, ended);
+            self.answer(line, writer)?;
+            line.clear();
+            rest = others;
+            count += 1;
+        }
+        hear(line, rest);
+        Ok(count)
+    }
+
+    /// Answers a last line that isn't ended, where it has a byte, and tells how many lines that is.
+    fn finish<W: Write>(&mut self, line: &Line, writer: &mut W) -> Result<u64, WriteFault>
+        ensures { MatchResult result
+            (λ count. (out : List ℕ) × Appends (W.contents writer.old) (W.contents writer.new) out
+            × Runs self.old (last_line line.now.items) out self.new × (count ≡ length (last_line line.now.items)))
+            (λ _. BreaksOff (last_line line.now.items) (W.contents writer.old) (W.contents writer.new) self.old self.new) }
+    {
+        if line.is_empty() {
+            return Ok(0);
+        }
+        self.answer(line, writer)?;
+        Ok(1)
+    }
+
+    /// Answers the lines of a reader until its end, in at most so many reads of up to 8,192 bytes. It gives the number
+    /// of lines.
+    ///
+    /// After an error of the reader, or where the end of the input was not met, the lines that were ended by then are
+    /// answered, and a line that was not ended is not. After an error of the writer a front of the answers is written.
+    /// An interrupted read or write is an error.
+    pub fn serve<R: Read, W: Write>(
+        &mut self,
+        reader: &mut R,
+        writer: &mut W,
+        turns: u64,
+    ) -> Result<u64, ServeFault>
+        ensures ok { IfOk result (λ count. ServesAll (R.remaining reader.old) (R.remaining reader.new)
+            (W.contents writer.old) (W.contents writer.new) self.old self.new count) }
+        ensures read { IsErrOf result ServeFault.Read → ServesEnded (R.remaining reader.old) (R.remaining reader.new)
+            (W.contents writer.old) (W.contents writer.new) self.old self.new }
+        ensures write { IsErrOf result ServeFault.Write → ServesFront (R.remaining reader.old) (R.remaining reader.new)
+            (W.contents writer.old) (W.contents writer.new) self.old self.new }
+        ensures turns { IsErrOf result ServeFault.Turns → ServesEnded (R.remaining reader.old) (R.remaining reader.new)
+            (W.contents writer.old) (W.contents writer.new) self.old self.new }
+    {
+        let mut block = blank_block();
+        let mut line = Line::new();
+        let mut count: u64 = 0;
+        for _ in 0..turns {
+            let Ok(len) = reader.read(&mut block) else {
+                return Err(ServeFault::Read);
+            };
+            if len == 0 {
+                let last = self.finish(&line, writer)?;
+                return Ok(count.saturating_add(last));
+            }
+            let lines = self.take_block(&mut line, &block[..len], writer)?;
+            count = count.saturating_add(lines as u64);
+        }
+        Err(ServeFault::Turns)
+    }
+}
+
+/// Room for a read.
+fn blank_block() -> [u8; BLOCK] {
+    [0; BLOCK]
+}

@@ -1,0 +1,65 @@
+-- What flags of municipalities stand for.
+use Rattle.std.proofs.Common.{◌≡◌, ◌≢◌, ◌<◌, ◌≤◌, ◌+◌, ◌-◌, ◌∙◌, ◌||◌, ℕ, zero, suc, Bool, true, false, List, [], ◌∷◌, length, get_or, sym, ap, subst, refl, arith}
+use Rattle.std.specs.Cmp.{nat_cmp_total, tied_itself, Equal-is}
+use Rattle.std.specs.List.{All, AllByRecursion, list_any}
+use Rattle.std.specs.Ordering.{eq_by_cmp, is_eq, nat_cmp}
+use Rattle.std.specs.FinSet as set_of
+use Rattle.std.proofs.lemmas.Bool.{false≢true}
+use Rattle.std.proofs.lemmas.List.{get_or_read}
+use Rattle.std.proofs.lemmas.List.Elements.{recursion_from_All}
+use Rattle.std.proofs.lemmas.Map.Lookups.{exact_unsigned}
+use Rattle.zh_returns.specs.Tables.{flagged_from, closed_of}
+
+same_number : (a : ℕ) → eq_by_cmp nat_cmp a a ≡ true
+same_number a = ap is_eq (tied_itself nat_cmp_total a)
+
+other_number : (a b : ℕ) → a ≢ b → eq_by_cmp nat_cmp a b ≡ false
+other_number a b ne =
+    elim (eq_by_cmp nat_cmp a b) as (λ v. eq_by_cmp nat_cmp a b ≡ v → v ≡ false) [
+      | true ↦ λ is. absurd (ne (exact_unsigned a b ((Equal-is (nat_cmp a b)).0 is)))
+      | false ↦ λ is. refl
+    ] refl
+
+-- no municipality before the first is flagged
+flagged_missed : (municipality : ℕ) (flags : List Bool) (m : ℕ) → m < municipality → list_any (eq_by_cmp nat_cmp m) (flagged_from municipality flags) ≡ false
+flagged_missed municipality [] m before = refl
+flagged_missed municipality (false ∷ flags) m before = flagged_missed (municipality + 1) flags m (omega arith)
+flagged_missed municipality (true ∷ flags) m before =
+    ap (λ b. b || list_any (eq_by_cmp nat_cmp m) (flagged_from (municipality + 1) flags)) (other_number m municipality (λ is. omega arith))
+    ∙ flagged_missed (municipality + 1) flags m (omega arith)
+
+-- a municipality is flagged where its flag is set
+flagged_at : (municipality i : ℕ) (flags : List Bool) → list_any (eq_by_cmp nat_cmp (municipality + i)) (flagged_from municipality flags) ≡ get_or flags i false
+flagged_at municipality i [] = refl
+flagged_at municipality zero (false ∷ flags) = flagged_missed (municipality + 1) flags (municipality + 0) (omega arith)
+flagged_at municipality zero (true ∷ flags) =
+    let here : municipality + 0 ≡ municipality = omega arith in
+    ap (λ m. eq_by_cmp nat_cmp m municipality || list_any (eq_by_cmp nat_cmp (municipality + 0)) (flagged_from (municipality + 1) flags)) here
+    ∙ ap (λ b. b || list_any (eq_by_cmp nat_cmp (municipality + 0)) (flagged_from (municipality + 1) flags)) (same_number municipality)
+flagged_at municipality (suc i) (false ∷ flags) =
+    let next : municipality + suc i ≡ (municipality + 1) + i = omega arith in
+    ap (λ m. list_any (eq_by_cmp nat_cmp m) (flagged_from (municipality + 1) flags)) next ∙ flagged_at (municipality + 1) i flags
+flagged_at municipality (suc i) (true ∷ flags) =
+    let next : municipality + suc i ≡ (municipality + 1) + i = omega arith in
+    ap (λ b. b || list_any (eq_by_cmp nat_cmp (municipality + suc i)) (flagged_from (municipality + 1) flags)) (other_number (municipality + suc i) municipality (λ is. omega arith))
+    ∙ ap (λ m. list_any (eq_by_cmp nat_cmp m) (flagged_from (municipality + 1) flags)) next ∙ flagged_at (municipality + 1) i flags
+
+-- a municipality is closed where its flag is set
+pub contains-closed_of : (flags : List Bool) (municipality : ℕ) → 1 ≤ municipality → set_of.contains (closed_of flags) municipality ≡ get_or flags (municipality - 1) false
+contains-closed_of flags municipality from_one =
+    set_of.contains-from_list nat_cmp_total (flagged_from 1 flags) municipality
+    ∙ subst (λ m. list_any (eq_by_cmp nat_cmp m) (flagged_from 1 flags) ≡ get_or flags (municipality - 1) false) (omega arith) (flagged_at 1 (municipality - 1) flags)
+
+-- what was read at the flag of a municipality is whether it is closed
+pub read_flag : (flags : List Bool) (municipality : ℕ) (read : Bool) → 1 ≤ municipality → municipality ≤ length flags → read ≡ get_or flags (municipality - 1) read → read ≡ set_of.contains (closed_of flags) municipality
+read_flag flags municipality read from_one within read_is =
+    get_or_read flags (municipality - 1) read (omega arith) read_is false ∙ sym (contains-closed_of flags municipality from_one)
+
+-- flags of which none is set stand for the empty set
+flagged_from-unset : (municipality : ℕ) (flags : List Bool) → AllByRecursion (λ (flag : Bool). flag ≡ false) flags → flagged_from municipality flags ≡ []
+flagged_from-unset municipality [] unset = refl
+flagged_from-unset municipality (false ∷ flags) unset = flagged_from-unset (municipality + 1) flags unset.1
+flagged_from-unset municipality (true ∷ flags) unset = absurd (false≢true (sym unset.0))
+
+pub closed_of-unset : (flags : List Bool) → All (λ (flag : Bool). flag ≡ false) flags → closed_of flags ≡ set_of.empty
+closed_of-unset flags unset = ap (set_of.from_list {R = nat_cmp}) (flagged_from-unset 1 flags (recursion_from_All (λ (flag : Bool). flag ≡ false) flags unset))

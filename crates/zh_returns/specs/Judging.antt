@@ -1,0 +1,44 @@
+-- What becomes of a command: the first case that applies decides.
+use Rattle.std.specs.Prelude.{ℕ, ◌+◌, Bool, true, false, not, nat_lt, ◌==◌, if◌then◌else◌, Option, Some, None}
+use Rattle.std.specs.FinSet as set
+use Rattle.zh_districts.specs.Canton.{has_municipality, stands, constituency_of}
+use Rattle.zh_returns.specs.declared.command.Command.{Command}
+use Rattle.zh_returns.specs.declared.command.Command.TheVariants as commands
+use Rattle.zh_returns.specs.declared.entry.Entry.{Entry}
+use Rattle.zh_returns.specs.declared.verdict.Verdict.{Verdict}
+use Rattle.zh_returns.specs.declared.verdict.Verdict.TheVariants.{Accept, Same, Refused}
+use Rattle.zh_returns.specs.declared.verdict.Why.TheVariants as why
+use Rattle.zh_returns.specs.Tally.{Tally, held}
+
+-- whether two contents are equal: votes, or none for a withdrawn list
+abbrev pub same_content : Option ℕ → Option ℕ → Bool
+same_content None None = true
+same_content None (Some w) = false
+same_content (Some v) None = false
+same_content (Some v) (Some w) = v == w
+
+-- more votes than a return may have
+abbrev pub too_many : Option ℕ → Bool
+too_many None = false
+too_many (Some votes) = nat_lt 1000000000 votes
+
+-- a content under a replacement number, against what is held under its key
+abbrev pub against : Option Entry → ℕ → Option ℕ → Verdict
+against None number content = if number == 1 then Accept else Refused why.Gap
+against (Some entry) number content =
+    if nat_lt number entry.number then Refused why.Stale
+    else if number == entry.number then (if same_content content entry.votes then Same else Refused why.Conflict)
+    else if number == entry.number + 1 then Accept
+    else Refused why.Gap
+
+-- a content for a key under a replacement number
+abbrev pub judge_content : Tally → ℕ → ℕ → ℕ → Option ℕ → Verdict
+judge_content tally municipality list number content =
+    if not (has_municipality tally.canton municipality) then Refused why.Municipality
+    else if not (stands tally.canton (constituency_of tally.canton municipality) list) then Refused why.List
+    else if too_many content then Refused why.Votes
+    else if set.contains tally.closed municipality then Refused why.Closed
+    else against (held tally municipality list) number content
+
+abbrev pub judge : Tally → Command → Verdict
+judge tally (commands.Return row) = judge_content tally row.municipality row.list row.number (Some row.votes)

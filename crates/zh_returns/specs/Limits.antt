@@ -1,0 +1,20 @@
+-- The limits of a count.
+use Rattle.std.specs.Prelude.{◌≡◌, ℕ, ◌≤◌, ◌<◌, ◌^◌, true, IfSome}
+use Rattle.std.specs.FinSet as set
+use Rattle.zh_districts.specs.Canton.{IsCanton, has_municipality, stands, constituency_of}
+use Rattle.zh_returns.specs.declared.entry.Entry.{Entry}
+use Rattle.zh_returns.specs.Tally.{Tally, held}
+
+-- a replacement number from 1, and no more votes than a return may have
+pub record IsEntry (entry : Entry) : Type 0 where
+  pub number : (1 ≤ entry.number) × (entry.number < 2 ^ 32)
+  pub votes : IfSome entry.votes (λ votes. votes ≤ 1000000000)
+
+-- entries within their limits, only of lists that stand in municipalities of the set-up; closed are only municipalities of the set-up
+pub record IsTally (tally : Tally) : Type 0 where
+  pub canton : IsCanton tally.canton
+  pub entries : (municipality list : ℕ) → IfSome (held tally municipality list) IsEntry
+  pub lists : (municipality list : ℕ) → IfSome (held tally municipality list) (λ _. stands tally.canton (constituency_of tally.canton municipality) list ≡ true)
+  pub municipalities : (municipality list : ℕ) → IfSome (held tally municipality list) (λ _. has_municipality tally.canton municipality ≡ true)
+  pub closed : (municipality : ℕ) → set.contains tally.closed municipality ≡ true → has_municipality tally.canton municipality ≡ true
+  pub accepted : tally.accepted < 2 ^ 64

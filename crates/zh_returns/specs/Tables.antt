@@ -1,0 +1,33 @@
+-- What the tables of a count stand for: a place for each key, and a flag for each municipality.
+use Rattle.std.specs.Prelude.{ℕ, ◌+◌, ◌*◌, ◌-◌, ◌/◌, ◌%◌, Bool, true, false, Option, Some, None, List, [], ◌∷◌}
+use Rattle.std.specs.Ordering.{nat_cmp}
+use Rattle.std.specs.FinMap as map
+use Rattle.std.specs.FinSet as set
+use Rattle.zh_returns.specs.declared.entry.Entry.{Entry}
+use Rattle.zh_returns.specs.Tally.{key_cmp}
+
+-- the key of a place: each municipality has 32 places, one for each list
+abbrev pub key_of : ℕ → ℕ × ℕ
+key_of place = (place / 32 + 1, place % 32 + 1)
+
+-- the place of a key
+abbrev pub place_of : ℕ → ℕ → ℕ
+place_of municipality list = (municipality - 1) * 32 + (list - 1)
+
+-- what the table holds, from this place on, under the keys of the places
+abbrev pub entries_from : ℕ → List (Option Entry) → List ((ℕ × ℕ) × Entry)
+entries_from place [] = []
+entries_from place (None ∷ table) = entries_from (place + 1) table
+entries_from place (Some entry ∷ table) = (key_of place, entry) ∷ entries_from (place + 1) table
+
+abbrev pub entries_of : List (Option Entry) → map.FinMap key_cmp Entry
+entries_of table = map.from_entries (entries_from 0 table)
+
+-- the municipalities whose flag is set, where the first flag is that of this one
+abbrev pub flagged_from : ℕ → List Bool → List ℕ
+flagged_from municipality [] = []
+flagged_from municipality (false ∷ flags) = flagged_from (municipality + 1) flags
+flagged_from municipality (true ∷ flags) = municipality ∷ flagged_from (municipality + 1) flags
+
+abbrev pub closed_of : List Bool → set.FinSet nat_cmp
+closed_of flags = set.from_list (flagged_from 1 flags)

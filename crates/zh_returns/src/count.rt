@@ -1,0 +1,225 @@
+//! The count.
+
+ghost use Rattle.std.specs.Prelude.{◌≡◌, ◌+◌, ◌-◌, ◌≤◌, ◌<◌, ◌^◌, length, replicate, IfOk, IfSome, Some, None, false, true, All};
+ghost use Rattle.std.specs.FinMap as map;
+ghost use Rattle.std.specs.FinSet as set;
+ghost use Rattle.zh_returns.specs.Judging.{judge, judge_content};
+ghost use Rattle.zh_returns.specs.Limits.{IsTally, IsEntry};
+ghost use Rattle.zh_returns.specs.Step.{step, changed};
+ghost use Rattle.zh_returns.specs.Tables.{place_of};
+ghost use Rattle.zh_returns.specs.Tally.{Tally, empty, held};
+ghost use Rattle.zh_districts.specs.Canton.{has_municipality, stands, constituency_of};
+
+use crate::command::Command;
+use crate::entry::Entry;
+use crate::judging::against;
+use crate::verdict::{Verdict, Why};
+use std::alloc::{AllocError, Global};
+use std::marker::Model;
+use zh_districts::Setup;
+
+/// The most municipalities of a set-up.
+const MUNICIPALITIES: usize = 512;
+
+/// The most lists of a municipality.
+const LISTS: usize = 32;
+
+/// The places of the table of entries.
+const PLACES: usize = MUNICIPALITIES * LISTS;
+
+/// The most votes of a return.
+const MOST_VOTES: u32 = 1_000_000_000;
+
+/// What the municipalities have returned so far, for one set-up: what is held under each municipality and list, which
+/// municipalities are closed, and how many commands were accepted. Municipalities and lists are numbered from 1.
+/// The memory for all of it is taken in `new`, and no other call takes any.
+#[derive(Debug, Drop)]
+pub struct Count<'s> {
+    setup: &'s Setup,
+    entries: Vec<Option<Entry>>,
+    closed: Vec<bool>,
+    accepted: u64,
+}
+
+impl<'s> Model for Count<'s> {
+    ghost use Rattle.zh_returns.specs.Tally.{Tally};
+
+    ghost Value = { Tally };
+
+    ghost use Rattle.zh_returns.specs.Code.{tally_code};
+
+    ghost coded = { tally_code };
+
+    ghost use Rattle.zh_returns.specs.Inside.{tally_of, IsInside};
+
+    ghost view = { tally_of };
+
+    ghost invariant = { IsInside };
+}
+
+/// A table of absent entries.
+fn absent(alloc: Global, places: usize) -> Result<Vec<Option<Entry>>, AllocError>
+    ensures places { IfOk result (λ table. length table.items ≡ places) }
+    ensures absent { IfOk result (λ table. All (λ entry. entry ≡ None) table.items) }
+{
+    vec![in alloc; None; places]
+}
+
+/// Flags that are not set.
+fn unset(alloc: Global, places: usize) -> Result<Vec<bool>, AllocError>
+    ensures places { IfOk result (λ flags. length flags.items ≡ places) }
+    ensures unset { IfOk result (λ flags. All (λ flag. flag ≡ false) flags.items) }
+{
+    vec![in alloc; false; places]
+}
+
+/// The place of a key in the table of entries.
+fn index_of(municipality: u32, list: u32) -> usize
+    requires municipality_from_one { 1 ≤ municipality }
+    requires municipality_within { municipality ≤ MUNICIPALITIES }
+    requires list_from_one { 1 ≤ list }
+    requires list_within { list ≤ LISTS }
+    ensures place { result ≡ place_of municipality list }
+    ensures within { result < PLACES }
+{
+    (municipality - 1) as usize * LISTS + (list - 1) as usize
+}
+
+impl<'s> Count<'s> {
+    /// The count of an election before its first return.
+    pub fn new(alloc: Global, setup: &'s Setup) -> Result<Count<'s>, AllocError>
+        ensures { IfOk result (λ count. count ≡ empty setup.now) }
+    {
+        // Each key of the set-up has a place.
+        let has_places = setup.municipalities() as usize <= MUNICIPALITIES
+            && setup.groups() as usize <= LISTS;
+        prove!(has_places);
+        Ok(Count {
+            setup,
+            entries: absent(alloc, PLACES)?,
+            closed: unset(alloc, MUNICIPALITIES)?,
+            accepted: 0,
+        })
+    }
+
+    /// The set-up that the count is for.
+    pub fn setup(&self) -> &'s Setup
+        ensures { result.now ≡ self.now.canton }
+    {
+        self.setup
+    }
+
+    /// How many commands were accepted since the count was empty.
+    pub fn accepted(&self) -> u64
+        ensures accepted { result ≡ self.now.accepted }
+        ensures limits { IsTally self.now }
+    {
+        self.accepted
+    }
+
+    /// What is held under a key: nothing, or the entry of a list that stands in that municipality.
+    pub fn entry(&self, municipality: u32, list: u32) -> Option<Entry>
+        requires from_one { 1 ≤ municipality }
+        requires there { municipality ≤ length self.now.canton.municipalities }
+        requires list_from_one { 1 ≤ list }
+        requires list_there { list ≤ length self.now.canton.groups }
+        ensures held { result ≡ held self.now municipality list }
+        ensures limits { IfSome result IsEntry }
+    {
+        self.entries[index_of(municipality, list)]
+    }
+
+    /// Whether a municipality is closed.
+    pub fn closed(&self, municipality: u32) -> bool
+        requires from_one { 1 ≤ municipality }
+        requires there { municipality ≤ length self.now.canton.municipalities }
+        ensures { result ≡ set.contains self.now.closed municipality }
+    {
+        self.closed[(municipality - 1) as usize]
+    }
+
+    /// What becomes of a command, whatever numbers it has. Of a return the first of these decides:
+    ///
+    /// 1. The set-up has no such municipality: `Municipality`.
+    /// 2. The list does not stand in the constituency of the municipality: `List`.
+    /// 3. It has more than 1,000,000,000 votes: `Votes`.
+    /// 4. The municipality is closed: `Closed`.
+    /// 5. Nothing is held for the list there: accepted with number 1, else `Gap`.
+    /// 6. The number held is `n`: a lower number is `Stale`; `n` is `Same` with the votes held, else `Conflict`; `n + 1`
+    ///    is accepted; a higher one is `Gap`. A withdrawn list holds no votes, which differs from 0 votes.
+    pub fn judge(&self, command: &Command) -> Verdict
+        ensures { result ≡ judge self.now command.now }
+    {
+        match command {
+            Command::Return(row) => {
+                self.judge_content(row.municipality, row.list, row.number, Some(row.votes))
+            }
+        }
+    }
+
+    /// What becomes of a content, votes or none for a withdrawn list, for a key under a replacement number.
+    fn judge_content(
+        &self,
+        municipality: u32,
+        list: u32,
+        number: u32,
+        content: Option<u32>,
+    ) -> Verdict
+        ensures { result ≡ judge_content self.now municipality list number content }
+    {
+        if municipality == 0 || municipality > self.setup.municipalities() {
+            return Verdict::Refused(Why::Municipality);
+        }
+        if !self.stands(municipality, list) {
+            return Verdict::Refused(Why::List);
+        }
+        if content.is_some_and(|votes| votes > MOST_VOTES) {
+            return Verdict::Refused(Why::Votes);
+        }
+        if self.closed(municipality) {
+            return Verdict::Refused(Why::Closed);
+        }
+        against(self.entry(municipality, list), number, content)
+    }
+
+    /// Whether a list of this number stands in a municipality of the set-up.
+    fn stands(&self, municipality: u32, list: u32) -> bool
+        requires from_one { 1 ≤ municipality }
+        requires there { municipality ≤ length self.now.canton.municipalities }
+        ensures stands { result ≡ stands self.now.canton (constituency_of self.now.canton municipality) list }
+        ensures there { result ≡ true → (1 ≤ list) × (list ≤ length self.now.canton.groups) }
+    {
+        let constituency = self.setup.constituency_of(municipality);
+        list >= 1 && list <= self.setup.groups() && self.setup.stands(constituency, list)
+    }
+
+    /// Puts what a command says over the count, and counts it. It has been judged, and is accepted.
+    pub fn apply(&mut self, command: &Command)
+        requires accept { judge self.old command.now ≡ Verdict.Accept }
+        requires room { self.old.accepted < 2 ^ 64 - 1 }
+        ensures step { self.new ≡ step self.old command.now }
+        ensures changed { self.new ≡ changed self.old command.now }
+    {
+        match command {
+            Command::Return(row) => {
+                let entry = Entry {
+                    number: row.number,
+                    votes: Some(row.votes),
+                };
+                self.put(row.municipality, row.list, entry);
+            }
+        }
+        self.accepted += 1;
+    }
+
+    /// Puts an entry of a list that stands in a municipality over what is held under their key.
+    fn put(&mut self, municipality: u32, list: u32, entry: Entry)
+        requires there { has_municipality self.old.canton municipality ≡ true }
+        requires stands { stands self.old.canton (constituency_of self.old.canton municipality) list ≡ true }
+        requires entry { IsEntry entry }
+        ensures { self.new ≡ record self.old { entries = map.insert self.old.entries (municipality, list) entry } }
+    {
+        let table = &mut self.entries;
+        table[index_of(municipality, list)] = Some(entry);
+    }
+}

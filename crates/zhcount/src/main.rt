@@ -1,0 +1,19 @@
+//! The count office of a cantonal parliament.
+#![tactic(auto)]
+
+use std::process::ExitCode;
+use std::{env, io};
+use zh_office::program;
+
+/// Hands the words behind the program's name and the standard streams to the office, and gives its status.
+fn main(rt: HostRuntime) -> io::Result<ExitCode> {
+    let words = env::args(&rt)?.skip(1).collect(rt.alloc())?;
+    let words: Vec<String> = words;
+    Ok(ExitCode::from(program(
+        rt.alloc(),
+        &words,
+        &mut rt.stdin(),
+        &mut rt.stdout(),
+        &mut rt.stderr(),
+    )))
+}
