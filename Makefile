@@ -2,7 +2,7 @@
 .PHONY: run test fmt
 
 run:
-	cd crates/zhcount && rt run
+	@cd crates/zhcount && rt run
 
 test:
 	rt ci

@@ -1,12 +1,12 @@
 -- Numerals: what `parse` reads, and how they begin.
-use Rattle.std.proofs.Common.{◌≡◌, ◌≢◌, ℕ, ◌<◌, ◌≤◌, ◌^◌, ◌⊎◌, List, [], ◌∷◌, length, drop, get_or, Ok, Err, Result, MatchOption, decimal, IsUtf8, sym, ap, ◌∙◌, subst, inl, inr, refl, arith, rules, length-drop}
+use Rattle.std.proofs.Common.{◌≡◌, ◌≢◌, ℕ, ◌<◌, ◌^◌, List, length, drop, get_or, Ok, Err, Result, MatchOption, decimal, IsUtf8, sym, ap, ◌∙◌, subst, inl, inr, arith, length-drop}
 use Rattle.std.proofs.lemmas.Fmt.{decimal_is_IsNumeral, decimal_digit, first_decimal, parse-decimal, decimal-digits_value, IsAscii-decimal}
 use Rattle.std.proofs.lemmas.Str.{IsUtf8-from_ascii}
 use Rattle.std.proofs.lemmas.Str.Parse.{digit_at, numerals_by_value, tells_digits, without_leading_plus_none, without_leading_plus_plus}
 use Rattle.std.proofs.lemmas.Bool.{cases_lt}
 use Rattle.std.specs.Int.{IsInRange}
 use Rattle.std.specs.Result.{result_ok}
-use Rattle.std.specs.Str.Parse.{AllDigits, ParsesUnsigned, without_leading_plus, digits_value, IsNumeral}
+use Rattle.std.specs.Str.Parse.{AllDigits, ParsesUnsigned, without_leading_plus, IsNumeral}
 
 -- a numeral of several digits begins with 1 to 9
 pub IsInRange-from_decimal : (word : List ℕ) (n : ℕ) → n < 2 ^ 32 → word ≡ decimal n → 1 < length word → IsInRange 49 57 (get_or word 0 0)

@@ -3,3 +3,4 @@ pub mod Decimals
 pub mod Splits
 pub mod Requests
 pub mod Spellings
+pub mod ReplyWords

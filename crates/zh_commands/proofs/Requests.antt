@@ -1,13 +1,13 @@
 -- Requests are told apart by their words.
-use Rattle.std.proofs.Common.{◌≡◌, ◌≢◌, ℕ, ◌<◌, ◌≤◌, ◌^◌, List, [], ◌∷◌, ◌++◌, length, get_or, drop, decimal, codes, sym, ap, ◌∙◌, refl, arith, rules, append_assoc, append-nil}
-use Rattle.std.specs.List.{All, AllByRecursion}
+use Rattle.std.proofs.Common.{◌≡◌, ◌≢◌, ℕ, ◌<◌, ◌^◌, List, [], ◌∷◌, ◌++◌, length, get_or, drop, decimal, codes, sym, ap, ◌∙◌, refl, arith, append_assoc, append-nil}
+use Rattle.std.specs.List.{AllByRecursion}
 use Rattle.std.proofs.lemmas.Fmt.{decimal_injective}
 use Rattle.std.proofs.lemmas.List.Elements.{All-from_recursion, recursion_from_All}
 use Rattle.zh_returns.specs.declared.row.Row.{Row}
 use Rattle.zh_commands.specs.declared.lines.Kind.{Kind}
 use Rattle.zh_commands.specs.declared.lines.Kind.TheVariants.{Return, Show}
 use Rattle.zh_commands.specs.Words.{first_word, numerals, AreNumerals}
-use Rattle.zh_commands.specs.Lines.{request, row_text, IsRow, IsRequest}
+use Rattle.zh_commands.specs.Lines.{request, IsRow, IsRequest}
 use Rattle.zh_commands.proofs.Splits.{IsWord, IsWord-decimal, first_word-append, first_word-numerals, split_is}
 
 -- numerals that read alike are of the same numbers
@@ -17,8 +17,8 @@ numerals_same [] (n ∷ ns) _ _ e = absurd (cc)
 numerals_same (m ∷ ms) [] _ _ e = absurd (cc)
 numerals_same (m ∷ ms) (n ∷ ns) fit fits e =
     let text = decimal m ++ numerals ms in
-    let first = first_word-append (decimal m) (numerals ms) (IsWord-decimal m fit.0) (first_word-numerals ms) in
-    let (head, tail) = split_is text (decimal m) (numerals ms) (decimal n) (numerals ns) (sym first) refl (IsWord-decimal n fits.0) (first_word-numerals ns) (ap (drop 1) e) in
+    let first = first_word-append (decimal m) (numerals ms) (IsWord-decimal m (omega (arith, fit.0))) (first_word-numerals ms) in
+    let (head, tail) = split_is text (decimal m) (numerals ms) (decimal n) (numerals ns) (sym first) refl (IsWord-decimal n (omega (arith, fits.0))) (first_word-numerals ns) (ap (drop 1) e) in
     let same = decimal_injective m n (omega (arith, fit.0)) (omega (arith, fits.0)) head in
     let rest = numerals_same ms ns fit.1 fits.1 tail in
     cc
@@ -63,26 +63,12 @@ pub split_request : (text first left : List ℕ) (kind : Kind) → first ≡ fir
 split_request text first left kind is whole e =
     split_is text first left (word_of kind) (numerals (numbers_of kind)) is whole (IsWord-word_of kind) (first_word-numerals (numbers_of kind)) (e ∙ request-parts kind)
 
--- a word and numerals make the request
-pub request_from : (text first left : List ℕ) (kind : Kind) → text ≡ first ++ left → first ≡ word_of kind → left ≡ numerals (numbers_of kind) → text ≡ request kind
-request_from text first left kind whole word rest =
-    whole ∙ ap (λ l. l ++ left) word ∙ ap (λ l. word_of kind ++ l) rest ∙ sym (request-parts kind)
-
--- a text with a request's first word is no request, where its numerals are none of that request
-pub NoRequest-return : (text first left : List ℕ) → first ≡ first_word text → text ≡ first ++ left → first ≡ codes "return" → ((row : Row) → IsRow row → left ≢ row_text row) → (kind : Kind) → IsRequest kind → text ≢ request kind
-NoRequest-return text first left is whole word none (Return row) fits e = none row fits (split_request text first left (Return row) is whole e).1
-NoRequest-return text first left is whole word none (Show municipality list) fits e =
-    let (same, _) = split_request text first left (Show municipality list) is whole e in cc
-
+-- a text that begins with `show` is no request, where two numerals do not follow
 pub NoRequest-show : (text first left : List ℕ) → first ≡ first_word text → text ≡ first ++ left → first ≡ codes "show" → ((ns : List ℕ) → length ns ≡ 2 → AreNumerals ns → left ≢ numerals ns) → (kind : Kind) → IsRequest kind → text ≢ request kind
 NoRequest-show text first left is whole word none (Return row) fits e =
     let (same, _) = split_request text first left (Return row) is whole e in cc
 NoRequest-show text first left is whole word none (Show municipality list) fits e =
     none (municipality ∷ list ∷ []) refl (AreNumerals-pair municipality list fits.0 fits.1) (split_request text first left (Show municipality list) is whole e).1
-
--- nor where its first word is no request's
-pub NoRequest-word : (text first left : List ℕ) → first ≡ first_word text → text ≡ first ++ left → ((kind : Kind) → first ≢ word_of kind) → (kind : Kind) → IsRequest kind → text ≢ request kind
-NoRequest-word text first left is whole none kind fits e = none kind (split_request text first left kind is whole e).0
 
 -- a row has its numbers, and no others
 row_same : (a b : Row) → row_numbers a ≡ row_numbers b → a ≡ b

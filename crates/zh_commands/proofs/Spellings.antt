@@ -1,5 +1,5 @@
 -- A line has one spelling, of at most 120 bytes, and a text is read in one way.
-use Rattle.std.proofs.Common.{◌≡◌, ◌≢◌, ℕ, ◌<◌, ◌≤◌, ◌^◌, ◌+◌, ◌*◌, List, [], ◌∷◌, ◌++◌, length, drop, decimal, sym, ap, ◌∙◌, refl, arith, length-append, subst, rules, tests, Result, Ok, Err}
+use Rattle.std.proofs.Common.{◌≡◌, ℕ, ◌<◌, ◌≤◌, ◌^◌, ◌+◌, ◌*◌, List, [], ◌∷◌, ◌++◌, length, drop, decimal, sym, ap, ◌∙◌, refl, arith, length-append, subst, rules, tests, Result, Ok, Err}
 use Rattle.std.specs.List.{AllByRecursion}
 use Rattle.std.proofs.lemmas.Fmt.{decimal_injective, decimal_digit, length-decimal-le}
 use Rattle.std.proofs.lemmas.List.Elements.{recursion_from_All}
@@ -8,7 +8,7 @@ use Rattle.zh_commands.specs.declared.lines.Kind.TheVariants.{Return, Show}
 use Rattle.zh_commands.specs.declared.lines.Line.{Line}
 use Rattle.zh_commands.specs.declared.lines.LineFault.{LineFault}
 use Rattle.zh_commands.specs.declared.lines.LineFault.TheVariants.{Syntax, Desk}
-use Rattle.zh_commands.specs.Words.{first_word, numerals, AreNumerals}
+use Rattle.zh_commands.specs.Words.{first_word, numerals}
 use Rattle.zh_commands.specs.Lines.{request, spelling, IsDesk, IsRequest, IsLine, NamesNoDesk, Reads, desk_of}
 use Rattle.zh_commands.proofs.Splits.{IsWord-decimal, first_word-append, split_is}
 use Rattle.zh_commands.proofs.Requests.{word_of, numbers_of, AreNumerals-numbers_of, request-parts, request_injective}

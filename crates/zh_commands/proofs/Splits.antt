@@ -1,7 +1,7 @@
 -- Words: what stands before the first space of a text is one thing alone.
-use Rattle.std.proofs.Common.{◌≡◌, ◌≢◌, ◌==◌, ℕ, ◌<◌, ◌≤◌, ◌^◌, Bool, true, false, cond, not, List, [], ◌∷◌, ◌++◌, length, get_or, take, drop, set, ◌+◌, ◌-◌, decimal, sym, ap, ◌∙◌, refl, arith, rules, tests, append_assoc, append-nil}
+use Rattle.std.proofs.Common.{◌≡◌, ◌==◌, ℕ, ◌<◌, ◌≤◌, ◌^◌, Bool, true, false, cond, not, List, [], ◌∷◌, ◌++◌, length, get_or, take, drop, set, ◌+◌, decimal, sym, ap, ◌∙◌, refl, arith, rules, tests, append_assoc, append-nil}
 use Rattle.std.proofs.lemmas.Fmt.{decimal_is_IsNumeral}
-use Rattle.std.proofs.lemmas.List.{append_cancel_left, take_rest, drop_more, take_more_set, take_all, nil_from_length}
+use Rattle.std.proofs.lemmas.List.{append_cancel_left, drop_more, take_more_set, take_all, nil_from_length}
 use Rattle.std.proofs.lemmas.List.Sums.{take_while-cons}
 use Rattle.std.proofs.lemmas.Str.Parse.{digit_from_value}
 use Rattle.std.specs.Str.Parse.{AllDigits}
@@ -36,8 +36,8 @@ IsWord-from_digits (digit ∷ digits) all =
     first_word-cons digit digits ∙ rw other (ap (λ l. digit ∷ l) (IsWord-from_digits digits all.1))
 
 -- a numeral is a word
-pub IsWord-decimal : (n : ℕ) → n < 2 ^ 32 → IsWord (decimal n)
-IsWord-decimal n small = IsWord-from_digits (decimal n) (decimal_is_IsNumeral n (omega arith)).0.1
+pub IsWord-decimal : (n : ℕ) → n < 2 ^ 64 → IsWord (decimal n)
+IsWord-decimal n small = IsWord-from_digits (decimal n) (decimal_is_IsNumeral n small).0.1
 
 -- a text has one first word, and one rest
 pub split_is : (bytes first left word rest : List ℕ) → first ≡ first_word bytes → bytes ≡ first ++ left → IsWord word → first_word rest ≡ [] → bytes ≡ word ++ rest → (first ≡ word) × (left ≡ rest)
@@ -55,14 +55,10 @@ pub numerals-append : (ms ns : List ℕ) → numerals (ms ++ ns) ≡ numerals ms
 numerals-append [] ns = refl
 numerals-append (m ∷ ms) ns = ap (λ l. 32 ∷ decimal m ++ l) (numerals-append ms ns) ∙ sym (append_assoc (32 ∷ decimal m) (numerals ms) (numerals ns))
 
--- what stands behind the first byte
-pub rest_is : (text rest : List ℕ) (byte : ℕ) → text ≡ byte ∷ rest → take (length text - 1) (drop 1 text) ≡ rest
-rest_is text rest byte e = take_rest text 1 ∙ ap (drop 1) e
-
 -- a numeral at the front of numerals, and those behind it
 pub numeral_is : (text first left : List ℕ) (n : ℕ) (numbers : List ℕ) → first ≡ first_word text → text ≡ first ++ left → n < 2 ^ 32 → text ≡ decimal n ++ numerals numbers → (first ≡ decimal n) × (left ≡ numerals numbers)
 numeral_is text first left n numbers is whole small e =
-    split_is text first left (decimal n) (numerals numbers) is whole (IsWord-decimal n small) (first_word-numerals numbers) e
+    split_is text first left (decimal n) (numerals numbers) is whole (IsWord-decimal n (omega (arith, small))) (first_word-numerals numbers) e
 
 -- the numeral that is next, and those behind it
 pub numerals-drop : (text numbers : List ℕ) (i : ℕ) → i < length numbers → text ≡ numerals (drop i numbers) → text ≡ numerals (get_or numbers i 0 ∷ drop (i + 1) numbers)

@@ -1,5 +1,5 @@
 -- The replies to the desks as bytes: 32 is the space, 10 the end of a line.
-use Rattle.std.specs.Prelude.{ℕ, List, [], ◌∷◌, ◌++◌, codes, decimal}
+use Rattle.std.specs.Prelude.{ℕ, ◌^◌, ◌<◌, List, [], ◌∷◌, ◌++◌, codes, decimal}
 use Rattle.zh_commands.specs.declared.replies.Reply.{Reply}
 use Rattle.zh_commands.specs.declared.replies.Reply.TheVariants.{Stored, Same, Held, Dropped, Nothing, Shows, ShowsWithdrawn, Refused}
 use Rattle.zh_commands.specs.declared.replies.Refusal.{Refusal}
@@ -41,3 +41,18 @@ answer (Refused refusal) = codes "refused " ++ name refusal
 -- the bytes of a reply: the desk, a space, the answer, the end of the line
 abbrev pub reply_text : ℕ → Reply → List ℕ
 reply_text desk reply = decimal desk ++ 32 ∷ answer reply ++ 10 ∷ []
+
+-- the numbers of a refusal and of a reply fit their types
+abbrev pub IsRefusal : Refusal → Type 0
+IsRefusal (refusals.NotClosed municipality) = municipality < 2 ^ 32
+IsRefusal refusal = Unit {0}
+
+abbrev pub IsReply : Reply → Type 0
+IsReply (Stored accepted) = accepted < 2 ^ 64
+IsReply (Held rows) = rows < 2 ^ 32
+IsReply (Dropped rows) = rows < 2 ^ 32
+IsReply (Shows number votes) = (number < 2 ^ 32) × (votes < 2 ^ 32)
+IsReply (ShowsWithdrawn number) = number < 2 ^ 32
+IsReply (Refused refusal) = IsRefusal refusal
+IsReply Same = Unit {0}
+IsReply Nothing = Unit {0}

@@ -1,8 +1,10 @@
 //! What holds of the definitions of lines and replies. The functions do nothing: their contracts are the laws.
 
-ghost use Rattle.std.specs.Prelude.{◌≡◌, ◌≤◌, ℕ, List, Result, Ok, length};
+ghost use Rattle.std.specs.Prelude.{◌≡◌, ◌^◌, ◌<◌, ◌≤◌, ℕ, List, Result, Ok, length};
 ghost use Rattle.zh_commands.specs.declared.lines.Line.{Line};
 ghost use Rattle.zh_commands.specs.declared.lines.LineFault.{LineFault};
+ghost use Rattle.zh_commands.specs.declared.replies.Reply.{Reply};
+ghost use Rattle.zh_commands.specs.Replies.{reply_text, IsReply};
 ghost use Rattle.zh_commands.specs.Lines.{spelling, IsLine, Reads, desk_of};
 
 /// A text is read in one way.
@@ -20,4 +22,10 @@ pub fn one_spelling()
 /// A line that is read is answered under its own desk.
 pub fn one_desk()
     ensures { (bytes : List ℕ) (line : Line) → Reads bytes (Ok line) → desk_of bytes ≡ line.desk }
+{}
+
+/// The bytes of a reply tell the desk and the reply.
+pub fn one_reply()
+    ensures { (d e : ℕ) (a b : Reply) → d < 2 ^ 8 → e < 2 ^ 8 → IsReply a → IsReply b
+        → reply_text d a ≡ reply_text e b → (d ≡ e) × (a ≡ b) }
 {}

@@ -10,7 +10,7 @@ mod text;
 mod words;
 mod writing;
 
-pub use laws::{one_desk, one_reading, one_spelling};
+pub use laws::{one_desk, one_reading, one_reply, one_spelling};
 pub use lines::{Kind, Line, LineFault};
 pub use output::{WriteFault, put};
 pub use reading::{desk_of, parse_line};

@@ -1,4 +1,4 @@
-ghost use Rattle.std.specs.Prelude.{ℕ, ◌≤◌, length, take, OnOk, OnErr};
+ghost use Rattle.std.specs.Prelude.{◌≡◌, ℕ, ◌≤◌, [], length, take, IsOk, OnOk, OnErr};
 ghost use Rattle.std.specs.Io.KnownBytes.{Appends};
 
 use std::io::Write;
@@ -14,6 +14,7 @@ pub struct WriteFault;
 /// It fails at the first write that fails, an interrupted one too, or that takes no byte.
 pub fn put<W: Write>(out: &mut W, bytes: &[u8]) -> Result<(), WriteFault>
     ensures all { OnOk result (Appends (W.contents out.old) (W.contents out.new) bytes.now) }
+    ensures nothing { bytes.now ≡ [] → IsOk result }
     ensures front { OnErr result ((n : ℕ) × (n ≤ length bytes.now)
         × Appends (W.contents out.old) (W.contents out.new) (take n bytes.now)) }
 {

@@ -2,18 +2,22 @@ ghost use Rattle.std.specs.Prelude.{◌≡◌, ◌≢◌, ◌↔◌, IsTrue, Mat
 ghost use Rattle.zh_commands.specs.Lines.{request, row_text, IsDesk, IsRow, IsRequest, Reads, desk_of};
 
 use crate::lines::{Kind, Line, LineFault};
-use crate::words::{numbers, numeral, split_word};
+use crate::words::{behind_space, numbers, numeral, split_word};
 use zh_returns::Row;
 
 // The bytes that a line has at most.
 const LONGEST: usize = 120;
 
-// The first words of the requests.
+// The first word of a return.
 const RETURN: &[u8] = b"return";
 
+// The first word of a question for what is held.
 const SHOW: &[u8] = b"show";
 
 /// Reads a line, without its end, as `docs/FORMATS.md`, "Lines", has it. It takes no memory.
+///
+/// A line of more than 120 bytes is `Syntax`. Else it is `Desk` where the first word is a numeral other than 1 to 8,
+/// whatever follows, and `Syntax` where it has none of the forms of a line.
 pub fn parse_line(bytes: &[u8]) -> Result<Line, LineFault>
     ensures reads { Reads bytes.now result }
 {
@@ -27,7 +31,7 @@ pub fn parse_line(bytes: &[u8]) -> Result<Line, LineFault>
     if !is_desk(desk) {
         return Err(LineFault::Desk);
     }
-    let [b' ', text @ ..] = rest else {
+    let Some(text) = behind_space(rest) else {
         return Err(LineFault::Syntax);
     };
     let Some(kind) = kind_of(text) else {

@@ -4,7 +4,7 @@ use itoa::Buffer;
 use std::marker::Model;
 
 // The bytes that a text has room for.
-pub(crate) const ROOM: usize = 64;
+const ROOM: usize = 64;
 
 /// A text of at most 64 bytes, which is written from its front to its end.
 #[derive(Drop)]
@@ -14,13 +14,15 @@ pub(crate) struct Text {
 }
 
 impl Model for Text {
-    ghost use Rattle.std.specs.Prelude.{List, ℕ, ◌≡◌, ◌≤◌, length, take};
+    ghost use Rattle.std.specs.Prelude.{List, ℕ, ◌≤◌, take};
 
     ghost Value = { List ℕ };
 
     ghost view = { λ text. take text.end text.bytes };
 
-    ghost invariant = { λ text. text.end ≤ 64 };
+    ghost use Rattle.zh_commands.specs.declared.text.TheConstants.{ROOM};
+
+    ghost invariant = { λ text. text.end ≤ ROOM };
 }
 
 impl Text {
@@ -33,8 +35,9 @@ impl Text {
         }
     }
 
+    // Writes the bytes at the end.
     pub(crate) fn push(&mut self, bytes: &[u8])
-        requires { length self.old + length bytes.now ≤ 64 }
+        requires { length self.old + length bytes.now ≤ ROOM }
         ensures { self.new ≡ self.old ++ bytes.now }
     {
         let end = self.end + bytes.len();
@@ -42,8 +45,9 @@ impl Text {
         self.end = end;
     }
 
+    // Writes the numeral at the end, which has at most 20 digits.
     pub(crate) fn push_number(&mut self, number: u64)
-        requires { length self.old + 20 ≤ 64 }
+        requires { length self.old + 20 ≤ ROOM }
         ensures text { self.new ≡ self.old ++ decimal number }
         ensures short { length self.new ≤ length self.old + 20 }
     {
@@ -51,7 +55,7 @@ impl Text {
     }
 
     // Copies the text to the front of `out`, and gives its length.
-    pub(crate) fn copy_to(&self, out: &mut [u8; ROOM]) -> usize
+    pub(crate) fn copy_to(&self, out: &mut [u8; 64]) -> usize
         ensures text { take result out.new ≡ self.now }
         ensures short { result ≤ 64 }
     {

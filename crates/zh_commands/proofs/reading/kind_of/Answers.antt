@@ -1,6 +1,6 @@
 use Rattle.std.proofs.Common.{codes, sym, ◌∙◌}
 use Rattle.std.proofs.lemmas.Slice.Eq.{bytes_eq-Decides}
-use Rattle.zh_commands.proofs.Requests.{NoRequest-return, NoRequest-show, NoRequest-word}
+use Rattle.zh_commands.proofs.Requests.{NoRequest-show}
 use Rattle.zh_commands.proofs.reading.kind_of.Goals as goal
 
 pub returns-in_err-municipality : goal.returns-in_err-municipality

@@ -1,5 +1,5 @@
-use Rattle.std.proofs.Common.{ap, ◌∙◌, arith, length, get_or, List, ℕ, rules}
-use Rattle.zh_commands.proofs.Splits.{rest_is}
+use Rattle.std.proofs.Common.{ap, drop, length, sym, ◌∙◌, arith}
+use Rattle.zh_commands.specs.Lines.{request}
 use Rattle.zh_commands.proofs.Spellings.{split_spelling, NamesDesk, length-spelling}
 use Rattle.zh_commands.proofs.reading.parse_line.Goals as goal
 
@@ -19,23 +19,13 @@ returns-in_default c =
       );
     }
 
-pub returns-in_default-rest : goal.returns-in_default-rest
-returns-in_default-rest c =
+pub returns-in_default-behind_space : goal.returns-in_default-behind_space
+returns-in_default-behind_space c =
     let split = c.split_word.ensures in
     record {
       reads = (
         NamesDesk _ _ c.in-Some.desk split.word (c.is_desk.ensures.0 c.if-not-is_desk.false) c.in-Some.ensures.1,
-        λ line is e. let (_, left) = split_spelling _ _ _ line split.word split.whole is e in absurd (omega (arith, ap length left, c.in_default-rest.len_below)),
-      );
-    }
-
-pub returns-in_default-rest-2 : goal.returns-in_default-rest-2
-returns-in_default-rest-2 c =
-    let split = c.split_word.ensures in
-    record {
-      reads = (
-        NamesDesk _ _ c.in-Some.desk split.word (c.is_desk.ensures.0 c.if-not-is_desk.false) c.in-Some.ensures.1,
-        λ line is e. let (_, left) = split_spelling _ _ _ line split.word split.whole is e in let first = ap (λ (l : List ℕ). get_or l 0 0) left in absurd (search rules),
+        λ line is e. c.in_default-behind_space.ensures (request line.kind) (split_spelling _ _ _ line split.word split.whole is e).1,
       );
     }
 
@@ -45,6 +35,6 @@ returns-in_default-kind_of c =
     record {
       reads = (
         NamesDesk _ _ c.in-Some.desk split.word (c.is_desk.ensures.0 c.if-not-is_desk.false) c.in-Some.ensures.1,
-        λ line is e. c.in_default-kind_of.ensures line.kind is.1 (rest_is _ _ 32 (split_spelling _ _ _ line split.word split.whole is e).1),
+        λ line is e. c.in_default-kind_of.ensures line.kind is.1 (ap (drop 1) (sym c.in-Some-behind_space.ensures ∙ (split_spelling _ _ _ line split.word split.whole is e).1)),
       );
     }

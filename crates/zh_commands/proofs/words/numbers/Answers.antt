@@ -1,4 +1,4 @@
-use Rattle.std.proofs.Common.{ℕ, ◌<◌, length, get_or, drop, ◌+◌, ◌^◌, arith, length-set, sym, ◌∙◌}
+use Rattle.std.proofs.Common.{◌<◌, length, get_or, drop, ◌+◌, ◌^◌, arith, length-set, sym, ◌∙◌}
 use Rattle.std.proofs.lemmas.List.Elements.{All-set}
 use Rattle.std.proofs.lemmas.Bool.{eqb-true}
 use Rattle.zh_commands.proofs.Splits.{numerals-drop, numerals_more, numerals_whole}

@@ -1,0 +1,5 @@
+use Rattle.zh_commands.proofs.ReplyWords.{reply_same}
+use Rattle.zh_commands.proofs.laws.one_reply.Goals as goal
+
+pub returns : goal.returns
+returns c = reply_same

@@ -1,0 +1,6 @@
+pub mod Disk
+pub mod Calls
+pub mod Stops
+pub mod Memory
+pub mod Fuse
+pub mod File

@@ -1,0 +1,33 @@
+use Rattle.std.proofs.Common.{arith}
+use Rattle.std.proofs.lemmas.Grind.{common_steps}
+use Rattle.zh_divisors.specs.Fit.{IsStrictFit, IsTied}
+use Rattle.zh_divisors.proofs.Ends.{AreApart, IsStrictFit-apart, RoundsEach-apart, IsTied-together}
+use Rattle.zh_divisors.proofs.OneFit.{no_strict_fit}
+use Rattle.zh_divisors.proofs.single.apportion.Goals as goal
+
+-- the weights and seats of the calls are those of the result
+apart : (c : goal.After-new) → AreApart c.args.weights.now c.new.result.seats c.least_last-last.result c.most_next-next.result
+apart c = record { last_is = grind arith; next_is = grind arith; apart = grind arith }
+
+strict : (c : goal.After-new) → IsStrictFit c.args.weights.now c.args.house c.new.result.seats
+strict c = IsStrictFit-apart _ _ _ _ _ (grind arith) (apart c)
+
+tied : (c : goal.After-drop-seats) → IsTied c.args.weights.now c.args.house
+tied c =
+    IsTied-together c.args.weights.now c.in_ok-seats.seats.items c.args.house c.least_last-last.result c.most_next-next.result
+    (grind arith) c.requires.positive (grind arith) (grind arith) (grind arith)
+
+pub returns-clause-seats : goal.returns-clause-seats
+returns-clause-seats c = strict c
+
+pub returns-clause-rounds : goal.returns-clause-rounds
+returns-clause-rounds c = RoundsEach-apart c.args.weights.now c.new.result _ _ (apart c) (grind arith) (grind (arith, common_steps))
+
+pub returns-clause-untied : goal.returns-clause-untied
+returns-clause-untied c = λ is. no_strict_fit _ _ _ is (strict c)
+
+pub returns-then-not-next_is_worth_less-clause-tied : goal.returns-then-not-next_is_worth_less-clause-tied
+returns-then-not-next_is_worth_less-clause-tied c = λ _. tied c
+
+pub returns-then-not-next_is_worth_less-clause-no_strict : goal.returns-then-not-next_is_worth_less-clause-no_strict
+returns-then-not-next_is_worth_less-clause-no_strict c = λ _ seats. no_strict_fit _ _ seats (tied c)

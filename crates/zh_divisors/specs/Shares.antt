@@ -1,0 +1,27 @@
+-- The result of an apportionment: seats, and a divisor that gives them.
+use Rattle.std.specs.Prelude.{◌≡◌, ℕ, ◌+◌, ◌*◌, ◌<◌, List, length, slice_index}
+use Rattle.zh_divisors.specs.Rounding.{Rounds}
+use Rattle.zh_divisors.specs.Worth.{IsLeastLast, IsMostNext}
+
+-- one number of seats for each weight, and the divisor num / den
+pub record Apportionment : Type 0 where
+  pub seats : List ℕ
+  pub num : ℕ
+  pub den : ℕ
+
+-- each weight over num / den rounds to its seats, and lies on no half
+pub record RoundsEach (weights : List ℕ) (shares : Apportionment) : Type 0 where
+  pub num_positive : 0 < shares.num
+  pub den_positive : 0 < shares.den
+  pub each : (k : ℕ) → k < length weights →
+      Rounds (slice_index weights k * shares.den) shares.num (slice_index shares.seats k)
+
+-- num and den are the sums of two weights and of their seats, not reduced: of the first whose last seat is worth least,
+-- and of the first whose next seat is worth most
+pub record HasDivisor (weights : List ℕ) (shares : Apportionment) : Type 0 where
+  pub last : ℕ
+  pub next : ℕ
+  pub last_is : IsLeastLast weights shares.seats (length weights) last
+  pub next_is : IsMostNext weights shares.seats (length weights) next
+  pub num_is : shares.num ≡ slice_index weights last + slice_index weights next
+  pub den_is : shares.den ≡ slice_index shares.seats last + slice_index shares.seats next

@@ -1,0 +1,24 @@
+//! What is true of every apportionment.
+ghost use Rattle.std.specs.Prelude.{◌≡◌, ℕ, ◌<◌, ◌≤◌, Any, List, length, sum};
+ghost use Rattle.zh_divisors.specs.Fit.{IsFit, IsStrictFit, IsTied};
+ghost use Rattle.zh_divisors.specs.Shares.{Apportionment, RoundsEach};
+
+/// A strict fit is the only fit, and is there exactly where some divisor rounds without a half.
+///
+/// What is tied has no strict fit, and a fit of what is not tied is strict.
+pub fn one_fit()
+    ensures only { (weights : List ℕ) (house : ℕ) (seats others : List ℕ) →
+        IsStrictFit weights house seats → IsFit weights house others → others ≡ seats }
+    ensures tied { (weights : List ℕ) (house : ℕ) (seats : List ℕ) →
+        IsTied weights house → ¬ IsStrictFit weights house seats }
+    ensures strict { (weights : List ℕ) (house : ℕ) (seats : List ℕ) →
+        IsFit weights house seats → ¬ IsTied weights house → IsStrictFit weights house seats }
+
+    // Seats that follow from any divisor at all, with no quotient on a half.
+    ensures rounded { (weights : List ℕ) (house : ℕ) (shares : Apportionment) →
+        length shares.seats ≡ length weights → sum shares.seats ≡ house →
+        RoundsEach weights shares → IsStrictFit weights house shares.seats }
+    ensures divisor { (weights : List ℕ) (house : ℕ) (seats : List ℕ) →
+        1 ≤ house → Any (λ w. 0 < w) weights → IsStrictFit weights house seats →
+        (shares : Apportionment) × (shares.seats ≡ seats) × RoundsEach weights shares }
+{}

@@ -1,0 +1,52 @@
+ghost use Rattle.std.specs.Prelude.{◌≡◌};
+
+use std::marker::Model;
+
+/// The seats of an apportionment, and the divisor `num / den` that gives them.
+///
+/// The fraction is not reduced: `num` is from 1 to 2 * 10^14, `den` from 1 to 800.
+#[derive(Debug, Drop)]
+pub struct Shares {
+    seats: Vec<u32>,
+    num: u64,
+    den: u32,
+}
+
+impl Model for Shares {
+    ghost use Rattle.zh_divisors.specs.Shares.{Apportionment};
+
+    ghost Value = { Apportionment };
+
+    ghost view = { λ s. record { seats = s.seats.items; num = s.num; den = s.den } };
+}
+
+impl Shares {
+    pub(crate) fn new(seats: Vec<u32>, num: u64, den: u32) -> Self
+        ensures seats { result.seats ≡ seats.items }
+        ensures num { result.num ≡ num }
+        ensures den { result.den ≡ den }
+    {
+        Shares { seats, num, den }
+    }
+
+    /// The seats of each weight, in the order of the weights.
+    pub fn seats(&self) -> &[u32]
+        ensures { result.now ≡ self.now.seats }
+    {
+        self.seats.as_slice()
+    }
+
+    /// What stands above the line in the divisor.
+    pub fn num(&self) -> u64
+        ensures { result ≡ self.now.num }
+    {
+        self.num
+    }
+
+    /// What stands below the line in the divisor.
+    pub fn den(&self) -> u32
+        ensures { result ≡ self.now.den }
+    {
+        self.den
+    }
+}
