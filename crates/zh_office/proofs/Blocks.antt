@@ -1,5 +1,5 @@
 -- Answering the lines of a block one by one.
-use Rattle.std.proofs.Common.{◌≡◌, ℕ, ◌+◌, ◌≤◌, ◌<◌, ◌-◌, List, [], ◌∷◌, ◌++◌, map, take, length, refl, sym, ap, ◌∙◌, subst, arith, append_assoc, Option, Some, None, Result, Ok, Err, length-append}
+use Rattle.std.proofs.Common.{◌≡◌, ℕ, ◌+◌, ◌≤◌, ◌<◌, List, [], ◌∷◌, ◌++◌, map, take, length, refl, sym, ap, ◌∙◌, subst, arith, append_assoc, Option, Some, None, Result, Ok, Err, length-append}
 use Rattle.std.proofs.lemmas.List.{append-nil, take_all}
 use Rattle.std.specs.Io.KnownBytes.{Appends, Consumes}
 use Rattle.zh_commands.specs.Lines.{desk_of}
@@ -7,10 +7,10 @@ use Rattle.zh_commands.specs.Replies.{reply_text}
 use Rattle.zh_commands.specs.declared.replies.Reply.{Reply}
 use Rattle.zh_office.specs.Office.{State}
 use Rattle.zh_office.specs.Runs.{Runs, Turn}
-use Rattle.zh_office.specs.Text.{HasNoEnd, ended, unfinished, heard, ended_lines, last_line, lines_of}
+use Rattle.zh_office.specs.Text.{HasNoEnd, unfinished, heard, ended_lines, last_line}
 use Rattle.zh_office.specs.Served.{BreaksOff, TakesBlock, Writes}
 use Rattle.zh_commands.specs.declared.output.WriteFault.{WriteFault}
-use Rattle.zh_office.proofs.Texts.{ended_none, ended_first, unfinished_all, unfinished_first, HasNoEnd-append, HasNoEnd-take}
+use Rattle.zh_office.proofs.Texts.{ended_none, ended_first, unfinished_all, unfinished_first, HasNoEnd-append}
 use Rattle.zh_office.proofs.Running.{Runs-append, Runs-one}
 
 -- what is appended in two parts

@@ -1,5 +1,5 @@
 -- Serving an input block by block.
-use Rattle.std.proofs.Common.{◌≡◌, ℕ, ◌+◌, ◌≤◌, ◌<◌, ◌-◌, ◌^◌, min, List, [], ◌∷◌, ◌++◌, map, take, length, refl, sym, ap, ◌∙◌, subst, arith, append_assoc, Option, Some, None, Result, Ok, Err, length-append}
+use Rattle.std.proofs.Common.{◌≡◌, inl, inr, ℕ, ◌+◌, ◌-◌, ◌^◌, min, List, [], ◌∷◌, ◌++◌, map, take, length, refl, sym, ap, ◌∙◌, subst, arith, append_assoc, Option, Some, None, length-append}
 use Rattle.std.proofs.lemmas.List.{append-nil, map-append}
 use Rattle.std.specs.Io.KnownBytes.{Appends, Consumes, Keeps, IsAtEnd}
 use Rattle.zh_commands.specs.Lines.{desk_of}
@@ -98,9 +98,11 @@ pub Serving-breaks : (first reader reader' begun writer writer' : Option (List �
     → ServesFront first reader' begun writer' old new
 Serving-breaks first reader reader' begun writer writer' old now new line block count s read b = record {
   input = s.input ++ block;
+  lines = ended_lines (s.input ++ block);
   read = Consumes-append first reader reader' s.input block s.read read;
-  breaks = BreaksOff-after begun writer writer' old now new (ended_lines (line ++ block)) (lines_of (s.input ++ block)) (last_line (unfinished (s.input ++ block))) s.out (ended_lines s.input)
-      s.written s.run b (ap (λ ls. ls ++ last_line (unfinished (s.input ++ block))) (more_lines s.input line block s.held));
+  due = inl refl;
+  breaks = BreaksOff-after begun writer writer' old now new (ended_lines (line ++ block)) (ended_lines (s.input ++ block)) [] s.out (ended_lines s.input)
+      s.written s.run b (more_lines s.input line block s.held ∙ sym (append-nil (ended_lines s.input ++ ended_lines (line ++ block))));
 }
 
 -- the last line of the input by what is held of it
@@ -109,9 +111,12 @@ last_held input line held = ap last_line held ∙ last_line-heard (heard (unfini
 
 -- the answer to the last line was not written whole
 pub Serving-last_breaks : (first reader reader' begun writer writer' : Option (List ℕ)) (old now new : State) (line : List ℕ) (count : ℕ)
-    → Serving first reader begun writer old now line count → Consumes reader reader' [] → BreaksOff (last_line line) writer writer' now new → ServesFront first reader' begun writer' old new
-Serving-last_breaks first reader reader' begun writer writer' old now new line count s read b = record {
+    → Serving first reader begun writer old now line count → Consumes reader reader' [] → IsAtEnd reader' → BreaksOff (last_line line) writer writer' now new
+    → ServesFront first reader' begun writer' old new
+Serving-last_breaks first reader reader' begun writer writer' old now new line count s read at_end b = record {
   input = s.input;
+  lines = lines_of s.input;
+  due = inr (at_end, refl);
   read = subst (λ xs. Consumes first reader' xs) (append-nil s.input) (Consumes-append first reader reader' s.input [] s.read read);
   breaks = BreaksOff-after begun writer writer' old now new (last_line line) (lines_of s.input) [] s.out (ended_lines s.input)
       s.written s.run b (ap (λ ls. ended_lines s.input ++ ls) (sym (last_held s.input line s.held)) ∙ sym (append-nil (ended_lines s.input ++ last_line line)));

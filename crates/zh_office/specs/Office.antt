@@ -1,5 +1,5 @@
 -- What an office answers to a line, and what it holds after it.
-use Rattle.std.specs.Prelude.{◌≡◌, ℕ, ◌+◌, ◌-◌, ◌^◌, ◌==◌, Bool, not, if◌then◌else◌, List, Option, Some, None, Result, Ok, Err}
+use Rattle.std.specs.Prelude.{◌≡◌, ℕ, ◌+◌, ◌-◌, ◌^◌, ◌==◌, not, if◌then◌else◌, List, Option, Some, None, Result, Ok, Err}
 use Rattle.std.specs.Ordering.{nat_cmp}
 use Rattle.std.specs.FinMap as map
 use Rattle.zh_districts.specs.Canton.{Canton, has_municipality, constituency_of, stands}
@@ -22,7 +22,7 @@ use Rattle.zh_commands.specs.declared.lines.LineFault.TheVariants as faults
 use Rattle.zh_commands.specs.declared.lines.Kind.{Kind}
 use Rattle.zh_commands.specs.declared.lines.Kind.TheVariants as kinds
 use Rattle.zh_commands.specs.declared.replies.Reply.{Reply}
-use Rattle.zh_commands.specs.declared.replies.Reply.TheVariants.{Stored, Same, Held, Dropped, Nothing, Shows, ShowsWithdrawn, Refused}
+use Rattle.zh_commands.specs.declared.replies.Reply.TheVariants.{Stored, Same, Nothing, Shows, ShowsWithdrawn, Refused}
 use Rattle.zh_commands.specs.declared.replies.Refusal.{Refusal}
 use Rattle.zh_commands.specs.declared.replies.Refusal.TheVariants as refusals
 

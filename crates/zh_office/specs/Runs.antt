@@ -1,6 +1,5 @@
 -- A run of an office over lines.
-use Rattle.std.specs.Prelude.{◌≡◌, ◌≤◌, ℕ, List, [], ◌∷◌, ◌++◌, take, min, length, Option, Result}
-use Rattle.std.specs.Io.KnownBytes.{Appends, Consumes, IsAtEnd}
+use Rattle.std.specs.Prelude.{◌≡◌, ℕ, List, [], ◌∷◌, ◌++◌, Result}
 use Rattle.zh_commands.specs.Lines.{Reads, desk_of}
 use Rattle.zh_commands.specs.Replies.{reply_text}
 use Rattle.zh_commands.specs.declared.lines.Line.{Line}
@@ -9,7 +8,6 @@ use Rattle.zh_commands.specs.declared.replies.Reply.{Reply}
 use Rattle.zh_office.specs.Office.{State, MayAnswerReading, state_after}
 use Rattle.zh_office.specs.declared.answer.Answer.{Answer}
 use Rattle.zh_office.specs.declared.answer.Answer.TheVariants as answers
-use Rattle.zh_office.specs.Text.{lines_of, ended_lines}
 
 -- the office may answer these bytes of a line so, and then it holds this
 pub record Turn (old : State) (bytes : List ℕ) (reply : Reply) (new : State) : Type 0 where

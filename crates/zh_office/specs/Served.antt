@@ -1,5 +1,5 @@
 -- What was served of a reader's bytes.
-use Rattle.std.specs.Prelude.{◌≡◌, ◌≤◌, ◌-◌, ◌^◌, ℕ, List, [], ◌∷◌, ◌++◌, take, min, length, Option, Result, OnOk, OnErr}
+use Rattle.std.specs.Prelude.{◌≡◌, ◌⊎◌, ◌-◌, ◌^◌, ℕ, List, ◌∷◌, ◌++◌, take, min, length, Option, Result, OnOk, OnErr}
 use Rattle.std.specs.Io.KnownBytes.{Appends, Consumes, IsAtEnd}
 use Rattle.zh_commands.specs.Lines.{desk_of}
 use Rattle.zh_commands.specs.Replies.{reply_text}
@@ -41,11 +41,17 @@ pub record BreaksOff (lines : List (List ℕ)) (writer writer' : Option (List �
   pub front : ℕ
   pub written : Appends writer writer' (out ++ take front (reply_text (desk_of last) reply))
 
+-- what can be answered of what was read: the lines that are ended in it, and at the end of the input the last one too
+abbrev pub AreDue : Option (List ℕ) → List ℕ → List (List ℕ) → Type 0
+AreDue reader' input lines = (lines ≡ ended_lines input) ⊎ (IsAtEnd reader' × (lines ≡ lines_of input))
+
 -- the writer failed: what is written is a front of the outputs, and the line in work has had its effect
 pub record ServesFront (reader reader' writer writer' : Option (List ℕ)) (old new : State) : Type 0 where
   pub input : List ℕ
+  pub lines : List (List ℕ)
   pub read : Consumes reader reader' input
-  pub breaks : BreaksOff (lines_of input) writer writer' old new
+  pub due : AreDue reader' input lines
+  pub breaks : BreaksOff lines writer writer' old new
 
 -- a line is answered, and all of its answer is written, or a front of it
 pub record Writes (writer writer' : Option (List ℕ)) (old : State) (bytes : List ℕ) (result : Result (Unit {0}) WriteFault) (new : State) : Type 0 where

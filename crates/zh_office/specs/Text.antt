@@ -1,5 +1,5 @@
 -- The lines of a text. 10 is the byte LF.
-use Rattle.std.specs.Prelude.{◌≡◌, ◌≢◌, ℕ, ◌==◌, if◌then◌else◌, Bool, false, List, [], ◌∷◌, ◌++◌, map, take}
+use Rattle.std.specs.Prelude.{◌≡◌, ℕ, ◌==◌, if◌then◌else◌, false, List, [], ◌∷◌, ◌++◌, map, take}
 use Rattle.std.specs.List.{list_any}
 
 -- no line ends in the text

@@ -1,3 +1,4 @@
+use Rattle.std.proofs.Common.{rules}
 use Rattle.std.proofs.KnownBytes.{Appends-trans}
 use Rattle.zh_commands.proofs.Fronts.{Keeps-from_none, IsFront-from_kept, moves_front}
 use Rattle.zh_commands.proofs.output.put.Goals as goal
@@ -5,12 +6,12 @@ use Rattle.zh_commands.proofs.output.put.Goals as goal
 pub returns-in_default-clause-front : goal.returns-in_default-clause-front
 returns-in_default-clause-front g c =
     let (front, split, written) = c.loop-rest.invariant in
-    IsFront-from_kept _ _ _ _ front _ split written c.in_default.ensures.bytes
+    IsFront-from_kept _ _ _ _ front _ (search rules) split written c.in_default.ensures.bytes
 
 pub returns-then-written-eq0-clause-front : goal.returns-then-written-eq0-clause-front
 returns-then-written-eq0-clause-front g c =
     let (front, split, written) = c.loop-rest.invariant in
-    IsFront-from_kept _ _ _ _ front _ split written (Keeps-from_none _ _ _ _ c.if-written-eq0.true c.in-Ok.ensures.bytes)
+    IsFront-from_kept _ _ _ _ front _ (search rules) split written (Keeps-from_none _ _ _ _ c.if-written-eq0.true c.in-Ok.ensures.bytes)
 
 pub loop-rest-preserved : goal.loop-rest-preserved
 loop-rest-preserved g c =

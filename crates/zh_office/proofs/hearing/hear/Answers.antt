@@ -1,4 +1,4 @@
-use Rattle.std.proofs.Common.{◌≡◌, ◌+◌, ◌++◌, length, take, sym, ap, ◌∙◌}
+use Rattle.std.proofs.Common.{◌++◌, take, sym, ap, ◌∙◌}
 use Rattle.zh_office.proofs.Texts.{heard-room}
 use Rattle.zh_office.proofs.hearing.hear.Goals as goal
 

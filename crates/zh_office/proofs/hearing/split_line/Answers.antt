@@ -1,4 +1,4 @@
-use Rattle.std.proofs.Common.{◌<◌, ℕ, length, arith}
+use Rattle.std.proofs.Common.{arith}
 use Rattle.zh_office.proofs.Texts.{none_found, parted}
 use Rattle.zh_office.proofs.hearing.split_line.Goals as goal
 

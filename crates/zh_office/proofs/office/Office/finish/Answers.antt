@@ -1,4 +1,4 @@
-use Rattle.std.proofs.Common.{◌≡◌, ℕ, ◌≤◌, ◌<◌, List, length, subst, rules}
+use Rattle.std.proofs.Common.{ℕ, ◌≤◌, List, length, subst, rules}
 use Rattle.std.proofs.lemmas.Result.{err_from_is_err_and}
 use Rattle.zh_office.proofs.Blocks.{last_failed, last_answered}
 use Rattle.zh_office.proofs.office.Office.finish.Goals as goal

@@ -1,4 +1,4 @@
-use Rattle.std.proofs.Common.{◌≡◌, ℕ, ◌≤◌, ◌<◌, List, [], length, take, arith, rules, subst}
+use Rattle.std.proofs.Common.{arith}
 use Rattle.zh_office.proofs.Blocks.{Consumes-none}
 use Rattle.zh_office.proofs.Inputs.{Serving-start, Serving-clean, Serving-more, Serving-breaks, Serving-last_breaks, Serving-stops, Serving-ends, Consumes-kept}
 use Rattle.zh_office.proofs.office.Office.serve.Goals as goal
@@ -11,7 +11,7 @@ returns-in_default-clause-read g c = λ _. Serving-stops _ _ _ _ _ _ _ _ _ c.loo
 
 pub returns-in_err-last-clause-write : goal.returns-in_err-last-clause-write
 returns-in_err-last-clause-write g c =
-    λ _. Serving-last_breaks _ _ _ _ _ _ _ _ _ _ _ c.loop.invariant (rw c.if-len-eq0.true at c.in-Ok.ensures.bytes.0) (rw c.in_err-last.was at c.finish.ensures)
+    λ _. Serving-last_breaks _ _ _ _ _ _ _ _ _ _ _ c.loop.invariant (rw c.if-len-eq0.true at c.in-Ok.ensures.bytes.0) (c.in-Ok.ensures.bytes.1 c.if-len-eq0.true (omega (arith, c.read.auto.buf))) (rw c.in_err-last.was at c.finish.ensures)
 
 pub returns-then-len-eq0-clause-ok : goal.returns-then-len-eq0-clause-ok
 returns-then-len-eq0-clause-ok g c =

@@ -1,5 +1,5 @@
-use Rattle.std.proofs.Common.{◌≡◌, ℕ, ◌+◌, ◌≤◌, length, length-append, ap, arith, ◌∙◌}
-use Rattle.zh_office.proofs.Blocks.{Progress, Progress-start, Progress-answered, Progress-failed, Progress-end}
+use Rattle.std.proofs.Common.{length, length-append, ap, arith, ◌∙◌}
+use Rattle.zh_office.proofs.Blocks.{Progress-start, Progress-answered, Progress-failed, Progress-end}
 use Rattle.std.proofs.lemmas.Result.{err_from_is_err_and}
 use Rattle.zh_office.proofs.office.Office.take_block.Goals as goal
 

@@ -1,0 +1,11 @@
+pub mod Opening
+pub mod Bodies
+pub mod Stage
+pub mod Append
+pub mod Joined
+pub mod Open
+pub mod Records
+pub mod Clearing
+pub mod Payload
+pub mod Walk
+pub mod Areas

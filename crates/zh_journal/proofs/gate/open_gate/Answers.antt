@@ -1,0 +1,11 @@
+use Rattle.std.proofs.Common.{refl, arith, [], ◌∷◌}
+use Rattle.zh_journal.proofs.Opening.{behind_write, behind_sync}
+use Rattle.zh_journal.proofs.gate.open_gate.Goals as goal
+
+pub returns-in_err-write_at-clause-any_moment : goal.returns-in_err-write_at-clause-any_moment
+returns-in_err-write_at-clause-any_moment g c = λ h.
+    (behind_write c.args.gate _ _ _ (omega (arith, g.met.D.Disk.size c.args.disk.now h)) (c.in_ok-sync.ensures.synced h) (165 ∷ []) refl _ (c.in_err-write_at.ensures.written h)).0
+
+pub returns-clause-any_moment : goal.returns-clause-any_moment
+returns-clause-any_moment g c = λ h.
+    behind_sync c.args.gate _ _ _ (omega (arith, g.met.D.Disk.size c.args.disk.now h)) (c.in_ok-sync.ensures.synced h) _ (165 ∷ []) refl _ _ (c.in_ok-write_at.ensures.written h) (c.sync-2.ensures.synced h)

@@ -1,0 +1,11 @@
+use Rattle.std.proofs.Common.{◌≡◌, ◌≤◌, ℕ, List, length, drop}
+use Rattle.zh_journal.specs.Pages.{Frames, Reads}
+use Rattle.zh_journal.proofs.reading.find_page.Given as goal
+
+abbrev pub invariant-loop-passed : goal.invariant-loop-passed
+invariant-loop-passed g l = record {
+  inside : l.page ≤ 1024;
+  later : g.D.Disk.failures l.initial.disk ≤ g.D.Disk.failures l.disk;
+  same : g.D.Disk.honest → g.D.Disk.trail l.disk ≡ g.D.Disk.trail l.initial.disk;
+  found : g.D.Disk.honest → (rs : List (List ℕ)) (j : ℕ) → Reads l.base (g.D.Disk.trail l.initial.disk).now.bytes rs j → l._passed ≤ length rs → Frames l.base (g.D.Disk.trail l.initial.disk).now.bytes l.page (drop l._passed rs) j;
+}

@@ -1,0 +1,178 @@
+// An area of records.
+ghost use Rattle.std.specs.Prelude.{◌≡◌, ◌+◌, ◌*◌, ◌↔◌, ◌<◌, ◌≤◌, ℕ, List, None, [], ◌∷◌, ◌++◌, length, slice_get, slice_index, IfOk, OnOk, OnErr, IsErrOf};
+ghost use Rattle.zh_disk.specs.Disk.{Leaves, Moves, SameOutside};
+ghost use Rattle.zh_disk.specs.declared.disk.TheConstants.{DISK_LENGTH};
+ghost use Rattle.zh_journal.specs.Cause.{HasRisen};
+ghost use Rattle.zh_journal.specs.Pages.{Reads, AddsOrNot, Adds, IsCleared, pages_of};
+ghost use Rattle.zh_journal.specs.Place.{pages_left, grown};
+ghost use Rattle.zh_journal.specs.Records.{records_of};
+
+use crate::fault::{AppendFault, AreaFault, OpenFault};
+use crate::gate::open_gate;
+use crate::head::{Head, read_head};
+use crate::page::{AREA_LENGTH, AREA_PAGES, LONGEST_PAYLOAD, PAGE_LENGTH, pages_of};
+use crate::reader::Reader;
+use crate::reading::{find_page, read_record};
+use crate::staging::stage;
+use std::marker::Model;
+use zh_disk::{Disk, DiskFault};
+
+/// The records of one area of a disk, as they were found or written.
+///
+/// The disk is handed to each call, and must be the one that the area was opened on. After a fault of the
+/// device the area is opened again.
+#[derive(Debug, Drop)]
+pub struct Area {
+    base: u64,
+    end: u32,
+    count: u32,
+}
+
+impl Model for Area {
+    ghost use Rattle.std.specs.Prelude.{◌+◌, ◌≤◌};
+    ghost use Rattle.zh_disk.specs.declared.disk.TheConstants.{DISK_LENGTH};
+    ghost use Rattle.zh_journal.specs.declared.page.TheConstants.{AREA_LENGTH, AREA_PAGES};
+    ghost use Rattle.zh_journal.specs.Place.{Place};
+
+    ghost Value = { Place };
+
+    ghost view = { λ a. record { base = a.base; end = a.end; count = a.count } };
+
+    ghost invariant = { λ a. (a.base + AREA_LENGTH ≤ DISK_LENGTH) × (a.end ≤ AREA_PAGES) × (a.count ≤ a.end) };
+}
+
+impl Area {
+    /// Finds the records of the area that begins at this place. It reads one head a record, and writes nothing.
+    pub fn open<D: Disk>(disk: &mut D, base: u64) -> Result<Area, OpenFault>
+        requires { base + AREA_LENGTH ≤ DISK_LENGTH }
+
+        ensures found { D.honest → IfOk result (λ a. (rs : List (List ℕ)) × Reads base (D.trail disk.old).now.bytes rs a.end × (length rs ≡ a.count)) }
+
+        ensures base { IfOk result (λ a. a.base ≡ base) }
+
+        // It is damaged exactly where the rules give no records.
+        ensures damaged { D.honest → IsErrOf result OpenFault.Damaged → records_of base (D.trail disk.old).now.bytes ≡ None }
+
+        ensures same { D.honest → D.trail disk.new ≡ D.trail disk.old }
+        ensures later { D.failures disk.old ≤ D.failures disk.new }
+        ensures cause { IsErrOf result OpenFault.Device → HasRisen (D.failures disk.old) (D.failures disk.new) }
+    {
+        let mut end = 0;
+        let mut count = 0;
+        while end < AREA_PAGES {
+            match read_head(disk, base + PAGE_LENGTH * (end as u64), AREA_PAGES - end)? {
+                Head::Closed => break,
+                Head::Damaged => return Err(OpenFault::Damaged),
+                Head::Record(len) => {
+                    end += pages_of(len);
+                    count += 1;
+                }
+            }
+        }
+        Ok(Area { base, end, count })
+    }
+
+    /// The number of records.
+    pub fn records(&self) -> u32
+        ensures count { result ≡ self.now.count }
+        ensures most { result ≤ self.now.end }
+    {
+        self.count
+    }
+
+    /// The number of pages behind the last record.
+    pub fn pages_left(&self) -> u32
+        ensures left { result ≡ pages_left self.now }
+        ensures all { self.now.end + result ≡ AREA_PAGES }
+    {
+        AREA_PAGES - self.end
+    }
+
+    /// Lends the payload of record `i`, counted from 0, from the caller's buffer. It reads the heads of the
+    /// records before it; to go through all of them take a `reader`. Where the disk gives no such record any
+    /// more, the payload is empty, as no record's is.
+    pub fn record<'b, D: Disk>(
+        &self,
+        disk: &mut D,
+        i: u32,
+        buffer: &'b mut [u8],
+    ) -> Result<&'b [u8], AreaFault>
+        requires i { i < self.now.count }
+        requires buffer { LONGEST_PAYLOAD ≤ length buffer.old }
+
+        ensures payload { D.honest → (rs : List (List ℕ)) (j : ℕ) → Reads self.now.base (D.trail disk.old).now.bytes rs j → i < length rs → IfOk result (λ payload. slice_get rs i ≡ Some payload.now) }
+
+        ensures most { IfOk result (λ payload. length payload.now ≤ LONGEST_PAYLOAD) }
+        ensures same { D.honest → D.trail disk.new ≡ D.trail disk.old }
+        ensures later { D.failures disk.old ≤ D.failures disk.new }
+        ensures cause { IsErrOf result AreaFault.Device → HasRisen (D.failures disk.old) (D.failures disk.new) }
+    {
+        let page = find_page(disk, self.base, i)?;
+        let at = self.base + PAGE_LENGTH * (page as u64);
+        let len = read_record(disk, at, AREA_PAGES - page, buffer)?;
+        Ok(&buffer[..len as usize])
+    }
+
+    /// A reader that stands before the first record.
+    pub fn reader(&self) -> Reader
+        ensures { result ≡ record { base = self.now.base; page = 0; end = self.now.end } }
+    {
+        Reader::new(self.base, self.end)
+    }
+
+    /// Writes a record behind the last one: bytes 1 to 255 of each of its pages, a sync, the gate of the first
+    /// page, a sync.
+    pub fn append<D: Disk>(&mut self, disk: &mut D, payload: &[u8]) -> Result<(), AppendFault>
+        requires some { 1 ≤ length payload.now }
+        requires most { length payload.now ≤ LONGEST_PAYLOAD }
+
+        // Each image at each moment is one from the start, with the record or without it.
+        ensures any_moment { D.honest → Leaves (AddsOrNot self.old.base self.old.end payload.now) (D.trail disk.old) (D.trail disk.new) }
+
+        ensures added { D.honest → OnOk result (Moves (Adds self.old.base self.old.end payload.now) (D.trail disk.old).now (D.trail disk.new).now) }
+
+        ensures settled { D.honest → OnOk result ((D.trail disk.new).now.pending ≡ []) }
+
+        ensures ok { OnOk result (self.new ≡ grown self.old (length payload.now)) }
+        ensures err { OnErr result (self.new ≡ self.old) }
+
+        ensures full { (result ≡ Err AppendFault.Full) ↔ (pages_left self.old < pages_of (length payload.now)) }
+        ensures untouched { IsErrOf result AppendFault.Full → disk.new ≡ disk.old }
+        ensures later { D.failures disk.old ≤ D.failures disk.new }
+        ensures cause { IsErrOf result AppendFault.Device → HasRisen (D.failures disk.old) (D.failures disk.new) }
+    {
+        let pages = pages_of(payload.len() as u32);
+        if self.pages_left() < pages {
+            return Err(AppendFault::Full);
+        }
+        let at = self.base + PAGE_LENGTH * (self.end as u64);
+        stage(disk, at, payload)?;
+        open_gate(disk, at)?;
+        self.end += pages;
+        self.count += 1;
+        Ok(())
+    }
+
+    /// Writes zeros over the area that begins at this place, and gives it without records. Until the caller has
+    /// synced, the disk may hold anything there: an outer gate stands closed meanwhile.
+    pub fn clear<D: Disk>(disk: &mut D, base: u64, zeros: &[u8]) -> Result<Area, AreaFault>
+        requires base { base + AREA_LENGTH ≤ DISK_LENGTH }
+        requires size { length zeros.now ≡ AREA_LENGTH }
+        requires zero { (k : ℕ) → slice_index zeros.now k ≡ 0 }
+
+        ensures any_moment { D.honest → Leaves (SameOutside base AREA_LENGTH) (D.trail disk.old) (D.trail disk.new) }
+
+        ensures cleared { D.honest → OnOk result (IsCleared base (D.trail disk.old).now.bytes (D.trail disk.new).now.bytes) }
+
+        ensures empty { IfOk result (λ a. a ≡ record { base = base; end = 0; count = 0 }) }
+        ensures later { D.failures disk.old ≤ D.failures disk.new }
+        ensures cause { IsErrOf result AreaFault.Device → HasRisen (D.failures disk.old) (D.failures disk.new) }
+    {
+        disk.write_at(base, zeros)?;
+        Ok(Area {
+            base,
+            end: 0,
+            count: 0,
+        })
+    }
+}

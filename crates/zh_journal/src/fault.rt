@@ -1,0 +1,63 @@
+// Why a call of an area is refused.
+use thiserror::Error;
+use zh_disk::DiskFault;
+
+/// Reading or clearing.
+#[derive(Clone, Copy, Debug, PartialEq, Eq, Error)]
+pub enum AreaFault {
+    #[error("the device failed")]
+    Device,
+}
+
+impl From<DiskFault> for AreaFault {
+    ghost use Rattle.std.specs.Prelude.{◌≡◌};
+    ghost use Rattle.zh_journal.specs.declared.fault.AreaFault.TheVariants.{Device};
+
+    ghost from_gives = { λ _ e. e ≡ Device };
+
+    fn from(_: DiskFault) -> Self {
+        AreaFault::Device
+    }
+}
+
+/// Opening.
+#[derive(Clone, Copy, Debug, PartialEq, Eq, Error)]
+pub enum OpenFault {
+    #[error("the device failed")]
+    Device,
+    /// An open page breaks a rule of the format.
+    #[error("the area is damaged")]
+    Damaged,
+}
+
+impl From<DiskFault> for OpenFault {
+    ghost use Rattle.std.specs.Prelude.{◌≡◌};
+    ghost use Rattle.zh_journal.specs.declared.fault.OpenFault.TheVariants.{Device};
+
+    ghost from_gives = { λ _ e. e ≡ Device };
+
+    fn from(_: DiskFault) -> Self {
+        OpenFault::Device
+    }
+}
+
+/// Appending.
+#[derive(Clone, Copy, Debug, PartialEq, Eq, Error)]
+pub enum AppendFault {
+    #[error("the device failed")]
+    Device,
+    /// Too few pages are left.
+    #[error("the area is full")]
+    Full,
+}
+
+impl From<DiskFault> for AppendFault {
+    ghost use Rattle.std.specs.Prelude.{◌≡◌};
+    ghost use Rattle.zh_journal.specs.declared.fault.AppendFault.TheVariants.{Device};
+
+    ghost from_gives = { λ _ e. e ≡ Device };
+
+    fn from(_: DiskFault) -> Self {
+        AppendFault::Device
+    }
+}

@@ -1,0 +1,26 @@
+// A byte that says whether what stands behind it counts.
+ghost use Rattle.std.specs.Prelude.{◌≡◌, ◌<◌, [], ◌∷◌, OnOk};
+ghost use Rattle.zh_disk.specs.Disk.{Leaves, HasCause, settled, splice};
+ghost use Rattle.zh_disk.specs.declared.disk.TheConstants.{DISK_LENGTH};
+ghost use Rattle.zh_journal.specs.Gate.{FromBytes};
+
+use zh_disk::{Disk, DiskFault};
+
+/// The one byte at which a gate is open.
+pub const OPEN_GATE: u8 = 0xA5;
+
+/// Opens a gate: a sync, a write of the one byte, a sync. So what stands behind the gate is on the disk
+/// before it, and the gate is on the disk at `Ok`.
+pub fn open_gate<D: Disk>(disk: &mut D, gate: u64) -> Result<(), DiskFault>
+    requires { gate < DISK_LENGTH }
+
+    ensures any_moment { D.honest → Leaves (FromBytes gate (D.trail disk.old)) (D.trail disk.old) (D.trail disk.new) }
+
+    ensures ok { D.honest → OnOk result ((D.trail disk.new).now ≡ settled (splice gate (OPEN_GATE ∷ []) (D.trail disk.old).now.bytes)) }
+
+    ensures cause { HasCause (D.failures disk.old) (D.failures disk.new) result }
+{
+    disk.sync()?;
+    disk.write_at(gate, &[OPEN_GATE])?;
+    disk.sync()
+}

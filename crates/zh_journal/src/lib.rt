@@ -1,0 +1,22 @@
+//! Records in one area of a disk, each behind a gate.
+//!
+//! An area is 1,024 pages of 256 bytes. Byte 0 of a page is its gate, and a record counts once the gate of its
+//! first page is open on the disk. docs/FORMATS.md has the places, and the device calls one by one.
+#![tactic(auto)]
+
+mod area;
+mod fault;
+mod gate;
+mod head;
+mod page;
+mod reader;
+mod reading;
+mod staging;
+#[cfg(test)]
+mod tests;
+
+pub use area::Area;
+pub use fault::{AppendFault, AreaFault, OpenFault};
+pub use gate::{OPEN_GATE, open_gate};
+pub use page::{AREA_LENGTH, AREA_PAGES, LONGEST_PAYLOAD, PAGE_LENGTH, pages_of};
+pub use reader::Reader;

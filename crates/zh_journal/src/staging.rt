@@ -1,0 +1,41 @@
+// Writing a record behind its gates.
+ghost use Rattle.std.specs.Prelude.{◌≡◌, ◌+◌, ◌*◌, ◌<◌, ◌≤◌, length, OnOk};
+ghost use Rattle.zh_disk.specs.Disk.{Leaves, SameOutside, HasCause, splice};
+ghost use Rattle.zh_disk.specs.declared.disk.TheConstants.{DISK_LENGTH};
+ghost use Rattle.zh_journal.specs.declared.page.TheConstants.{LONGEST_PAYLOAD};
+ghost use Rattle.zh_journal.specs.Pages.{IsWritten, SameButBodies, body_of, pages_of};
+
+use crate::page::{PAGE_LENGTH, page_of, pages_of};
+use zh_disk::{Disk, DiskFault};
+
+fn write_page<D: Disk>(disk: &mut D, at: u64, payload: &[u8], i: u32) -> Result<(), DiskFault>
+    requires len { length payload.now ≤ LONGEST_PAYLOAD }
+    requires i { i < pages_of (length payload.now) }
+    requires room { at + 256 * pages_of (length payload.now) ≤ DISK_LENGTH }
+
+    ensures any_moment { D.honest → Leaves (SameOutside (at + 256 * i + 1) 255) (D.trail disk.old) (D.trail disk.new) }
+
+    ensures ok { D.honest → OnOk result ((D.trail disk.new).now.bytes ≡ splice (at + 256 * i + 1) (body_of payload.now i) (D.trail disk.old).now.bytes) }
+
+    ensures cause { HasCause (D.failures disk.old) (D.failures disk.new) result }
+{
+    let page = page_of(payload, i);
+    disk.write_at(at + PAGE_LENGTH * (i as u64) + 1, &page)
+}
+
+// Writes a record behind the gates of the pages from this place on, one write a page.
+pub(crate) fn stage<D: Disk>(disk: &mut D, at: u64, payload: &[u8]) -> Result<(), DiskFault>
+    requires len { length payload.now ≤ LONGEST_PAYLOAD }
+    requires room { at + 256 * pages_of (length payload.now) ≤ DISK_LENGTH }
+
+    ensures any_moment { D.honest → Leaves (SameButBodies at (pages_of (length payload.now))) (D.trail disk.old) (D.trail disk.new) }
+
+    ensures ok { D.honest → OnOk result (IsWritten (D.trail disk.new).now.bytes at payload.now) }
+
+    ensures cause { HasCause (D.failures disk.old) (D.failures disk.new) result }
+{
+    for i in 0..pages_of(payload.len() as u32) {
+        write_page(disk, at, payload, i)?;
+    }
+    Ok(())
+}

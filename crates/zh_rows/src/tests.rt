@@ -1,0 +1,4 @@
+mod fakes;
+mod lines;
+mod program;
+mod serving;

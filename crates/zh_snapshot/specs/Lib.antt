@@ -1,0 +1,5 @@
+pub mod Faults
+pub mod Image
+pub mod Store
+pub mod Format
+pub mod Parts

@@ -1,0 +1,139 @@
+// Why a call of a store is refused.
+use std::alloc::AllocError;
+use thiserror::Error;
+use zh_disk::DiskFault;
+use zh_journal::AreaFault;
+
+/// Formatting.
+#[derive(Clone, Copy, Debug, PartialEq, Eq, Error)]
+pub enum FormatFault {
+    #[error("out of memory")]
+    Memory,
+    #[error("the device failed")]
+    Device,
+}
+
+impl From<AllocError> for FormatFault {
+    ghost use Rattle.std.specs.Prelude.{◌≡◌};
+    ghost use Rattle.zh_snapshot.specs.declared.fault.FormatFault.TheVariants.{Memory};
+
+    ghost from_gives = { λ _ e. e ≡ Memory };
+
+    fn from(_: AllocError) -> Self {
+        FormatFault::Memory
+    }
+}
+
+impl From<DiskFault> for FormatFault {
+    ghost use Rattle.std.specs.Prelude.{◌≡◌};
+    ghost use Rattle.zh_snapshot.specs.declared.fault.FormatFault.TheVariants.{Device};
+
+    ghost from_gives = { λ _ e. e ≡ Device };
+
+    fn from(_: DiskFault) -> Self {
+        FormatFault::Device
+    }
+}
+
+impl From<AreaFault> for FormatFault {
+    ghost use Rattle.std.specs.Prelude.{◌≡◌};
+    ghost use Rattle.zh_snapshot.specs.declared.fault.FormatFault.TheVariants.{Device};
+
+    ghost from_gives = { λ _ e. e ≡ Device };
+
+    fn from(_: AreaFault) -> Self {
+        FormatFault::Device
+    }
+}
+
+/// Opening.
+#[derive(Clone, Copy, Debug, PartialEq, Eq, Error)]
+pub enum OpenFault {
+    #[error("the device failed")]
+    Device,
+    /// The disk gate is closed.
+    #[error("the disk is blank")]
+    Blank,
+    /// The disk gate is open, and what stands behind it breaks a rule of the format.
+    #[error("the disk is damaged")]
+    Damaged,
+    #[error("out of memory")]
+    Memory,
+}
+
+impl From<AllocError> for OpenFault {
+    ghost use Rattle.std.specs.Prelude.{◌≡◌};
+    ghost use Rattle.zh_snapshot.specs.declared.fault.OpenFault.TheVariants.{Memory};
+
+    ghost from_gives = { λ _ e. e ≡ Memory };
+
+    fn from(_: AllocError) -> Self {
+        OpenFault::Memory
+    }
+}
+
+impl From<DiskFault> for OpenFault {
+    ghost use Rattle.std.specs.Prelude.{◌≡◌};
+    ghost use Rattle.zh_snapshot.specs.declared.fault.OpenFault.TheVariants.{Device};
+
+    ghost from_gives = { λ _ e. e ≡ Device };
+
+    fn from(_: DiskFault) -> Self {
+        OpenFault::Device
+    }
+}
+
+impl From<zh_journal::OpenFault> for OpenFault {
+    ghost use Rattle.zh_snapshot.specs.Faults.{OpenedAs};
+
+    ghost from_gives = { OpenedAs };
+
+    fn from(fault: zh_journal::OpenFault) -> Self {
+        match fault {
+            zh_journal::OpenFault::Device => OpenFault::Device,
+            zh_journal::OpenFault::Damaged => OpenFault::Damaged,
+        }
+    }
+}
+
+/// Reading.
+#[derive(Clone, Copy, Debug, PartialEq, Eq, Error)]
+pub enum StoreFault {
+    #[error("the device failed")]
+    Device,
+}
+
+impl From<DiskFault> for StoreFault {
+    ghost use Rattle.std.specs.Prelude.{◌≡◌};
+    ghost use Rattle.zh_snapshot.specs.declared.fault.StoreFault.TheVariants.{Device};
+
+    ghost from_gives = { λ _ e. e ≡ Device };
+
+    fn from(_: DiskFault) -> Self {
+        StoreFault::Device
+    }
+}
+
+impl From<AreaFault> for StoreFault {
+    ghost use Rattle.std.specs.Prelude.{◌≡◌};
+    ghost use Rattle.zh_snapshot.specs.declared.fault.StoreFault.TheVariants.{Device};
+
+    ghost from_gives = { λ _ e. e ≡ Device };
+
+    fn from(_: AreaFault) -> Self {
+        StoreFault::Device
+    }
+}
+
+/// Appending.
+#[derive(Clone, Copy, Debug, PartialEq, Eq, Error)]
+pub enum AppendFault {
+    #[error("the device failed")]
+    Device,
+    /// Too few pages are left.
+    #[error("the journal is full")]
+    Full,
+    /// The device failed in an earlier call that writes, so the store has to be opened again.
+    #[error("the store is broken")]
+    Broken,
+}

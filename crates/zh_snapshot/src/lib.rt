@@ -1,0 +1,19 @@
+//! A snapshot and the records since, in a slot of a disk, with the set-up bytes beside them.
+//!
+//! docs/FORMATS.md has the places of the disk, and the device calls of each call here.
+#![tactic(auto)]
+
+mod compare;
+mod fault;
+mod format;
+mod header;
+mod layout;
+mod opening;
+mod store;
+#[cfg(test)]
+mod tests;
+mod zeros;
+
+pub use fault::{AppendFault, FormatFault, OpenFault, StoreFault};
+pub use layout::{SETUP_LIMIT, SNAPSHOT_LENGTH};
+pub use store::Store;

@@ -1,0 +1,220 @@
+// A store: the set-up bytes, a snapshot, and the records since.
+ghost use Rattle.std.specs.Prelude.{◌≡◌, ◌≢◌, ◌+◌, ◌<◌, ◌≤◌, ◌↔◌, ℕ, Bool, true, false, List, [], ◌∷◌, ◌++◌, length, slice_get, slice_index, IsTrue, IfOk, OnOk, OnErr, IsErrOf};
+ghost use Rattle.zh_disk.specs.Disk.{Leaves, Moves, settled};
+ghost use Rattle.zh_journal.specs.Cause.{HasRisen};
+ghost use Rattle.zh_journal.specs.Pages.{pages_of};
+ghost use Rattle.zh_journal.specs.Place.{pages_left, grown};
+ghost use Rattle.zh_snapshot.specs.Image.{Content, IsBlank, IsFramed};
+ghost use Rattle.zh_snapshot.specs.Store.{State, Fits, Settles, StoreAdds, StoreAddsOrNot};
+
+use crate::compare::{lend, stand_at};
+use crate::fault::{AppendFault, OpenFault, StoreFault};
+use crate::layout::{AREA_1, SETUP, SLOT_1, SNAPSHOT_1, SNAPSHOT_LENGTH};
+use crate::opening::{open_header, open_slot};
+use crate::zeros::zeros;
+use std::alloc::Global;
+use std::marker::Model;
+use zh_disk::Disk;
+use zh_journal::{AREA_LENGTH, Area, LONGEST_PAYLOAD, Reader};
+
+/// A disk's snapshot and records, as they were found or written.
+///
+/// The disk is handed to each call, and must be the one that the store was opened on. After a fault of the
+/// device in a call that writes, the store is broken until it is opened again.
+#[derive(Debug, Drop)]
+pub struct Store {
+    setup_length: u32,
+    generation: u64,
+    area: Area,
+    broken: bool,
+    // those that clear an area
+    zeros: Vec<u8>,
+}
+
+impl Model for Store {
+    ghost use Rattle.std.specs.Prelude.{◌≡◌, ◌≤◌, ℕ, length, slice_index};
+    ghost use Rattle.zh_snapshot.specs.Store.{State};
+
+    ghost Value = { State };
+
+    ghost view = { λ s. record { setup_length = s.setup_length; generation = s.generation; area = s.area; broken = s.broken } };
+
+    ghost invariant = { λ s. (s.setup_length ≤ 65536) × (s.area.base ≡ 332032) × (length s.zeros.items ≡ 262144) × ((k : ℕ) → slice_index s.zeros.items k ≡ 0) };
+}
+
+impl Store {
+    /// Finds what stands on the disk: a sync, then reads alone. All growth comes before the first of them.
+    pub fn open<D: Disk>(alloc: Global, disk: &mut D) -> Result<Store, OpenFault>
+        // At each moment an image is one from the start, and after the sync what a read gave.
+        ensures any_moment { D.honest → Leaves (Settles (D.trail disk.old).now.bytes) (D.trail disk.old) (D.trail disk.new) }
+
+        ensures settled { D.honest → OnOk result ((D.trail disk.new).now ≡ settled (D.trail disk.old).now.bytes) }
+
+        ensures framed { D.honest → IfOk result (λ s. (x : Content) × (j : ℕ) × IsFramed x j (D.trail disk.old).now.bytes × Fits s x j) }
+        ensures whole { IfOk result (λ s. s.broken ≡ false) }
+
+        ensures blank { D.honest → IsErrOf result OpenFault.Blank → IsBlank (D.trail disk.old).now.bytes }
+
+        // It is damaged where the disk gate is open, and no content is framed.
+        ensures damaged { D.honest → IsErrOf result OpenFault.Damaged → (IsBlank (D.trail disk.old).now.bytes → ⊥) × ((x : Content) (j : ℕ) → IsFramed x j (D.trail disk.old).now.bytes → ⊥) }
+
+        ensures untouched { IsErrOf result OpenFault.Memory → disk.new ≡ disk.old }
+        ensures later { D.failures disk.old ≤ D.failures disk.new }
+        ensures cause { IsErrOf result OpenFault.Device → HasRisen (D.failures disk.old) (D.failures disk.new) }
+    {
+        let zeros = zeros(alloc, AREA_LENGTH as usize)?;
+        disk.sync()?;
+        Store::read(disk, zeros)
+    }
+
+    // What stands on the disk, by reads alone.
+    fn read<D: Disk>(disk: &mut D, zeros: Vec<u8>) -> Result<Store, OpenFault>
+        requires size { length zeros.items ≡ AREA_LENGTH }
+        requires zero { (k : ℕ) → slice_index zeros.items k ≡ 0 }
+
+        ensures framed { D.honest → IfOk result (λ s. (x : Content) × (j : ℕ) × IsFramed x j (D.trail disk.old).now.bytes × Fits s x j) }
+        ensures whole { IfOk result (λ s. s.broken ≡ false) }
+        ensures blank { D.honest → IsErrOf result OpenFault.Blank → IsBlank (D.trail disk.old).now.bytes }
+
+        ensures damaged { D.honest → IsErrOf result OpenFault.Damaged → (IsBlank (D.trail disk.old).now.bytes → ⊥) × ((x : Content) (j : ℕ) → IsFramed x j (D.trail disk.old).now.bytes → ⊥) }
+
+        ensures memory { result ≢ Err OpenFault.Memory }
+        ensures same { D.honest → D.trail disk.new ≡ D.trail disk.old }
+        ensures later { D.failures disk.old ≤ D.failures disk.new }
+        ensures cause { IsErrOf result OpenFault.Device → HasRisen (D.failures disk.old) (D.failures disk.new) }
+    {
+        let setup_length = open_header(disk)?;
+        let Some(generation) = open_slot(disk, SLOT_1)? else {
+            return Err(OpenFault::Damaged);
+        };
+        let area = Area::open(disk, AREA_1)?;
+        Ok(Store {
+            setup_length,
+            generation,
+            area,
+            broken: false,
+            zeros,
+        })
+    }
+
+    /// Whether the disk's set-up bytes are these.
+    pub fn setup_equals<D: Disk>(&self, disk: &mut D, setup: &[u8]) -> Result<bool, StoreFault>
+        ensures equal { D.honest → (x : Content) (j : ℕ) → IsFramed x j (D.trail disk.old).now.bytes → length x.setup ≡ self.now.setup_length → IfOk result (λ equal. IsTrue equal ↔ (x.setup ≡ setup.now)) }
+
+        ensures same { D.honest → D.trail disk.new ≡ D.trail disk.old }
+        ensures later { D.failures disk.old ≤ D.failures disk.new }
+        ensures cause { IsErrOf result StoreFault.Device → HasRisen (D.failures disk.old) (D.failures disk.new) }
+    {
+        if setup.len() != self.setup_length as usize {
+            return Ok(false);
+        }
+        Ok(stand_at(disk, SETUP, setup)?)
+    }
+
+    /// Lends the snapshot from the caller's buffer.
+    pub fn snapshot<'b, D: Disk>(
+        &self,
+        disk: &mut D,
+        buffer: &'b mut [u8],
+    ) -> Result<&'b [u8], StoreFault>
+        requires { SNAPSHOT_LENGTH ≤ length buffer.old }
+
+        ensures payload { D.honest → (x : Content) (j : ℕ) → IsFramed x j (D.trail disk.old).now.bytes → IfOk result (λ payload. payload.now ≡ x.snapshot) }
+
+        ensures len { IfOk result (λ payload. length payload.now ≡ SNAPSHOT_LENGTH) }
+        ensures same { D.honest → D.trail disk.new ≡ D.trail disk.old }
+        ensures later { D.failures disk.old ≤ D.failures disk.new }
+        ensures cause { IsErrOf result StoreFault.Device → HasRisen (D.failures disk.old) (D.failures disk.new) }
+    {
+        Ok(lend(disk, SNAPSHOT_1, SNAPSHOT_LENGTH, buffer)?)
+    }
+
+    /// Lends the payload of record `i`, counted from 0, from the caller's buffer, as `Area::record` does.
+    pub fn record<'b, D: Disk>(
+        &self,
+        disk: &mut D,
+        i: u32,
+        buffer: &'b mut [u8],
+    ) -> Result<&'b [u8], StoreFault>
+        requires i { i < self.now.area.count }
+        requires buffer { LONGEST_PAYLOAD ≤ length buffer.old }
+
+        ensures payload { D.honest → (x : Content) (j : ℕ) → IsFramed x j (D.trail disk.old).now.bytes → i < length x.records → IfOk result (λ payload. slice_get x.records i ≡ Some payload.now) }
+
+        ensures most { IfOk result (λ payload. length payload.now ≤ LONGEST_PAYLOAD) }
+        ensures same { D.honest → D.trail disk.new ≡ D.trail disk.old }
+        ensures later { D.failures disk.old ≤ D.failures disk.new }
+        ensures cause { IsErrOf result StoreFault.Device → HasRisen (D.failures disk.old) (D.failures disk.new) }
+    {
+        Ok(self.area.record(disk, i, buffer)?)
+    }
+
+    /// A reader that stands before the first record.
+    pub fn reader(&self) -> Reader
+        ensures { result ≡ record { base = 332032; page = 0; end = self.now.area.end } }
+    {
+        self.area.reader()
+    }
+
+    /// Whether a call that writes met a fault of the device, so that the store must be opened again.
+    pub fn is_broken(&self) -> bool
+        ensures { result ≡ self.now.broken }
+    {
+        self.broken
+    }
+
+    /// The number of records since the snapshot.
+    pub fn records(&self) -> u32
+        ensures { result ≡ self.now.area.count }
+    {
+        self.area.records()
+    }
+
+    /// The number of pages behind the last record.
+    pub fn pages_left(&self) -> u32
+        ensures { result ≡ pages_left self.now.area }
+    {
+        self.area.pages_left()
+    }
+
+    /// The generation of the snapshot, which counts the switches from one slot to the other.
+    pub fn generation(&self) -> u64
+        ensures { result ≡ self.now.generation }
+    {
+        self.generation
+    }
+
+    /// Writes a record behind the last one, as `Area::append` does.
+    pub fn append<D: Disk>(&mut self, disk: &mut D, payload: &[u8]) -> Result<(), AppendFault>
+        requires some { 1 ≤ length payload.now }
+        requires most { length payload.now ≤ LONGEST_PAYLOAD }
+
+        // Each image at each moment is one from the start, with the record or without it.
+        ensures any_moment { D.honest → Leaves (StoreAddsOrNot self.old.area.end payload.now) (D.trail disk.old) (D.trail disk.new) }
+
+        ensures added { D.honest → OnOk result (Moves (StoreAdds self.old.area.end payload.now) (D.trail disk.old).now (D.trail disk.new).now) }
+        ensures settled { D.honest → OnOk result ((D.trail disk.new).now.pending ≡ []) }
+
+        ensures ok { OnOk result (self.new ≡ record self.old { area = grown self.old.area (length payload.now) }) }
+        ensures device { IsErrOf result AppendFault.Device → self.new ≡ record self.old { broken = true } }
+
+        ensures broken { (result ≡ Err AppendFault.Broken) ↔ (self.old.broken ≡ true) }
+        ensures full { (result ≡ Err AppendFault.Full) ↔ ((self.old.broken ≡ false) × (pages_left self.old.area < pages_of (length payload.now))) }
+        ensures untouched { (IsErrOf result AppendFault.Broken → (disk.new ≡ disk.old) × (self.new ≡ self.old)) × (IsErrOf result AppendFault.Full → (disk.new ≡ disk.old) × (self.new ≡ self.old)) }
+
+        ensures later { D.failures disk.old ≤ D.failures disk.new }
+        ensures cause { IsErrOf result AppendFault.Device → HasRisen (D.failures disk.old) (D.failures disk.new) }
+    {
+        if self.broken {
+            return Err(AppendFault::Broken);
+        }
+        match self.area.append(disk, payload) {
+            Ok(()) => Ok(()),
+            Err(zh_journal::AppendFault::Full) => Err(AppendFault::Full),
+            Err(zh_journal::AppendFault::Device) => {
+                self.broken = true;
+                Err(AppendFault::Device)
+            }
+        }
+    }
+}
