@@ -90,9 +90,9 @@ Progress-more first writer writer' old now new all end line rest part others cou
 -- the answer to the next line is not written whole
 pub Progress-breaks : (first writer writer' : Option (List ℕ)) (old now new : State) (all : List (List ℕ)) (end line rest part others : List ℕ) (count : ℕ) (reply : Reply) (front : ℕ)
     → Progress first writer old now all end line rest count → HasNoEnd part → rest ≡ part ++ 10 ∷ others
-    → Turn now (heard (line ++ part)) reply new → Appends writer writer' (take front (reply_text (desk_of (heard (line ++ part))) reply))
+    → Turn now (heard (line ++ part)) reply new → front < length (reply_text (desk_of (heard (line ++ part))) reply) → Appends writer writer' (take front (reply_text (desk_of (heard (line ++ part))) reply))
     → BreaksOff all first writer' old new
-Progress-breaks first writer writer' old now new all end line rest part others count reply front p part_clean rest_is turn written =
+Progress-breaks first writer writer' old now new all end line rest part others count reply front p part_clean rest_is turn short written =
     let next = heard (line ++ part) in
     record {
       answered = p.answered;
@@ -105,6 +105,7 @@ Progress-breaks first writer writer' old now new all end line rest part others c
       reply = reply;
       turn = turn;
       front = front;
+      part = short;
       written = Appends-append first writer writer' p.out (take front (reply_text (desk_of next) reply)) p.written written;
     }
 
@@ -124,7 +125,7 @@ pub Progress-failed : (first writer writer' : Option (List ℕ)) (old now new : 
 Progress-failed first writer writer' old now new all end line rest part others bytes count result fault p part_clean rest_is bytes_are w err =
     let v : Writes writer writer' now (heard (line ++ part)) result new = subst (λ b. Writes writer writer' now b result new) bytes_are w in
     let front = rw err at v.err in
-    Progress-breaks first writer writer' old now new all end line rest part others count v.reply front.0 p part_clean rest_is v.turn front.1
+    Progress-breaks first writer writer' old now new all end line rest part others count v.reply front.0 p part_clean rest_is v.turn front.1 front.2
 
 -- a last line of bytes that fit
 pub last_line_is : (line : List ℕ) → 0 < length line → length line ≤ 121 → last_line line ≡ line ∷ []
@@ -148,7 +149,8 @@ last_failed writer writer' old new line bytes result fault some fits bytes_are w
       reply = v.reply;
       turn = v.turn;
       front = front.0;
-      written = front.1;
+      part = front.1;
+      written = front.2;
     }
 
 -- the last line was answered by a call that succeeded

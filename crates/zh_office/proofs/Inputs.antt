@@ -87,6 +87,7 @@ BreaksOff-after begun writer writer' old now new lines all others out front writ
   reply = b.reply;
   turn = b.turn;
   front = b.front;
+  part = b.part;
   written =
       subst (λ xs. Appends begun writer' xs) (sym (append_assoc out b.out (take b.front (reply_text (desk_of b.last) b.reply))))
       (Appends-append begun writer writer' out (b.out ++ take b.front (reply_text (desk_of b.last) b.reply)) written b.written);

@@ -81,10 +81,6 @@ MayAnswerReading state (Err faults.Syntax) reply = reply ≡ Refused refusals.Sy
 MayAnswerReading state (Err faults.Desk) reply = reply ≡ Refused refusals.Desk
 MayAnswerReading state (Ok line) reply = MayAnswer state line.kind reply
 
--- the answers that the bytes of a line may get
-abbrev pub Allowed : State → List ℕ → Reply → Type 0
-Allowed state bytes reply = (reading : Result Line LineFault) × Reads bytes reading × MayAnswerReading state reading reply
-
 -- the count after a command that was answered so: it is stepped exactly where the answer is `stored`
 abbrev pub tally_after_command : Tally → Command → Reply → Tally
 tally_after_command tally command (Stored accepted) = step tally command

@@ -1,5 +1,5 @@
 -- What was served of a reader's bytes.
-use Rattle.std.specs.Prelude.{◌≡◌, ◌⊎◌, ◌-◌, ◌^◌, ℕ, List, ◌∷◌, ◌++◌, take, min, length, Option, Result, OnOk, OnErr}
+use Rattle.std.specs.Prelude.{◌≡◌, ◌<◌, ◌⊎◌, ◌-◌, ◌^◌, ℕ, List, ◌∷◌, ◌++◌, take, min, length, Option, Result, OnOk, OnErr}
 use Rattle.std.specs.Io.KnownBytes.{Appends, Consumes, IsAtEnd}
 use Rattle.zh_commands.specs.Lines.{desk_of}
 use Rattle.zh_commands.specs.Replies.{reply_text}
@@ -27,7 +27,7 @@ pub record ServesEnded (reader reader' writer writer' : Option (List ℕ)) (old 
   pub written : Appends writer writer' out
   pub run : Runs old (ended_lines input) out new
 
--- of the lines of a text some are answered, and of the answer to the next a front is written
+-- of the lines of a text some are answered, and of the answer to the next a front is written, and not all
 pub record BreaksOff (lines : List (List ℕ)) (writer writer' : Option (List ℕ)) (old new : State) : Type 0 where
   pub answered : List (List ℕ)
   pub last : List ℕ
@@ -39,6 +39,7 @@ pub record BreaksOff (lines : List (List ℕ)) (writer writer' : Option (List �
   pub reply : Reply
   pub turn : Turn mid last reply new
   pub front : ℕ
+  pub part : front < length (reply_text (desk_of last) reply)
   pub written : Appends writer writer' (out ++ take front (reply_text (desk_of last) reply))
 
 -- what can be answered of what was read: the lines that are ended in it, and at the end of the input the last one too
@@ -53,12 +54,12 @@ pub record ServesFront (reader reader' writer writer' : Option (List ℕ)) (old 
   pub due : AreDue reader' input lines
   pub breaks : BreaksOff lines writer writer' old new
 
--- a line is answered, and all of its answer is written, or a front of it
+-- a line is answered, and all of its answer is written, or a front of it and not all
 pub record Writes (writer writer' : Option (List ℕ)) (old : State) (bytes : List ℕ) (result : Result (Unit {0}) WriteFault) (new : State) : Type 0 where
   pub reply : Reply
   pub turn : Turn old bytes reply new
   pub ok : OnOk result (Appends writer writer' (reply_text (desk_of bytes) reply))
-  pub err : OnErr result ((front : ℕ) × Appends writer writer' (take front (reply_text (desk_of bytes) reply)))
+  pub err : OnErr result ((front : ℕ) × (front < length (reply_text (desk_of bytes) reply)) × Appends writer writer' (take front (reply_text (desk_of bytes) reply)))
 
 -- the block of bytes behind these of a line gave so many lines; they are answered, and these bytes of a line are left
 pub record TakesBlock (writer writer' : Option (List ℕ)) (old : State) (line block : List ℕ) (new : State) (line' : List ℕ) (count : ℕ) : Type 0 where

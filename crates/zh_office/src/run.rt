@@ -1,6 +1,6 @@
 //! The program.
 
-ghost use Rattle.std.specs.Prelude.{◌≡◌, ℕ, List, IfOk};
+ghost use Rattle.std.specs.Prelude.{◌≡◌, ◌≤◌, ℕ, List, IfOk};
 ghost use Rattle.zh_districts.specs.Rehearsal.{rehearsal};
 ghost use Rattle.zh_office.specs.Office.{State, opened};
 ghost use Rattle.zh_office.specs.Served.{ServesAll};
@@ -61,7 +61,8 @@ pub fn program<I: Read, O: Write, F: Write>(
     out: &mut O,
     faults: &mut F,
 ) -> u8
-    ensures { result ≡ 0 → (end : State) × (count : ℕ) × ServesAll (I.remaining input.old) (I.remaining input.new)
+    ensures status { result ≤ 1 }
+    ensures served { result ≡ 0 → (end : State) × (count : ℕ) × ServesAll (I.remaining input.old) (I.remaining input.new)
         (O.contents out.old) (O.contents out.new) (opened rehearsal) end count }
 {
     match rehearse(alloc, input, out) {
