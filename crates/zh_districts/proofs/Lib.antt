@@ -1,1 +1,12 @@
 pub mod Images
+pub mod Ascii
+pub mod Masks
+pub mod Lengths
+pub mod OneSpelling
+pub mod Arrays
+pub mod Each
+pub mod Values
+pub mod Setups
+pub mod Said
+pub mod RehearsalText
+pub mod Tables

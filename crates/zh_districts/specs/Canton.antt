@@ -1,5 +1,7 @@
 -- The set-up of an election: the house, the constituencies with their municipalities, and the groups of lists.
-use Rattle.std.specs.Prelude.{◌≡◌, ℕ, ◌-◌, ◌≤◌, Bool, false, ◌&&◌, nat_le, List, length, slice_get, unwrap_or, All}
+use Rattle.std.specs.Prelude.{◌≡◌, ◌≢◌, ℕ, ◌-◌, ◌≤◌, Bool, true, false, not, ◌&&◌, ◌==◌, nat_le, IsTrue, List, length, slice_get, slice_index, unwrap_or, map, All, AllPairs, Contains}
+use Rattle.std.specs.List.{list_all}
+use Rattle.std.specs.Str.{is_utf8}
 use Rattle.std.specs.Option.{option_map_or}
 
 -- a constituency: its name in UTF-8, and how many persons live there
@@ -40,6 +42,24 @@ constituency_of canton m = option_map_or (λ x. x.constituency) (slice_get canto
 abbrev pub stands : Canton → ℕ → ℕ → Bool
 stands canton d list = nat_le 1 list && option_map_or (λ x. unwrap_or (slice_get x.stands (d - 1)) false) (slice_get canton.groups (list - 1)) false
 
+-- no control character U+0000 to U+001F nor U+007F: in UTF-8 each of these is its one byte, which stands for nothing else
+abbrev pub is_printable : ℕ → Bool
+is_printable byte = nat_le 32 byte && not (byte == 127)
+
+-- 1 to 40 bytes without a control character, and no space at either end
+abbrev pub is_plain : List ℕ → Bool
+is_plain name =
+    nat_le 1 (length name) && nat_le (length name) 40 && not (slice_index name 0 == 32) && not (slice_index name (length name - 1) == 32) && list_all is_printable name
+
+-- such a text in UTF-8
+abbrev pub is_name : List ℕ → Bool
+is_name name = is_utf8 name && is_plain name
+
+-- the names of one kind, of constituencies, of municipalities or of groups
+pub record AreNames (names : List (List ℕ)) : Type 0 where
+  pub rule : All (λ name. IsTrue (is_name name)) names
+  pub different : AllPairs (λ a b. a ≢ b) names
+
 -- the limits of a set-up
 pub record IsCanton (canton : Canton) : Type 0 where
   pub house : (1 ≤ canton.house) × (canton.house ≤ 400)
@@ -49,3 +69,7 @@ pub record IsCanton (canton : Canton) : Type 0 where
   pub persons : All (λ x. (1 ≤ x.persons) × (x.persons ≤ 10000000)) canton.constituencies
   pub within : All (λ x. (1 ≤ x.constituency) × (x.constituency ≤ length canton.constituencies)) canton.municipalities
   pub stands : All (λ x. length x.stands ≡ length canton.constituencies) canton.groups
+  pub somewhere : All (λ x. Contains x.stands true) canton.groups
+  pub constituency_names : AreNames (map (λ x. x.name) canton.constituencies)
+  pub municipality_names : AreNames (map (λ x. x.name) canton.municipalities)
+  pub group_names : AreNames (map (λ x. x.name) canton.groups)

@@ -1,4 +1,10 @@
 pub mod Canton
+pub mod Seats
 pub mod Rehearsal
 pub mod Parts
 pub mod Inside
+pub mod Spelling
+pub mod Keys
+pub mod Document
+pub mod Reading
+pub mod SetupText

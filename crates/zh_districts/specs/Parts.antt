@@ -4,13 +4,17 @@ use Rattle.zh_districts.specs.Canton as canton
 use Rattle.zh_districts.specs.declared.parts.Constituency.{Constituency}
 use Rattle.zh_districts.specs.declared.parts.Municipality.{Municipality}
 use Rattle.zh_districts.specs.declared.parts.Group.{Group}
+use Rattle.zh_districts.specs.declared.parts.Draft.{Draft}
 
+-- a constituency, without where it lies in memory
 abbrev pub constituency : Constituency → canton.Constituency
 constituency x = record { name = string_bytes x.name; persons = x.persons }
 
+-- a municipality
 abbrev pub municipality : Municipality → canton.Municipality
 municipality x = record { name = string_bytes x.name; constituency = x.constituency }
 
+-- a group
 abbrev pub group : Group → canton.Group
 group x = record { name = string_bytes x.name; stands = x.stands.items }
 
@@ -18,3 +22,7 @@ group x = record { name = string_bytes x.name; stands = x.stands.items }
 abbrev pub canton_from : ℕ → List Constituency → List Municipality → List Group → canton.Canton
 canton_from house constituencies municipalities groups =
     record { house = house; constituencies = map constituency constituencies; municipalities = map municipality municipalities; groups = map group groups }
+
+-- the set-up that a draft would make
+abbrev pub draft : Draft → canton.Canton
+draft d = canton_from d.house d.constituencies.items d.municipalities.items d.groups.items

@@ -1,6 +1,6 @@
 -- The set-up of the rehearsal.
 use Rattle.std.specs.Prelude.{ℕ, true, List, [], ◌∷◌, codes}
-use Rattle.zh_districts.specs.Canton.{Canton, Constituency, Municipality, Group}
+use Rattle.zh_districts.specs.Canton.{Canton, Group}
 
 abbrev pub everywhere : List ℕ → Group
 everywhere name = record { name = name; stands = true ∷ true ∷ true ∷ [] }

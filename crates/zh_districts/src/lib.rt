@@ -1,9 +1,25 @@
 //! The set-up of an election: the house, the constituencies with their municipalities, and the groups.
 #![tactic(auto)]
 
+mod bytes;
+mod document;
+mod doubles;
 mod example;
+mod fault;
+mod keys;
+mod laws;
 mod parts;
+mod reading;
 mod setup;
+mod shares;
+mod table;
+#[cfg(test)]
+mod tests;
+mod text;
 
 pub use example::rehearsal;
-pub use setup::Setup;
+pub use fault::SetupFault;
+pub use laws::equal_bytes;
+pub use setup::{Setup, setup_bytes};
+pub use shares::{SeatFault, seats};
+pub use text::read_setup;

@@ -1,10 +1,5 @@
 //! The parts of a set-up.
 
-ghost use Rattle.std.specs.Prelude.{◌≡◌, IfOk};
-ghost use Rattle.zh_districts.specs.Canton as canton;
-
-use std::alloc::{AllocError, Global};
-
 /// A constituency and how many persons live there, 1 to 10,000,000.
 #[derive(Debug, Drop)]
 pub struct Constituency {
@@ -24,4 +19,13 @@ pub struct Municipality {
 pub struct Group {
     pub name: String,
     pub stands: Vec<bool>,
+}
+
+/// The parts of a set-up, of which it is not known that they make one.
+#[derive(Debug, Drop)]
+pub(crate) struct Draft {
+    pub(crate) house: u32,
+    pub(crate) constituencies: Vec<Constituency>,
+    pub(crate) municipalities: Vec<Municipality>,
+    pub(crate) groups: Vec<Group>,
 }

@@ -1,9 +1,13 @@
 //! The set-up of an election.
 
-ghost use Rattle.std.specs.Prelude.{◌≡◌, ◌≤◌, ◌-◌, ◌+◌, length, slice_get, option_map};
+ghost use Rattle.std.specs.Prelude.{◌≡◌, ◌≤◌, ◌-◌, ◌+◌, length, slice_get, option_map, map, IfOk};
+ghost use Rattle.zh_districts.specs.Seats.{persons};
 ghost use Rattle.zh_districts.specs.Canton.{Canton, IsCanton, persons_of, constituency_of, stands};
+ghost use Rattle.zh_districts.specs.Spelling.{setup_spelling};
 
-use crate::parts::{Constituency, Group, Municipality};
+use crate::bytes::{put_constituencies, put_groups, put_municipalities};
+use crate::parts::{Constituency, Draft, Group, Municipality};
+use std::alloc::{AllocError, Global};
 use std::marker::Model;
 
 /// The house, the constituencies with their municipalities, and the groups. Each is numbered from 1, in the order of
@@ -30,19 +34,19 @@ impl Model for Setup {
 }
 
 impl Setup {
-    ghost use Rattle.std.specs.Prelude.{map};
-    ghost use Rattle.zh_districts.specs.Parts.{canton_from};
+    ghost use Rattle.zh_districts.specs.Parts.{draft};
 
     /// The set-up of these parts.
-    pub(crate) fn assembled(
-        house: u32,
-        constituencies: Vec<Constituency>,
-        municipalities: Vec<Municipality>,
-        groups: Vec<Group>,
-    ) -> Setup
-        requires { IsCanton (canton_from house constituencies.items municipalities.items groups.items) }
-        ensures { result ≡ canton_from house constituencies.items municipalities.items groups.items }
+    pub(crate) fn assembled(parts: Draft) -> Setup
+        requires { IsCanton (draft parts) }
+        ensures { result ≡ draft parts }
     {
+        let Draft {
+            house,
+            constituencies,
+            municipalities,
+            groups,
+        } = parts;
         Setup {
             house,
             constituencies,
@@ -76,15 +80,22 @@ impl Setup {
         self.constituencies[(constituency - 1) as usize].persons
     }
 
+    /// The persons of each constituency, in order.
+    pub(crate) fn each_persons(&self, alloc: Global) -> Result<Vec<u64>, AllocError>
+        ensures persons { IfOk result (λ numbers. numbers.items ≡ persons self.now) }
+        ensures limits { IsCanton self.now }
+    {
+        each_persons(alloc, &self.constituencies)
+    }
+
     /// The name of a constituency, 1 to 40 bytes.
     pub fn constituency_name(&self, constituency: u32) -> &str
         requires from_one { 1 ≤ constituency }
         requires there { constituency ≤ length self.now.constituencies }
         ensures { option_map (λ x. x.name) (slice_get self.now.constituencies (constituency - 1)) ≡ Some result.now }
     {
-        self.constituencies[(constituency - 1) as usize]
-            .name
-            .as_str()
+        let named = &self.constituencies[(constituency - 1) as usize];
+        named.name.as_str()
     }
 
     /// The number of municipalities.
@@ -112,9 +123,8 @@ impl Setup {
         requires there { municipality ≤ length self.now.municipalities }
         ensures { option_map (λ x. x.name) (slice_get self.now.municipalities (municipality - 1)) ≡ Some result.now }
     {
-        self.municipalities[(municipality - 1) as usize]
-            .name
-            .as_str()
+        let named = &self.municipalities[(municipality - 1) as usize];
+        named.name.as_str()
     }
 
     /// The number of groups.
@@ -144,4 +154,26 @@ impl Setup {
     {
         self.groups[(group - 1) as usize].name.as_str()
     }
+}
+
+/// The bytes of a set-up, at most 24,390, as docs/FORMATS.md lays them out.
+pub fn setup_bytes(alloc: Global, setup: &Setup) -> Result<Vec<u8>, AllocError>
+    ensures spelling { IfOk result (λ bytes. bytes.items ≡ setup_spelling setup.now) }
+    ensures length { IfOk result (λ bytes. length bytes.items ≤ 24390) }
+{
+    let mut out = Vec::new(alloc);
+    out.extend_from_slice(&(setup.house as u16).to_be_bytes())?;
+    put_constituencies(&mut out, &setup.constituencies)?;
+    put_municipalities(&mut out, &setup.municipalities)?;
+    put_groups(&mut out, &setup.groups)?;
+    Ok(out)
+}
+
+fn each_persons(alloc: Global, constituencies: &[Constituency]) -> Result<Vec<u64>, AllocError>
+    ensures { IfOk result (λ numbers. numbers.items ≡ map (λ x. x.persons) constituencies.now) }
+{
+    constituencies
+        .iter()
+        .map(|x| u64::from(x.persons))
+        .collect(alloc)
 }

@@ -63,3 +63,8 @@ flagged_from-unset municipality (true ∷ flags) unset = absurd (false≢true (s
 
 pub closed_of-unset : (flags : List Bool) → All (λ (flag : Bool). flag ≡ false) flags → closed_of flags ≡ set_of.empty
 closed_of-unset flags unset = ap (set_of.from_list {R = nat_cmp}) (flagged_from-unset 1 flags (recursion_from_All (λ (flag : Bool). flag ≡ false) flags unset))
+
+-- municipality 0 is never closed
+pub closed_from_one : (flags : List Bool) (m : ℕ) → set_of.contains (closed_of flags) m ≡ true → 1 ≤ m
+closed_from_one flags zero is = absurd (false≢true (sym (flagged_missed 1 flags 0 (omega arith)) ∙ sym (set_of.contains-from_list nat_cmp_total (flagged_from 1 flags) 0) ∙ is))
+closed_from_one flags (suc m) is = omega arith

@@ -4,3 +4,14 @@ pub mod Flags
 pub mod Kept
 pub mod Standing
 pub mod Written
+pub mod Numerals
+pub mod Zeros
+pub mod Bits
+pub mod Blocks
+pub mod Entering
+pub mod Numbers
+pub mod Closing
+pub mod Listing
+pub mod Payloads
+pub mod OneSpelling
+pub mod OnePayload

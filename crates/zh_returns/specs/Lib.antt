@@ -5,3 +5,5 @@ pub mod Code
 pub mod Tables
 pub mod Limits
 pub mod Inside
+pub mod Spelling
+pub mod Payload

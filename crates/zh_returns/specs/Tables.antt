@@ -1,10 +1,12 @@
 -- What the tables of a count stand for: a place for each key, and a flag for each municipality.
-use Rattle.std.specs.Prelude.{ℕ, ◌+◌, ◌*◌, ◌-◌, ◌/◌, ◌%◌, Bool, true, false, Option, Some, None, List, [], ◌∷◌}
+use Rattle.std.specs.Prelude.{◌≡◌, ℕ, ◌+◌, ◌*◌, ◌-◌, ◌/◌, ◌%◌, ◌^◌, ◌==◌, Bool, true, false, Option, Some, None, IfSome, List, [], ◌∷◌, get_or}
 use Rattle.std.specs.Ordering.{nat_cmp}
 use Rattle.std.specs.FinMap as map
 use Rattle.std.specs.FinSet as set
 use Rattle.zh_returns.specs.declared.entry.Entry.{Entry}
-use Rattle.zh_returns.specs.Tally.{key_cmp}
+use Rattle.zh_districts.specs.Canton.{Canton, has_municipality, stands, constituency_of}
+use Rattle.zh_returns.specs.Limits.{IsEntry}
+use Rattle.zh_returns.specs.Tally.{Tally, key_cmp}
 
 -- the key of a place: each municipality has 32 places, one for each list
 abbrev pub key_of : ℕ → ℕ × ℕ
@@ -31,3 +33,21 @@ flagged_from municipality (true ∷ flags) = municipality ∷ flagged_from (muni
 
 abbrev pub closed_of : List Bool → set.FinSet nat_cmp
 closed_of flags = set.from_list (flagged_from 1 flags)
+
+-- the count that these tables stand for
+abbrev pub tally_from : Canton → List (Option Entry) → List Bool → ℕ → Tally
+tally_from canton table flags accepted = record { canton = canton; entries = entries_of table; closed = closed_of flags; accepted = accepted }
+
+-- an entry within its limits, of a list that stands in its municipality
+pub record IsHeldAt (canton : Canton) (key : ℕ × ℕ) (entry : Entry) : Type 0 where
+  pub limits : IsEntry entry
+  pub municipality : has_municipality canton key.0 ≡ true
+  pub list : stands canton (constituency_of canton key.0) key.1 ≡ true
+
+-- what a table holds are such entries
+abbrev pub IsTable : Canton → List (Option Entry) → Type 0
+IsTable canton table = (place : ℕ) → IfSome (get_or table place None) (IsHeldAt canton (key_of place))
+
+-- whether a bit of a number is set, where bit 0 is the lowest
+abbrev pub bit_of : ℕ → ℕ → Bool
+bit_of number bit = number / 2 ^ bit % 2 == 1

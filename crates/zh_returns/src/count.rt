@@ -1,10 +1,11 @@
 //! The count.
 
-ghost use Rattle.std.specs.Prelude.{◌≡◌, ◌+◌, ◌-◌, ◌≤◌, ◌<◌, ◌^◌, length, replicate, IfOk, IfSome, Some, None, false, true, All};
+ghost use Rattle.std.specs.Prelude.{◌≡◌, ◌+◌, ◌-◌, ◌++◌, ◌≤◌, ◌<◌, ◌^◌, length, drop, IfOk, IfSome, Some, None, false, true, All};
 ghost use Rattle.std.specs.FinMap as map;
 ghost use Rattle.std.specs.FinSet as set;
 ghost use Rattle.zh_returns.specs.Judging.{judge, judge_content};
 ghost use Rattle.zh_returns.specs.Limits.{IsTally, IsEntry};
+ghost use Rattle.zh_returns.specs.Payload.{payload_spelling};
 ghost use Rattle.zh_returns.specs.Step.{step, changed};
 ghost use Rattle.zh_returns.specs.Tables.{place_of};
 ghost use Rattle.zh_returns.specs.Tally.{Tally, empty, held};
@@ -13,22 +14,24 @@ ghost use Rattle.zh_districts.specs.Canton.{has_municipality, stands, constituen
 use crate::command::Command;
 use crate::entry::Entry;
 use crate::judging::against;
+use crate::payload::{PAYLOAD_LENGTH, read_tables, write_tables};
+use crate::places::stands_in;
 use crate::verdict::{Verdict, Why};
 use std::alloc::{AllocError, Global};
 use std::marker::Model;
 use zh_districts::Setup;
 
 /// The most municipalities of a set-up.
-const MUNICIPALITIES: usize = 512;
+pub(crate) const MUNICIPALITIES: usize = 512;
 
 /// The most lists of a municipality.
-const LISTS: usize = 32;
+pub(crate) const LISTS: usize = 32;
 
 /// The places of the table of entries.
-const PLACES: usize = MUNICIPALITIES * LISTS;
+pub(crate) const PLACES: usize = MUNICIPALITIES * LISTS;
 
 /// The most votes of a return.
-const MOST_VOTES: u32 = 1_000_000_000;
+pub(crate) const MOST_VOTES: u32 = 1_000_000_000;
 
 /// What the municipalities have returned so far, for one set-up: what is held under each municipality and list, which
 /// municipalities are closed, and how many commands were accepted. Municipalities and lists are numbered from 1.
@@ -71,6 +74,20 @@ fn unset(alloc: Global, places: usize) -> Result<Vec<bool>, AllocError>
     ensures unset { IfOk result (λ flags. All (λ flag. flag ≡ false) flags.items) }
 {
     vec![in alloc; false; places]
+}
+
+fn clear_entries(table: &mut [Option<Entry>])
+    ensures length { length table.new ≡ length table.old }
+    ensures absent { All (λ entry. entry ≡ None) table.new }
+{
+    table.fill(None);
+}
+
+fn clear_flags(flags: &mut [bool])
+    ensures length { length flags.new ≡ length flags.old }
+    ensures unset { All (λ flag. flag ≡ false) flags.new }
+{
+    flags.fill(false);
 }
 
 /// The place of a key in the table of entries.
@@ -170,7 +187,7 @@ impl<'s> Count<'s> {
         if municipality == 0 || municipality > self.setup.municipalities() {
             return Verdict::Refused(Why::Municipality);
         }
-        if !self.stands(municipality, list) {
+        if !stands_in(self.setup, municipality, list) {
             return Verdict::Refused(Why::List);
         }
         if content.is_some_and(|votes| votes > MOST_VOTES) {
@@ -180,17 +197,6 @@ impl<'s> Count<'s> {
             return Verdict::Refused(Why::Closed);
         }
         against(self.entry(municipality, list), number, content)
-    }
-
-    /// Whether a list of this number stands in a municipality of the set-up.
-    fn stands(&self, municipality: u32, list: u32) -> bool
-        requires from_one { 1 ≤ municipality }
-        requires there { municipality ≤ length self.now.canton.municipalities }
-        ensures stands { result ≡ stands self.now.canton (constituency_of self.now.canton municipality) list }
-        ensures there { result ≡ true → (1 ≤ list) × (list ≤ length self.now.canton.groups) }
-    {
-        let constituency = self.setup.constituency_of(municipality);
-        list >= 1 && list <= self.setup.groups() && self.setup.stands(constituency, list)
     }
 
     /// Puts what a command says over the count, and counts it. It has been judged, and is accepted.
@@ -210,6 +216,37 @@ impl<'s> Count<'s> {
             }
         }
         self.accepted += 1;
+    }
+
+    /// Writes the count to the front of `out`, as docs/FORMATS.md has its bytes.
+    pub fn encode(&self, out: &mut [u8])
+        requires room { PAYLOAD_LENGTH ≤ length out.old }
+        ensures { out.new ≡ payload_spelling self.now ++ drop PAYLOAD_LENGTH out.old }
+    {
+        write_tables(&self.entries, &self.closed, self.accepted, out);
+    }
+
+    /// Becomes the count for the set-up that has these bytes. Where there is none, it says so and is the count before
+    /// the first return.
+    pub fn decode(&mut self, bytes: &[u8]) -> bool
+        ensures canton { self.new.canton ≡ self.old.canton }
+        ensures limits { IsTally self.new }
+        ensures read { result ≡ true → payload_spelling self.new ≡ bytes.now }
+        ensures refused { result ≡ false → (tally : Tally) → tally.canton ≡ self.old.canton → IsTally tally → payload_spelling tally ≡ bytes.now → ⊥ }
+        ensures empty { result ≡ false → self.new ≡ empty self.old.canton }
+    {
+        match read_tables(self.setup, bytes, &mut self.entries, &mut self.closed) {
+            Some(accepted) => {
+                self.accepted = accepted;
+                true
+            }
+            None => {
+                clear_entries(&mut self.entries);
+                clear_flags(&mut self.closed);
+                self.accepted = 0;
+                false
+            }
+        }
     }
 
     /// Puts an entry of a list that stands in a municipality over what is held under their key.

@@ -1,5 +1,5 @@
-use Rattle.std.proofs.Common.{◌≡◌, ◌≤◌, ◌<◌, ◌-◌, length, map, arith, rules, refl, ap, true}
-use Rattle.std.specs.Prelude.{slice_get, unwrap_or, nat_le, Some}
+use Rattle.std.proofs.Common.{◌≡◌, ◌<◌, ◌-◌, length, map, arith, rules, refl, ap, true}
+use Rattle.std.specs.Prelude.{slice_get, nat_le, Some}
 use Rattle.std.proofs.lemmas.List.{length-map}
 use Rattle.std.proofs.lemmas.Option.{slice_get_read}
 use Rattle.zh_districts.specs.Canton.{Canton}

@@ -1,0 +1,8 @@
+use Rattle.std.proofs.Common.{◌≤◌, length}
+use Rattle.zh_districts.specs.Parts.{constituency}
+use Rattle.zh_districts.proofs.Images.{image_at}
+use Rattle.zh_districts.proofs.bytes.put_constituencies.Goals as goal
+
+pub put_constituency-requires : goal.put_constituency-requires
+put_constituency-requires c =
+    image_at (λ x. length x.name ≤ 40) constituency c.args.parts.now c.loop-part.part-index c.part-item.result c.requires.names c.loop-part-test.true c.part-item.is

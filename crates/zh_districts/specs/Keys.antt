@@ -1,0 +1,68 @@
+-- The keys of a set-up text: which are there, and which should not be.
+use Rattle.std.specs.Prelude.{ℕ, Bool, true, not, ◌&&◌, if◌then◌else◌, List, [], ◌∷◌, is_some, codes}
+use Rattle.std.specs.Option.{option_map_or}
+use Rattle.std.specs.List.{list_all, list_any}
+use Rattle.std.specs.Str.{bytes_eq}
+use Rattle.toml.specs.Data.{Data, Items, no_items, item, Members, no_members, member, table, get, get_member, as_table, as_array}
+
+-- the values of an array
+abbrev pub list_of : Items → List Data
+list_of no_items = []
+list_of (item value values) = value ∷ list_of values
+
+-- whether a value is a table
+abbrev pub is_table : Data → Bool
+is_table value = is_some (as_table value)
+
+-- the tables of an array of tables; any other value, an array with another value in it too, has none
+abbrev pub tables_of : Data → List Data
+tables_of value = option_map_or (λ items. if list_all is_table (list_of items) then list_of items else []) (as_array value) []
+
+-- the tables at a key of the document
+abbrev pub tables_at : List ℕ → Members → List Data
+tables_at key document = option_map_or tables_of (get_member key document) []
+
+-- each of these keys stands in the table
+abbrev pub has_keys : List (List ℕ) → Data → Bool
+has_keys keys value = list_all (λ key. is_some (get key value)) keys
+
+-- no other key than these stands among the members
+abbrev pub knows_keys : List (List ℕ) → Members → Bool
+knows_keys keys no_members = true
+knows_keys keys (member key _ others) = list_any (λ known. bytes_eq known key) keys && knows_keys keys others
+
+-- the same of a table; another value has no keys
+abbrev pub knows_keys_of : List (List ℕ) → Data → Bool
+knows_keys_of keys value = option_map_or (knows_keys keys) (as_table value) true
+
+-- the keys at the top
+abbrev pub document_keys : List (List ℕ)
+document_keys = codes "version" ∷ codes "house" ∷ codes "constituency" ∷ codes "municipality" ∷ codes "group" ∷ []
+
+-- the keys of a constituency
+abbrev pub constituency_keys : List (List ℕ)
+constituency_keys = codes "name" ∷ codes "persons" ∷ []
+
+-- the keys of a municipality
+abbrev pub municipality_keys : List (List ℕ)
+municipality_keys = codes "name" ∷ codes "constituency" ∷ []
+
+-- the keys of a group
+abbrev pub group_keys : List (List ℕ)
+group_keys = codes "name" ∷ codes "stands" ∷ []
+
+-- a key is missing at the top or in a table
+abbrev pub misses_key : Members → Bool
+misses_key document =
+    not (
+    has_keys document_keys (table document) && list_all (has_keys constituency_keys) (tables_at (codes "constituency") document)
+    && list_all (has_keys municipality_keys) (tables_at (codes "municipality") document) && list_all (has_keys group_keys) (tables_at (codes "group") document)
+    )
+
+-- another key stands at the top or in a table
+abbrev pub has_other_key : Members → Bool
+has_other_key document =
+    not (
+    knows_keys document_keys document && list_all (knows_keys_of constituency_keys) (tables_at (codes "constituency") document)
+    && list_all (knows_keys_of municipality_keys) (tables_at (codes "municipality") document) && list_all (knows_keys_of group_keys) (tables_at (codes "group") document)
+    )

@@ -1,0 +1,34 @@
+-- The bytes of a set-up. Numbers are big endian.
+use Rattle.std.specs.Prelude.{ℕ, ◌+◌, ◌*◌, Bool, if◌then◌else◌, List, [], ◌∷◌, ◌++◌, length}
+use Rattle.std.specs.List.{flat_map}
+use Rattle.std.specs.Int.{w16, w32, to_be_bytes}
+use Rattle.zh_districts.specs.Canton.{Canton, Constituency, Municipality, Group}
+
+-- one byte of length, and the name
+abbrev pub name_spelling : List ℕ → List ℕ
+name_spelling name = length name ∷ name
+
+-- the number whose bit d - 1 is set where the group stands in constituency d
+abbrev pub mask_of : List Bool → ℕ
+mask_of [] = 0
+mask_of (here ∷ others) = (if here then 1 else 0) + 2 * mask_of others
+
+-- four bytes of persons, and the name
+abbrev pub constituency_spelling : Constituency → List ℕ
+constituency_spelling x = to_be_bytes w32 x.persons ++ name_spelling x.name
+
+-- one byte of the constituency's number, and the name
+abbrev pub municipality_spelling : Municipality → List ℕ
+municipality_spelling x = x.constituency ∷ name_spelling x.name
+
+-- four bytes of mask, and the name
+abbrev pub group_spelling : Group → List ℕ
+group_spelling x = to_be_bytes w32 (mask_of x.stands) ++ name_spelling x.name
+
+-- two bytes of house; of each kind how many there are, in two bytes for municipalities and else in one, and then each
+abbrev pub setup_spelling : Canton → List ℕ
+setup_spelling canton =
+    to_be_bytes w16 canton.house
+    ++ (length canton.constituencies ∷ flat_map constituency_spelling canton.constituencies)
+    ++ (to_be_bytes w16 (length canton.municipalities) ++ flat_map municipality_spelling canton.municipalities)
+    ++ (length canton.groups ∷ flat_map group_spelling canton.groups)

@@ -1,0 +1,80 @@
+//! The seats of the constituencies.
+
+ghost use Rattle.std.specs.Prelude.{◌≡◌, ◌≤◌, ◌<◌, ℕ, List, All, MatchOption, IfOk, IfErr, IsErrOf, length, slice_index};
+ghost use Rattle.zh_districts.specs.Seats.{persons, AreSeats, IsFirstWithout};
+ghost use Rattle.zh_divisors.specs.Fit.{IsTied};
+ghost use Rattle.zh_divisors.specs.Shares.{HasDivisor, RoundsEach};
+
+use crate::setup::Setup;
+use std::alloc::{AllocError, Global};
+use thiserror::Error;
+use zh_divisors::{ShareFault, Shares, Weights, apportion};
+
+/// Why the constituencies get no seats.
+#[derive(Clone, Copy, Debug, PartialEq, Eq, Error)]
+pub enum SeatFault {
+    #[error("memory")]
+    Memory,
+    /// A seat is worth as much to two constituencies.
+    #[error("tied seats")]
+    Tied,
+    /// This constituency, the first such, gets no seat.
+    #[error("noseat {0}")]
+    NoSeat(u32),
+}
+
+impl From<AllocError> for SeatFault {
+    ghost use Rattle.zh_districts.specs.declared.shares.SeatFault.TheVariants as faults;
+
+    ghost from_gives = { λ _ fault. fault ≡ faults.Memory };
+
+    fn from(_: AllocError) -> Self {
+        SeatFault::Memory
+    }
+}
+
+fn fault_of(fault: ShareFault) -> SeatFault
+    ensures memory { fault ≡ ShareFault.Memory → result ≡ SeatFault.Memory }
+    ensures tied { fault ≡ ShareFault.Tied → result ≡ SeatFault.Tied }
+{
+    match fault {
+        ShareFault::Memory => SeatFault::Memory,
+        ShareFault::Tied => SeatFault::Tied,
+    }
+}
+
+/// The number of the first constituency without a seat.
+fn first_without(seats: &[u32]) -> Option<u32>
+    requires { length seats.now ≤ 32 }
+    ensures { MatchOption result ((k : ℕ) → k < length seats.now → 1 ≤ slice_index seats.now k) (IsFirstWithout seats.now) }
+{
+    for (place, count) in seats.iter().enumerate() {
+        if *count == 0 {
+            return Some(place as u32 + 1);
+        }
+    }
+    None
+}
+
+/// The seats of the constituencies in proportion to their persons (GPR section 88), each at least 1.
+pub fn seats(alloc: Global, setup: &Setup) -> Result<Shares, SeatFault>
+    ensures seats { IfOk result (λ shares. AreSeats setup.now shares.seats) }
+    ensures each { IfOk result (λ shares. (k : ℕ) → k < length shares.seats → 1 ≤ slice_index shares.seats k) }
+    ensures divisor { IfOk result (HasDivisor (persons setup.now)) }
+    ensures rounds { IfOk result (RoundsEach (persons setup.now)) }
+
+    // Memory aside, each answer stands exactly where the others do not.
+    ensures tied { IsErrOf result SeatFault.Tied → IsTied (persons setup.now) setup.now.house }
+    ensures no_seat { (d : ℕ) → IsErrOf result (SeatFault.NoSeat d) → (seats : List ℕ) × AreSeats setup.now seats × IsFirstWithout seats d }
+{
+    let persons = setup.each_persons(alloc)?;
+    let weights = Weights::new(alloc, &persons)?;
+    let shares = match apportion(alloc, &weights, setup.house()) {
+        Ok(shares) => shares,
+        Err(fault) => return Err(fault_of(fault)),
+    };
+    match first_without(shares.seats()) {
+        Some(constituency) => Err(SeatFault::NoSeat(constituency)),
+        None => Ok(shares),
+    }
+}

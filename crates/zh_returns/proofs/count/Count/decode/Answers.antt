@@ -1,0 +1,46 @@
+use Rattle.std.proofs.Common.{◌≡◌, ◌∙◌, List, Vec, Bool, false, Option, None, length, sym, ap, subst}
+use Rattle.std.specs.Vec.{with_items}
+use Rattle.std.proofs.lemmas.List.{with_items_is}
+use Rattle.std.specs.List.{All}
+use Rattle.zh_districts.specs.Canton.{Canton}
+use Rattle.zh_returns.specs.declared.entry.Entry.{Entry}
+use Rattle.zh_returns.specs.Limits.{IsTally}
+use Rattle.zh_returns.specs.Tables.{entries_of, closed_of, tally_from}
+use Rattle.zh_returns.specs.Tally.{Tally, empty}
+use Rattle.zh_returns.proofs.Entries.{entries_of-absent}
+use Rattle.zh_returns.proofs.Flags.{closed_of-unset}
+use Rattle.zh_returns.proofs.Kept.{IsTally-empty}
+use Rattle.zh_returns.proofs.count.Count.decode.Goals as goal
+
+items_twice : {X Z : Type 0} (v : Vec X Z) (first second : List X) → length second ≡ v.len → (with_items (with_items v first) second).items ≡ second
+items_twice v first second len = with_items_is (with_items v first) second len
+
+-- cleared tables stand for the empty count
+stands_for : {Z : Type 0} (canton : Canton) (entries : Vec (Option Entry) Z) (closed : Vec Bool Z) (before table : List (Option Entry)) (others flags : List Bool) → length table ≡ entries.len → length flags ≡ closed.len →
+    All (λ (entry : Option Entry). entry ≡ None) table → All (λ (flag : Bool). flag ≡ false) flags →
+    tally_from canton (with_items (with_items entries before) table).items (with_items (with_items closed others) flags).items 0 ≡ empty canton
+stands_for canton entries closed before table others flags table_length flags_length absent unset =
+    let none = ap entries_of (items_twice entries before table table_length) ∙ entries_of-absent table absent in
+    let unclosed = ap closed_of (items_twice closed others flags flags_length) ∙ closed_of-unset flags unset in
+    λ i. record { canton = canton; entries = none i; closed = unclosed i; accepted = 0 }
+
+pub invariant_of-self-in-None : goal.invariant_of-self-in-None
+invariant_of-self-in-None c =
+    let table_length = c.clear_entries.ensures.length ∙ c.deref_mut-in-None.ensures.len in
+    let flags_length = c.clear_flags.ensures.length ∙ c.deref_mut-in-None-2.ensures.len in
+    let cleared = stands_for c.self.inside.setup.now c.self.inside.entries c.self.inside.closed c.read_tables.new.entries c.clear_entries.new.table c.read_tables.new.closed c.clear_flags.new.flags table_length flags_length c.clear_entries.ensures.absent c.clear_flags.ensures.unset in
+    record {
+      places = ap length (items_twice c.self.inside.entries c.read_tables.new.entries c.clear_entries.new.table table_length) ∙ table_length ∙ sym c.deref_mut.ensures.len ∙ ap length c.deref_mut.ensures.value ∙ c.self.invariant.places;
+      flags = ap length (items_twice c.self.inside.closed c.read_tables.new.closed c.clear_flags.new.flags flags_length) ∙ flags_length ∙ sym c.deref_mut-2.ensures.len ∙ ap length c.deref_mut-2.ensures.value ∙ c.self.invariant.flags;
+      tally = subst IsTally (sym cleared) (IsTally-empty c.self.inside.setup.now c.self.invariant.tally.canton);
+    }
+
+pub returns-in-None-clause-limits : goal.returns-in-None-clause-limits
+returns-in-None-clause-limits c =
+    let cleared = stands_for c.self.inside.setup.now c.self.inside.entries c.self.inside.closed c.read_tables.new.entries c.clear_entries.new.table c.read_tables.new.closed c.clear_flags.new.flags (c.clear_entries.ensures.length ∙ c.deref_mut-in-None.ensures.len) (c.clear_flags.ensures.length ∙ c.deref_mut-in-None-2.ensures.len) c.clear_entries.ensures.absent c.clear_flags.ensures.unset in
+    subst IsTally (sym cleared) (IsTally-empty c.self.inside.setup.now c.self.invariant.tally.canton)
+
+pub returns-in-None-clause-empty : goal.returns-in-None-clause-empty
+returns-in-None-clause-empty c = λ _.
+    stands_for c.self.inside.setup.now c.self.inside.entries c.self.inside.closed c.read_tables.new.entries c.clear_entries.new.table c.read_tables.new.closed c.clear_flags.new.flags (c.clear_entries.ensures.length ∙ c.deref_mut-in-None.ensures.len) (c.clear_flags.ensures.length ∙ c.deref_mut-in-None-2.ensures.len) c.clear_entries.ensures.absent c.clear_flags.ensures.unset
+    ∙ ap (λ (t : Tally). empty t.canton) c.self.view_is

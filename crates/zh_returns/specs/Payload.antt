@@ -1,0 +1,49 @@
+-- The bytes of a count. Numbers are big endian.
+use Rattle.std.specs.Prelude.{ℕ, zero, suc, ◌+◌, ◌*◌, Bool, if◌then◌else◌, Option, Some, None, List, [], ◌∷◌, ◌++◌, map}
+use Rattle.std.specs.Int.{w32, w64, to_be_bytes}
+use Rattle.std.specs.List.{flat_map}
+use Rattle.std.specs.FinSet as set
+use Rattle.zh_returns.specs.declared.entry.Entry.{Entry}
+use Rattle.zh_returns.specs.Tally.{Tally, held}
+
+-- so many numbers in a row, from the first on
+unfoldable pub numbers : ℕ → ℕ → List ℕ
+numbers first zero = []
+numbers first (suc n) = first ∷ numbers (first + 1) n
+
+-- so many zero bytes
+unfoldable pub zeros : ℕ → List ℕ
+zeros zero = []
+zeros (suc n) = 0 ∷ zeros n
+
+-- the state, three zero bytes, the replacement number, the votes, four zero bytes
+abbrev pub fields_spelling : ℕ → ℕ → ℕ → List ℕ
+fields_spelling state number votes = state ∷ 0 ∷ 0 ∷ 0 ∷ (to_be_bytes w32 number ++ (to_be_bytes w32 votes ++ (0 ∷ 0 ∷ 0 ∷ 0 ∷ [])))
+
+-- votes, or none for a withdrawn list
+abbrev pub content_spelling : ℕ → Option ℕ → List ℕ
+content_spelling number (Some votes) = fields_spelling 1 number votes
+content_spelling number None = fields_spelling 2 number 0
+
+-- nothing, or an entry
+abbrev pub entry_spelling : Option Entry → List ℕ
+entry_spelling None = fields_spelling 0 0 0
+entry_spelling (Some entry) = content_spelling entry.number entry.votes
+
+-- what is held, municipality by municipality, and in each list by list
+abbrev pub table_of : Tally → ℕ → List (Option Entry)
+table_of tally municipalities = flat_map (λ municipality. map (held tally municipality) (numbers 1 32)) (numbers 1 municipalities)
+
+-- the number whose bits, from the lowest on, are these flags
+abbrev pub byte_of : List Bool → ℕ
+byte_of [] = 0
+byte_of (flag ∷ flags) = (if flag then 1 else 0) + 2 * byte_of flags
+
+-- of eight municipalities, which are closed
+abbrev pub closed_byte : Tally → ℕ → ℕ
+closed_byte tally byte = byte_of (map (set.contains tally.closed) (numbers (8 * byte + 1) 8))
+
+-- how many commands were accepted, which of 512 municipalities are closed, 175 bytes not in use, and what is held
+abbrev pub payload_spelling : Tally → List ℕ
+payload_spelling tally =
+    to_be_bytes w64 tally.accepted ++ (map (closed_byte tally) (numbers 0 64) ++ (zeros 175 ++ flat_map entry_spelling (table_of tally 512)))
