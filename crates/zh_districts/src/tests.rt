@@ -369,6 +369,14 @@ fn memory(rt: HostRuntime) -> Result<(), Fail> {
         Err(_) => setup_bytes(rt.alloc(), &setup)?,
     };
     assert_eq!(rt; bytes.as_slice(), BYTES.as_slice());
+    let shares = match seats(rt.alloc(), &setup) {
+        Ok(shares) => shares,
+        Err(fault) => {
+            assert_eq!(rt; fault, SeatFault::Memory);
+            seats(rt.alloc(), &setup)?
+        }
+    };
+    assert_eq!(rt; shares.seats(), [5, 3, 2].as_slice());
     Ok(())
 }
 
