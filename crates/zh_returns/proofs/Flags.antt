@@ -1,11 +1,11 @@
 -- What flags of municipalities stand for.
-use Rattle.std.proofs.Common.{◌≡◌, ◌≢◌, ◌<◌, ◌≤◌, ◌+◌, ◌-◌, ◌∙◌, ◌||◌, ℕ, zero, suc, Bool, true, false, List, [], ◌∷◌, length, get_or, sym, ap, subst, refl, arith}
+use Rattle.std.proofs.Common.{◌≡◌, ◌≢◌, ◌<◌, ◌≤◌, ◌+◌, ◌-◌, ◌∙◌, ◌||◌, ◌&&◌, ℕ, zero, suc, Bool, true, false, not, List, [], ◌∷◌, length, get_or, set, sym, ap, subst, refl, arith, inl, inr}
 use Rattle.std.specs.Cmp.{nat_cmp_total, tied_itself, Equal-is}
 use Rattle.std.specs.List.{All, AllByRecursion, list_any}
 use Rattle.std.specs.Ordering.{eq_by_cmp, is_eq, nat_cmp}
 use Rattle.std.specs.FinSet as set_of
-use Rattle.std.proofs.lemmas.Bool.{false≢true}
-use Rattle.std.proofs.lemmas.List.{get_or_read}
+use Rattle.std.proofs.lemmas.Bool.{false≢true, cases_eq, and_left, and_right, or_left}
+use Rattle.std.proofs.lemmas.List.{get_or_read, get_or-set_same, get_or-set_other}
 use Rattle.std.proofs.lemmas.List.Elements.{recursion_from_All}
 use Rattle.std.proofs.lemmas.Map.Lookups.{exact_unsigned}
 use Rattle.zh_returns.specs.Tables.{flagged_from, closed_of}
@@ -68,3 +68,58 @@ closed_of-unset flags unset = ap (set_of.from_list {R = nat_cmp}) (flagged_from-
 pub closed_from_one : (flags : List Bool) (m : ℕ) → set_of.contains (closed_of flags) m ≡ true → 1 ≤ m
 closed_from_one flags zero is = absurd (false≢true (sym (flagged_missed 1 flags 0 (omega arith)) ∙ sym (set_of.contains-from_list nat_cmp_total (flagged_from 1 flags) 0) ∙ is))
 closed_from_one flags (suc m) is = omega arith
+
+-- municipality 0 is not closed
+none_closed : (flags : List Bool) → set_of.contains (closed_of flags) 0 ≡ false
+none_closed flags = set_of.contains-from_list nat_cmp_total (flagged_from 1 flags) 0 ∙ flagged_missed 1 flags 0 (omega arith)
+
+-- what is said of whether a municipality is closed is said of 0, which is not, and of each flag
+at_flag : (P : ℕ → Bool → Type 0) (flags : List Bool) (m : ℕ) → P 0 false → (1 ≤ m → P m (get_or flags (m - 1) false)) → P m (set_of.contains (closed_of flags) m)
+at_flag P flags zero none some = subst (P 0) (sym (none_closed flags)) none
+at_flag P flags (suc m) none some = let from_one : 1 ≤ suc m = omega arith in subst (P (suc m)) (sym (contains-closed_of flags (suc m) from_one)) (some from_one)
+
+-- to set the flag of a municipality is to put it into the set
+pub closed_of-set : (flags : List Bool) (municipality : ℕ) → 1 ≤ municipality → municipality ≤ length flags → closed_of (set flags (municipality - 1) true) ≡ set_of.insert (closed_of flags) municipality
+closed_of-set flags municipality from_one within =
+    let new = set flags (municipality - 1) true in
+    let inside : municipality - 1 < length flags = omega arith in
+    set_of.same_set nat_cmp_total exact_unsigned (closed_of new) (set_of.insert (closed_of flags) municipality) (λ m.
+    at_flag (λ n b. b ≡ set_of.contains (set_of.insert (closed_of flags) municipality) n) new m
+    (
+    sym (set_of.contains-insert nat_cmp_total (closed_of flags) municipality 0 ∙ ap (λ b. b || set_of.contains (closed_of flags) 0) (other_number 0 municipality (λ is. omega arith)) ∙ none_closed flags)
+    )
+    (λ some.
+    elim (cases_eq m municipality) [
+      | inl same ↦
+          ap (λ n. get_or new (n - 1) false) same ∙ get_or-set_same flags (municipality - 1) true false inside
+          ∙ sym (set_of.contains-insert nat_cmp_total (closed_of flags) municipality m ∙ or_left (eq_by_cmp nat_cmp m municipality) (set_of.contains (closed_of flags) m) (ap (λ n. eq_by_cmp nat_cmp n municipality) same ∙ same_number municipality))
+      | inr other ↦
+          get_or-set_other flags (municipality - 1) (m - 1) true false (λ is. other (omega arith))
+          ∙ sym (contains-closed_of flags m some)
+          ∙ sym (set_of.contains-insert nat_cmp_total (closed_of flags) municipality m ∙ ap (λ b. b || set_of.contains (closed_of flags) m) (other_number m municipality other))
+    ]
+    )
+    )
+
+-- to clear it is to take it out
+pub closed_of-clear : (flags : List Bool) (municipality : ℕ) → 1 ≤ municipality → municipality ≤ length flags → closed_of (set flags (municipality - 1) false) ≡ set_of.remove (closed_of flags) municipality
+closed_of-clear flags municipality from_one within =
+    let new = set flags (municipality - 1) false in
+    let inside : municipality - 1 < length flags = omega arith in
+    set_of.same_set nat_cmp_total exact_unsigned (closed_of new) (set_of.remove (closed_of flags) municipality) (λ m.
+    at_flag (λ n b. b ≡ set_of.contains (set_of.remove (closed_of flags) municipality) n) new m
+    (
+    sym (set_of.contains-remove nat_cmp_total (closed_of flags) municipality 0 ∙ and_right (not (eq_by_cmp nat_cmp 0 municipality)) (set_of.contains (closed_of flags) 0) (none_closed flags))
+    )
+    (λ some.
+    elim (cases_eq m municipality) [
+      | inl same ↦
+          ap (λ n. get_or new (n - 1) false) same ∙ get_or-set_same flags (municipality - 1) false false inside
+          ∙ sym (set_of.contains-remove nat_cmp_total (closed_of flags) municipality m ∙ and_left (not (eq_by_cmp nat_cmp m municipality)) (set_of.contains (closed_of flags) m) (ap not (ap (λ n. eq_by_cmp nat_cmp n municipality) same ∙ same_number municipality)))
+      | inr other ↦
+          get_or-set_other flags (municipality - 1) (m - 1) false false (λ is. other (omega arith))
+          ∙ sym (contains-closed_of flags m some)
+          ∙ sym (set_of.contains-remove nat_cmp_total (closed_of flags) municipality m ∙ ap (λ b. not b && set_of.contains (closed_of flags) m) (other_number m municipality other))
+    ]
+    )
+    )

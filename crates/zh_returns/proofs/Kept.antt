@@ -1,6 +1,8 @@
 -- The limits of a count are kept.
-use Rattle.std.proofs.Common.{◌≡◌, ◌∙◌, ℕ, true, false, cond, Some, sym, subst, refl, lit<}
-use Rattle.std.proofs.lemmas.Bool.{false≢true}
+use Rattle.std.proofs.Common.{◌≡◌, ◌∙◌, ℕ, true, false, not, cond, Some, sym, subst, refl, lit<, inl, inr}
+use Rattle.std.proofs.lemmas.Bool.{false≢true, or_cases, and_parts}
+use Rattle.std.proofs.lemmas.Map.Lookups.{exact_unsigned}
+use Rattle.std.specs.Cmp.{nat_cmp_total, Equal-is}
 use Rattle.std.specs.Prelude.{IfSome}
 use Rattle.std.specs.Ordering.{eq_by_cmp, nat_cmp}
 use Rattle.std.specs.FinMap as map
@@ -44,5 +46,28 @@ IsTally-insert tally municipality list entry limits there stands_there new = rec
   lists = λ m l. each_with (λ key _. stands tally.canton (constituency_of tally.canton key.0) key.1 ≡ true) tally.entries (municipality, list) entry stands_there (m, l) (limits.lists m l);
   municipalities = λ m l. each_with (λ key _. has_municipality tally.canton key.0 ≡ true) tally.entries (municipality, list) entry there (m, l) (limits.municipalities m l);
   closed = limits.closed;
+  accepted = limits.accepted;
+}
+
+pub IsTally-close : (tally : Tally) (municipality : ℕ) → IsTally tally → has_municipality tally.canton municipality ≡ true → IsTally (record tally { closed = set.insert tally.closed municipality })
+IsTally-close tally municipality limits there = record {
+  canton = limits.canton;
+  entries = limits.entries;
+  lists = limits.lists;
+  municipalities = limits.municipalities;
+  closed = λ m is. elim (or_cases (eq_by_cmp nat_cmp m municipality) (set.contains tally.closed m) (sym (set.contains-insert nat_cmp_total tally.closed municipality m) ∙ is)) [
+    | inl same ↦ subst (λ n. has_municipality tally.canton n ≡ true) (sym (exact_unsigned m municipality ((Equal-is (nat_cmp m municipality)).0 same))) there
+    | inr old ↦ limits.closed m old
+  ];
+  accepted = limits.accepted;
+}
+
+pub IsTally-reopen : (tally : Tally) (municipality : ℕ) → IsTally tally → IsTally (record tally { closed = set.remove tally.closed municipality })
+IsTally-reopen tally municipality limits = record {
+  canton = limits.canton;
+  entries = limits.entries;
+  lists = limits.lists;
+  municipalities = limits.municipalities;
+  closed = λ m is. limits.closed m ((and_parts (not (eq_by_cmp nat_cmp m municipality)) (set.contains tally.closed m) (sym (set.contains-remove nat_cmp_total tally.closed municipality m) ∙ is)).1);
   accepted = limits.accepted;
 }

@@ -7,11 +7,17 @@ pub mod Written
 pub mod Numerals
 pub mod Zeros
 pub mod Bits
+pub mod Marks
+pub mod Verdicts
+pub mod Keeping
 pub mod Blocks
 pub mod Entering
 pub mod Numbers
 pub mod Closing
 pub mod Listing
 pub mod Payloads
+pub mod Batches
+pub mod Pushing
+pub mod Accepted
 pub mod OneSpelling
 pub mod OnePayload

@@ -1,10 +1,12 @@
 -- What becomes of a command: the first case that applies decides.
-use Rattle.std.specs.Prelude.{ℕ, ◌+◌, Bool, true, false, not, nat_lt, ◌==◌, if◌then◌else◌, Option, Some, None}
+use Rattle.std.specs.Prelude.{ℕ, ◌+◌, Bool, true, false, not, nat_lt, ◌==◌, if◌then◌else◌, Option, Some, None, List, map, unwrap_or}
+use Rattle.std.specs.List.{list_any, find}
 use Rattle.std.specs.FinSet as set
 use Rattle.zh_districts.specs.Canton.{has_municipality, stands, constituency_of}
 use Rattle.zh_returns.specs.declared.command.Command.{Command}
 use Rattle.zh_returns.specs.declared.command.Command.TheVariants as commands
 use Rattle.zh_returns.specs.declared.entry.Entry.{Entry}
+use Rattle.zh_returns.specs.declared.row.Row.{Row}
 use Rattle.zh_returns.specs.declared.verdict.Verdict.{Verdict}
 use Rattle.zh_returns.specs.declared.verdict.Verdict.TheVariants.{Accept, Same, Refused}
 use Rattle.zh_returns.specs.declared.verdict.Why.TheVariants as why
@@ -40,5 +42,42 @@ judge_content tally municipality list number content =
     else if set.contains tally.closed municipality then Refused why.Closed
     else against (held tally municipality list) number content
 
+-- a return
+abbrev pub judge_row : Tally → Row → Verdict
+judge_row tally row = judge_content tally row.municipality row.list row.number (Some row.votes)
+
+-- closing a municipality
+abbrev pub judge_close : Tally → ℕ → Verdict
+judge_close tally municipality =
+    if not (has_municipality tally.canton municipality) then Refused why.Municipality
+    else if set.contains tally.closed municipality then Same
+    else Accept
+
+-- opening it again
+abbrev pub judge_reopen : Tally → ℕ → Verdict
+judge_reopen tally municipality =
+    if not (has_municipality tally.canton municipality) then Refused why.Municipality
+    else if set.contains tally.closed municipality then Accept
+    else Refused (why.NotClosed municipality)
+
+abbrev pub is_refusal : Verdict → Bool
+is_refusal Accept = false
+is_refusal Same = false
+is_refusal (Refused why) = true
+
+abbrev pub is_accept : Verdict → Bool
+is_accept Accept = true
+is_accept Same = false
+is_accept (Refused why) = false
+
+-- the verdict on all rows by the verdicts on each: the first refusal, where there is one; else it is enough that one is accepted
+abbrev pub of_all : List Verdict → Verdict
+of_all verdicts = unwrap_or (find is_refusal verdicts) (if list_any is_accept verdicts then Accept else Same)
+
+-- of a batch each row is judged against the count before it
 abbrev pub judge : Tally → Command → Verdict
-judge tally (commands.Return row) = judge_content tally row.municipality row.list row.number (Some row.votes)
+judge tally (commands.Return row) = judge_row tally row
+judge tally (commands.Withdraw municipality list number) = judge_content tally municipality list number None
+judge tally (commands.Close municipality) = judge_close tally municipality
+judge tally (commands.Reopen municipality) = judge_reopen tally municipality
+judge tally (commands.Batch rows) = of_all (map (judge_row tally) rows)

@@ -5,5 +5,9 @@ pub mod Code
 pub mod Tables
 pub mod Limits
 pub mod Inside
+pub mod Rows
+pub mod RowBytes
+pub mod Pushed
+pub mod KeySet
 pub mod Spelling
 pub mod Payload

@@ -1,19 +1,49 @@
 -- What an accepted command does to the count.
-use Rattle.std.specs.Prelude.{◌+◌, List, [], ◌∷◌, Some}
+use Rattle.std.specs.Prelude.{◌≡◌, ◌+◌, ◌≤◌, true, List, [], ◌∷◌, Some, None, fold}
+use Rattle.std.specs.Ordering.{nat_cmp}
 use Rattle.std.specs.FinMap as map
+use Rattle.std.specs.FinSet as set
+use Rattle.zh_districts.specs.Canton.{Canton, has_municipality, stands, constituency_of}
 use Rattle.zh_returns.specs.declared.command.Command.{Command}
 use Rattle.zh_returns.specs.declared.command.Command.TheVariants as commands
+use Rattle.zh_returns.specs.declared.entry.Entry.{Entry}
+use Rattle.zh_returns.specs.declared.row.Row.{Row}
 use Rattle.zh_returns.specs.declared.verdict.Verdict.{Verdict}
 use Rattle.zh_returns.specs.declared.verdict.Verdict.TheVariants.{Accept, Same, Refused}
-use Rattle.zh_returns.specs.Tally.{Tally}
+use Rattle.zh_returns.specs.Tally.{Tally, key_cmp}
 use Rattle.zh_returns.specs.Judging.{judge}
+use Rattle.zh_returns.specs.Rows.{row_key}
+
+-- what is held after a return
+abbrev pub entry_of : Row → Entry
+entry_of row = record { number = row.number; votes = Some row.votes }
+
+-- the entries of these rows, put over those that are held
+abbrev pub with_rows : map.FinMap key_cmp Entry → List Row → map.FinMap key_cmp Entry
+with_rows = fold (λ entries row. map.insert entries (row_key row) (entry_of row))
+
+-- what is held after a command
+abbrev pub entries_after : Tally → Command → map.FinMap key_cmp Entry
+entries_after tally (commands.Return row) = map.insert tally.entries (row_key row) (entry_of row)
+entries_after tally (commands.Withdraw municipality list number) = map.insert tally.entries (municipality, list) (record { number = number; votes = None })
+entries_after tally (commands.Close municipality) = tally.entries
+entries_after tally (commands.Reopen municipality) = tally.entries
+entries_after tally (commands.Batch rows) = with_rows tally.entries rows
+
+-- the closed municipalities after a command
+abbrev pub closed_after : Tally → Command → set.FinSet nat_cmp
+closed_after tally (commands.Return row) = tally.closed
+closed_after tally (commands.Withdraw municipality list number) = tally.closed
+closed_after tally (commands.Close municipality) = set.insert tally.closed municipality
+closed_after tally (commands.Reopen municipality) = set.remove tally.closed municipality
+closed_after tally (commands.Batch rows) = tally.closed
 
 -- the count with what the command says put over it, and one command more
 abbrev pub changed : Tally → Command → Tally
-changed tally (commands.Return row) = record {
+changed tally command = record {
   canton = tally.canton;
-  entries = map.insert tally.entries (row.municipality, row.list) (record { number = row.number; votes = Some row.votes });
-  closed = tally.closed;
+  entries = entries_after tally command;
+  closed = closed_after tally command;
   accepted = tally.accepted + 1;
 }
 
@@ -31,3 +61,10 @@ step tally command = on_verdict (judge tally command) (changed tally command) ta
 abbrev pub after : Tally → List Command → Tally
 after tally [] = tally
 after tally (command ∷ commands) = after (step tally command) commands
+
+-- a row that may stand in the count: its list stands in its municipality, and its numbers are within the limits
+pub record IsKept (canton : Canton) (row : Row) : Type 0 where
+  pub there : has_municipality canton row.municipality ≡ true
+  pub stands : stands canton (constituency_of canton row.municipality) row.list ≡ true
+  pub number : 1 ≤ row.number
+  pub votes : row.votes ≤ 1000000000

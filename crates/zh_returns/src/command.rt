@@ -1,7 +1,23 @@
 use crate::row::Row;
+use crate::rows::Rows;
 
-/// What a desk asks of the count.
-#[derive(Clone, Copy, Debug, PartialEq, Eq)]
-pub enum Command {
+/// What a desk asks of the count. Municipalities and lists are numbered from 1, replacement numbers count from 1.
+#[derive(Debug, Drop)]
+pub enum Command<'a> {
     Return(Row),
+    /// A list takes back its votes in a municipality, under a replacement number like a return's.
+    Withdraw {
+        municipality: u32,
+        list: u32,
+        number: u32,
+    },
+    /// A municipality is complete: it takes no more returns and withdrawals.
+    Close {
+        municipality: u32,
+    },
+    Reopen {
+        municipality: u32,
+    },
+    /// Several returns, all or none.
+    Batch(Rows<'a>),
 }

@@ -3,20 +3,14 @@
 ghost use Rattle.std.specs.Prelude.{◌≡◌, ◌+◌, ◌-◌, ◌++◌, ◌≤◌, ◌<◌, ◌^◌, length, drop, IfOk, IfSome, Some, None, false, true, All};
 ghost use Rattle.std.specs.FinMap as map;
 ghost use Rattle.std.specs.FinSet as set;
-ghost use Rattle.zh_returns.specs.Judging.{judge, judge_content};
 ghost use Rattle.zh_returns.specs.Limits.{IsTally, IsEntry};
 ghost use Rattle.zh_returns.specs.Payload.{payload_spelling};
-ghost use Rattle.zh_returns.specs.Step.{step, changed};
 ghost use Rattle.zh_returns.specs.Tables.{place_of};
 ghost use Rattle.zh_returns.specs.Tally.{Tally, empty, held};
 ghost use Rattle.zh_districts.specs.Canton.{has_municipality, stands, constituency_of};
 
-use crate::command::Command;
 use crate::entry::Entry;
-use crate::judging::against;
 use crate::payload::{PAYLOAD_LENGTH, read_tables, write_tables};
-use crate::places::stands_in;
-use crate::verdict::{Verdict, Why};
 use std::alloc::{AllocError, Global};
 use std::marker::Model;
 use zh_districts::Setup;
@@ -155,69 +149,6 @@ impl<'s> Count<'s> {
         self.closed[(municipality - 1) as usize]
     }
 
-    /// What becomes of a command, whatever numbers it has. Of a return the first of these decides:
-    ///
-    /// 1. The set-up has no such municipality: `Municipality`.
-    /// 2. The list does not stand in the constituency of the municipality: `List`.
-    /// 3. It has more than 1,000,000,000 votes: `Votes`.
-    /// 4. The municipality is closed: `Closed`.
-    /// 5. Nothing is held for the list there: accepted with number 1, else `Gap`.
-    /// 6. The number held is `n`: a lower number is `Stale`; `n` is `Same` with the votes held, else `Conflict`; `n + 1`
-    ///    is accepted; a higher one is `Gap`. A withdrawn list holds no votes, which differs from 0 votes.
-    pub fn judge(&self, command: &Command) -> Verdict
-        ensures { result ≡ judge self.now command.now }
-    {
-        match command {
-            Command::Return(row) => {
-                self.judge_content(row.municipality, row.list, row.number, Some(row.votes))
-            }
-        }
-    }
-
-    /// What becomes of a content, votes or none for a withdrawn list, for a key under a replacement number.
-    fn judge_content(
-        &self,
-        municipality: u32,
-        list: u32,
-        number: u32,
-        content: Option<u32>,
-    ) -> Verdict
-        ensures { result ≡ judge_content self.now municipality list number content }
-    {
-        if municipality == 0 || municipality > self.setup.municipalities() {
-            return Verdict::Refused(Why::Municipality);
-        }
-        if !stands_in(self.setup, municipality, list) {
-            return Verdict::Refused(Why::List);
-        }
-        if content.is_some_and(|votes| votes > MOST_VOTES) {
-            return Verdict::Refused(Why::Votes);
-        }
-        if self.closed(municipality) {
-            return Verdict::Refused(Why::Closed);
-        }
-        against(self.entry(municipality, list), number, content)
-    }
-
-    /// Puts what a command says over the count, and counts it. It has been judged, and is accepted.
-    pub fn apply(&mut self, command: &Command)
-        requires accept { judge self.old command.now ≡ Verdict.Accept }
-        requires room { self.old.accepted < 2 ^ 64 - 1 }
-        ensures step { self.new ≡ step self.old command.now }
-        ensures changed { self.new ≡ changed self.old command.now }
-    {
-        match command {
-            Command::Return(row) => {
-                let entry = Entry {
-                    number: row.number,
-                    votes: Some(row.votes),
-                };
-                self.put(row.municipality, row.list, entry);
-            }
-        }
-        self.accepted += 1;
-    }
-
     /// Writes the count to the front of `out`, as docs/FORMATS.md has its bytes.
     pub fn encode(&self, out: &mut [u8])
         requires room { PAYLOAD_LENGTH ≤ length out.old }
@@ -250,7 +181,7 @@ impl<'s> Count<'s> {
     }
 
     /// Puts an entry of a list that stands in a municipality over what is held under their key.
-    fn put(&mut self, municipality: u32, list: u32, entry: Entry)
+    pub(crate) fn put(&mut self, municipality: u32, list: u32, entry: Entry)
         requires there { has_municipality self.old.canton municipality ≡ true }
         requires stands { stands self.old.canton (constituency_of self.old.canton municipality) list ≡ true }
         requires entry { IsEntry entry }
@@ -258,5 +189,29 @@ impl<'s> Count<'s> {
     {
         let table = &mut self.entries;
         table[index_of(municipality, list)] = Some(entry);
+    }
+
+    pub(crate) fn close(&mut self, municipality: u32)
+        requires { has_municipality self.old.canton municipality ≡ true }
+        ensures { self.new ≡ record self.old { closed = set.insert self.old.closed municipality } }
+    {
+        let flags = &mut self.closed;
+        flags[(municipality - 1) as usize] = true;
+    }
+
+    pub(crate) fn reopen(&mut self, municipality: u32)
+        requires { has_municipality self.old.canton municipality ≡ true }
+        ensures { self.new ≡ record self.old { closed = set.remove self.old.closed municipality } }
+    {
+        let flags = &mut self.closed;
+        flags[(municipality - 1) as usize] = false;
+    }
+
+    /// Counts an accepted command.
+    pub(crate) fn count_accepted(&mut self)
+        requires { self.old.accepted < 2 ^ 64 - 1 }
+        ensures { self.new ≡ record self.old { accepted = self.old.accepted + 1 } }
+    {
+        self.accepted += 1;
     }
 }

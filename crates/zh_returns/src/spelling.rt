@@ -1,25 +1,44 @@
 //! The bytes of a command.
 
-ghost use Rattle.std.specs.Prelude.{◌≡◌, ◌≤◌, ◌++◌, length, drop, IfSome, IfNone};
-ghost use Rattle.zh_returns.specs.declared.command.Command.{Command};
-ghost use Rattle.zh_returns.specs.declared.row.Row.{Row};
-ghost use Rattle.zh_returns.specs.Spelling.{command_spelling, row_spelling, FitsCommand, FitsRow, IsSpeakable, IsSpeakableRow};
+ghost use Rattle.std.specs.Prelude.{◌≡◌, ◌+◌, ◌*◌, ◌<◌, ◌≤◌, ◌^◌, ◌∷◌, ◌++◌, length, drop};
+ghost use Rattle.std.specs.Int.{w16, to_be_bytes};
+ghost use Rattle.zh_returns.specs.Spelling.{command_spelling, withdrawal_spelling, batch_spelling, FitsCommand};
 
 use crate::command::Command;
-use crate::row::Row;
+use crate::row_bytes::{ROW_LENGTH, write_row};
+use crate::rows::Rows;
 use byteorder::{BigEndian, ByteOrder};
 
-/// The bytes of a row.
-const ROW_LENGTH: usize = 11;
+/// The most bytes of a command: those of a batch of 1,000 rows.
+pub const COMMAND_LENGTH: usize = 11_003;
 
 /// The first byte of a return.
-const RETURN: u8 = 1;
+pub(crate) const RETURN: u8 = 1;
+
+/// The first byte of a withdrawal.
+pub(crate) const WITHDRAW: u8 = 2;
+
+/// The first byte of a closing.
+pub(crate) const CLOSE: u8 = 3;
+
+/// The first byte of a reopening.
+pub(crate) const REOPEN: u8 = 4;
+
+/// The first byte of a batch.
+pub(crate) const BATCH: u8 = 5;
+
+/// The bytes of a municipality, and of the number of rows.
+pub(crate) const SHORT_LENGTH: usize = 2;
+
+/// The bytes of a withdrawal behind the first.
+pub(crate) const WITHDRAWAL_LENGTH: usize = 7;
 
 /// Writes a command to the front of `out`, and gives how many bytes it takes, as docs/FORMATS.md has them.
-pub fn encode_command(command: &Command, out: &mut [u8]) -> usize
+pub fn encode_command(command: &Command<'_>, out: &mut [u8]) -> usize
     requires fits { FitsCommand command.now }
     requires room { length (command_spelling command.now) ≤ length out.old }
     ensures length { result ≡ length (command_spelling command.now) }
+    ensures most { result ≤ COMMAND_LENGTH }
     ensures spelling { out.new ≡ command_spelling command.now ++ drop result out.old }
 {
     match command {
@@ -28,43 +47,55 @@ pub fn encode_command(command: &Command, out: &mut [u8]) -> usize
             write_row(*row, &mut out[1..1 + ROW_LENGTH]);
             1 + ROW_LENGTH
         }
+        Command::Withdraw {
+            municipality,
+            list,
+            number,
+        } => {
+            out[0] = WITHDRAW;
+            let fields = &mut out[1..1 + WITHDRAWAL_LENGTH];
+            write_withdrawal(*municipality, *list, *number, fields);
+            1 + WITHDRAWAL_LENGTH
+        }
+        Command::Close { municipality } => write_short(CLOSE, *municipality, out),
+        Command::Reopen { municipality } => write_short(REOPEN, *municipality, out),
+        Command::Batch(rows) => write_batch(rows, out),
     }
 }
 
-/// The command that has these bytes, if there is one.
-pub fn decode_command(bytes: &[u8]) -> Option<Command>
-    ensures read { IfSome result (λ command. IsSpeakable command × (command_spelling command ≡ bytes.now)) }
-    ensures refused { IfNone result ((command : Command) → IsSpeakable command → command_spelling command ≡ bytes.now → ⊥) }
+fn write_withdrawal(municipality: u32, list: u32, number: u32, out: &mut [u8])
+    requires municipality { municipality < 2 ^ 16 }
+    requires list { list < 2 ^ 8 }
+    requires room { length out.old ≡ WITHDRAWAL_LENGTH }
+    ensures { out.new ≡ withdrawal_spelling municipality list number }
 {
-    match bytes {
-        [RETURN, row @ ..] => Some(Command::Return(read_row(row)?)),
-        _ => None,
-    }
+    BigEndian::write_u16(out, municipality as u16);
+    out[2] = list as u8;
+    BigEndian::write_u32(&mut out[3..], number);
 }
 
-fn write_row(row: Row, out: &mut [u8])
-    requires fits { FitsRow row }
-    requires room { length out.old ≡ ROW_LENGTH }
-    ensures { out.new ≡ row_spelling row }
+/// Writes a kind and a municipality to the front of `out`.
+fn write_short(kind: u8, municipality: u32, out: &mut [u8]) -> usize
+    requires municipality { municipality < 2 ^ 16 }
+    requires room { 1 + SHORT_LENGTH ≤ length out.old }
+    ensures length { result ≡ 1 + SHORT_LENGTH }
+    ensures spelling { out.new ≡ (kind ∷ to_be_bytes w16 municipality) ++ drop (1 + SHORT_LENGTH) out.old }
 {
-    BigEndian::write_u16(out, row.municipality as u16);
-    out[2] = row.list as u8;
-    BigEndian::write_u32(&mut out[3..], row.number);
-    BigEndian::write_u32(&mut out[7..], row.votes);
+    out[0] = kind;
+    BigEndian::write_u16(&mut out[1..], municipality as u16);
+    1 + SHORT_LENGTH
 }
 
-fn read_row(bytes: &[u8]) -> Option<Row>
-    ensures read { IfSome result (λ row. IsSpeakableRow row × (row_spelling row ≡ bytes.now)) }
-    ensures refused { IfNone result ((row : Row) → IsSpeakableRow row → row_spelling row ≡ bytes.now → ⊥) }
+/// Writes a batch to the front of `out`.
+fn write_batch(rows: &Rows<'_>, out: &mut [u8]) -> usize
+    requires { 1 + SHORT_LENGTH + ROW_LENGTH * length rows.now ≤ length out.old }
+    ensures length { result ≡ 1 + SHORT_LENGTH + ROW_LENGTH * length rows.now }
+    ensures most { result ≤ COMMAND_LENGTH }
+    ensures spelling { out.new ≡ (BATCH ∷ batch_spelling rows.now) ++ drop result out.old }
 {
-    if bytes.len() != ROW_LENGTH {
-        return None;
-    }
-    let row = Row {
-        municipality: BigEndian::read_u16(bytes) as u32,
-        list: bytes[2] as u32,
-        number: BigEndian::read_u32(&bytes[3..]),
-        votes: BigEndian::read_u32(&bytes[7..]),
-    };
-    if row.number == 0 { None } else { Some(row) }
+    let head = 1 + SHORT_LENGTH;
+    let end = head + ROW_LENGTH * rows.len();
+    write_short(BATCH, rows.len() as u32, out);
+    out[head..end].copy_from_slice(rows.bytes());
+    end
 }

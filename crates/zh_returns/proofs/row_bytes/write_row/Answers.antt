@@ -1,7 +1,7 @@
 use Rattle.std.proofs.Common.{◌≡◌, ◌++◌, ◌-◌, ℕ, List, [], ◌∷◌, length, drop, take, set, refl, arith}
 use Rattle.std.specs.Int.{bytes_high_first}
 use borrow.Rule.Slice.PartMut.{put_mid}
-use Rattle.zh_returns.proofs.spelling.write_row.Goals as goal
+use Rattle.zh_returns.proofs.row_bytes.write_row.Goals as goal
 
 -- four fields are written one after the other
 fields_written : (out : List ℕ) (m l n v : ℕ) (first second third : List ℕ) → length out ≡ 11 →

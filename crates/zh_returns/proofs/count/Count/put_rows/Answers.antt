@@ -1,0 +1,29 @@
+use Rattle.std.proofs.Common.{◌∙◌, [], ◌∷◌, take, sym, ap, subst}
+use Rattle.std.specs.FinMap as map_of
+use Rattle.std.proofs.lemmas.List.Sums.{fold-append}
+use Rattle.zh_districts.specs.Canton.{Canton}
+use Rattle.zh_returns.specs.declared.row.Row.{Row}
+use Rattle.zh_returns.specs.Rows.{row_key}
+use Rattle.zh_returns.specs.Step.{entry_of, with_rows, IsKept}
+use Rattle.zh_returns.specs.Tally.{Tally}
+use Rattle.zh_returns.proofs.Keeping.{rows_kept}
+use Rattle.zh_returns.proofs.Verdicts.{rows_more}
+use Rattle.zh_returns.proofs.count.Count.put_rows.Goals as goal
+
+pub put_row-requires : goal.put_row-requires
+put_row-requires c =
+    subst (λ (canton : Canton). IsKept canton c.get.result) (sym (ap (λ (t : Tally). t.canton) c.loop-i.invariant)) (
+    rows_kept c.args.self.now c.args.rows.now c.loop-i.i c.get.result c.len-i-end.ensures.batch c.requires c.get.ensures
+    )
+
+pub loop-i-preserved : goal.loop-i-preserved
+loop-i-preserved c =
+    let row = c.get.result in
+    let before = c.args.self.now in
+    let rows = take c.loop-i.i c.args.rows.now in
+    c.put_row.ensures
+    ∙ ap (λ (t : Tally). record t { entries = map_of.insert t.entries (row_key row) (entry_of row) }) c.loop-i.invariant
+    ∙ ap (λ entries. record before { entries = entries }) (
+    sym (fold-append (λ entries (r : Row). map_of.insert entries (row_key r) (entry_of r)) before.entries rows (row ∷ []))
+    ∙ ap (with_rows before.entries) (sym (rows_more c.args.rows.now c.loop-i.i row c.get.ensures))
+    )

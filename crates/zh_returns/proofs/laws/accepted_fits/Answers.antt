@@ -1,0 +1,5 @@
+use Rattle.zh_returns.proofs.Accepted.{fits}
+use Rattle.zh_returns.proofs.laws.accepted_fits.Goals as goal
+
+pub returns : goal.returns
+returns c = fits
