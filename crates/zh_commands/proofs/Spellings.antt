@@ -4,7 +4,7 @@ use Rattle.std.specs.List.{AllByRecursion}
 use Rattle.std.proofs.lemmas.Fmt.{decimal_injective, decimal_digit, length-decimal-le}
 use Rattle.std.proofs.lemmas.List.Elements.{recursion_from_All}
 use Rattle.zh_commands.specs.declared.lines.Kind.{Kind}
-use Rattle.zh_commands.specs.declared.lines.Kind.TheVariants.{Return, Show}
+use Rattle.zh_commands.specs.declared.lines.Kind.TheVariants as kinds
 use Rattle.zh_commands.specs.declared.lines.Line.{Line}
 use Rattle.zh_commands.specs.declared.lines.LineFault.{LineFault}
 use Rattle.zh_commands.specs.declared.lines.LineFault.TheVariants.{Syntax, Desk}
@@ -32,8 +32,15 @@ numerals-short (n ∷ ns) all =
     omega (arith, digits, numerals-short ns all.1, length-append (decimal n) (numerals ns))
 
 length-word_of : (kind : Kind) → (length (word_of kind) ≤ 10) × (length (numbers_of kind) ≤ 4)
-length-word_of (Return row) = (omega arith, omega arith)
-length-word_of (Show municipality list) = (omega arith, omega arith)
+length-word_of (kinds.Return row) = (omega arith, omega arith)
+length-word_of (kinds.Withdraw m l n) = (omega arith, omega arith)
+length-word_of (kinds.Close m) = (omega arith, omega arith)
+length-word_of (kinds.Reopen m) = (omega arith, omega arith)
+length-word_of kinds.Open = (omega arith, omega arith)
+length-word_of (kinds.Row row) = (omega arith, omega arith)
+length-word_of kinds.Commit = (omega arith, omega arith)
+length-word_of kinds.Drop = (omega arith, omega arith)
+length-word_of (kinds.Show m l) = (omega arith, omega arith)
 
 length-request : (kind : Kind) → IsRequest kind → length (request kind) ≤ 54
 length-request kind is =

@@ -3,15 +3,22 @@ use Rattle.std.specs.Prelude.{◌≡◌, ◌≢◌, ◌==◌, ◌&&◌, ◌-◌,
 use Rattle.zh_commands.specs.Words.{first_word, numerals}
 use Rattle.zh_returns.specs.declared.row.Row.{Row}
 use Rattle.zh_commands.specs.declared.lines.Kind.{Kind}
-use Rattle.zh_commands.specs.declared.lines.Kind.TheVariants.{Return, Show}
+use Rattle.zh_commands.specs.declared.lines.Kind.TheVariants as kinds
 use Rattle.zh_commands.specs.declared.lines.Line.{Line}
 use Rattle.zh_commands.specs.declared.lines.LineFault.{LineFault}
 use Rattle.zh_commands.specs.declared.lines.LineFault.TheVariants.{Syntax, Desk}
 
 -- the text behind the desk
 abbrev pub request : Kind → List ℕ
-request (Return row) = codes "return " ++ decimal row.municipality ++ 32 ∷ decimal row.list ++ 32 ∷ decimal row.number ++ 32 ∷ decimal row.votes
-request (Show municipality list) = codes "show " ++ decimal municipality ++ 32 ∷ decimal list
+request (kinds.Return row) = codes "return " ++ decimal row.municipality ++ 32 ∷ decimal row.list ++ 32 ∷ decimal row.number ++ 32 ∷ decimal row.votes
+request (kinds.Withdraw municipality list number) = codes "withdraw " ++ decimal municipality ++ 32 ∷ decimal list ++ 32 ∷ decimal number
+request (kinds.Close municipality) = codes "close " ++ decimal municipality
+request (kinds.Reopen municipality) = codes "reopen " ++ decimal municipality
+request kinds.Open = codes "open"
+request (kinds.Row row) = codes "row " ++ decimal row.municipality ++ 32 ∷ decimal row.list ++ 32 ∷ decimal row.number ++ 32 ∷ decimal row.votes
+request kinds.Commit = codes "commit"
+request kinds.Drop = codes "drop"
+request (kinds.Show municipality list) = codes "show " ++ decimal municipality ++ 32 ∷ decimal list
 
 -- the one spelling of a line: its desk, a space, the request
 abbrev pub spelling : Line → List ℕ
@@ -31,8 +38,15 @@ row_text row = numerals (row.municipality ∷ row.list ∷ row.number ∷ row.vo
 
 -- what stands behind the desk can be said in a line
 abbrev pub IsRequest : Kind → Type 0
-IsRequest (Return row) = IsRow row
-IsRequest (Show municipality list) = (municipality < 2 ^ 32) × (list < 2 ^ 32)
+IsRequest (kinds.Return row) = IsRow row
+IsRequest (kinds.Withdraw municipality list number) = (municipality < 2 ^ 32) × (list < 2 ^ 32) × (1 ≤ number) × (number < 2 ^ 32)
+IsRequest (kinds.Close municipality) = municipality < 2 ^ 32
+IsRequest (kinds.Reopen municipality) = municipality < 2 ^ 32
+IsRequest kinds.Open = Unit {0}
+IsRequest (kinds.Row row) = IsRow row
+IsRequest kinds.Commit = Unit {0}
+IsRequest kinds.Drop = Unit {0}
+IsRequest (kinds.Show municipality list) = (municipality < 2 ^ 32) × (list < 2 ^ 32)
 
 -- the line can be said: a desk that there is, and a request
 abbrev pub IsLine : Line → Type 0

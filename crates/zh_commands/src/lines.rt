@@ -15,8 +15,33 @@ pub struct Line {
 pub enum Kind {
     /// `return M L N V`: the votes of a list in a municipality, under a replacement number from 1.
     Return(Row),
+    /// `withdraw M L N`: a list is withdrawn in a municipality, under a replacement number from 1.
+    Withdraw {
+        municipality: u32,
+        list: u32,
+        number: u32,
+    },
+    /// `close M`: no more commands on a municipality.
+    Close {
+        municipality: u32,
+    },
+    /// `reopen M`: a closed municipality takes commands again.
+    Reopen {
+        municipality: u32,
+    },
+    /// `open`: a batch of the desk begins.
+    Open,
+    /// `row M L N V`: a return for the desk's batch.
+    Row(Row),
+    /// `commit`: the desk's batch becomes one command.
+    Commit,
+    /// `drop`: the desk's batch is given up.
+    Drop,
     /// `show M L`: what is held for a list in a municipality.
-    Show { municipality: u32, list: u32 },
+    Show {
+        municipality: u32,
+        list: u32,
+    },
 }
 
 /// Why a line is not one of the office's.

@@ -1,18 +1,14 @@
-ghost use Rattle.std.specs.Prelude.{◌≡◌, ◌≢◌, ◌↔◌, IsTrue, MatchOption};
+ghost use Rattle.std.specs.Prelude.{◌≡◌, ◌≢◌, ◌↔◌, ◌^◌, ◌<◌, ℕ, [], ◌∷◌, IsTrue, MatchOption};
+ghost use Rattle.zh_commands.specs.Words.{numerals};
 ghost use Rattle.zh_commands.specs.Lines.{request, row_text, IsDesk, IsRow, IsRequest, Reads, desk_of};
 
 use crate::lines::{Kind, Line, LineFault};
 use crate::words::{behind_space, numbers, numeral, split_word};
+use std::str;
 use zh_returns::Row;
 
 // The bytes that a line has at most.
 const LONGEST: usize = 120;
-
-// The first word of a return.
-const RETURN: &[u8] = b"return";
-
-// The first word of a question for what is held.
-const SHOW: &[u8] = b"show";
 
 /// Reads a line, without its end, as `docs/FORMATS.md`, "Lines", has it. It takes no memory.
 ///
@@ -56,15 +52,65 @@ fn kind_of(text: &[u8]) -> Option<Kind>
         (λ kind. IsRequest kind × (text.now ≡ request kind)) }
 {
     let (word, rest) = split_word(text);
-    if word == RETURN {
-        let row = row_of(rest)?;
-        return Some(Kind::Return(row));
+    let Ok(word) = str::from_utf8(word) else {
+        return None;
+    };
+    match word {
+        "return" => Some(Kind::Return(row_of(rest)?)),
+        "withdraw" => {
+            let (municipality, list, number) = withdrawal_of(rest)?;
+            Some(Kind::Withdraw {
+                municipality,
+                list,
+                number,
+            })
+        }
+        "close" => Some(Kind::Close {
+            municipality: municipality_of(rest)?,
+        }),
+        "reopen" => Some(Kind::Reopen {
+            municipality: municipality_of(rest)?,
+        }),
+        "open" => alone(Kind::Open, rest),
+        "row" => Some(Kind::Row(row_of(rest)?)),
+        "commit" => alone(Kind::Commit, rest),
+        "drop" => alone(Kind::Drop, rest),
+        "show" => {
+            let [municipality, list] = numbers::<2>(rest)?;
+            Some(Kind::Show { municipality, list })
+        }
+        _ => None,
     }
-    if word == SHOW {
-        let [municipality, list] = numbers::<2>(rest)?;
-        return Some(Kind::Show { municipality, list });
+}
+
+// The kind, where nothing stands behind its word.
+fn alone(kind: Kind, text: &[u8]) -> Option<Kind>
+    ensures { MatchOption result (text.now ≢ []) (λ found. (found ≡ kind) × (text.now ≡ [])) }
+{
+    text.is_empty().then_some(kind)
+}
+
+// The municipality of one numeral behind a space.
+fn municipality_of(text: &[u8]) -> Option<u32>
+    ensures { MatchOption result ((n : ℕ) → n < 2 ^ 32 → text.now ≢ numerals (n ∷ []))
+        (λ n. (n < 2 ^ 32) × (text.now ≡ numerals (n ∷ []))) }
+{
+    let [municipality] = numbers::<1>(text)?;
+    Some(municipality)
+}
+
+// The municipality, the list and the replacement number of three numerals, each behind a space.
+fn withdrawal_of(text: &[u8]) -> Option<(u32, u32, u32)>
+    ensures { MatchOption result
+        ((m l n : ℕ) → IsRequest (Kind.Withdraw m l n) → text.now ≢ numerals (m ∷ l ∷ n ∷ []))
+        (λ found. IsRequest (Kind.Withdraw found.0 found.1 found.2)
+        × (text.now ≡ numerals (found.0 ∷ found.1 ∷ found.2 ∷ []))) }
+{
+    let [municipality, list, number] = numbers::<3>(text)?;
+    if number == 0 {
+        return None;
     }
-    None
+    Some((municipality, list, number))
 }
 
 // The row of four numerals, each behind a space.

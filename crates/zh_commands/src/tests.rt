@@ -8,27 +8,46 @@ fn refuses(rt: &impl Abort, line: &[u8], fault: LineFault) {
     assert_eq!(rt; parse_line(line), Err(fault), "{line:?}");
 }
 
+fn reads(rt: &impl Abort, bytes: &[u8], desk: u8, kind: Kind) {
+    assert_eq!(rt; parse_line(bytes), Ok(Line { desk, kind }), "{bytes:?}");
+}
+
 #[test]
-fn lines_of_both_kinds_are_read(rt: HostRuntime) {
+fn commands_and_questions_are_read(rt: HostRuntime) {
     let row = Row {
         municipality: 1,
         list: 2,
         number: 3,
         votes: 1_000_000_000,
     };
-    let line = Line {
-        desk: 1,
-        kind: Kind::Return(row),
+    reads(&rt, b"1 return 1 2 3 1000000000", 1, Kind::Return(row));
+    let withdrawal = Kind::Withdraw {
+        municipality: 1,
+        list: 2,
+        number: 4,
     };
-    assert_eq!(rt; parse_line(b"1 return 1 2 3 1000000000"), Ok(line));
-    let kind = Kind::Show {
+    reads(&rt, b"2 withdraw 1 2 4", 2, withdrawal);
+    reads(&rt, b"3 close 1", 3, Kind::Close { municipality: 1 });
+    reads(&rt, b"4 reopen 10", 4, Kind::Reopen { municipality: 10 });
+    let question = Kind::Show {
         municipality: 0,
         list: 4_294_967_295,
     };
-    assert_eq!(rt;
-        parse_line(b"8 show 0 4294967295"),
-        Ok(Line { desk: 8, kind })
-    );
+    reads(&rt, b"8 show 0 4294967295", 8, question);
+}
+
+#[test]
+fn lines_of_a_batch_are_read(rt: HostRuntime) {
+    let row = Row {
+        municipality: 512,
+        list: 32,
+        number: 1,
+        votes: 0,
+    };
+    reads(&rt, b"5 open", 5, Kind::Open);
+    reads(&rt, b"5 row 512 32 1 0", 5, Kind::Row(row));
+    reads(&rt, b"6 commit", 6, Kind::Commit);
+    reads(&rt, b"7 drop", 7, Kind::Drop);
 }
 
 #[test]
@@ -57,6 +76,32 @@ fn what_is_no_request_is_no_line(rt: HostRuntime) {
     refuses(&rt, b" 1 show 1 1", LineFault::Syntax);
     refuses(&rt, b"1 show 1 1 ", LineFault::Syntax);
     refuses(&rt, b"1 show 1 1\r", LineFault::Syntax);
+    refuses(&rt, b"1 withdraw 1 1 0", LineFault::Syntax);
+    refuses(&rt, b"1 withdraw 1 1", LineFault::Syntax);
+    refuses(&rt, b"1 withdraw 1 1 1 5", LineFault::Syntax);
+    refuses(&rt, b"1 close", LineFault::Syntax);
+    refuses(&rt, b"1 close 1 1", LineFault::Syntax);
+    refuses(&rt, b"1 reopen 01", LineFault::Syntax);
+}
+
+#[test]
+fn what_is_no_line_of_a_batch_is_no_line(rt: HostRuntime) {
+    refuses(&rt, b"1 open ", LineFault::Syntax);
+    refuses(&rt, b"1 open 1", LineFault::Syntax);
+    refuses(&rt, b"1 open\r", LineFault::Syntax);
+    refuses(&rt, b"1  open", LineFault::Syntax);
+    refuses(&rt, b"1 Open", LineFault::Syntax);
+    refuses(&rt, b"1 row 1 1 0 5", LineFault::Syntax);
+    refuses(&rt, b"1 row 1 1 1", LineFault::Syntax);
+    refuses(&rt, b"1 commit 1", LineFault::Syntax);
+    refuses(&rt, b"1 dropped", LineFault::Syntax);
+    refuses(&rt, b"1 \xff", LineFault::Syntax);
+}
+
+#[test]
+fn sheets_are_not_asked_for_yet(rt: HostRuntime) {
+    refuses(&rt, b"1 sheet", LineFault::Syntax);
+    refuses(&rt, b"1 final", LineFault::Syntax);
 }
 
 #[test]
