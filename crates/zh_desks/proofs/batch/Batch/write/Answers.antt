@@ -1,0 +1,10 @@
+use Rattle.std.proofs.Common.{◌++◌, sym, ap, ◌∙◌, subst, List}
+use Rattle.zh_returns.specs.declared.row.Row.{Row}
+use Rattle.zh_returns.specs.Rows.{AreRows}
+use Rattle.zh_desks.proofs.Batches.{fresh_next}
+use Rattle.zh_desks.proofs.batch.Batch.write.Goals as goal
+
+pub push-requires-clause-new : goal.push-requires-clause-new
+push-requires-clause-new c =
+    let rows = ap (λ (rest : List Row). c.loop-row.writer.rows ++ rest) (sym c.in-Some.ensures.steps) ∙ c.loop-row.invariant.rows in
+    fresh_next c.loop-row.writer.rows _ c.in-Some.row.now (subst AreRows (sym rows) c.loop-row.invariant.limits)

@@ -1,0 +1,87 @@
+//! The rows of a batch.
+
+ghost use Rattle.std.specs.Prelude.{◌≡◌, ◌<◌, ◌≤◌, ◌*◌, ◌++◌, ◌∷◌, [], ℕ, false, length, OnOk, OnErr};
+ghost use Rattle.zh_returns.specs.Rows.{row_key, has_key, AreRows, IsBatch, IsSpeakableRow};
+
+use indexmap::IndexMap;
+use std::alloc::{AllocError, Global};
+use std::marker::Model;
+use zh_returns::{BatchWriter, Row, Rows};
+
+/// The rows that a desk holds until it commits them, in the order in which they came: at most 1,000, no two of one
+/// municipality and list.
+#[derive(Drop)]
+pub struct Batch {
+    rows: IndexMap<(u32, u32), Row>,
+}
+
+impl Model for Batch {
+    ghost use Rattle.std.specs.Prelude.{List};
+    ghost use Rattle.indexmap.specs.IndexMap.{values};
+    ghost use Rattle.zh_returns.specs.declared.row.Row.{Row};
+    ghost use Rattle.zh_returns.specs.Rows.{AreRows};
+    ghost use Rattle.zh_desks.specs.Batches.{AreKeyed};
+
+    ghost Value = { List Row };
+
+    ghost view = { λ batch. values batch.rows };
+
+    ghost invariant = { λ batch. AreKeyed batch.rows.entries × AreRows (values batch.rows) };
+}
+
+impl Batch {
+    /// A batch without rows. It takes no memory.
+    pub fn new(alloc: Global) -> Batch
+        ensures { result ≡ [] }
+    {
+        Batch {
+            rows: IndexMap::new(alloc),
+        }
+    }
+
+    /// How many rows are held.
+    pub fn len(&self) -> usize
+        ensures count { result ≡ length self.now }
+        ensures limits { AreRows self.now }
+    {
+        self.rows.len()
+    }
+
+    /// Whether a row of this municipality and list is held. It takes the same time however many rows there are.
+    pub fn has_key(&self, municipality: u32, list: u32) -> bool
+        ensures { result ≡ has_key self.now (municipality, list) }
+    {
+        self.rows.contains_key(&(municipality, list))
+    }
+
+    /// Puts a row behind the others, of a municipality and list of which none is held. Where memory is refused the batch
+    /// is as before.
+    pub fn push(&mut self, row: Row) -> Result<(), AllocError>
+        requires few { length self.old < 1000 }
+        requires new { has_key self.old (row_key row) ≡ false }
+        requires speakable { IsSpeakableRow row }
+        ensures pushed { OnOk result (self.new ≡ self.old ++ row ∷ []) }
+        ensures kept { OnErr result (self.new ≡ self.old) }
+    {
+        let key = (row.municipality, row.list);
+        let inserted = self.rows.insert(key, row);
+        if inserted.is_err() {
+            return Err(AllocError);
+        }
+        Ok(())
+    }
+
+    /// Writes the rows, of which there is one at least, into these bytes, and lends them from there. It takes no memory.
+    pub fn write<'b>(&self, bytes: &'b mut [u8]) -> Rows<'b>
+        requires some { 1 ≤ length self.now }
+        requires room { 11000 ≤ length bytes.old }
+        ensures rows { result ≡ self.now }
+        ensures batch { IsBatch result }
+    {
+        let mut writer = BatchWriter::new(bytes);
+        for row in self.rows.values() {
+            writer.push(*row);
+        }
+        writer.finish()
+    }
+}

@@ -1,0 +1,84 @@
+//! The batches of the desks.
+
+ghost use Rattle.std.specs.Prelude.{◌≡◌, ◌<◌, ◌≤◌, ◌++◌, ◌∷◌, ◌+◌, [], ℕ, List, Some, None, false, length, OnOk, OnErr, IfSome};
+ghost use Rattle.std.specs.Option.{option_copied};
+ghost use Rattle.zh_returns.specs.declared.row.Row.{Row};
+ghost use Rattle.zh_returns.specs.Rows.{row_key, has_key, IsSpeakableRow};
+ghost use Rattle.zh_desks.specs.Batches.{rows_of, with_batch, no_batches};
+
+use crate::batch::Batch;
+use std::alloc::{AllocError, Global};
+use std::marker::Model;
+use zh_returns::Row;
+
+/// How many desks there are.
+const DESKS: usize = 8;
+
+/// Of each desk its batch, if it has one. Desks are numbered from 1 to 8.
+#[derive(Drop)]
+pub struct Desks {
+    batches: [Option<Batch>; DESKS],
+}
+
+impl Model for Desks {
+    ghost use Rattle.zh_desks.specs.Batches.{Held};
+
+    ghost Value = { Held };
+
+    ghost view = { λ desks. desks.batches };
+}
+
+impl Desks {
+    /// No desk has a batch.
+    pub fn new() -> Desks
+        ensures { result ≡ no_batches }
+    {
+        Desks {
+            batches: [None, None, None, None, None, None, None, None],
+        }
+    }
+
+    /// The batch of a desk.
+    pub fn batch(&self, desk: u8) -> Option<&Batch>
+        requires from_one { 1 ≤ desk }
+        requires there { desk ≤ 8 }
+        ensures { option_copied result ≡ rows_of self.now desk }
+    {
+        self.batches[desk as usize - 1].as_ref()
+    }
+
+    /// Gives a desk a batch without rows. It takes no memory.
+    pub fn open(&mut self, desk: u8, alloc: Global)
+        requires from_one { 1 ≤ desk }
+        requires there { desk ≤ 8 }
+        ensures { self.new ≡ with_batch self.old desk (Some []) }
+    {
+        self.batches[desk as usize - 1] = Some(Batch::new(alloc));
+    }
+
+    /// Takes a desk its batch.
+    pub fn close(&mut self, desk: u8)
+        requires from_one { 1 ≤ desk }
+        requires there { desk ≤ 8 }
+        ensures { self.new ≡ with_batch self.old desk None }
+    {
+        self.batches[desk as usize - 1] = None;
+    }
+
+    /// Puts a row behind those of a desk's batch, of a municipality and list of which none is held there. Where memory
+    /// is refused all batches are as before.
+    pub fn push(&mut self, desk: u8, row: Row) -> Result<(), AllocError>
+        requires from_one { 1 ≤ desk }
+        requires there { desk ≤ 8 }
+        requires few { IfSome (rows_of self.old desk) (λ rows. length rows < 1000) }
+        requires new { IfSome (rows_of self.old desk) (λ rows. has_key rows (row_key row) ≡ false) }
+        requires speakable { IsSpeakableRow row }
+        ensures pushed { (rows : List Row) → rows_of self.old desk ≡ Some rows → OnOk result (self.new ≡ with_batch self.old desk (Some (rows ++ row ∷ []))) }
+        ensures kept { OnErr result (self.new ≡ self.old) }
+    {
+        match &mut self.batches[desk as usize - 1] {
+            Some(batch) => batch.push(row),
+            None => Ok(()),
+        }
+    }
+}
