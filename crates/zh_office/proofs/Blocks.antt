@@ -5,8 +5,8 @@ use Rattle.std.specs.Io.KnownBytes.{Appends, Consumes}
 use Rattle.zh_commands.specs.Lines.{desk_of}
 use Rattle.zh_commands.specs.Replies.{reply_text}
 use Rattle.zh_commands.specs.declared.replies.Reply.{Reply}
-use Rattle.zh_office.specs.Office.{State}
-use Rattle.zh_office.specs.Runs.{Runs, Turn}
+use Rattle.zh_office.specs.Office.{command_read}
+use Rattle.zh_office.specs.Runs.{OnDisk, Log, nothing, followed_by, logged, Runs, Turn}
 use Rattle.zh_office.specs.Text.{HasNoEnd, unfinished, heard, ended_lines, last_line}
 use Rattle.zh_office.specs.Served.{BreaksOff, TakesBlock, Writes}
 use Rattle.zh_commands.specs.declared.output.WriteFault.{WriteFault}
@@ -35,23 +35,25 @@ Consumes-none None = tt
 Consumes-none (Some a) = refl
 
 -- of these lines some are answered, and what is left gives the others and what is unfinished behind them
-pub record Progress (first writer : Option (List ℕ)) (old now : State) (all : List (List ℕ)) (end line rest : List ℕ) (count : ℕ) : Type 0 where
+pub record Progress (honest : Type 0) (first writer : Option (List ℕ)) (old now : OnDisk) (all : List (List ℕ)) (end line rest : List ℕ) (count : ℕ) : Type 0 where
   pub answered : List (List ℕ)
   pub out : List ℕ
+  pub log : Log
   pub written : Appends first writer out
-  pub run : Runs old answered out now
+  pub run : Runs honest old answered out log now
   pub lines : all ≡ answered ++ ended_lines (line ++ rest)
   pub left : heard (unfinished (line ++ rest)) ≡ end
   pub counted : count ≡ length answered
   pub clean : HasNoEnd line
 
 -- before the first line
-pub Progress-start : (writer : Option (List ℕ)) (old : State) (line block : List ℕ) → HasNoEnd line → Progress writer writer old old (ended_lines (line ++ block)) (heard (unfinished (line ++ block))) line block 0
-Progress-start writer old line block clean = record {
+pub Progress-start : (honest : Type 0) (writer : Option (List ℕ)) (old : OnDisk) (line block : List ℕ) → HasNoEnd line → Progress honest writer writer old old (ended_lines (line ++ block)) (heard (unfinished (line ++ block))) line block 0
+Progress-start honest writer old line block clean = record {
   answered = [];
   out = [];
+  log = nothing;
   written = Appends-none writer;
-  run = (refl, refl);
+  run = (refl, (refl, refl));
   lines = refl;
   left = refl;
   counted = refl;
@@ -70,17 +72,19 @@ behind_line line part others rest clean part_clean rest_is =
     ∙ ap heard (unfinished_first (line ++ part) others (HasNoEnd-append line part clean part_clean))
 
 -- the next line is answered
-pub Progress-more : (first writer writer' : Option (List ℕ)) (old now new : State) (all : List (List ℕ)) (end line rest part others : List ℕ) (count : ℕ) (reply : Reply)
-    → Progress first writer old now all end line rest count → HasNoEnd part → rest ≡ part ++ 10 ∷ others
-    → Turn now (heard (line ++ part)) reply new → Appends writer writer' (reply_text (desk_of (heard (line ++ part))) reply)
-    → Progress first writer' old new all end [] others (count + 1)
-Progress-more first writer writer' old now new all end line rest part others count reply p part_clean rest_is turn written =
+pub Progress-more : (honest : Type 0) (first writer writer' : Option (List ℕ)) (old now new : OnDisk) (all : List (List ℕ)) (end line rest part others : List ℕ) (count : ℕ) (reply : Reply)
+    → Progress honest first writer old now all end line rest count → HasNoEnd part → rest ≡ part ++ 10 ∷ others
+    → Turn honest now (heard (line ++ part)) reply new → Appends writer writer' (reply_text (desk_of (heard (line ++ part))) reply)
+    → Progress honest first writer' old new all end [] others (count + 1)
+Progress-more honest first writer writer' old now new all end line rest part others count reply p part_clean rest_is turn written =
     let next = heard (line ++ part) in
+    let log = logged (command_read now.office turn.reading) reply in
     record {
       answered = p.answered ++ next ∷ [];
       out = p.out ++ reply_text (desk_of next) reply;
+      log = followed_by p.log log;
       written = Appends-append first writer writer' p.out (reply_text (desk_of next) reply) p.written written;
-      run = Runs-append old now new p.answered (next ∷ []) p.out (reply_text (desk_of next) reply) p.run (Runs-one now new next reply turn);
+      run = Runs-append honest old now new p.answered (next ∷ []) p.out (reply_text (desk_of next) reply) p.log log p.run (Runs-one honest now new next reply turn);
       lines = p.lines ∙ ap (λ ls. p.answered ++ ls) (next_line line part others rest p.clean part_clean rest_is) ∙ sym (append_assoc p.answered (next ∷ []) (ended_lines others));
       left = sym (behind_line line part others rest p.clean part_clean rest_is) ∙ p.left;
       counted = omega (arith, p.counted, length-append p.answered (next ∷ []));
@@ -88,11 +92,11 @@ Progress-more first writer writer' old now new all end line rest part others cou
     }
 
 -- the answer to the next line is not written whole
-pub Progress-breaks : (first writer writer' : Option (List ℕ)) (old now new : State) (all : List (List ℕ)) (end line rest part others : List ℕ) (count : ℕ) (reply : Reply) (front : ℕ)
-    → Progress first writer old now all end line rest count → HasNoEnd part → rest ≡ part ++ 10 ∷ others
-    → Turn now (heard (line ++ part)) reply new → front < length (reply_text (desk_of (heard (line ++ part))) reply) → Appends writer writer' (take front (reply_text (desk_of (heard (line ++ part))) reply))
-    → BreaksOff all first writer' old new
-Progress-breaks first writer writer' old now new all end line rest part others count reply front p part_clean rest_is turn short written =
+pub Progress-breaks : (honest : Type 0) (first writer writer' : Option (List ℕ)) (old now new : OnDisk) (all : List (List ℕ)) (end line rest part others : List ℕ) (count : ℕ) (reply : Reply) (front : ℕ)
+    → Progress honest first writer old now all end line rest count → HasNoEnd part → rest ≡ part ++ 10 ∷ others
+    → Turn honest now (heard (line ++ part)) reply new → front < length (reply_text (desk_of (heard (line ++ part))) reply) → Appends writer writer' (take front (reply_text (desk_of (heard (line ++ part))) reply))
+    → BreaksOff honest all first writer' old new
+Progress-breaks honest first writer writer' old now new all end line rest part others count reply front p part_clean rest_is turn short written =
     let next = heard (line ++ part) in
     record {
       answered = p.answered;
@@ -100,6 +104,7 @@ Progress-breaks first writer writer' old now new all end line rest part others c
       others = ended_lines others;
       lines_are = p.lines ∙ ap (λ ls. p.answered ++ ls) (next_line line part others rest p.clean part_clean rest_is);
       out = p.out;
+      log = p.log;
       mid = now;
       run = p.run;
       reply = reply;
@@ -110,33 +115,39 @@ Progress-breaks first writer writer' old now new all end line rest part others c
     }
 
 -- the next line was answered by a call that succeeded
-pub Progress-answered : (first writer writer' : Option (List ℕ)) (old now new : State) (all : List (List ℕ)) (end line rest part others bytes : List ℕ) (count : ℕ) (result : Result (Unit {0}) WriteFault) (done : Unit {0})
-    → Progress first writer old now all end line rest count → HasNoEnd part → rest ≡ part ++ 10 ∷ others → bytes ≡ heard (line ++ part)
-    → Writes writer writer' now bytes result new → result ≡ Ok done → Progress first writer' old new all end [] others (count + 1)
-Progress-answered first writer writer' old now new all end line rest part others bytes count result done p part_clean rest_is bytes_are w ok =
-    let v : Writes writer writer' now (heard (line ++ part)) result new = subst (λ b. Writes writer writer' now b result new) bytes_are w in
+pub Progress-answered : (honest : Type 0) (first writer writer' : Option (List ℕ)) (old now new : OnDisk) (all : List (List ℕ)) (end line rest part others bytes : List ℕ) (count : ℕ) (result : Result (Unit {0}) WriteFault) (done : Unit {0})
+    → Progress honest first writer old now all end line rest count → HasNoEnd part → rest ≡ part ++ 10 ∷ others → bytes ≡ heard (line ++ part)
+    → Writes honest writer writer' now bytes result new → result ≡ Ok done → Progress honest first writer' old new all end [] others (count + 1)
+Progress-answered honest first writer writer' old now new all end line rest part others bytes count result done p part_clean rest_is bytes_are w ok =
+    let v : Writes honest writer writer' now (heard (line ++ part)) result new = subst (λ b. Writes honest writer writer' now b result new) bytes_are w in
     let all_written = rw ok at v.ok in
-    Progress-more first writer writer' old now new all end line rest part others count v.reply p part_clean rest_is v.turn all_written
+    Progress-more honest first writer writer' old now new all end line rest part others count v.reply p part_clean rest_is v.turn all_written
 
 -- the next line was answered by a call that failed
-pub Progress-failed : (first writer writer' : Option (List ℕ)) (old now new : State) (all : List (List ℕ)) (end line rest part others bytes : List ℕ) (count : ℕ) (result : Result (Unit {0}) WriteFault) (fault : WriteFault)
-    → Progress first writer old now all end line rest count → HasNoEnd part → rest ≡ part ++ 10 ∷ others → bytes ≡ heard (line ++ part)
-    → Writes writer writer' now bytes result new → result ≡ Err fault → BreaksOff all first writer' old new
-Progress-failed first writer writer' old now new all end line rest part others bytes count result fault p part_clean rest_is bytes_are w err =
-    let v : Writes writer writer' now (heard (line ++ part)) result new = subst (λ b. Writes writer writer' now b result new) bytes_are w in
+pub Progress-failed : (honest : Type 0) (first writer writer' : Option (List ℕ)) (old now new : OnDisk) (all : List (List ℕ)) (end line rest part others bytes : List ℕ) (count : ℕ) (result : Result (Unit {0}) WriteFault) (fault : WriteFault)
+    → Progress honest first writer old now all end line rest count → HasNoEnd part → rest ≡ part ++ 10 ∷ others → bytes ≡ heard (line ++ part)
+    → Writes honest writer writer' now bytes result new → result ≡ Err fault → BreaksOff honest all first writer' old new
+Progress-failed honest first writer writer' old now new all end line rest part others bytes count result fault p part_clean rest_is bytes_are w err =
+    let v : Writes honest writer writer' now (heard (line ++ part)) result new = subst (λ b. Writes honest writer writer' now b result new) bytes_are w in
     let front = rw err at v.err in
-    Progress-breaks first writer writer' old now new all end line rest part others count v.reply front.0 p part_clean rest_is v.turn front.1 front.2
+    Progress-breaks honest first writer writer' old now new all end line rest part others count v.reply front.0 p part_clean rest_is v.turn front.1 front.2
 
 -- a last line of bytes that fit
 pub last_line_is : (line : List ℕ) → 0 < length line → length line ≤ 121 → last_line line ≡ line ∷ []
 last_line_is [] some fits = absurd (omega arith)
 last_line_is (byte ∷ line) some fits = ap (λ l. l ∷ []) (take_all 121 (byte ∷ line) fits)
 
+-- there is no last line
+pub last_none : (honest : Type 0) (writer : Option (List ℕ)) (old : OnDisk) (line : List ℕ) → length line ≡ 0
+    → (out : List ℕ) × (log : Log) × Appends writer writer out × Runs honest old (last_line line) out log old × (0 ≡ length (last_line line))
+last_none honest writer old [] none = ([], nothing, Appends-none writer, (refl, (refl, refl)), refl)
+last_none honest writer old (byte ∷ line) none = absurd (omega (arith, none))
+
 -- the last line was answered by a call that failed
-pub last_failed : (writer writer' : Option (List ℕ)) (old new : State) (line bytes : List ℕ) (result : Result (Unit {0}) WriteFault) (fault : WriteFault)
-    → 0 < length line → length line ≤ 121 → bytes ≡ line → Writes writer writer' old bytes result new → result ≡ Err fault → BreaksOff (last_line line) writer writer' old new
-last_failed writer writer' old new line bytes result fault some fits bytes_are w err =
-    let v : Writes writer writer' old line result new = subst (λ b. Writes writer writer' old b result new) bytes_are w in
+pub last_failed : (honest : Type 0) (writer writer' : Option (List ℕ)) (old new : OnDisk) (line bytes : List ℕ) (result : Result (Unit {0}) WriteFault) (fault : WriteFault)
+    → 0 < length line → length line ≤ 121 → bytes ≡ line → Writes honest writer writer' old bytes result new → result ≡ Err fault → BreaksOff honest (last_line line) writer writer' old new
+last_failed honest writer writer' old new line bytes result fault some fits bytes_are w err =
+    let v : Writes honest writer writer' old line result new = subst (λ b. Writes honest writer writer' old b result new) bytes_are w in
     let front = rw err at v.err in
     record {
       answered = [];
@@ -144,8 +155,9 @@ last_failed writer writer' old new line bytes result fault some fits bytes_are w
       others = [];
       lines_are = last_line_is line some fits;
       out = [];
+      log = nothing;
       mid = old;
-      run = (refl, refl);
+      run = (refl, (refl, refl));
       reply = v.reply;
       turn = v.turn;
       front = front.0;
@@ -154,30 +166,33 @@ last_failed writer writer' old new line bytes result fault some fits bytes_are w
     }
 
 -- the last line was answered by a call that succeeded
-pub last_answered : (writer writer' : Option (List ℕ)) (old new : State) (line bytes : List ℕ) (result : Result (Unit {0}) WriteFault) (done : Unit {0})
-    → 0 < length line → length line ≤ 121 → bytes ≡ line → Writes writer writer' old bytes result new → result ≡ Ok done
-    → (out : List ℕ) × Appends writer writer' out × Runs old (last_line line) out new × (1 ≡ length (last_line line))
-last_answered writer writer' old new line bytes result done some fits bytes_are w ok =
-    let v : Writes writer writer' old line result new = subst (λ b. Writes writer writer' old b result new) bytes_are w in
+pub last_answered : (honest : Type 0) (writer writer' : Option (List ℕ)) (old new : OnDisk) (line bytes : List ℕ) (result : Result (Unit {0}) WriteFault) (done : Unit {0})
+    → 0 < length line → length line ≤ 121 → bytes ≡ line → Writes honest writer writer' old bytes result new → result ≡ Ok done
+    → (out : List ℕ) × (log : Log) × Appends writer writer' out × Runs honest old (last_line line) out log new × (1 ≡ length (last_line line))
+last_answered honest writer writer' old new line bytes result done some fits bytes_are w ok =
+    let v : Writes honest writer writer' old line result new = subst (λ b. Writes honest writer writer' old b result new) bytes_are w in
     let all_written = rw ok at v.ok in
-    let one = last_line_is line some fits in (
+    let one = last_line_is line some fits in
+    let log = logged (command_read old.office v.turn.reading) v.reply in (
       reply_text (desk_of line) v.reply,
+      log,
       all_written,
-      subst (λ ls. Runs old ls (reply_text (desk_of line) v.reply) new) (sym one) (Runs-one old new line v.reply v.turn),
+      subst (λ ls. Runs honest old ls (reply_text (desk_of line) v.reply) log new) (sym one) (Runs-one honest old new line v.reply v.turn),
       ap length (sym one),
     )
 
 -- no line ends in what is left
-pub Progress-end : (first writer : Option (List ℕ)) (old now : State) (line block part rest : List ℕ) (count : ℕ)
-    → Progress first writer old now (ended_lines (line ++ block)) (heard (unfinished (line ++ block))) part rest count → HasNoEnd rest
-    → TakesBlock first writer old line block now (heard (part ++ rest)) count
-Progress-end first writer old now line block part rest count p rest_clean =
+pub Progress-end : (honest : Type 0) (first writer : Option (List ℕ)) (old now : OnDisk) (line block part rest : List ℕ) (count : ℕ)
+    → Progress honest first writer old now (ended_lines (line ++ block)) (heard (unfinished (line ++ block))) part rest count → HasNoEnd rest
+    → TakesBlock honest first writer old line block now (heard (part ++ rest)) count
+Progress-end honest first writer old now line block part rest count p rest_clean =
     let clean = HasNoEnd-append part rest p.clean rest_clean in
     let all : ended_lines (line ++ block) ≡ p.answered = p.lines ∙ ap (λ ls. p.answered ++ map heard ls) (ended_none (part ++ rest) clean) ∙ append-nil p.answered in
     record {
       out = p.out;
+      log = p.log;
       written = p.written;
-      run = subst (λ ls. Runs old ls p.out now) (sym all) p.run;
+      run = subst (λ ls. Runs honest old ls p.out p.log now) (sym all) p.run;
       left = ap heard (sym (unfinished_all (part ++ rest) clean)) ∙ p.left;
       counted = p.counted ∙ ap length (sym all);
     }

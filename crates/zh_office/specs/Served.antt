@@ -4,40 +4,45 @@ use Rattle.std.specs.Io.KnownBytes.{Appends, Consumes, IsAtEnd}
 use Rattle.zh_commands.specs.Lines.{desk_of}
 use Rattle.zh_commands.specs.Replies.{reply_text}
 use Rattle.zh_commands.specs.declared.replies.Reply.{Reply}
-use Rattle.zh_office.specs.Office.{State}
 use Rattle.zh_commands.specs.declared.output.WriteFault.{WriteFault}
+use Rattle.zh_office.specs.Office.{command_read}
 use Rattle.zh_office.specs.Text.{lines_of, ended_lines, heard, unfinished}
-use Rattle.zh_office.specs.Runs.{Runs, Turn}
+use Rattle.zh_office.specs.Runs.{OnDisk, Log, Runs, Turn, logged, followed_by, IsLogged}
 
 -- the input was read to its end, all its lines are answered, and this is their number, which stops at the greatest u64
-pub record ServesAll (reader reader' writer writer' : Option (List ℕ)) (old new : State) (count : ℕ) : Type 0 where
+pub record ServesAll (honest : Type 0) (reader reader' writer writer' : Option (List ℕ)) (old new : OnDisk) (count : ℕ) : Type 0 where
   pub input : List ℕ
   pub out : List ℕ
+  pub log : Log
   pub read : Consumes reader reader' input
   pub end : IsAtEnd reader'
   pub written : Appends writer writer' out
-  pub run : Runs old (lines_of input) out new
+  pub run : Runs honest old (lines_of input) out log new
   pub counted : count ≡ min (length (lines_of input)) (2 ^ 64 - 1)
+  pub kept : honest → IsLogged old log new
 
 -- the lines that are ended in what was read are answered, and what follows them is not
-pub record ServesEnded (reader reader' writer writer' : Option (List ℕ)) (old new : State) : Type 0 where
+pub record ServesEnded (honest : Type 0) (reader reader' writer writer' : Option (List ℕ)) (old new : OnDisk) : Type 0 where
   pub input : List ℕ
   pub out : List ℕ
+  pub log : Log
   pub read : Consumes reader reader' input
   pub written : Appends writer writer' out
-  pub run : Runs old (ended_lines input) out new
+  pub run : Runs honest old (ended_lines input) out log new
+  pub kept : honest → IsLogged old log new
 
 -- of the lines of a text some are answered, and of the answer to the next a front is written, and not all
-pub record BreaksOff (lines : List (List ℕ)) (writer writer' : Option (List ℕ)) (old new : State) : Type 0 where
+pub record BreaksOff (honest : Type 0) (lines : List (List ℕ)) (writer writer' : Option (List ℕ)) (old new : OnDisk) : Type 0 where
   pub answered : List (List ℕ)
   pub last : List ℕ
   pub others : List (List ℕ)
   pub lines_are : lines ≡ answered ++ last ∷ others
   pub out : List ℕ
-  pub mid : State
-  pub run : Runs old answered out mid
+  pub log : Log
+  pub mid : OnDisk
+  pub run : Runs honest old answered out log mid
   pub reply : Reply
-  pub turn : Turn mid last reply new
+  pub turn : Turn honest mid last reply new
   pub front : ℕ
   pub part : front < length (reply_text (desk_of last) reply)
   pub written : Appends writer writer' (out ++ take front (reply_text (desk_of last) reply))
@@ -47,24 +52,26 @@ abbrev pub AreDue : Option (List ℕ) → List ℕ → List (List ℕ) → Type 
 AreDue reader' input lines = (lines ≡ ended_lines input) ⊎ (IsAtEnd reader' × (lines ≡ lines_of input))
 
 -- the writer failed: what is written is a front of the outputs, and the line in work has had its effect
-pub record ServesFront (reader reader' writer writer' : Option (List ℕ)) (old new : State) : Type 0 where
+pub record ServesFront (honest : Type 0) (reader reader' writer writer' : Option (List ℕ)) (old new : OnDisk) : Type 0 where
   pub input : List ℕ
   pub lines : List (List ℕ)
   pub read : Consumes reader reader' input
   pub due : AreDue reader' input lines
-  pub breaks : BreaksOff lines writer writer' old new
+  pub breaks : BreaksOff honest lines writer writer' old new
+  pub kept : honest → IsLogged old (followed_by breaks.log (logged (command_read breaks.mid.office breaks.turn.reading) breaks.reply)) new
 
 -- a line is answered, and all of its answer is written, or a front of it and not all
-pub record Writes (writer writer' : Option (List ℕ)) (old : State) (bytes : List ℕ) (result : Result (Unit {0}) WriteFault) (new : State) : Type 0 where
+pub record Writes (honest : Type 0) (writer writer' : Option (List ℕ)) (old : OnDisk) (bytes : List ℕ) (result : Result (Unit {0}) WriteFault) (new : OnDisk) : Type 0 where
   pub reply : Reply
-  pub turn : Turn old bytes reply new
+  pub turn : Turn honest old bytes reply new
   pub ok : OnOk result (Appends writer writer' (reply_text (desk_of bytes) reply))
   pub err : OnErr result ((front : ℕ) × (front < length (reply_text (desk_of bytes) reply)) × Appends writer writer' (take front (reply_text (desk_of bytes) reply)))
 
 -- the block of bytes behind these of a line gave so many lines; they are answered, and these bytes of a line are left
-pub record TakesBlock (writer writer' : Option (List ℕ)) (old : State) (line block : List ℕ) (new : State) (line' : List ℕ) (count : ℕ) : Type 0 where
+pub record TakesBlock (honest : Type 0) (writer writer' : Option (List ℕ)) (old : OnDisk) (line block : List ℕ) (new : OnDisk) (line' : List ℕ) (count : ℕ) : Type 0 where
   pub out : List ℕ
+  pub log : Log
   pub written : Appends writer writer' out
-  pub run : Runs old (ended_lines (line ++ block)) out new
+  pub run : Runs honest old (ended_lines (line ++ block)) out log new
   pub left : line' ≡ heard (unfinished (line ++ block))
   pub counted : count ≡ length (ended_lines (line ++ block))

@@ -1,11 +1,18 @@
 //! Answers to the lines of the desks.
 
-ghost use Rattle.std.specs.Prelude.{◌≡◌, ◌-◌, ◌<◌, ◌^◌, ◌+◌};
-ghost use Rattle.zh_returns.specs.Judging.{judge};
-ghost use Rattle.zh_office.specs.Office.{refusal_of, shown, answer_to_command, answer_to_show, tally_after_command};
+ghost use Rattle.std.specs.Prelude.{◌≡◌, IfNone};
+ghost use Rattle.zh_returns.specs.Rows.{FitsRow};
+ghost use Rattle.zh_office.specs.Office.{refusal_of, shown, answer_to_show, row_refusal};
 
 use zh_commands::{Refusal, Reply};
-use zh_returns::{Command, Count, Entry, Verdict, Why};
+use zh_desks::Batch;
+use zh_returns::{Count, Entry, Row, Why};
+
+/// The most votes of a return.
+const MOST_VOTES: u32 = 1_000_000_000;
+
+/// The most rows of a batch.
+const MOST_ROWS: usize = 1_000;
 
 /// What an office answers to a line.
 #[derive(Clone, Copy, Debug, PartialEq, Eq)]
@@ -14,7 +21,7 @@ pub enum Answer {
     Reply(Reply),
 }
 
-fn refusal_of(why: Why) -> Refusal
+pub(crate) fn refusal_of(why: Why) -> Refusal
     ensures { result ≡ refusal_of why }
 {
     match why {
@@ -27,31 +34,6 @@ fn refusal_of(why: Why) -> Refusal
         Why::Conflict => Refusal::Conflict,
         Why::NotClosed(municipality) => Refusal::NotClosed(municipality),
     }
-}
-
-/// Judges a command, and puts it over the count where it is accepted.
-pub(crate) fn answer_to_command(count: &mut Count<'_>, command: &Command) -> Reply
-    ensures reply { result ≡ answer_to_command count.old command.now }
-    ensures count { count.new ≡ tally_after_command count.old command.now result }
-{
-    match count.judge(command) {
-        Verdict::Accept => store(count, command),
-        Verdict::Same => Reply::Same,
-        Verdict::Refused(why) => Reply::Refused(refusal_of(why)),
-    }
-}
-
-/// Puts a command over the count that was judged acceptable, if the count has a number left for it.
-fn store(count: &mut Count<'_>, command: &Command) -> Reply
-    requires { judge count.old command.now ≡ Verdict.Accept }
-    ensures reply { result ≡ answer_to_command count.old command.now }
-    ensures count { count.new ≡ tally_after_command count.old command.now result }
-{
-    if count.accepted() == u64::MAX {
-        return Reply::Refused(Refusal::Spent);
-    }
-    count.apply(command);
-    Reply::Stored(count.accepted())
 }
 
 fn shown(entry: Option<Entry>) -> Reply
@@ -87,4 +69,29 @@ pub(crate) fn answer_to_show(count: &Count<'_>, municipality: u32, list: u32) ->
         return Reply::Refused(Refusal::List);
     }
     shown(count.entry(municipality, list))
+}
+
+/// Why a row is not put behind those of a batch, if it is not: the first that applies.
+pub(crate) fn row_refusal(count: &Count<'_>, batch: &Batch, row: Row) -> Option<Refusal>
+    ensures first { result ≡ row_refusal count.now batch.now row }
+    ensures fits { IfNone result (FitsRow row) }
+{
+    let setup = count.setup();
+    if row.municipality == 0 || row.municipality > setup.municipalities() {
+        return Some(Refusal::Municipality);
+    }
+    let constituency = setup.constituency_of(row.municipality);
+    if row.list == 0 || row.list > setup.groups() || !setup.stands(constituency, row.list) {
+        return Some(Refusal::List);
+    }
+    if row.votes > MOST_VOTES {
+        return Some(Refusal::Votes);
+    }
+    if batch.has_key(row.municipality, row.list) {
+        return Some(Refusal::Twice);
+    }
+    if batch.len() >= MOST_ROWS {
+        return Some(Refusal::BatchFull);
+    }
+    None
 }

@@ -1,31 +1,34 @@
 //! The office.
 
-ghost use Rattle.std.specs.Prelude.{◌≡◌, ◌++◌, ℕ, ◌≤◌, length, IfOk, OnOk, OnErr, take};
-ghost use Rattle.std.specs.Io.KnownBytes.{Appends};
+ghost use Rattle.std.specs.Prelude.{◌≡◌, ◌≢◌, ◌≤◌, ℕ, length};
 ghost use Rattle.zh_commands.specs.Lines.{desk_of};
-ghost use Rattle.zh_commands.specs.Replies.{reply_text};
-ghost use Rattle.zh_office.specs.Office.{State, opened};
-ghost use Rattle.zh_office.specs.Runs.{Answers};
-ghost use Rattle.zh_office.specs.Served.{Writes};
+ghost use Rattle.zh_desks.specs.Batches.{rows_of};
+ghost use Rattle.zh_office.specs.Runs.{Answers, UnlessStored, on_disk};
 
-use crate::answer::{Answer, answer_to_command, answer_to_show};
-use std::alloc::{AllocError, Global};
-use std::io::Write;
+use crate::answer::Answer;
+use crate::ledger::Ledger;
+use std::alloc::Global;
 use std::marker::Model;
-use zh_commands::{
-    Kind, LineFault, Refusal, Reply, WriteFault, desk_of, parse_line, put, write_reply,
-};
-use zh_districts::Setup;
-use zh_returns::{Command, Count};
+use zh_commands::{LineFault, Refusal, Reply, parse_line};
+use zh_desks::Desks;
+use zh_disk::Disk;
+use zh_returns::Count;
 
-/// The count of an election, and the desks that change it.
-#[derive(Debug, Drop)]
+/// The count of an election, kept on a disk, and the desks that change it.
+///
+/// The disk is handed to each call, and must be the one that the office was opened on. After a fault of the device the
+/// office answers `reopen-disk` until a new one is opened there.
+#[derive(Drop)]
 pub struct Office<'s> {
-    count: Count<'s>,
+    pub(crate) ledger: Ledger<'s>,
+    pub(crate) desks: Desks,
+    // room for the rows of a batch
+    pub(crate) rows: Vec<u8>,
+    pub(crate) alloc: Global,
 }
 
 impl<'s> Model for Office<'s> {
-    ghost use Rattle.std.specs.FinMap as map;
+    ghost use Rattle.std.specs.Prelude.{◌≡◌, length};
     ghost use Rattle.zh_office.specs.Office.{State};
 
     ghost Value = { State };
@@ -34,55 +37,42 @@ impl<'s> Model for Office<'s> {
 
     ghost coded = { state_code };
 
-    ghost view = { λ office. record { tally = office.count; held = map.empty } };
+    ghost view = { λ office. record { ledger = office.ledger; held = office.desks } };
+
+    ghost invariant = { λ office. length office.rows.items ≡ 11000 };
 }
 
 impl<'s> Office<'s> {
-    /// An office before its first line. The memory that its lines need is taken here.
-    pub fn new(alloc: Global, setup: &'s Setup) -> Result<Office<'s>, AllocError>
-        ensures { IfOk result (λ office. office ≡ opened setup.now) }
-    {
-        Ok(Office {
-            count: Count::new(alloc, setup)?,
-        })
-    }
-
     /// The count as it is now.
     pub fn count(&self) -> &Count<'s>
-        ensures { result.now ≡ self.now.tally }
+        ensures { result.now ≡ self.now.ledger.tally }
     {
-        &self.count
+        self.ledger.count()
     }
 
-    /// Answers a line, given without its LF. It takes no memory.
-    pub fn line(&mut self, bytes: &[u8]) -> Answer
-        ensures { Answers self.old bytes.now result self.new }
+    /// Whether the device failed under this office, so that the disk must be opened again.
+    pub fn faulted(&self) -> bool
+        ensures { result ≡ self.now.ledger.store.broken }
+    {
+        self.ledger.faulted()
+    }
+
+    /// Answers a line, given without its LF. Of all lines a row alone may take memory.
+    ///
+    /// An accepted command is on the disk before it is answered `stored`. After `device` the disk may hold it or not,
+    /// and the count is without it.
+    pub fn line<D: Disk>(&mut self, disk: &mut D, bytes: &[u8]) -> Answer
+        // On an honest disk the answer's turn also tells what each image holds at each moment since the call began.
+        ensures answers { Answers D.honest (on_disk self.old (D.failures disk.old) (D.trail disk.old)) bytes.now result (on_disk self.new (D.failures disk.new) (D.trail disk.new)) }
+
+        ensures others { (desk : ℕ) → 1 ≤ desk → desk ≢ desk_of bytes.now → rows_of self.new.held desk ≡ rows_of self.old.held desk }
+        ensures untouched { UnlessStored result disk.old disk.new }
     {
         let reply = match parse_line(bytes) {
             Err(LineFault::Syntax) => Reply::Refused(Refusal::Syntax),
             Err(LineFault::Desk) => Reply::Refused(Refusal::Desk),
-            Ok(line) => match line.kind {
-                Kind::Return(row) => answer_to_command(&mut self.count, &Command::Return(row)),
-                Kind::Show { municipality, list } => {
-                    answer_to_show(&self.count, municipality, list)
-                }
-            },
+            Ok(line) => self.answer_to(disk, line),
         };
         Answer::Reply(reply)
-    }
-
-    /// Answers a line, and writes the answer under the desk that asked.
-    pub(crate) fn answer<W: Write>(
-        &mut self,
-        bytes: &[u8],
-        writer: &mut W,
-    ) -> Result<(), WriteFault>
-        ensures { Writes (W.contents writer.old) (W.contents writer.new) self.old bytes.now result self.new }
-    {
-        let desk = desk_of(bytes);
-        let Answer::Reply(reply) = self.line(bytes);
-        let mut text = [0; 64];
-        let len = write_reply(desk, &reply, &mut text);
-        put(writer, &text[..len])
     }
 }

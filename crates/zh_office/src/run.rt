@@ -1,75 +1,70 @@
 //! The program.
 
-ghost use Rattle.std.specs.Prelude.{◌≡◌, ◌≤◌, ℕ, List, IfOk};
-ghost use Rattle.zh_districts.specs.Rehearsal.{rehearsal};
-ghost use Rattle.zh_office.specs.Office.{State, opened};
-ghost use Rattle.zh_office.specs.Served.{ServesAll};
+ghost use Rattle.std.specs.Prelude.{◌≡◌, ◌≢◌, ◌≤◌, ◌⊎◌, [], Err, MatchResult, Ok, map};
+ghost use Rattle.std.specs.String.{string_bytes};
+ghost use Rattle.clap.specs.Words.{kind_of};
+ghost use Rattle.zh_office.specs.Words.{Asks, refusals};
+ghost use Rattle.zh_office.specs.Program.{Does};
+ghost use Rattle.zh_office.specs.declared.ending.ProgramFault.{ProgramFault as Fault};
+ghost use Rattle.zh_office.specs.declared.words.Work.{Work};
 
-use crate::office::Office;
-use crate::serving::ServeFault;
-use std::alloc::{AllocError, Global};
+use crate::ending::ProgramFault;
+use crate::words::read_words;
+use crate::working::carry_out;
+use clap::Error;
+use clap::error::ErrorKind;
+use std::alloc::Global;
+use std::fs::{self, File};
 use std::io::{Read, Write};
-use thiserror::Error;
-use zh_districts::rehearsal;
 
-/// How many reads the program makes at most.
-const TURNS: u64 = 1 << 32;
-
-/// Why the program ended before the end of its input.
-#[derive(Clone, Copy, Debug, PartialEq, Eq, Error)]
-enum ProgramFault {
-    #[error("memory")]
-    Memory,
-    #[error("{0}")]
-    Serve(ServeFault),
-}
-
-impl From<AllocError> for ProgramFault {
-    fn from(_: AllocError) -> Self {
-        ProgramFault::Memory
-    }
-}
-
-impl From<ServeFault> for ProgramFault {
-    fn from(fault: ServeFault) -> Self {
-        ProgramFault::Serve(fault)
-    }
-}
-
-/// Serves the lines of the input on the set-up of the rehearsal.
-fn rehearse<I: Read, O: Write>(
-    alloc: Global,
-    input: &mut I,
-    out: &mut O,
-) -> Result<u64, ProgramFault>
-    ensures { IfOk result (λ count. (end : State) × ServesAll (I.remaining input.old) (I.remaining input.new)
-        (O.contents out.old) (O.contents out.new) (opened rehearsal) end count) }
+/// The status of a work that ended so. A fault is told.
+fn end<F: Write>(ended: Result<(), ProgramFault>, faults: &mut F) -> u8
+    ensures { MatchResult ended (λ _. (result ≡ 0) × (faults.new ≡ faults.old)) (λ _. result ≡ 1) }
 {
-    let setup = rehearsal(alloc)?;
-    let mut office = Office::new(alloc, &setup)?;
-    Ok(office.serve(input, out, TURNS)?)
-}
-
-/// What the program does with its words, which stand behind its name, on its standard streams. It gives the status:
-/// 0 where the work was done, 1 after a fault, whose name is written to `faults`.
-///
-/// The words are not looked at: the office runs on the set-up of the rehearsal, and keeps nothing.
-pub fn program<I: Read, O: Write, F: Write>(
-    alloc: Global,
-    _words: &[String],
-    input: &mut I,
-    out: &mut O,
-    faults: &mut F,
-) -> u8
-    ensures status { result ≤ 1 }
-    ensures served { result ≡ 0 → (end : State) × (count : ℕ) × ServesAll (I.remaining input.old) (I.remaining input.new)
-        (O.contents out.old) (O.contents out.new) (opened rehearsal) end count }
-{
-    match rehearse(alloc, input, out) {
-        Ok(_) => 0,
+    match ended {
+        Ok(()) => 0,
         Err(fault) => {
             let _ = writeln!(faults, "zhcount: {fault}");
             1
         }
+    }
+}
+
+/// The status of words that ask for nothing. What is wrong with them is told.
+fn refuse<F: Write>(refusal: &Error, faults: &mut F) -> u8
+    ensures memory { kind_of refusal.now ≡ ErrorKind.OutOfMemory → result ≡ 1 }
+    ensures refused { kind_of refusal.now ≢ ErrorKind.OutOfMemory → result ≡ 2 }
+{
+    if refusal.kind() == ErrorKind::OutOfMemory {
+        return end(Err(ProgramFault::Memory), faults);
+    }
+    let _ = write!(faults, "{refusal}");
+    2
+}
+
+/// What the program does with its words, which stand behind its name, on its standard streams. It gives the status:
+/// 0 where the work was done; 1 after a fault, whose name is written to `faults`; 2 where the words ask for no work,
+/// `--help` among them, and then `faults` is told why.
+///
+/// No words at all ask for a rehearsal. docs/MANUAL.md has the others.
+pub fn program<H: fs::Files<File = File>, I: Read, O: Write, F: Write>(
+    files: &H,
+    alloc: Global,
+    words: &[String],
+    input: &mut I,
+    out: &mut O,
+    faults: &mut F,
+) -> u8
+    ensures status { result ≤ 2 }
+    ensures done { result ≡ 0 → (work : Work) × Asks (map string_bytes words.now) work
+        × Does ((input.new ≡ input.old) × (out.new ≡ out.old)) (I.remaining input.old) (I.remaining input.new) (O.contents out.old) (O.contents out.new) work (Ok tt) }
+    // Memory may be refused before the words are read, and then nothing is done.
+    ensures fault { result ≡ 1 → ((input.new ≡ input.old) × (out.new ≡ out.old)) ⊎ ((work : Work) × (fault : Fault) × Asks (map string_bytes words.now) work
+        × Does ((input.new ≡ input.old) × (out.new ≡ out.old)) (I.remaining input.old) (I.remaining input.new) (O.contents out.old) (O.contents out.new) work (Err fault)) }
+    ensures refused { result ≡ 2 → (refusals (map string_bytes words.now) ≢ []) × ((input.new ≡ input.old) × (out.new ≡ out.old)) }
+{
+    match read_words(alloc, words) {
+        Ok(work) => end(carry_out(files, alloc, work, input, out), faults),
+        Err(refusal) => refuse(&refusal, faults),
     }
 }

@@ -1,16 +1,18 @@
 //! Serving the lines of a reader.
 
-ghost use Rattle.std.specs.Prelude.{◌≡◌, ◌++◌, ℕ, ◌≤◌, List, length, MatchResult, IfOk, IsErrOf, OnErr};
+ghost use Rattle.std.specs.Prelude.{◌≡◌, ◌++◌, ℕ, List, length, MatchResult, IfOk, IsErrOf};
 ghost use Rattle.std.specs.Io.KnownBytes.{Appends};
 ghost use Rattle.zh_office.specs.Text.{HasNoEnd, ended_lines, last_line};
-ghost use Rattle.zh_office.specs.Runs.{Runs};
-ghost use Rattle.zh_office.specs.Served.{TakesBlock, BreaksOff, ServesAll, ServesEnded, ServesFront};
+ghost use Rattle.zh_office.specs.Runs.{Log, Runs, on_disk};
+ghost use Rattle.zh_office.specs.Served.{TakesBlock, BreaksOff, ServesAll, ServesEnded, ServesFront, Writes};
 
+use crate::answer::Answer;
 use crate::hearing::{Line, hear, split_line};
 use crate::office::Office;
 use std::io::{Read, Write};
 use thiserror::Error;
-use zh_commands::WriteFault;
+use zh_commands::{WriteFault, desk_of, put, write_reply};
+use zh_disk::Disk;
 
 /// How many bytes a read asks for at most.
 const BLOCK: usize = 8192;
@@ -40,23 +42,40 @@ impl From<WriteFault> for ServeFault {
 }
 
 impl<'s> Office<'s> {
+    /// Answers a line, and writes the answer under the desk that asked.
+    fn answer<W: Write, D: Disk>(
+        &mut self,
+        bytes: &[u8],
+        writer: &mut W,
+        disk: &mut D,
+    ) -> Result<(), WriteFault>
+        ensures { Writes D.honest (W.contents writer.old) (W.contents writer.new) (on_disk self.old (D.failures disk.old) (D.trail disk.old)) bytes.now result (on_disk self.new (D.failures disk.new) (D.trail disk.new)) }
+    {
+        let desk = desk_of(bytes);
+        let Answer::Reply(reply) = self.line(disk, bytes);
+        let mut text = [0; 64];
+        let len = write_reply(desk, &reply, &mut text);
+        put(writer, &text[..len])
+    }
+
     /// Answers the lines that end in a block of bytes behind those of `line`, and keeps the bytes of the line behind them.
-    fn take_block<W: Write>(
+    fn take_block<W: Write, D: Disk>(
         &mut self,
         line: &mut Line,
         block: &[u8],
         writer: &mut W,
+        disk: &mut D,
     ) -> Result<usize, WriteFault>
         requires { HasNoEnd line.old.items }
         ensures taken { MatchResult result
-            (λ count. TakesBlock (W.contents writer.old) (W.contents writer.new) self.old line.old.items block.now self.new line.new.items count)
-            (λ _. BreaksOff (ended_lines (line.old.items ++ block.now)) (W.contents writer.old) (W.contents writer.new) self.old self.new) }
+            (λ count. TakesBlock D.honest (W.contents writer.old) (W.contents writer.new) (on_disk self.old (D.failures disk.old) (D.trail disk.old)) line.old.items block.now (on_disk self.new (D.failures disk.new) (D.trail disk.new)) line.new.items count)
+            (λ _. BreaksOff D.honest (ended_lines (line.old.items ++ block.now)) (W.contents writer.old) (W.contents writer.new) (on_disk self.old (D.failures disk.old) (D.trail disk.old)) (on_disk self.new (D.failures disk.new) (D.trail disk.new))) }
     {
         let mut rest = block;
         let mut count = 0;
         while let Some((ended, others)) = split_line(rest) {
             hear(line, ended);
-            self.answer(line, writer)?;
+            self.answer(line, writer, disk)?;
             line.clear();
             rest = others;
             count += 1;
@@ -66,16 +85,21 @@ impl<'s> Office<'s> {
     }
 
     /// Answers a last line that isn't ended, where it has a byte, and tells how many lines that is.
-    fn finish<W: Write>(&mut self, line: &Line, writer: &mut W) -> Result<u64, WriteFault>
+    fn finish<W: Write, D: Disk>(
+        &mut self,
+        line: &Line,
+        writer: &mut W,
+        disk: &mut D,
+    ) -> Result<u64, WriteFault>
         ensures { MatchResult result
-            (λ count. (out : List ℕ) × Appends (W.contents writer.old) (W.contents writer.new) out
-            × Runs self.old (last_line line.now.items) out self.new × (count ≡ length (last_line line.now.items)))
-            (λ _. BreaksOff (last_line line.now.items) (W.contents writer.old) (W.contents writer.new) self.old self.new) }
+            (λ count. (out : List ℕ) × (log : Log) × Appends (W.contents writer.old) (W.contents writer.new) out
+            × Runs D.honest (on_disk self.old (D.failures disk.old) (D.trail disk.old)) (last_line line.now.items) out log (on_disk self.new (D.failures disk.new) (D.trail disk.new)) × (count ≡ length (last_line line.now.items)))
+            (λ _. BreaksOff D.honest (last_line line.now.items) (W.contents writer.old) (W.contents writer.new) (on_disk self.old (D.failures disk.old) (D.trail disk.old)) (on_disk self.new (D.failures disk.new) (D.trail disk.new))) }
     {
         if line.is_empty() {
             return Ok(0);
         }
-        self.answer(line, writer)?;
+        self.answer(line, writer, disk)?;
         Ok(1)
     }
 
@@ -85,20 +109,21 @@ impl<'s> Office<'s> {
     /// After an error of the reader, or where the end of the input was not met, the lines that were ended by then are
     /// answered, and a line that was not ended is not. After an error of the writer a front of the answers is written.
     /// An interrupted read or write is an error.
-    pub fn serve<R: Read, W: Write>(
+    pub fn serve<R: Read, W: Write, D: Disk>(
         &mut self,
         reader: &mut R,
         writer: &mut W,
+        disk: &mut D,
         turns: u64,
     ) -> Result<u64, ServeFault>
-        ensures ok { IfOk result (λ count. ServesAll (R.remaining reader.old) (R.remaining reader.new)
-            (W.contents writer.old) (W.contents writer.new) self.old self.new count) }
-        ensures read { IsErrOf result ServeFault.Read → ServesEnded (R.remaining reader.old) (R.remaining reader.new)
-            (W.contents writer.old) (W.contents writer.new) self.old self.new }
-        ensures write { IsErrOf result ServeFault.Write → ServesFront (R.remaining reader.old) (R.remaining reader.new)
-            (W.contents writer.old) (W.contents writer.new) self.old self.new }
-        ensures turns { IsErrOf result ServeFault.Turns → ServesEnded (R.remaining reader.old) (R.remaining reader.new)
-            (W.contents writer.old) (W.contents writer.new) self.old self.new }
+        ensures ok { IfOk result (λ count. ServesAll D.honest (R.remaining reader.old) (R.remaining reader.new)
+            (W.contents writer.old) (W.contents writer.new) (on_disk self.old (D.failures disk.old) (D.trail disk.old)) (on_disk self.new (D.failures disk.new) (D.trail disk.new)) count) }
+        ensures read { IsErrOf result ServeFault.Read → ServesEnded D.honest (R.remaining reader.old) (R.remaining reader.new)
+            (W.contents writer.old) (W.contents writer.new) (on_disk self.old (D.failures disk.old) (D.trail disk.old)) (on_disk self.new (D.failures disk.new) (D.trail disk.new)) }
+        ensures write { IsErrOf result ServeFault.Write → ServesFront D.honest (R.remaining reader.old) (R.remaining reader.new)
+            (W.contents writer.old) (W.contents writer.new) (on_disk self.old (D.failures disk.old) (D.trail disk.old)) (on_disk self.new (D.failures disk.new) (D.trail disk.new)) }
+        ensures turns { IsErrOf result ServeFault.Turns → ServesEnded D.honest (R.remaining reader.old) (R.remaining reader.new)
+            (W.contents writer.old) (W.contents writer.new) (on_disk self.old (D.failures disk.old) (D.trail disk.old)) (on_disk self.new (D.failures disk.new) (D.trail disk.new)) }
     {
         let mut block = blank_block();
         let mut line = Line::new();
@@ -108,10 +133,10 @@ impl<'s> Office<'s> {
                 return Err(ServeFault::Read);
             };
             if len == 0 {
-                let last = self.finish(&line, writer)?;
+                let last = self.finish(&line, writer, disk)?;
                 return Ok(count.saturating_add(last));
             }
-            let lines = self.take_block(&mut line, &block[..len], writer)?;
+            let lines = self.take_block(&mut line, &block[..len], writer, disk)?;
             count = count.saturating_add(lines as u64);
         }
         Err(ServeFault::Turns)

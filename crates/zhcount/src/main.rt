@@ -1,23 +1,31 @@
 //! The count office of a cantonal parliament.
 #![tactic(auto)]
 
+use std::io::ErrorKind;
 use std::process::ExitCode;
 use std::{env, io};
 use zh_office::program;
 
-/// Hands the words behind the program's name and the standard streams to the office, and gives its status.
+/// Hands the files, the words behind the program's name and the standard streams to the office, and gives its status.
 fn main(rt: HostRuntime) -> ExitCode {
-    let Ok(words) = words(&rt) else {
-        let _ = eprintln!(rt; "zhcount: memory");
-        return ExitCode::FAILURE;
-    };
-    ExitCode::from(program(
-        rt.alloc(),
-        &words,
-        &mut rt.stdin(),
-        &mut rt.stdout(),
-        &mut rt.stderr(),
-    ))
+    match words(&rt) {
+        Ok(words) => ExitCode::from(program(
+            &rt,
+            rt.alloc(),
+            &words,
+            &mut rt.stdin(),
+            &mut rt.stdout(),
+            &mut rt.stderr(),
+        )),
+        Err(error) if error.kind() == ErrorKind::InvalidData => {
+            let _ = eprintln!(rt; "error: a word is not in UTF-8");
+            ExitCode::from(2)
+        }
+        Err(_) => {
+            let _ = eprintln!(rt; "zhcount: memory");
+            ExitCode::FAILURE
+        }
+    }
 }
 
 fn words(rt: &HostRuntime) -> io::Result<Vec<String>> {

@@ -1,3 +1,4 @@
+use Rattle.zh_office.specs.Runs.{on_disk}
 use Rattle.zh_office.proofs.Inputs.{Serving}
 use Rattle.zh_office.proofs.office.Office.serve.Given as goal
 
@@ -5,4 +6,6 @@ abbrev pub invariant-loop : goal.invariant-loop
 invariant-loop g l =
     let remaining = g.R.Read.remaining in
     let contents = g.W.Write.contents in
-    Serving (remaining l.fn.reader) (remaining l.reader) (contents l.fn.writer) (contents l.writer) l.fn.self l.self l.line.items l.count
+    let failures = g.D.Disk.failures in
+    let trail = g.D.Disk.trail in
+    Serving g.D.Disk.honest (remaining l.fn.reader) (remaining l.reader) (contents l.fn.writer) (contents l.writer) (on_disk l.fn.self (failures l.fn.disk) (trail l.fn.disk)) (on_disk l.self (failures l.disk) (trail l.disk)) l.line.items l.count

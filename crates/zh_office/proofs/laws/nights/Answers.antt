@@ -1,0 +1,5 @@
+use Rattle.zh_office.proofs.Night.{law}
+use Rattle.zh_office.proofs.laws.nights.Goals as goal
+
+pub returns : goal.returns
+returns c = law
