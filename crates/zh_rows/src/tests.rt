@@ -1,4 +1,12 @@
+mod counting;
+mod counting_disk;
 mod fakes;
+mod folders;
 mod lines;
+mod offices;
+mod pages;
 mod program;
+mod program_faults;
 mod serving;
+mod stopped_returns;
+mod words;
