@@ -21,11 +21,11 @@ pub enum Kind {
         list: u32,
         number: u32,
     },
-    /// `close M`: no more commands on a municipality.
+    /// `close M`: a municipality takes no more returns and withdrawals.
     Close {
         municipality: u32,
     },
-    /// `reopen M`: a closed municipality takes commands again.
+    /// `reopen M`: a closed municipality takes them again.
     Reopen {
         municipality: u32,
     },

@@ -34,7 +34,7 @@ pub enum Refusal {
     Twice,
     NoBatch,
     BatchFull,
-    /// The first municipality that is not closed.
+    /// This municipality is open.
     NotClosed(u32),
     Memory,
     Device,

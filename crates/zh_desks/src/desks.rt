@@ -1,7 +1,7 @@
 //! The batches of the desks.
 
-ghost use Rattle.std.specs.Prelude.{◌≡◌, ◌<◌, ◌≤◌, ◌++◌, ◌∷◌, ◌+◌, [], ℕ, List, Some, None, false, length, OnOk, OnErr, IfSome};
-ghost use Rattle.std.specs.Option.{option_copied};
+ghost use Rattle.std.specs.Prelude.{◌≡◌, ◌<◌, ◌≤◌, ◌++◌, ◌∷◌, ◌+◌, [], ℕ, List, Some, None, true, false, length, OnOk, OnErr, IfSome};
+ghost use Rattle.std.specs.Option.{is_some, option_copied};
 ghost use Rattle.zh_returns.specs.declared.row.Row.{Row};
 ghost use Rattle.zh_returns.specs.Rows.{row_key, has_key, IsSpeakableRow};
 ghost use Rattle.zh_desks.specs.Batches.{rows_of, with_batch, no_batches};
@@ -65,11 +65,12 @@ impl Desks {
         self.batches[desk as usize - 1] = None;
     }
 
-    /// Puts a row behind those of a desk's batch, of a municipality and list of which none is held there. Where memory
-    /// is refused all batches are as before.
+    /// Puts a row behind those of a desk's batch, which is open, of a municipality and list of which none is held there.
+    /// Where memory is refused all batches are as before.
     pub fn push(&mut self, desk: u8, row: Row) -> Result<(), AllocError>
         requires from_one { 1 ≤ desk }
         requires there { desk ≤ 8 }
+        requires open { is_some (rows_of self.old desk) ≡ true }
         requires few { IfSome (rows_of self.old desk) (λ rows. length rows < 1000) }
         requires new { IfSome (rows_of self.old desk) (λ rows. has_key rows (row_key row) ≡ false) }
         requires speakable { IsSpeakableRow row }
@@ -78,7 +79,7 @@ impl Desks {
     {
         match &mut self.batches[desk as usize - 1] {
             Some(batch) => batch.push(row),
-            None => Ok(()),
+            None => unreachable!(),
         }
     }
 }

@@ -6,13 +6,7 @@ ghost use Rattle.zh_office.specs.Office.{refusal_of, shown, answer_to_show, row_
 
 use zh_commands::{Refusal, Reply};
 use zh_desks::Batch;
-use zh_returns::{Count, Entry, Row, Why};
-
-/// The most votes of a return.
-const MOST_VOTES: u32 = 1_000_000_000;
-
-/// The most rows of a batch.
-const MOST_ROWS: usize = 1_000;
+use zh_returns::{Count, Entry, MOST_ROWS, MOST_VOTES, Row, Why};
 
 /// What an office answers to a line.
 #[derive(Clone, Copy, Debug, PartialEq, Eq)]

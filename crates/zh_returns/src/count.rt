@@ -25,7 +25,7 @@ pub(crate) const LISTS: usize = 32;
 pub(crate) const PLACES: usize = MUNICIPALITIES * LISTS;
 
 /// The most votes of a return.
-pub(crate) const MOST_VOTES: u32 = 1_000_000_000;
+pub const MOST_VOTES: u32 = 1_000_000_000;
 
 /// What the municipalities have returned so far, for one set-up: what is held under each municipality and list, which
 /// municipalities are closed, and how many commands were accepted. Municipalities and lists are numbered from 1.

@@ -26,12 +26,12 @@ mod verdict;
 
 pub use batch_writer::BatchWriter;
 pub use command::Command;
-pub use count::Count;
+pub use count::{Count, MOST_VOTES};
 pub use entry::Entry;
 pub use laws::{accepted_fits, accepted_is_speakable, one_spelling, speakable_fits};
 pub use payload::PAYLOAD_LENGTH;
 pub use reading::decode_command;
 pub use row::Row;
-pub use rows::Rows;
+pub use rows::{MOST_ROWS, Rows};
 pub use spelling::{COMMAND_LENGTH, encode_command};
 pub use verdict::{Verdict, Why};

@@ -12,7 +12,7 @@ use crate::row_checks::{are_numbered, have_own_keys};
 use std::marker::Model;
 
 /// The most rows of a batch.
-pub(crate) const MOST_ROWS: usize = 1_000;
+pub const MOST_ROWS: usize = 1_000;
 
 /// The rows of a batch, seen through their bytes: 1 to 1,000 returns, each with a key of its own.
 #[derive(Debug, Drop)]
