@@ -2,9 +2,11 @@
 
 use super::counting_disk::CountingDisk;
 use super::offices::{answers, changed, formatted, returned};
+use super::transcripts::first_wrong;
+use std::alloc::Global;
 use std::test::Fail;
 use zh_disk::MemoryDisk;
-use zh_districts::rehearsal;
+use zh_districts::{Setup, rehearsal};
 use zh_office::Office;
 
 #[test]
@@ -32,23 +34,32 @@ fn no_other_line_makes_a_call(rt: HostRuntime) -> Result<(), Fail> {
     let mut disk = returned(rt.alloc(), &setup)?;
     let mut office = Office::open(rt.alloc(), &setup, &mut disk)?;
     let mut disk = CountingDisk::new(disk);
-    let out = answers(
-        rt.alloc(),
-        &mut office,
-        &mut disk,
-        b"1 show 1 1\n1 show 2 1\n1 show 4 1\n1 show 1 4\n1 return 1 1 1 525\n\
-        1 return 1 1 1 526\n1 return 1 1 3 526\n1 return 1 2 2 5\n1 return 4 1 1 5\n1 return 1 4 1 5\n\
-        1 return 1 1 2 1000000001\n1 return 1 1 2 05\n9 show 1 1\n\n",
-    )?;
-    assert_eq!(rt;
-        out.as_slice(),
-        b"1 shows 1 525\n1 none\n1 refused municipality\n1 refused list\n1 same\n\
-        1 refused conflict\n1 refused gap\n1 refused gap\n1 refused municipality\n1 refused list\n\
-        1 refused votes\n1 refused syntax\n0 refused desk\n0 refused syntax\n"
-            .as_slice()
-    );
+    let transcript = "\
+1 show 1 1 -> 1 shows 1 525
+1 show 2 1 -> 1 none
+1 show 4 1 -> 1 refused municipality
+1 show 1 4 -> 1 refused list
+1 return 1 1 1 525 -> 1 same
+1 return 1 1 1 526 -> 1 refused conflict
+1 return 1 1 3 526 -> 1 refused gap
+1 return 1 2 2 5 -> 1 refused gap
+1 return 4 1 1 5 -> 1 refused municipality
+1 return 1 4 1 5 -> 1 refused list
+1 return 1 1 2 1000000001 -> 1 refused votes
+1 return 1 1 2 05 -> 1 refused syntax
+9 show 1 1 -> 0 refused desk
+";
+    let wrong = first_wrong(rt.alloc(), &mut office, &mut disk, transcript)?;
+    assert_eq!(rt; wrong, None);
     assert_eq!(rt; disk.calls(), 0);
     Ok(())
+}
+
+/// A disk that counted the calls of its opening.
+fn calls_to_open(alloc: Global, setup: &Setup, disk: MemoryDisk) -> CountingDisk<MemoryDisk> {
+    let mut disk = CountingDisk::new(disk);
+    let _opened = Office::open(alloc, setup, &mut disk);
+    disk
 }
 
 #[test]
@@ -59,8 +70,7 @@ fn an_opening_makes_one_sync_and_no_write(rt: HostRuntime) -> Result<(), Fail> {
         formatted(rt.alloc(), &setup)?,
         returned(rt.alloc(), &setup)?,
     ] {
-        let mut disk = CountingDisk::new(disk);
-        let _opened = Office::open(rt.alloc(), &setup, &mut disk);
+        let disk = calls_to_open(rt.alloc(), &setup, disk);
         assert_eq!(rt; disk.syncs, 1);
         assert_eq!(rt; disk.writes, 0);
         assert!(rt; disk.reads > 0);
