@@ -1,6 +1,7 @@
-pub mod Fronts
-pub mod Decimals
-pub mod Splits
-pub mod Requests
-pub mod Spellings
-pub mod ReplyWords
+pub mod WriteLemmas
+pub mod DecimalLemmas
+pub mod SplitLemmas
+pub mod RequestLemmas
+pub mod LineLemmas
+pub mod ReplyLemmas
+pub mod CallerLemmas

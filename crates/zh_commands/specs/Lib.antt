@@ -1,3 +1,4 @@
 pub mod Words
 pub mod Lines
+pub mod Commands
 pub mod Replies

@@ -1,28 +1,28 @@
 -- The lines of the desks as bytes. A numeral is `decimal n`, with n below 2 ^ 32; 32 is the space.
 use Rattle.std.specs.Prelude.{◌≡◌, ◌≢◌, ◌==◌, ◌&&◌, ◌-◌, ◌^◌, ◌<◌, ◌≤◌, ℕ, List, [], ◌∷◌, ◌++◌, length, codes, decimal, nat_le, if◌then◌else◌, Result, Ok, Err}
 use Rattle.zh_commands.specs.Words.{first_word, numerals}
-use Rattle.zh_returns.specs.declared.row.Row.{Row}
-use Rattle.zh_commands.specs.declared.lines.Kind.{Kind}
-use Rattle.zh_commands.specs.declared.lines.Kind.TheVariants as kinds
+use Rattle.zh_records.specs.declared.row.Row.{Row}
+use Rattle.zh_commands.specs.declared.lines.Request.{Request}
+use Rattle.zh_commands.specs.declared.lines.Request.TheVariants as requests
 use Rattle.zh_commands.specs.declared.lines.Line.{Line}
 use Rattle.zh_commands.specs.declared.lines.LineFault.{LineFault}
 use Rattle.zh_commands.specs.declared.lines.LineFault.TheVariants.{Syntax, Desk}
 
--- the text behind the desk
-abbrev pub request : Kind → List ℕ
-request (kinds.Return row) = codes "return " ++ decimal row.municipality ++ 32 ∷ decimal row.list ++ 32 ∷ decimal row.number ++ 32 ∷ decimal row.votes
-request (kinds.Withdraw municipality list number) = codes "withdraw " ++ decimal municipality ++ 32 ∷ decimal list ++ 32 ∷ decimal number
-request (kinds.Close municipality) = codes "close " ++ decimal municipality
-request (kinds.Reopen municipality) = codes "reopen " ++ decimal municipality
-request kinds.Open = codes "open"
-request (kinds.Row row) = codes "row " ++ decimal row.municipality ++ 32 ∷ decimal row.list ++ 32 ∷ decimal row.number ++ 32 ∷ decimal row.votes
-request kinds.Commit = codes "commit"
-request kinds.Drop = codes "drop"
-request (kinds.Show municipality list) = codes "show " ++ decimal municipality ++ 32 ∷ decimal list
+-- the text after the desk
+abbrev pub request_text : Request → List ℕ
+request_text (requests.Return row) = codes "return " ++ decimal row.municipality ++ 32 ∷ decimal row.list ++ 32 ∷ decimal row.number ++ 32 ∷ decimal row.votes
+request_text (requests.Withdraw municipality list number) = codes "withdraw " ++ decimal municipality ++ 32 ∷ decimal list ++ 32 ∷ decimal number
+request_text (requests.Close municipality) = codes "close " ++ decimal municipality
+request_text (requests.Reopen municipality) = codes "reopen " ++ decimal municipality
+request_text requests.Open = codes "open"
+request_text (requests.Row row) = codes "row " ++ decimal row.municipality ++ 32 ∷ decimal row.list ++ 32 ∷ decimal row.number ++ 32 ∷ decimal row.votes
+request_text requests.Commit = codes "commit"
+request_text requests.Drop = codes "drop"
+request_text (requests.Show municipality list) = codes "show " ++ decimal municipality ++ 32 ∷ decimal list
 
 -- the one spelling of a line: its desk, a space, the request
 abbrev pub spelling : Line → List ℕ
-spelling line = decimal line.desk ++ 32 ∷ request line.kind
+spelling line = decimal line.desk ++ 32 ∷ request_text line.request
 
 -- the desks are 1 to 8
 abbrev pub IsDesk : ℕ → Type 0
@@ -32,35 +32,35 @@ IsDesk desk = (1 ≤ desk) × (desk ≤ 8)
 abbrev pub IsRow : Row → Type 0
 IsRow row = (row.municipality < 2 ^ 32) × (row.list < 2 ^ 32) × (1 ≤ row.number) × (row.number < 2 ^ 32) × (row.votes < 2 ^ 32)
 
--- the numbers of a row in their order, each behind a space
+-- the numbers of a row in their order, each after a space
 abbrev pub row_text : Row → List ℕ
 row_text row = numerals (row.municipality ∷ row.list ∷ row.number ∷ row.votes ∷ [])
 
--- what stands behind the desk can be said in a line
-abbrev pub IsRequest : Kind → Type 0
-IsRequest (kinds.Return row) = IsRow row
-IsRequest (kinds.Withdraw municipality list number) = (municipality < 2 ^ 32) × (list < 2 ^ 32) × (1 ≤ number) × (number < 2 ^ 32)
-IsRequest (kinds.Close municipality) = municipality < 2 ^ 32
-IsRequest (kinds.Reopen municipality) = municipality < 2 ^ 32
-IsRequest kinds.Open = Unit {0}
-IsRequest (kinds.Row row) = IsRow row
-IsRequest kinds.Commit = Unit {0}
-IsRequest kinds.Drop = Unit {0}
-IsRequest (kinds.Show municipality list) = (municipality < 2 ^ 32) × (list < 2 ^ 32)
+-- what stands after the desk can be said in a line
+abbrev pub IsRequest : Request → Type 0
+IsRequest (requests.Return row) = IsRow row
+IsRequest (requests.Withdraw municipality list number) = (municipality < 2 ^ 32) × (list < 2 ^ 32) × (1 ≤ number) × (number < 2 ^ 32)
+IsRequest (requests.Close municipality) = municipality < 2 ^ 32
+IsRequest (requests.Reopen municipality) = municipality < 2 ^ 32
+IsRequest requests.Open = Unit {0}
+IsRequest (requests.Row row) = IsRow row
+IsRequest requests.Commit = Unit {0}
+IsRequest requests.Drop = Unit {0}
+IsRequest (requests.Show municipality list) = (municipality < 2 ^ 32) × (list < 2 ^ 32)
 
 -- the line can be said: a desk that there is, and a request
 abbrev pub IsLine : Line → Type 0
-IsLine line = IsDesk line.desk × IsRequest line.kind
+IsLine line = IsDesk line.desk × IsRequest line.request
 
 -- at most 120 bytes, of which the first word is the number of a desk that there is not
 abbrev pub NamesNoDesk : List ℕ → Type 0
 NamesNoDesk bytes = (length bytes ≤ 120) × ((n : ℕ) × (n < 2 ^ 32) × ¬ IsDesk n × (first_word bytes ≡ decimal n))
 
 -- what reading a line gives: the line with this spelling, or else the fault that it has
-abbrev pub Reads : List ℕ → Result Line LineFault → Type 0
-Reads bytes (Ok line) = IsLine line × (bytes ≡ spelling line)
-Reads bytes (Err Desk) = NamesNoDesk bytes
-Reads bytes (Err Syntax) = ¬ NamesNoDesk bytes × ((line : Line) → IsLine line → bytes ≢ spelling line)
+abbrev pub ParsesAs : List ℕ → Result Line LineFault → Type 0
+ParsesAs bytes (Ok line) = IsLine line × (bytes ≡ spelling line)
+ParsesAs bytes (Err Desk) = NamesNoDesk bytes
+ParsesAs bytes (Err Syntax) = ¬ NamesNoDesk bytes × ((line : Line) → IsLine line → bytes ≢ spelling line)
 
 -- the digit where the bytes begin with 1 to 8 and a space, else 0
 abbrev pub desk_of : List ℕ → ℕ

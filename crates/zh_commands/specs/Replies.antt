@@ -27,7 +27,7 @@ name refusals.Spent = codes "spent"
 name refusals.BatchOpen = codes "batchopen"
 name refusals.Full = codes "full"
 
--- what a reply says behind the desk
+-- what a reply says after the desk
 abbrev pub answer : Reply → List ℕ
 answer (Stored accepted) = codes "stored " ++ decimal accepted
 answer Same = codes "same"

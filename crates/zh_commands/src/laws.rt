@@ -5,26 +5,26 @@ ghost use Rattle.zh_commands.specs.declared.lines.Line.{Line};
 ghost use Rattle.zh_commands.specs.declared.lines.LineFault.{LineFault};
 ghost use Rattle.zh_commands.specs.declared.replies.Reply.{Reply};
 ghost use Rattle.zh_commands.specs.Replies.{reply_text, IsReply};
-ghost use Rattle.zh_commands.specs.Lines.{spelling, IsLine, Reads, desk_of};
+ghost use Rattle.zh_commands.specs.Lines.{spelling, IsLine, ParsesAs, desk_of};
 
 /// A text is read in one way.
 pub fn one_reading()
-    ensures { (bytes : List ℕ) (a b : Result Line LineFault) → Reads bytes a → Reads bytes b → a ≡ b }
+    ensures { (bytes : List ℕ) (a b : Result Line LineFault) → ParsesAs bytes a → ParsesAs bytes b → a ≡ b }
 {}
 
 /// A line has one spelling, which is short enough to be read, and a spelling is of one line.
 pub fn one_spelling()
     ensures same { (a b : Line) → IsLine a → IsLine b → spelling a ≡ spelling b → a ≡ b }
     ensures short { (line : Line) → IsLine line → length (spelling line) ≤ 120 }
-    ensures read { (line : Line) → IsLine line → Reads (spelling line) (Ok line) }
+    ensures read { (line : Line) → IsLine line → ParsesAs (spelling line) (Ok line) }
 {}
 
 /// A line that is read is answered under its own desk.
 pub fn one_desk()
-    ensures { (bytes : List ℕ) (line : Line) → Reads bytes (Ok line) → desk_of bytes ≡ line.desk }
+    ensures { (bytes : List ℕ) (line : Line) → ParsesAs bytes (Ok line) → desk_of bytes ≡ line.desk }
 {}
 
-/// The bytes of a reply tell the desk and the reply.
+/// The bytes of a reply determine the desk and the reply.
 pub fn one_reply()
     ensures { (d e : ℕ) (a b : Reply) → d < 2 ^ 8 → e < 2 ^ 8 → IsReply a → IsReply b
         → reply_text d a ≡ reply_text e b → (d ≡ e) × (a ≡ b) }

@@ -4,18 +4,18 @@
 mod laws;
 mod lines;
 mod output;
-mod reading;
+mod parser;
 mod replies;
+mod reply_writer;
 mod text;
 mod words;
-mod writing;
 
 pub use laws::{one_desk, one_reading, one_reply, one_spelling};
-pub use lines::{Kind, Line, LineFault};
+pub use lines::{Line, LineFault, Request};
 pub use output::{WriteFault, put};
-pub use reading::{desk_of, parse_line};
+pub use parser::{desk_of, parse_line};
 pub use replies::{Refusal, Reply};
-pub use writing::write_reply;
+pub use reply_writer::write_reply;
 
 #[cfg(test)]
 mod tests;

@@ -1,5 +1,10 @@
+ghost use Rattle.std.specs.Prelude.{◌≡◌, IfSome};
+ghost use Rattle.zh_records.specs.Spelling.{HasNumbers};
+ghost use Rattle.zh_commands.specs.Commands.{own_command};
+ghost use Rattle.zh_commands.specs.Lines.{IsRequest};
+
 use thiserror::Error;
-use zh_returns::Row;
+use zh_records::{Command, Row};
 
 /// What one line asks of the office.
 #[derive(Clone, Copy, Debug, PartialEq, Eq)]
@@ -7,12 +12,12 @@ pub struct Line {
     /// The desk that sent the line, 1 to 8.
     pub desk: u8,
     /// What the desk asks for.
-    pub kind: Kind,
+    pub request: Request,
 }
 
-/// The forms of a line behind its desk.
+/// The forms of a line after its desk.
 #[derive(Clone, Copy, Debug, PartialEq, Eq)]
-pub enum Kind {
+pub enum Request {
     /// `return M L N V`: the votes of a list in a municipality, under a replacement number from 1.
     Return(Row),
     /// `withdraw M L N`: a list is withdrawn in a municipality, under a replacement number from 1.
@@ -42,6 +47,35 @@ pub enum Kind {
         municipality: u32,
         list: u32,
     },
+}
+
+impl Request {
+    /// The command that a line gives by itself. The command of a `commit` has the rows that its desk holds, and is not
+    /// given here.
+    pub fn command(self) -> Option<Command<'static>>
+        ensures command { result ≡ own_command self }
+        ensures numbers { IsRequest self → IfSome result HasNumbers }
+    {
+        match self {
+            Request::Return(row) => Some(Command::Return(row)),
+            Request::Withdraw {
+                municipality,
+                list,
+                number,
+            } => Some(Command::Withdraw {
+                municipality,
+                list,
+                number,
+            }),
+            Request::Close { municipality } => Some(Command::Close { municipality }),
+            Request::Reopen { municipality } => Some(Command::Reopen { municipality }),
+            Request::Open
+            | Request::Row(_)
+            | Request::Commit
+            | Request::Drop
+            | Request::Show { .. } => None,
+        }
+    }
 }
 
 /// Why a line is not one of the office's.

@@ -1,11 +1,11 @@
-/// What a desk is told about its line.
+/// The reply to a line of a desk.
 #[derive(Clone, Copy, Debug, PartialEq, Eq)]
 pub enum Reply {
     /// The command is stored. With it this many commands were accepted.
     Stored(u64),
     /// The command says what the count holds already.
     Same,
-    /// The desk holds this many rows now, 0 behind `open`.
+    /// The desk holds this many rows now, 0 after `open`.
     Held(u32),
     /// The desk gave up this many rows.
     Dropped(u32),

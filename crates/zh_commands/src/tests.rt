@@ -2,14 +2,14 @@ use super::*;
 use std::io::{self, ErrorKind, Write};
 use std::process::Abort;
 use std::test::Fail;
-use zh_returns::Row;
+use zh_records::Row;
 
 fn refuses(rt: &impl Abort, line: &[u8], fault: LineFault) {
     assert_eq!(rt; parse_line(line), Err(fault), "{line:?}");
 }
 
-fn reads(rt: &impl Abort, bytes: &[u8], desk: u8, kind: Kind) {
-    assert_eq!(rt; parse_line(bytes), Ok(Line { desk, kind }), "{bytes:?}");
+fn reads(rt: &impl Abort, bytes: &[u8], desk: u8, request: Request) {
+    assert_eq!(rt; parse_line(bytes), Ok(Line { desk, request }), "{bytes:?}");
 }
 
 #[test]
@@ -20,16 +20,16 @@ fn commands_and_questions_are_read(rt: HostRuntime) {
         number: 3,
         votes: 1_000_000_000,
     };
-    reads(&rt, b"1 return 1 2 3 1000000000", 1, Kind::Return(row));
-    let withdrawal = Kind::Withdraw {
+    reads(&rt, b"1 return 1 2 3 1000000000", 1, Request::Return(row));
+    let withdrawal = Request::Withdraw {
         municipality: 1,
         list: 2,
         number: 4,
     };
     reads(&rt, b"2 withdraw 1 2 4", 2, withdrawal);
-    reads(&rt, b"3 close 1", 3, Kind::Close { municipality: 1 });
-    reads(&rt, b"4 reopen 10", 4, Kind::Reopen { municipality: 10 });
-    let question = Kind::Show {
+    reads(&rt, b"3 close 1", 3, Request::Close { municipality: 1 });
+    reads(&rt, b"4 reopen 10", 4, Request::Reopen { municipality: 10 });
+    let question = Request::Show {
         municipality: 0,
         list: 4_294_967_295,
     };
@@ -44,10 +44,10 @@ fn lines_of_a_batch_are_read(rt: HostRuntime) {
         number: 1,
         votes: 0,
     };
-    reads(&rt, b"5 open", 5, Kind::Open);
-    reads(&rt, b"5 row 512 32 1 0", 5, Kind::Row(row));
-    reads(&rt, b"6 commit", 6, Kind::Commit);
-    reads(&rt, b"7 drop", 7, Kind::Drop);
+    reads(&rt, b"5 open", 5, Request::Open);
+    reads(&rt, b"5 row 512 32 1 0", 5, Request::Row(row));
+    reads(&rt, b"6 commit", 6, Request::Commit);
+    reads(&rt, b"7 drop", 7, Request::Drop);
 }
 
 #[test]

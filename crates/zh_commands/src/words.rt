@@ -40,8 +40,8 @@ pub(crate) fn numeral(word: &[u8]) -> Option<u32>
     text.parse().ok()
 }
 
-// What stands behind a space at the front.
-pub(crate) fn behind_space(text: &[u8]) -> Option<&[u8]>
+// What stands after a space at the front.
+pub(crate) fn after_space(text: &[u8]) -> Option<&[u8]>
     ensures { MatchOption result ((rest : List ℕ) → text.now ≢ 32 ∷ rest)
         (λ rest. text.now ≡ 32 ∷ rest.now) }
 {
@@ -51,19 +51,19 @@ pub(crate) fn behind_space(text: &[u8]) -> Option<&[u8]>
     }
 }
 
-// The number whose numeral stands behind one space at the front, and the bytes after it.
+// The number whose numeral stands after one space at the front, and the bytes after it.
 fn next_number(text: &[u8]) -> Option<(u32, &[u8])>
     ensures found { IfSome result (λ next.
         (next.0 < 2 ^ 32) × (text.now ≡ 32 ∷ decimal next.0 ++ next.1.now)) }
     ensures only { (n : ℕ) (ns : List ℕ) → n < 2 ^ 32 → text.now ≡ numerals (n ∷ ns)
         → IsSomeAnd result (λ next. next.1.now ≡ numerals ns) }
 {
-    let (word, rest) = split_word(behind_space(text)?);
+    let (word, rest) = split_word(after_space(text)?);
     let number = numeral(word)?;
     Some((number, rest))
 }
 
-// The numbers of the numerals, each of which stands behind one space.
+// The numbers of the numerals, each of which stands after one space.
 pub(crate) fn numbers<const N: usize>(text: &[u8]) -> Option<[u32; N]>
     ensures { MatchOption result
         ((ns : List ℕ) → length ns ≡ N → AreNumerals ns → text.now ≢ numerals ns)

@@ -1,1 +1,1 @@
-pub mod Batches
+pub mod BatchLemmas

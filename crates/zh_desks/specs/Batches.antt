@@ -1,7 +1,7 @@
 -- The batches of the desks.
 use Rattle.std.specs.Prelude.{◌≡◌, ℕ, ◌-◌, List, [], ◌∷◌, Option, None, get_or, set, All}
-use Rattle.zh_returns.specs.declared.row.Row.{Row}
-use Rattle.zh_returns.specs.Rows.{row_key}
+use Rattle.zh_records.specs.declared.row.Row.{Row}
+use Rattle.zh_records.specs.Rows.{row_key}
 
 -- each row stands under its key
 abbrev pub AreKeyed : List ((ℕ × ℕ) × Row) → Type 0

@@ -1,12 +1,15 @@
 //! The rows of a batch.
 
-ghost use Rattle.std.specs.Prelude.{◌≡◌, ◌<◌, ◌≤◌, ◌*◌, ◌++◌, ◌∷◌, [], ℕ, false, length, OnOk, OnErr};
-ghost use Rattle.zh_returns.specs.Rows.{row_key, has_key, AreRows, IsBatch, IsSpeakableRow};
+ghost use Rattle.std.specs.Prelude.{◌≡◌, ◌≢◌, ◌+◌, ◌<◌, ◌≤◌, ◌++◌, ◌∷◌, [], Some, Err, false, length, IfOk, IfErr, OnOk, OnErr};
+ghost use Rattle.zh_records.specs.Rows.{row_key, has_key, most_rows, rows_length, AreRows, IsBatch, IsSpeakableRow};
+ghost use Rattle.zh_desks.specs.RowFaults.{fault_in};
+ghost use Rattle.zh_desks.specs.declared.fault.RowFault.{RowFault};
 
+use crate::fault::RowFault;
 use indexmap::IndexMap;
 use std::alloc::{AllocError, Global};
 use std::marker::Model;
-use zh_returns::{BatchWriter, Row, Rows};
+use zh_records::{BatchWriter, MOST_ROWS, Row, Rows};
 
 /// The rows that a desk holds until it commits them, in the order in which they came: at most 1,000, no two of one
 /// municipality and list.
@@ -18,8 +21,8 @@ pub struct Batch {
 impl Model for Batch {
     ghost use Rattle.std.specs.Prelude.{List};
     ghost use Rattle.indexmap.specs.IndexMap.{values};
-    ghost use Rattle.zh_returns.specs.declared.row.Row.{Row};
-    ghost use Rattle.zh_returns.specs.Rows.{AreRows};
+    ghost use Rattle.zh_records.specs.declared.row.Row.{Row};
+    ghost use Rattle.zh_records.specs.Rows.{AreRows};
     ghost use Rattle.zh_desks.specs.Batches.{AreKeyed};
 
     ghost Value = { List Row };
@@ -54,10 +57,10 @@ impl Batch {
         self.rows.contains_key(&(municipality, list))
     }
 
-    /// Puts a row behind the others, of a municipality and list of which none is held. Where memory is refused the batch
+    /// Puts a row after the others, of a municipality and list of which none is held. Where memory is refused the batch
     /// is as before.
     pub fn push(&mut self, row: Row) -> Result<(), AllocError>
-        requires few { length self.old < 1000 }
+        requires few { length self.old < most_rows }
         requires new { has_key self.old (row_key row) ≡ false }
         requires speakable { IsSpeakableRow row }
         ensures pushed { OnOk result (self.new ≡ self.old ++ row ∷ []) }
@@ -71,10 +74,30 @@ impl Batch {
         Ok(())
     }
 
+    /// Puts a row after the others, and returns how many there are then. After an error the batch is as before.
+    pub fn hold(&mut self, row: Row) -> Result<usize, RowFault>
+        requires speakable { IsSpeakableRow row }
+        ensures count { IfOk result (λ count. count ≡ length self.old + 1) }
+        ensures held { OnOk result (self.new ≡ self.old ++ row ∷ []) }
+        ensures kept { OnErr result (self.new ≡ self.old) }
+        ensures refused { (fault : RowFault) → fault_in self.old row ≡ Some fault → result ≡ Err fault }
+        ensures fault { IfErr result (λ fault. fault ≢ RowFault.Memory → fault_in self.old row ≡ Some fault) }
+    {
+        if self.has_key(row.municipality, row.list) {
+            return Err(RowFault::Twice);
+        }
+        let count = self.len();
+        if count >= MOST_ROWS {
+            return Err(RowFault::BatchFull);
+        }
+        self.push(row)?;
+        Ok(count + 1)
+    }
+
     /// Writes the rows, of which there is one at least, into these bytes, and lends them from there. It takes no memory.
     pub fn write<'b>(&self, bytes: &'b mut [u8]) -> Rows<'b>
         requires some { 1 ≤ length self.now }
-        requires room { 11000 ≤ length bytes.old }
+        requires room { rows_length ≤ length bytes.old }
         ensures rows { result ≡ self.now }
         ensures batch { IsBatch result }
     {

@@ -3,6 +3,8 @@
 
 mod batch;
 mod desks;
+mod fault;
 
 pub use batch::Batch;
 pub use desks::Desks;
+pub use fault::RowFault;

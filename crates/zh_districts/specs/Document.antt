@@ -10,7 +10,7 @@ use Rattle.zh_districts.specs.Keys.{list_of, tables_at, misses_key, has_other_ke
 use Rattle.zh_districts.specs.declared.fault.SetupFault.{SetupFault}
 use Rattle.zh_districts.specs.declared.fault.SetupFault.TheVariants.{Missing, Unknown, Range, Double}
 
--- the next step, where the one before said something
+-- the next step, where the one before gave a value
 infixl 10 ◌>>=◌
 abbrev pub ◌>>=◌ : {A B : Type 0} → Option A → (A → Option B) → Option B
 o >>= f = option_and_then f o
@@ -113,7 +113,7 @@ has_double document =
     repeats same_name (tables_at (codes "constituency") document) || repeats same_name (tables_at (codes "municipality") document) || repeats same_name (tables_at (codes "group") document)
     || list_any (λ value. repeats same_number (stands_in value)) (tables_at (codes "group") document)
 
--- where no set-up is said, a value is of another kind or outside its limits; where one is, something may stand twice
+-- without a set-up, a value is of another kind or outside its limits; with one, something may stand twice
 abbrev pub undoubled : Bool → Option Canton → Result Canton SetupFault
 undoubled double None = Err Range
 undoubled double (Some canton) = if double then Err Double else Ok canton

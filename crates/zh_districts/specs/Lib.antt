@@ -1,4 +1,5 @@
 pub mod Canton
+pub mod Misplaced
 pub mod Seats
 pub mod Rehearsal
 pub mod Parts
@@ -6,5 +7,5 @@ pub mod Inside
 pub mod Spelling
 pub mod Keys
 pub mod Document
-pub mod Reading
+pub mod Outcomes
 pub mod SetupText

@@ -12,8 +12,8 @@ use Rattle.zh_districts.specs.declared.fault.SetupFault.{SetupFault}
 use Rattle.zh_districts.specs.declared.fault.SetupFault.TheVariants.{Text}
 
 -- the set-up of the table that the text stands for in TOML, or the first fault
-abbrev pub said_by : List ℕ → Result Canton SetupFault
-said_by text = if nat_le (length text) 1048576 && is_utf8 text then option_map_or checked (parse_document text) (Err Text) else Err Text
+abbrev pub reading_of : List ℕ → Result Canton SetupFault
+reading_of text = if nat_le (length text) 1048576 && is_utf8 text then option_map_or checked (parse_document text) (Err Text) else Err Text
 
 -- a table of this constituency
 abbrev pub ConstituencyOf : Data → Constituency → Type 0
@@ -38,5 +38,5 @@ pub record SetupOf (document : Members) (canton : Canton) : Type 0 where
   pub groups : AllZip (GroupOf (length canton.constituencies)) (tables_at (codes "group") document) canton.groups
 
 -- the text stands for a table that holds the set-up
-abbrev pub Tells : List ℕ → Canton → Type 0
-Tells text canton = (document : Members) × (parse_document text ≡ Some document) × SetupOf document canton
+abbrev pub Describes : List ℕ → Canton → Type 0
+Describes text canton = (document : Members) × (parse_document text ≡ Some document) × SetupOf document canton

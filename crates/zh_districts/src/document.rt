@@ -4,21 +4,21 @@ ghost use Rattle.std.specs.Prelude.{option_and_then};
 ghost use Rattle.toml.specs.Data.{get_member};
 ghost use Rattle.toml.specs.View.{table_view};
 ghost use Rattle.zh_districts.specs.Document.{number_within, setup_of, checked};
-ghost use Rattle.zh_districts.specs.Reading.{Gives, Reads};
+ghost use Rattle.zh_districts.specs.Outcomes.{Gives, GivesInRange};
 ghost use Rattle.zh_districts.specs.Parts.{draft};
 
+use crate::document_parts::{read_constituencies, read_groups, read_municipalities};
 use crate::doubles::has_double;
 use crate::fault::SetupFault;
 use crate::keys::{has_other_key, misses_key};
 use crate::parts::Draft;
-use crate::reading::{read_constituencies, read_groups, read_municipalities};
 use crate::setup::Setup;
 use crate::table::{number, value_at};
 use std::alloc::Global;
 use toml::Table;
 
 fn number_at(document: &Table, key: &str, low: u32, high: u32) -> Result<u32, SetupFault>
-    ensures { Reads (λ n. n) result (option_and_then (number_within low high) (get_member key.now (table_view document.now))) }
+    ensures { GivesInRange (λ n. n) result (option_and_then (number_within low high) (get_member key.now (table_view document.now))) }
 {
     let value = value_at(document, key).ok_or(SetupFault::Range)?;
     number(value, low, high).ok_or(SetupFault::Range)
@@ -26,7 +26,7 @@ fn number_at(document: &Table, key: &str, low: u32, high: u32) -> Result<u32, Se
 
 /// The parts of a set-up, where each value is of its kind and within its limits.
 fn read_draft(alloc: Global, document: &Table) -> Result<Draft, SetupFault>
-    ensures { Reads draft result (setup_of (table_view document.now)) }
+    ensures { GivesInRange draft result (setup_of (table_view document.now)) }
 {
     let _version = number_at(document, "version", 1, 1)?;
     let house = number_at(document, "house", 1, 400)?;

@@ -5,7 +5,7 @@ ghost use Rattle.std.specs.List.{list_all, list_any};
 ghost use Rattle.std.specs.Str.{bytes_eq};
 ghost use Rattle.toml.specs.Data.{table};
 ghost use Rattle.toml.specs.View.{view, table_view};
-ghost use Rattle.zh_districts.specs.Keys.{has_keys, knows_keys, knows_keys_of, misses_key, has_other_key, document_keys, tables_at};
+ghost use Rattle.zh_districts.specs.Keys.{has_keys, knows_keys, knows_keys_of, misses_key, has_other_key, tables_at};
 
 use crate::table::{tables_at, value_at, value_of};
 use toml::{Table, Value};
@@ -38,30 +38,31 @@ fn tables_have_keys(document: &Table, kind: &str, keys: &[&str]) -> bool
     each_has_keys(tables_at(document, kind), keys)
 }
 
-fn has_document_keys(document: &Table) -> bool
-    ensures { result ≡ has_keys document_keys (table (table_view document.now)) }
+fn has_members(document: &Table, keys: &[&str]) -> bool
+    ensures { result ≡ has_keys (map (λ k. k.now) keys.now) (table (table_view document.now)) }
 {
-    value_at(document, "version").is_some()
-        && value_at(document, "house").is_some()
-        && value_at(document, "constituency").is_some()
-        && value_at(document, "municipality").is_some()
-        && value_at(document, "group").is_some()
+    for key in keys {
+        if value_at(document, key).is_none() {
+            return false;
+        }
+    }
+    true
 }
 
 /// Whether a key is missing at the top or in a table.
 pub(crate) fn misses_key(document: &Table) -> bool
     ensures { result ≡ misses_key (table_view document.now) }
 {
-    if !has_document_keys(document) {
+    if !has_members(
+        document,
+        &["version", "house", "constituency", "municipality", "group"],
+    ) {
         return true;
     }
     if !tables_have_keys(document, "constituency", &["name", "persons"]) {
         return true;
     }
-    if !each_has_keys(
-        tables_at(document, "municipality"),
-        &["name", "constituency"],
-    ) {
+    if !tables_have_keys(document, "municipality", &["name", "constituency"]) {
         return true;
     }
     !tables_have_keys(document, "group", &["name", "stands"])

@@ -3,13 +3,14 @@
 
 mod bytes;
 mod document;
+mod document_parts;
 mod doubles;
 mod example;
 mod fault;
 mod keys;
 mod laws;
+mod misplaced;
 mod parts;
-mod reading;
 mod setup;
 mod shares;
 mod table;
@@ -20,6 +21,7 @@ mod text;
 pub use example::rehearsal;
 pub use fault::SetupFault;
 pub use laws::equal_bytes;
+pub use misplaced::Misplaced;
 pub use setup::{Setup, setup_bytes};
 pub use shares::{SeatFault, seats};
 pub use text::read_setup;

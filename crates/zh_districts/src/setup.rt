@@ -1,11 +1,13 @@
 //! The set-up of an election.
 
-ghost use Rattle.std.specs.Prelude.{◌≡◌, ◌≤◌, ◌-◌, ◌+◌, length, slice_get, option_map, map, IfOk};
+ghost use Rattle.std.specs.Prelude.{◌≡◌, ◌≤◌, ◌-◌, ◌+◌, true, length, slice_get, option_map, map, IfOk, IfNone};
 ghost use Rattle.zh_districts.specs.Seats.{persons};
-ghost use Rattle.zh_districts.specs.Canton.{Canton, IsCanton, persons_of, constituency_of, stands};
+ghost use Rattle.zh_districts.specs.Canton.{Canton, IsCanton, has_municipality, persons_of, constituency_of, stands};
+ghost use Rattle.zh_districts.specs.Misplaced.{misplaced};
 ghost use Rattle.zh_districts.specs.Spelling.{setup_spelling};
 
 use crate::bytes::{put_constituencies, put_groups, put_municipalities};
+use crate::misplaced::Misplaced;
 use crate::parts::{Constituency, Draft, Group, Municipality};
 use std::alloc::{AllocError, Global};
 use std::marker::Model;
@@ -106,6 +108,14 @@ impl Setup {
         self.municipalities.len() as u32
     }
 
+    /// Whether there is a municipality of this number.
+    pub fn has_municipality(&self, municipality: u32) -> bool
+        ensures there { result ≡ has_municipality self.now municipality }
+        ensures range { result ≡ true → (1 ≤ municipality) × (municipality ≤ length self.now.municipalities) }
+    {
+        municipality >= 1 && municipality <= self.municipalities()
+    }
+
     /// The number of the constituency in which a municipality lies.
     pub fn constituency_of(&self, municipality: u32) -> u32
         requires from_one { 1 ≤ municipality }
@@ -144,6 +154,22 @@ impl Setup {
         ensures { result ≡ stands self.now constituency group }
     {
         self.groups[(group - 1) as usize].stands[(constituency - 1) as usize]
+    }
+
+    /// Why a list does not stand in a municipality, if it does not.
+    pub fn misplaced(&self, municipality: u32, list: u32) -> Option<Misplaced>
+        ensures misplaced { result ≡ misplaced self.now municipality list }
+        ensures municipality { IfNone result ((1 ≤ municipality) × (municipality ≤ length self.now.municipalities)) }
+        ensures list { IfNone result ((1 ≤ list) × (list ≤ length self.now.groups)) }
+    {
+        if !self.has_municipality(municipality) {
+            return Some(Misplaced::Municipality);
+        }
+        let constituency = self.constituency_of(municipality);
+        if list == 0 || list > self.groups() || !self.stands(constituency, list) {
+            return Some(Misplaced::List);
+        }
+        None
     }
 
     /// The name of a group, 1 to 40 bytes.

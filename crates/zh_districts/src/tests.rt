@@ -354,7 +354,7 @@ fn long_texts(rt: HostRuntime) -> Result<(), Fail> {
     Ok(())
 }
 
-// One growth refused leaves the next call as it was.
+// A refused allocation leaves the next call as it was.
 #[test]
 fn memory(rt: HostRuntime) -> Result<(), Fail> {
     let setup = match read_setup(rt.alloc(), TEXT.as_bytes()) {

@@ -2,7 +2,7 @@
 
 ghost use Rattle.std.specs.Prelude.{◌≡◌, ◌≢◌, Ok, Err, IfOk, IfErr};
 ghost use Rattle.zh_districts.specs.Canton.{IsCanton};
-ghost use Rattle.zh_districts.specs.SetupText.{said_by, Tells};
+ghost use Rattle.zh_districts.specs.SetupText.{reading_of, Describes};
 
 use crate::document::read_document;
 use crate::fault::SetupFault;
@@ -15,12 +15,12 @@ const LONGEST: usize = 1_048_576;
 /// `municipality` and `group`.
 ///
 /// The faults are looked for in the order of `SetupFault`, each over the whole document. Memory may come in place of
-/// any other answer, where a growth was refused.
+/// any other answer, where an allocation was refused.
 pub fn read_setup(alloc: Global, text: &[u8]) -> Result<Setup, SetupFault>
-    ensures set_up { IfOk result (λ setup. said_by text.now ≡ Ok setup) }
-    ensures table { IfOk result (Tells text.now) }
+    ensures set_up { IfOk result (λ setup. reading_of text.now ≡ Ok setup) }
+    ensures table { IfOk result (Describes text.now) }
     ensures limits { IfOk result IsCanton }
-    ensures fault { IfErr result (λ fault. fault ≢ SetupFault.Memory → said_by text.now ≡ Err fault) }
+    ensures fault { IfErr result (λ fault. fault ≢ SetupFault.Memory → reading_of text.now ≡ Err fault) }
 {
     if LONGEST < text.len() {
         return Err(SetupFault::Text);

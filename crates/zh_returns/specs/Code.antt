@@ -1,4 +1,4 @@
--- The code of a tally, by which a proof tells tallies apart.
+-- The code of a tally, by which a proof distinguishes tallies.
 use Rattle.std.specs.Prelude.{ℕ, refl}
 use Rattle.std.specs.Coded.{Coded, code_by, coded×, coded_ℕ}
 use Rattle.std.specs.Ordering.{nat_cmp}
@@ -8,7 +8,8 @@ use Rattle.zh_districts.specs.Canton.{Canton}
 use Rattle.zh_districts.specs.contracts.setup.Setup as setup
 use Rattle.zh_returns.specs.declared.entry.Entry.{Entry}
 use Rattle.zh_returns.specs.contracts.entry.Entry as entry
-use Rattle.zh_returns.specs.Tally.{Tally, key_cmp}
+use Rattle.zh_records.specs.Keys.{key_cmp}
+use Rattle.zh_returns.specs.Tally.{Tally}
 
 -- a tally is stored as its fields, in pairs
 abbrev pub tally_code : Coded Tally

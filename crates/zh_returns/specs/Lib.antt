@@ -1,13 +1,8 @@
 pub mod Tally
-pub mod Judging
+pub mod Limits
+pub mod Judgement
 pub mod Step
 pub mod Code
 pub mod Tables
-pub mod Limits
 pub mod Inside
-pub mod Rows
-pub mod RowBytes
-pub mod Pushed
-pub mod KeySet
-pub mod Spelling
 pub mod Payload

@@ -5,10 +5,14 @@ use Rattle.zh_districts.specs.Canton.{IsCanton, has_municipality, stands, consti
 use Rattle.zh_returns.specs.declared.entry.Entry.{Entry}
 use Rattle.zh_returns.specs.Tally.{Tally, held}
 
+-- the most votes of a return
+abbrev pub most_votes : ℕ
+most_votes = 1000000000
+
 -- a replacement number from 1, and no more votes than a return may have
 pub record IsEntry (entry : Entry) : Type 0 where
   pub number : (1 ≤ entry.number) × (entry.number < 2 ^ 32)
-  pub votes : IfSome entry.votes (λ votes. votes ≤ 1000000000)
+  pub votes : IfSome entry.votes (λ votes. votes ≤ most_votes)
 
 -- entries within their limits, only of lists that stand in municipalities of the set-up; closed are only municipalities of the set-up
 pub record IsTally (tally : Tally) : Type 0 where

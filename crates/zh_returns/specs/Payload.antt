@@ -1,8 +1,9 @@
 -- The bytes of a count. Numbers are big endian.
-use Rattle.std.specs.Prelude.{ℕ, zero, suc, ◌+◌, ◌*◌, Bool, if◌then◌else◌, Option, Some, None, List, [], ◌∷◌, ◌++◌, map}
+use Rattle.std.specs.Prelude.{ℕ, zero, suc, ◌+◌, ◌*◌, Option, Some, None, List, [], ◌∷◌, ◌++◌, map}
 use Rattle.std.specs.Int.{w32, w64, to_be_bytes}
 use Rattle.std.specs.List.{flat_map}
 use Rattle.std.specs.FinSet as set
+use Rattle.zh_districts.specs.Spelling.{mask_of}
 use Rattle.zh_returns.specs.declared.entry.Entry.{Entry}
 use Rattle.zh_returns.specs.Tally.{Tally, held}
 
@@ -34,14 +35,13 @@ entry_spelling (Some entry) = content_spelling entry.number entry.votes
 abbrev pub table_of : Tally → ℕ → List (Option Entry)
 table_of tally municipalities = flat_map (λ municipality. map (held tally municipality) (numbers 1 32)) (numbers 1 municipalities)
 
--- the number whose bits, from the lowest on, are these flags
-abbrev pub byte_of : List Bool → ℕ
-byte_of [] = 0
-byte_of (flag ∷ flags) = (if flag then 1 else 0) + 2 * byte_of flags
-
 -- of eight municipalities, which are closed
 abbrev pub closed_byte : Tally → ℕ → ℕ
-closed_byte tally byte = byte_of (map (set.contains tally.closed) (numbers (8 * byte + 1) 8))
+closed_byte tally byte = mask_of (map (set.contains tally.closed) (numbers (8 * byte + 1) 8))
+
+-- the bytes of a count
+abbrev pub payload_length : ℕ
+payload_length = 262391
 
 -- how many commands were accepted, which of 512 municipalities are closed, 175 bytes not in use, and what is held
 abbrev pub payload_spelling : Tally → List ℕ

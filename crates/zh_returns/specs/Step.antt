@@ -1,18 +1,21 @@
 -- What an accepted command does to the count.
-use Rattle.std.specs.Prelude.{◌≡◌, ◌+◌, ◌≤◌, true, List, [], ◌∷◌, Some, None, fold}
+use Rattle.std.specs.Prelude.{◌≡◌, ◌+◌, ◌≤◌, List, [], ◌∷◌, Some, None, fold}
 use Rattle.std.specs.Ordering.{nat_cmp}
 use Rattle.std.specs.FinMap as map
 use Rattle.std.specs.FinSet as set
-use Rattle.zh_districts.specs.Canton.{Canton, has_municipality, stands, constituency_of}
-use Rattle.zh_returns.specs.declared.command.Command.{Command}
-use Rattle.zh_returns.specs.declared.command.Command.TheVariants as commands
+use Rattle.zh_districts.specs.Canton.{Canton}
+use Rattle.zh_districts.specs.Misplaced.{misplaced}
+use Rattle.zh_records.specs.declared.command.Command.{Command}
+use Rattle.zh_records.specs.declared.command.Command.TheVariants as commands
 use Rattle.zh_returns.specs.declared.entry.Entry.{Entry}
-use Rattle.zh_returns.specs.declared.row.Row.{Row}
+use Rattle.zh_records.specs.declared.row.Row.{Row}
 use Rattle.zh_returns.specs.declared.verdict.Verdict.{Verdict}
 use Rattle.zh_returns.specs.declared.verdict.Verdict.TheVariants.{Accept, Same, Refused}
-use Rattle.zh_returns.specs.Tally.{Tally, key_cmp}
-use Rattle.zh_returns.specs.Judging.{judge}
-use Rattle.zh_returns.specs.Rows.{row_key}
+use Rattle.zh_records.specs.Keys.{key_cmp}
+use Rattle.zh_returns.specs.Tally.{Tally}
+use Rattle.zh_returns.specs.Judgement.{judge}
+use Rattle.zh_returns.specs.Limits.{most_votes}
+use Rattle.zh_records.specs.Rows.{row_key}
 
 -- what is held after a return
 abbrev pub entry_of : Row → Entry
@@ -51,7 +54,7 @@ changed tally command = record {
 abbrev pub on_verdict : Verdict → Tally → Tally → Tally
 on_verdict Accept new old = new
 on_verdict Same new old = old
-on_verdict (Refused why) new old = old
+on_verdict (Refused reason) new old = old
 
 -- the count after a command: it changes only where it is accepted
 abbrev pub step : Tally → Command → Tally
@@ -63,8 +66,7 @@ after tally [] = tally
 after tally (command ∷ commands) = after (step tally command) commands
 
 -- a row that may stand in the count: its list stands in its municipality, and its numbers are within the limits
-pub record IsKept (canton : Canton) (row : Row) : Type 0 where
-  pub there : has_municipality canton row.municipality ≡ true
-  pub stands : stands canton (constituency_of canton row.municipality) row.list ≡ true
+pub record MayStand (canton : Canton) (row : Row) : Type 0 where
+  pub place : misplaced canton row.municipality row.list ≡ None
   pub number : 1 ≤ row.number
-  pub votes : row.votes ≤ 1000000000
+  pub votes : row.votes ≤ most_votes

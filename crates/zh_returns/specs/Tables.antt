@@ -4,9 +4,11 @@ use Rattle.std.specs.Ordering.{nat_cmp}
 use Rattle.std.specs.FinMap as map
 use Rattle.std.specs.FinSet as set
 use Rattle.zh_returns.specs.declared.entry.Entry.{Entry}
-use Rattle.zh_districts.specs.Canton.{Canton, has_municipality, stands, constituency_of}
+use Rattle.zh_districts.specs.Canton.{Canton}
+use Rattle.zh_districts.specs.Misplaced.{misplaced}
 use Rattle.zh_returns.specs.Limits.{IsEntry}
-use Rattle.zh_returns.specs.Tally.{Tally, key_cmp}
+use Rattle.zh_records.specs.Keys.{key_cmp}
+use Rattle.zh_returns.specs.Tally.{Tally}
 
 -- the key of a place: each municipality has 32 places, one for each list
 abbrev pub key_of : ℕ → ℕ × ℕ
@@ -41,8 +43,7 @@ tally_from canton table flags accepted = record { canton = canton; entries = ent
 -- an entry within its limits, of a list that stands in its municipality
 pub record IsHeldAt (canton : Canton) (key : ℕ × ℕ) (entry : Entry) : Type 0 where
   pub limits : IsEntry entry
-  pub municipality : has_municipality canton key.0 ≡ true
-  pub list : stands canton (constituency_of canton key.0) key.1 ≡ true
+  pub place : misplaced canton key.0 key.1 ≡ None
 
 -- what a table holds are such entries
 abbrev pub IsTable : Canton → List (Option Entry) → Type 0

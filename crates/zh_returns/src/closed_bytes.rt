@@ -2,12 +2,12 @@
 
 ghost use Rattle.std.specs.Prelude.{◌≡◌, ℕ, ◌+◌, ◌*◌, ◌/◌, ◌%◌, ◌<◌, ◌≤◌, Bool, not, false, length, take, drop, get_or, slice_index};
 ghost use Rattle.std.specs.List.{list_all};
-ghost use Rattle.zh_returns.specs.Payload.{byte_of};
+ghost use Rattle.zh_districts.specs.Spelling.{mask_of};
 ghost use Rattle.zh_returns.specs.Tables.{bit_of};
 
 fn byte_of(flags: &[bool]) -> u8
     requires { length flags.now ≤ 8 }
-    ensures { result ≡ byte_of flags.now }
+    ensures { result ≡ mask_of flags.now }
 {
     let mut byte = 0;
     for (place, flag) in flags.iter().enumerate() {
@@ -21,7 +21,7 @@ fn byte_of(flags: &[bool]) -> u8
 pub(crate) fn write_flags(flags: &[bool], out: &mut [u8])
     requires { length flags.now ≡ 8 * length out.old }
     ensures length { length out.new ≡ length out.old }
-    ensures bytes { (byte : ℕ) → byte < length out.old → slice_index out.new byte ≡ byte_of (take 8 (drop (8 * byte) flags.now)) }
+    ensures bytes { (byte : ℕ) → byte < length out.old → slice_index out.new byte ≡ mask_of (take 8 (drop (8 * byte) flags.now)) }
 {
     for byte in 0..out.len() {
         out[byte] = byte_of(&flags[8 * byte..8 * byte + 8]);

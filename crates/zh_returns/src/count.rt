@@ -7,7 +7,8 @@ ghost use Rattle.zh_returns.specs.Limits.{IsTally, IsEntry};
 ghost use Rattle.zh_returns.specs.Payload.{payload_spelling};
 ghost use Rattle.zh_returns.specs.Tables.{place_of};
 ghost use Rattle.zh_returns.specs.Tally.{Tally, empty, held};
-ghost use Rattle.zh_districts.specs.Canton.{has_municipality, stands, constituency_of};
+ghost use Rattle.zh_districts.specs.Canton.{has_municipality};
+ghost use Rattle.zh_districts.specs.Misplaced.{misplaced};
 
 use crate::entry::Entry;
 use crate::payload::{PAYLOAD_LENGTH, read_tables, write_tables};
@@ -182,8 +183,7 @@ impl<'s> Count<'s> {
 
     /// Puts an entry of a list that stands in a municipality over what is held under their key.
     pub(crate) fn put(&mut self, municipality: u32, list: u32, entry: Entry)
-        requires there { has_municipality self.old.canton municipality ≡ true }
-        requires stands { stands self.old.canton (constituency_of self.old.canton municipality) list ≡ true }
+        requires place { misplaced self.old.canton municipality list ≡ None }
         requires entry { IsEntry entry }
         ensures { self.new ≡ record self.old { entries = map.insert self.old.entries (municipality, list) entry } }
     {

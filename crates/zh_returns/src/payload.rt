@@ -21,7 +21,7 @@ const ACCEPTED_LENGTH: usize = 8;
 /// The bytes of the closed municipalities.
 const CLOSED_LENGTH: usize = MUNICIPALITIES / 8;
 
-/// The bytes behind them that are not in use.
+/// The bytes after them that are not in use.
 const UNUSED_LENGTH: usize = 175;
 
 /// The bytes of the table of entries.

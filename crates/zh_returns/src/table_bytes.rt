@@ -9,7 +9,7 @@ ghost use Rattle.zh_returns.specs.Tables.{IsHeldAt, IsTable, key_of};
 use crate::count::PLACES;
 use crate::entry::Entry;
 use crate::entry_bytes::{ENTRY_LENGTH, read_entry, write_entry};
-use crate::places::stands_at;
+use crate::places::misplaced_at;
 use zh_districts::Setup;
 
 pub(crate) fn write_entries(table: &[Option<Entry>], out: &mut [u8])
@@ -48,7 +48,7 @@ fn read_held(setup: &Setup, place: usize, bytes: &[u8]) -> Option<Option<Entry>>
     ensures refused { IfNone result ((held : Option Entry) → IfSome held (IsHeldAt setup.now (key_of place)) → entry_spelling held ≡ bytes.now → ⊥) }
 {
     let held = read_entry(bytes)?;
-    if held.is_some() && !stands_at(setup, place) {
+    if held.is_some() && misplaced_at(setup, place).is_some() {
         return None;
     }
     Some(held)

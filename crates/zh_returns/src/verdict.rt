@@ -1,6 +1,10 @@
+ghost use Rattle.std.specs.Prelude.{◌≡◌};
+
+use zh_districts::Misplaced;
+
 /// Why a command is refused.
 #[derive(Clone, Copy, Debug, PartialEq, Eq)]
-pub enum Why {
+pub enum Reason {
     /// The set-up has no such municipality.
     Municipality,
     /// The list does not stand in the constituency of the municipality.
@@ -19,11 +23,24 @@ pub enum Why {
     NotClosed(u32),
 }
 
+impl From<Misplaced> for Reason {
+    ghost use Rattle.zh_returns.specs.Judgement.{reason_of};
+
+    ghost from_gives = { λ misplaced reason. reason ≡ reason_of misplaced };
+
+    fn from(misplaced: Misplaced) -> Reason {
+        match misplaced {
+            Misplaced::Municipality => Reason::Municipality,
+            Misplaced::List => Reason::List,
+        }
+    }
+}
+
 /// What becomes of a command.
 #[derive(Clone, Copy, Debug, PartialEq, Eq)]
 pub enum Verdict {
     Accept,
     /// The count holds it already.
     Same,
-    Refused(Why),
+    Refused(Reason),
 }

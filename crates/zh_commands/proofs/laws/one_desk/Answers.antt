@@ -1,4 +1,4 @@
-use Rattle.zh_commands.proofs.Spellings.{desk_of-read}
+use Rattle.zh_commands.proofs.LineLemmas.{desk_of-read}
 use Rattle.zh_commands.proofs.laws.one_desk.Goals as goal
 
 pub returns : goal.returns

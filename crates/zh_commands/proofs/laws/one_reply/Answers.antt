@@ -1,4 +1,4 @@
-use Rattle.zh_commands.proofs.ReplyWords.{reply_same}
+use Rattle.zh_commands.proofs.ReplyLemmas.{reply_same}
 use Rattle.zh_commands.proofs.laws.one_reply.Goals as goal
 
 pub returns : goal.returns

@@ -1,4 +1,4 @@
-use Rattle.zh_commands.proofs.Spellings.{spelling_injective, length-spelling}
+use Rattle.zh_commands.proofs.LineLemmas.{spelling_injective, length-spelling}
 use Rattle.zh_commands.proofs.laws.one_spelling.Goals as goal
 
 pub returns-clause-same : goal.returns-clause-same

@@ -1,6 +1,6 @@
 use Rattle.std.proofs.Common.{rules}
 use Rattle.std.proofs.KnownBytes.{Appends-trans}
-use Rattle.zh_commands.proofs.Fronts.{Keeps-from_none, IsFront-from_kept, moves_front}
+use Rattle.zh_commands.proofs.WriteLemmas.{Keeps-from_none, IsFront-from_kept, moves_front}
 use Rattle.zh_commands.proofs.output.put.Goals as goal
 
 pub returns-in_default-clause-front : goal.returns-in_default-clause-front

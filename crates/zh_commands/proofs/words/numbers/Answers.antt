@@ -1,7 +1,7 @@
 use Rattle.std.proofs.Common.{◌<◌, length, get_or, drop, ◌+◌, ◌^◌, arith, length-set, sym, ◌∙◌}
 use Rattle.std.proofs.lemmas.List.Elements.{All-set}
 use Rattle.std.proofs.lemmas.Bool.{eqb-true}
-use Rattle.zh_commands.proofs.Splits.{numerals-drop, numerals_more, numerals_whole}
+use Rattle.zh_commands.proofs.SplitLemmas.{numerals-drop, numerals_more, numerals_whole}
 use Rattle.zh_commands.proofs.words.numbers.Goals as goal
 
 pub returns-in_err-value : goal.returns-in_err-value

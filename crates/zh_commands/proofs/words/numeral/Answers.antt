@@ -1,4 +1,4 @@
-use Rattle.zh_commands.proofs.Decimals.{IsInRange-from_decimal, IsUtf8-from_decimal, MatchOption-from_parse}
+use Rattle.zh_commands.proofs.DecimalLemmas.{IsInRange-from_decimal, IsUtf8-from_decimal, MatchOption-from_parse}
 use Rattle.zh_commands.proofs.words.numeral.Goals as goal
 
 pub returns-then-not-is_plain : goal.returns-then-not-is_plain

@@ -1,6 +1,6 @@
 use Rattle.std.proofs.Common.{◌+◌, take, arith, ◌∙◌}
 use Rattle.std.proofs.lemmas.List.{length-take}
-use Rattle.zh_districts.proofs.Masks.{mask_of-here, mask_of-not_here, mask_of-fits}
+use Rattle.zh_districts.proofs.MaskLemmas.{mask_of-here, mask_of-not_here, mask_of-fits}
 use Rattle.zh_districts.proofs.bytes.mask.Goals as goal
 use Rattle.zh_districts.proofs.bytes.mask.Goals.{then-here, else-here}
 

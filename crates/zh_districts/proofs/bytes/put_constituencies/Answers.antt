@@ -1,6 +1,6 @@
 use Rattle.std.proofs.Common.{◌≤◌, length}
 use Rattle.zh_districts.specs.Parts.{constituency}
-use Rattle.zh_districts.proofs.Images.{image_at}
+use Rattle.zh_districts.proofs.ImageLemmas.{image_at}
 use Rattle.zh_districts.proofs.bytes.put_constituencies.Goals as goal
 
 pub put_constituency-requires : goal.put_constituency-requires

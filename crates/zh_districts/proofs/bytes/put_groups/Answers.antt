@@ -1,6 +1,6 @@
 use Rattle.std.proofs.Common.{◌≤◌, length}
 use Rattle.zh_districts.specs.Parts.{group}
-use Rattle.zh_districts.proofs.Images.{image_at}
+use Rattle.zh_districts.proofs.ImageLemmas.{image_at}
 use Rattle.zh_districts.proofs.bytes.put_groups.Goals as goal
 
 pub put_group-requires-clause-name : goal.put_group-requires-clause-name

@@ -1,6 +1,6 @@
 use Rattle.std.proofs.Common.{◌<◌, ◌≤◌, length}
 use Rattle.zh_districts.specs.Parts.{municipality}
-use Rattle.zh_districts.proofs.Images.{image_at}
+use Rattle.zh_districts.proofs.ImageLemmas.{image_at}
 use Rattle.zh_districts.proofs.bytes.put_municipalities.Goals as goal
 
 pub put_municipality-requires-clause-name : goal.put_municipality-requires-clause-name

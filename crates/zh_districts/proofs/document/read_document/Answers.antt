@@ -2,8 +2,8 @@ use Rattle.std.proofs.Common.{sym}
 use Rattle.toml.specs.View.{table_view}
 use Rattle.zh_districts.specs.Document.{setup_of}
 use Rattle.zh_districts.specs.Parts.{draft}
-use Rattle.zh_districts.proofs.Each.{said_ok}
-use Rattle.zh_districts.proofs.Setups.{IsCanton-from_document}
+use Rattle.zh_districts.proofs.EachLemmas.{said_ok}
+use Rattle.zh_districts.proofs.SetupLemmas.{IsCanton-from_document}
 use Rattle.zh_districts.proofs.document.read_document.Goals as goal
 
 pub assembled-requires : goal.assembled-requires

@@ -5,8 +5,8 @@ use Rattle.toml.specs.View.{table_view}
 use Rattle.toml.specs.Data.{get_member}
 use Rattle.zh_districts.specs.Document.{◌>>=◌, number_within, each, values_at, constituency_of, municipality_of, group_of, setup_of}
 use Rattle.zh_districts.specs.Parts.{constituency, municipality}
-use Rattle.zh_districts.proofs.Each.{said_ok, fails_through}
-use Rattle.zh_districts.proofs.Setups.{constituencies_read, no_municipalities, no_groups}
+use Rattle.zh_districts.proofs.EachLemmas.{said_ok, fails_through}
+use Rattle.zh_districts.proofs.SetupLemmas.{constituencies_read, no_municipalities, no_groups}
 use Rattle.zh_districts.proofs.document.read_draft.Goals as goal
 
 pub overflow_cast-count : goal.overflow_cast-count

@@ -3,7 +3,7 @@ use Rattle.std.proofs.lemmas.Grind.{common_steps}
 use Rattle.zh_districts.specs.Canton.{IsCanton}
 use Rattle.zh_districts.specs.Parts.{constituency, municipality, group}
 use Rattle.zh_districts.specs.Spelling.{setup_spelling}
-use Rattle.zh_districts.proofs.Lengths.{short_names, length-setup_spelling}
+use Rattle.zh_districts.proofs.LengthLemmas.{short_names, length-setup_spelling}
 use Rattle.zh_districts.proofs.setup.setup_bytes.Goals as goal
 
 pub put_constituencies-requires-clause-names : goal.put_constituencies-requires-clause-names

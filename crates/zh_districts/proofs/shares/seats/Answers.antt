@@ -1,7 +1,7 @@
 use Rattle.std.proofs.Common.{◌≡◌, ◌<◌, ◌≤◌, ◌^◌, ℕ, List, sym, ◌∙◌, subst}
 use Rattle.std.specs.Prelude.{All, Any}
 use Rattle.zh_districts.specs.Seats.{persons}
-use Rattle.zh_districts.proofs.Images.{persons_small, persons_positive}
+use Rattle.zh_districts.proofs.ImageLemmas.{persons_small, persons_positive}
 use Rattle.zh_districts.proofs.shares.seats.Goals as goal
 
 pub new-requires-clause-each_small : goal.new-requires-clause-each_small

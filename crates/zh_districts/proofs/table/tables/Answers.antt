@@ -2,7 +2,7 @@ use Rattle.std.proofs.Common.{map, ap, ◌∙◌}
 use Rattle.std.specs.List.{list_all}
 use Rattle.toml.specs.View.{view}
 use Rattle.zh_districts.specs.Keys.{is_table}
-use Rattle.zh_districts.proofs.Arrays.{tables_of-found, tables_of-mixed}
+use Rattle.zh_districts.proofs.ArrayLemmas.{tables_of-found, tables_of-mixed}
 use Rattle.zh_districts.proofs.table.tables.Goals as goal
 
 pub returns-then-are_tables : goal.returns-then-are_tables

@@ -2,7 +2,7 @@ use Rattle.std.proofs.Common.{◌≢◌, ◌≤◌, length, sym, arith}
 use Rattle.std.specs.Vec.{vec_len}
 use Rattle.std.proofs.lemmas.Bool.{eqb-false}
 use Rattle.toml.specs.View.{view}
-use Rattle.zh_districts.proofs.Arrays.{values_of-found}
+use Rattle.zh_districts.proofs.ArrayLemmas.{values_of-found}
 use Rattle.zh_districts.proofs.table.values.Goals as goal
 
 pub returns-else-is_empty : goal.returns-else-is_empty

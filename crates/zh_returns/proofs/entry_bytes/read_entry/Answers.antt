@@ -4,8 +4,8 @@ use Rattle.std.specs.List.{list_all}
 use Rattle.std.proofs.lemmas.List.{get_or-drop, length-drop, length-take}
 use Rattle.byteorder.specs.Endian.{big_number}
 use Rattle.zh_returns.specs.Payload.{fields_spelling}
-use Rattle.zh_returns.proofs.Numerals.{four_read, first_fit}
-use Rattle.zh_returns.proofs.Zeros.{three_zeros, four_zeros}
+use Rattle.zh_records.proofs.CallerLemmas.{four_read, first_fit}
+use Rattle.zh_returns.proofs.ZeroLemmas.{three_zeros, four_zeros}
 use Rattle.zh_returns.proofs.entry_bytes.read_entry.Goals as goal
 
 sixteen : (bytes : List ℕ) → length bytes ≡ 16 → get_or bytes 0 0 ∷ (take 3 (drop 1 bytes) ++ (take 4 (take 4 (drop 4 bytes)) ++ (take 4 (take 4 (drop 8 bytes)) ++ take 4 (drop 12 bytes)))) ≡ bytes

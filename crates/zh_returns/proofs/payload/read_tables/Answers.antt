@@ -5,11 +5,11 @@ use Rattle.std.proofs.lemmas.List.{take_rest, take_all, length-take, get_or-drop
 use Rattle.zh_districts.specs.Canton.{Canton}
 use Rattle.zh_returns.specs.Payload.{entry_spelling, table_of, closed_byte, numbers, zeros}
 use Rattle.zh_returns.specs.Tables.{IsTable, tally_from, bit_of}
-use Rattle.zh_returns.proofs.Closing.{none_above, packed, unpacked}
-use Rattle.zh_returns.proofs.Listing.{table_within, length-table_of, table_is}
-use Rattle.zh_returns.proofs.Numerals.{eight_read, first_fit}
-use Rattle.zh_returns.proofs.Payloads.{parts, parts_read, tables_within}
-use Rattle.zh_returns.proofs.Zeros.{all_zeros, zeros_from_all}
+use Rattle.zh_returns.proofs.ClosedBytesLemmas.{none_above, packed, unpacked}
+use Rattle.zh_returns.proofs.TallyTableLemmas.{table_within, length-table_of, table_is}
+use Rattle.zh_records.proofs.CallerLemmas.{eight_read, first_fit}
+use Rattle.zh_returns.proofs.PayloadLemmas.{parts, parts_read, tables_within}
+use Rattle.zh_returns.proofs.ZeroLemmas.{all_zeros, zeros_from_all}
 use Rattle.zh_returns.proofs.payload.read_tables.Goals as goal
 use Rattle.zh_returns.proofs.payload.read_tables.Goals.{then-not-is_zero-via-then-not-is_zero, then-not-is_zero-via-else-not-is_zero+then-not-none_set}
 

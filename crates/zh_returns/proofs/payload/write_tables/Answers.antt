@@ -4,9 +4,9 @@ use Rattle.std.specs.List.{flat_map}
 use Rattle.std.proofs.lemmas.List.{drop_all, drop-drop}
 use Rattle.zh_returns.specs.Payload.{zeros, closed_byte, numbers, entry_spelling}
 use Rattle.zh_returns.specs.Tables.{tally_from}
-use Rattle.zh_returns.proofs.Payloads.{parts_are}
-use Rattle.zh_returns.proofs.Closing.{packed}
-use Rattle.zh_returns.proofs.Listing.{table_is}
+use Rattle.zh_returns.proofs.PayloadLemmas.{parts_are}
+use Rattle.zh_returns.proofs.ClosedBytesLemmas.{packed}
+use Rattle.zh_returns.proofs.TallyTableLemmas.{table_is}
 use Rattle.zh_returns.proofs.payload.write_tables.Goals as goal
 
 pub returns : goal.returns

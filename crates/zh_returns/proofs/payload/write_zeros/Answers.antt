@@ -1,5 +1,5 @@
 use Rattle.std.proofs.Common.{◌∙◌, length}
-use Rattle.zh_returns.proofs.Zeros.{zeros_filled}
+use Rattle.zh_returns.proofs.ZeroLemmas.{zeros_filled}
 use Rattle.zh_returns.proofs.payload.write_zeros.Goals as goal
 
 pub returns : goal.returns

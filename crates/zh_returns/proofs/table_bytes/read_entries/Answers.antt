@@ -1,7 +1,7 @@
 use Rattle.std.proofs.Common.{◌≡◌, ◌<◌, ◌+◌, ◌-◌, ◌*◌, ◌∙◌, ℕ, length, take, drop, ap, arith}
 use Rattle.zh_returns.specs.Payload.{entry_spelling}
-use Rattle.zh_returns.proofs.Blocks.{blocks_more}
-use Rattle.zh_returns.proofs.Entering.{held_more, place_refused}
+use Rattle.zh_records.proofs.CallerLemmas.{blocks_more}
+use Rattle.zh_returns.proofs.EntryBytesLemmas.{held_more, place_refused}
 use Rattle.zh_returns.proofs.table_bytes.read_entries.Goals as goal
 
 pub returns-in-None-clause-refused : goal.returns-in-None-clause-refused

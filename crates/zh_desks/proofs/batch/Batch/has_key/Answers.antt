@@ -1,7 +1,7 @@
 use Rattle.std.proofs.Common.{◌∙◌, ap, List}
-use Rattle.zh_returns.specs.declared.row.Row.{Row}
-use Rattle.zh_returns.specs.Rows.{has_key}
-use Rattle.zh_desks.proofs.Batches.{found}
+use Rattle.zh_records.specs.declared.row.Row.{Row}
+use Rattle.zh_records.specs.Rows.{has_key}
+use Rattle.zh_desks.proofs.BatchLemmas.{found}
 use Rattle.zh_desks.proofs.batch.Batch.has_key.Goals as goal
 
 pub returns : goal.returns

@@ -2,17 +2,17 @@ use Rattle.std.proofs.Common.{◌≡◌, ◌<◌, ◌∙◌, ◌∷◌, ◌++◌
 use Rattle.std.specs.Map.{values_of}
 use Rattle.std.proofs.lemmas.List.{map-append}
 use Rattle.indexmap.proofs.CallerLemmas.{insert_entry-new}
-use Rattle.zh_returns.specs.declared.row.Row.{Row}
-use Rattle.zh_returns.specs.Rows.{row_key, has_key, AreRows}
+use Rattle.zh_records.specs.declared.row.Row.{Row}
+use Rattle.zh_records.specs.Rows.{row_key, has_key, AreRows}
 use Rattle.zh_desks.specs.Batches.{AreKeyed}
-use Rattle.zh_desks.proofs.Batches.{not_found, keyed_more, rows_more, on_no_error}
+use Rattle.zh_desks.proofs.BatchLemmas.{not_found, keyed_more, rows_more, on_no_error}
 use Rattle.zh_desks.proofs.batch.Batch.push.Goals as goal
 
 -- no row of this key was held
 fresh : (c : goal.Else-is_err) → has_key (values_of c.self.inside.rows.entries) (row_key c.args.row) ≡ false
 fresh c = ap (λ (rows : List Row). has_key rows (row_key c.args.row)) c.self.view_is ∙ c.requires.new
 
--- the row stands behind the others
+-- the row stands after the others
 grown : (c : goal.Else-is_err) → c.insert-inserted.new.self.entries ≡ c.self.inside.rows.entries ++ (row_key c.args.row, c.args.row) ∷ []
 grown c =
     on_no_error c.insert-inserted.result _ (sym c.is_err.ensures.value ∙ c.if-is_err.false) c.insert-inserted.ensures.entries

@@ -1,7 +1,7 @@
 use Rattle.std.proofs.Common.{◌++◌, sym, ap, ◌∙◌, subst, List}
-use Rattle.zh_returns.specs.declared.row.Row.{Row}
-use Rattle.zh_returns.specs.Rows.{AreRows}
-use Rattle.zh_desks.proofs.Batches.{fresh_next}
+use Rattle.zh_records.specs.declared.row.Row.{Row}
+use Rattle.zh_records.specs.Rows.{AreRows}
+use Rattle.zh_desks.proofs.BatchLemmas.{fresh_next}
 use Rattle.zh_desks.proofs.batch.Batch.write.Goals as goal
 
 pub push-requires-clause-new : goal.push-requires-clause-new

@@ -1,5 +1,5 @@
 use Rattle.std.proofs.Common.{◌≡◌, ◌++◌, length}
-use Rattle.zh_returns.specs.Rows.{AreRows}
+use Rattle.zh_records.specs.Rows.{AreRows}
 use Rattle.zh_desks.proofs.batch.Batch.write.Given as goal
 
 abbrev pub invariant-loop-row : goal.invariant-loop-row

@@ -2,7 +2,7 @@ use Rattle.std.proofs.Common.{◌≤◌, ◌<◌, ◌-◌, arith, ap, length, ma
 use Rattle.std.proofs.lemmas.List.{length-map}
 use Rattle.zh_districts.specs.Canton as canton
 use Rattle.zh_districts.specs.Parts.{municipality, constituency}
-use Rattle.zh_districts.proofs.Images.{image_at}
+use Rattle.zh_districts.proofs.ImageLemmas.{image_at}
 use Rattle.zh_districts.proofs.setup.Setup.constituency_of.Goals as goal
 
 -- the constituency of the municipality that was read

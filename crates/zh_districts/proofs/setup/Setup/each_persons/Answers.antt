@@ -1,7 +1,7 @@
 use Rattle.std.proofs.Common.{map, sym, ap, ◌∙◌}
 use Rattle.std.proofs.lemmas.Result.{IfOk-weaker}
 use Rattle.zh_districts.specs.Seats.{persons}
-use Rattle.zh_districts.proofs.Images.{persons_map}
+use Rattle.zh_districts.proofs.ImageLemmas.{persons_map}
 use Rattle.zh_districts.proofs.setup.Setup.each_persons.Goals as goal
 
 pub returns-clause-persons : goal.returns-clause-persons

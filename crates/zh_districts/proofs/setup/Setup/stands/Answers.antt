@@ -4,7 +4,7 @@ use Rattle.std.proofs.lemmas.List.{length-map}
 use Rattle.std.proofs.lemmas.Option.{slice_get_read}
 use Rattle.zh_districts.specs.Canton.{Canton}
 use Rattle.zh_districts.specs.Parts.{group, constituency}
-use Rattle.zh_districts.proofs.Images.{columns_of, image_is}
+use Rattle.zh_districts.proofs.ImageLemmas.{columns_of, image_is}
 use Rattle.zh_districts.proofs.setup.Setup.stands.Goals as goal
 
 pub index-requires-2 : goal.index-requires-2

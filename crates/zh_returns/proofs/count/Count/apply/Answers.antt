@@ -1,7 +1,7 @@
 use Rattle.std.proofs.Common.{◌≡◌, ◌∙◌, Some, sym, ap}
 use Rattle.zh_returns.specs.declared.verdict.Verdict.TheVariants.{Accept}
-use Rattle.zh_returns.specs.Judging.{judge, judge_row, is_refusal}
-use Rattle.zh_returns.proofs.Keeping.{row_kept, accepted_from_one}
+use Rattle.zh_returns.specs.Judgement.{judge, judge_row, is_refusal}
+use Rattle.zh_returns.proofs.JudgementLemmas.{row_kept, accepted_from_one}
 use Rattle.zh_returns.proofs.count.Count.apply.Goals as goal
 
 pub put_row-requires : goal.put_row-requires

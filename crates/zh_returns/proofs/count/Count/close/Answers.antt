@@ -1,8 +1,8 @@
 use Rattle.std.proofs.Common.{◌-◌, ◌∙◌, sym, subst, true}
 use Rattle.std.proofs.lemmas.List.{length-set}
 use Rattle.zh_returns.specs.Limits.{IsTally}
-use Rattle.zh_returns.proofs.Kept.{IsTally-close}
-use Rattle.zh_returns.proofs.Written.{tally_of-close}
+use Rattle.zh_returns.proofs.LimitsLemmas.{IsTally-close}
+use Rattle.zh_returns.proofs.TableWriteLemmas.{tally_of-close}
 use Rattle.zh_returns.proofs.count.Count.close.Goals as goal
 
 pub invariant_of-self : goal.invariant_of-self

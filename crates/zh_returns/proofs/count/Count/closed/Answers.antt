@@ -1,7 +1,7 @@
 use Rattle.std.proofs.Common.{◌≤◌, ◌∙◌, ap, arith, length}
 use Rattle.std.specs.FinSet as set
 use Rattle.zh_returns.specs.Tally.{Tally}
-use Rattle.zh_returns.proofs.Flags.{read_flag}
+use Rattle.zh_returns.proofs.FlagLemmas.{read_flag}
 use Rattle.zh_returns.proofs.count.Count.closed.Goals as goal
 
 pub returns : goal.returns

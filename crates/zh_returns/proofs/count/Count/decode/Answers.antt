@@ -7,9 +7,9 @@ use Rattle.zh_returns.specs.declared.entry.Entry.{Entry}
 use Rattle.zh_returns.specs.Limits.{IsTally}
 use Rattle.zh_returns.specs.Tables.{entries_of, closed_of, tally_from}
 use Rattle.zh_returns.specs.Tally.{Tally, empty}
-use Rattle.zh_returns.proofs.Entries.{entries_of-absent}
-use Rattle.zh_returns.proofs.Flags.{closed_of-unset}
-use Rattle.zh_returns.proofs.Kept.{IsTally-empty}
+use Rattle.zh_returns.proofs.EntryTableLemmas.{entries_of-absent}
+use Rattle.zh_returns.proofs.FlagLemmas.{closed_of-unset}
+use Rattle.zh_returns.proofs.LimitsLemmas.{IsTally-empty}
 use Rattle.zh_returns.proofs.count.Count.decode.Goals as goal
 
 items_twice : {X Z : Type 0} (v : Vec X Z) (first second : List X) → length second ≡ v.len → (with_items (with_items v first) second).items ≡ second

@@ -3,7 +3,7 @@ use Rattle.std.specs.Prelude.{IfSome}
 use Rattle.zh_returns.specs.Tally.{Tally, held}
 use Rattle.zh_returns.specs.Inside.{tally_of}
 use Rattle.zh_returns.specs.Limits.{IsEntry}
-use Rattle.zh_returns.proofs.Entries.{read_key}
+use Rattle.zh_returns.proofs.EntryTableLemmas.{read_key}
 use Rattle.zh_returns.proofs.count.Count.entry.Goals as goal
 
 -- what was read is what the fields stand for

@@ -2,14 +2,14 @@ use Rattle.std.proofs.Common.{◌∙◌, Bool, true, false, cond, map, take, sym
 use Rattle.std.specs.List.{list_any}
 use Rattle.std.proofs.Math.Bool.{or_comm}
 use Rattle.zh_returns.specs.declared.verdict.Verdict.TheVariants.{Accept, Same, Refused}
-use Rattle.zh_returns.specs.Judging.{judge_row, is_accept}
-use Rattle.zh_returns.proofs.Verdicts.{unrefused_more, accepted_more, first_refusal}
+use Rattle.zh_returns.specs.Judgement.{judge_row, is_accept}
+use Rattle.zh_returns.proofs.VerdictLemmas.{unrefused_more, accepted_more, first_refusal}
 use Rattle.zh_returns.proofs.count.Count.judge_rows.Goals as goal
 use Rattle.zh_returns.proofs.count.Count.judge_rows.Goals.{in-Accept, in-Same}
 
 pub returns-in-Refused : goal.returns-in-Refused
 returns-in-Refused c =
-    first_refusal (judge_row c.args.self.now) c.args.rows.now c.loop-i.i c.get.result (Refused c.in-Refused.why) c.get.ensures c.in-Refused.ensures refl c.loop-i.invariant.unrefused
+    first_refusal (judge_row c.args.self.now) c.args.rows.now c.loop-i.i c.get.result (Refused c.in-Refused.reason) c.get.ensures c.in-Refused.ensures refl c.loop-i.invariant.unrefused
 
 pub loop-i-preserved : goal.loop-i-preserved
 loop-i-preserved c =

@@ -1,7 +1,7 @@
 use Rattle.std.proofs.Common.{◌≡◌, None, cond, map, take}
 use Rattle.std.specs.List.{find, list_any}
 use Rattle.zh_returns.specs.declared.verdict.Verdict.TheVariants.{Accept, Same}
-use Rattle.zh_returns.specs.Judging.{judge_row, is_refusal, is_accept}
+use Rattle.zh_returns.specs.Judgement.{judge_row, is_refusal, is_accept}
 use Rattle.zh_returns.proofs.count.Count.judge_rows.Given as goal
 
 abbrev pub invariant-loop-i : goal.invariant-loop-i

@@ -2,9 +2,9 @@ use Rattle.std.proofs.Common.{◌≡◌, sym, subst}
 use Rattle.zh_returns.specs.Tally.{Tally, empty}
 use Rattle.zh_returns.specs.Limits.{IsTally}
 use Rattle.zh_returns.specs.Tables.{entries_of, closed_of}
-use Rattle.zh_returns.proofs.Entries.{entries_of-absent}
-use Rattle.zh_returns.proofs.Flags.{closed_of-unset}
-use Rattle.zh_returns.proofs.Kept.{IsTally-empty}
+use Rattle.zh_returns.proofs.EntryTableLemmas.{entries_of-absent}
+use Rattle.zh_returns.proofs.FlagLemmas.{closed_of-unset}
+use Rattle.zh_returns.proofs.LimitsLemmas.{IsTally-empty}
 use Rattle.zh_returns.proofs.count.Count.new.Goals as goal
 
 -- tables without an entry and without a flag stand for the empty count

@@ -2,17 +2,17 @@ use Rattle.std.proofs.Common.{◌∙◌, [], ◌∷◌, take, sym, ap, subst}
 use Rattle.std.specs.FinMap as map_of
 use Rattle.std.proofs.lemmas.List.Sums.{fold-append}
 use Rattle.zh_districts.specs.Canton.{Canton}
-use Rattle.zh_returns.specs.declared.row.Row.{Row}
-use Rattle.zh_returns.specs.Rows.{row_key}
-use Rattle.zh_returns.specs.Step.{entry_of, with_rows, IsKept}
+use Rattle.zh_records.specs.declared.row.Row.{Row}
+use Rattle.zh_records.specs.Rows.{row_key}
+use Rattle.zh_returns.specs.Step.{entry_of, with_rows, MayStand}
 use Rattle.zh_returns.specs.Tally.{Tally}
-use Rattle.zh_returns.proofs.Keeping.{rows_kept}
-use Rattle.zh_returns.proofs.Verdicts.{rows_more}
+use Rattle.zh_returns.proofs.JudgementLemmas.{rows_kept}
+use Rattle.zh_returns.proofs.VerdictLemmas.{rows_more}
 use Rattle.zh_returns.proofs.count.Count.put_rows.Goals as goal
 
 pub put_row-requires : goal.put_row-requires
 put_row-requires c =
-    subst (λ (canton : Canton). IsKept canton c.get.result) (sym (ap (λ (t : Tally). t.canton) c.loop-i.invariant)) (
+    subst (λ (canton : Canton). MayStand canton c.get.result) (sym (ap (λ (t : Tally). t.canton) c.loop-i.invariant)) (
     rows_kept c.args.self.now c.args.rows.now c.loop-i.i c.get.result c.len-i-end.ensures.batch c.requires c.get.ensures
     )
 

@@ -1,8 +1,8 @@
 use Rattle.std.proofs.Common.{◌-◌, ◌∙◌, sym, subst, false}
 use Rattle.std.proofs.lemmas.List.{length-set}
 use Rattle.zh_returns.specs.Limits.{IsTally}
-use Rattle.zh_returns.proofs.Kept.{IsTally-reopen}
-use Rattle.zh_returns.proofs.Written.{tally_of-reopen}
+use Rattle.zh_returns.proofs.LimitsLemmas.{IsTally-reopen}
+use Rattle.zh_returns.proofs.TableWriteLemmas.{tally_of-reopen}
 use Rattle.zh_returns.proofs.count.Count.reopen.Goals as goal
 
 pub invariant_of-self : goal.invariant_of-self

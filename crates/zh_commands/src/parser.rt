@@ -1,0 +1,142 @@
+ghost use Rattle.std.specs.Prelude.{◌≡◌, ◌≢◌, ◌↔◌, ◌^◌, ◌<◌, ℕ, [], ◌∷◌, IsTrue, MatchOption};
+ghost use Rattle.zh_commands.specs.Words.{numerals};
+ghost use Rattle.zh_commands.specs.Lines.{request_text, row_text, IsDesk, IsRow, IsRequest, ParsesAs, desk_of};
+
+use crate::lines::{Line, LineFault, Request};
+use crate::words::{after_space, numbers, numeral, split_word};
+use std::str;
+use zh_records::Row;
+
+// The bytes that a line has at most.
+const LONGEST: usize = 120;
+
+/// Reads a line, without its end, as `docs/FORMATS.md`, "Lines", has it. It takes no memory.
+///
+/// A line of more than 120 bytes is `Syntax`. Else it is `Desk` where the first word is a numeral other than 1 to 8,
+/// whatever follows, and `Syntax` where it has none of the forms of a line.
+pub fn parse_line(bytes: &[u8]) -> Result<Line, LineFault>
+    ensures reads { ParsesAs bytes.now result }
+{
+    if bytes.len() > LONGEST {
+        return Err(LineFault::Syntax);
+    }
+    let (word, rest) = split_word(bytes);
+    let Some(desk) = numeral(word) else {
+        return Err(LineFault::Syntax);
+    };
+    if !is_desk(desk) {
+        return Err(LineFault::Desk);
+    }
+    let Some(text) = after_space(rest) else {
+        return Err(LineFault::Syntax);
+    };
+    let Some(request) = request_of(text) else {
+        return Err(LineFault::Syntax);
+    };
+    Ok(Line {
+        desk: desk as u8,
+        request,
+    })
+}
+
+// Whether there is such a desk.
+fn is_desk(number: u32) -> bool
+    ensures { IsTrue result ↔ IsDesk number }
+{
+    (1..=8).contains(&number)
+}
+
+// What the text after the desk and the space asks for.
+fn request_of(text: &[u8]) -> Option<Request>
+    ensures { MatchOption result ((request : Request) → IsRequest request → text.now ≢ request_text request)
+        (λ request. IsRequest request × (text.now ≡ request_text request)) }
+{
+    let (word, rest) = split_word(text);
+    let Ok(word) = str::from_utf8(word) else {
+        return None;
+    };
+    match word {
+        "return" => Some(Request::Return(row_of(rest)?)),
+        "withdraw" => {
+            let (municipality, list, number) = withdrawal_of(rest)?;
+            Some(Request::Withdraw {
+                municipality,
+                list,
+                number,
+            })
+        }
+        "close" => Some(Request::Close {
+            municipality: municipality_of(rest)?,
+        }),
+        "reopen" => Some(Request::Reopen {
+            municipality: municipality_of(rest)?,
+        }),
+        "open" => alone(Request::Open, rest),
+        "row" => Some(Request::Row(row_of(rest)?)),
+        "commit" => alone(Request::Commit, rest),
+        "drop" => alone(Request::Drop, rest),
+        "show" => {
+            let [municipality, list] = numbers::<2>(rest)?;
+            Some(Request::Show { municipality, list })
+        }
+        _ => None,
+    }
+}
+
+// The request, where nothing stands after its word.
+fn alone(request: Request, text: &[u8]) -> Option<Request>
+    ensures { MatchOption result (text.now ≢ []) (λ found. (found ≡ request) × (text.now ≡ [])) }
+{
+    text.is_empty().then_some(request)
+}
+
+// The municipality of one numeral after a space.
+fn municipality_of(text: &[u8]) -> Option<u32>
+    ensures { MatchOption result ((n : ℕ) → n < 2 ^ 32 → text.now ≢ numerals (n ∷ []))
+        (λ n. (n < 2 ^ 32) × (text.now ≡ numerals (n ∷ []))) }
+{
+    let [municipality] = numbers::<1>(text)?;
+    Some(municipality)
+}
+
+// The municipality, the list and the replacement number of three numerals, each after a space.
+fn withdrawal_of(text: &[u8]) -> Option<(u32, u32, u32)>
+    ensures { MatchOption result
+        ((m l n : ℕ) → IsRequest (Request.Withdraw m l n) → text.now ≢ numerals (m ∷ l ∷ n ∷ []))
+        (λ found. IsRequest (Request.Withdraw found.0 found.1 found.2)
+        × (text.now ≡ numerals (found.0 ∷ found.1 ∷ found.2 ∷ []))) }
+{
+    let [municipality, list, number] = numbers::<3>(text)?;
+    if number == 0 {
+        return None;
+    }
+    Some((municipality, list, number))
+}
+
+// The row of four numerals, each after a space.
+fn row_of(text: &[u8]) -> Option<Row>
+    ensures { MatchOption result ((row : Row) → IsRow row → text.now ≢ row_text row)
+        (λ row. IsRow row × (text.now ≡ row_text row)) }
+{
+    let [municipality, list, number, votes] = numbers::<4>(text)?;
+    if number == 0 {
+        return None;
+    }
+    Some(Row {
+        municipality,
+        list,
+        number,
+        votes,
+    })
+}
+
+/// The desk under which a line is answered, whatever the line is: the digit where it begins with 1 to 8 and a space,
+/// else 0.
+pub fn desk_of(bytes: &[u8]) -> u8
+    ensures { result ≡ desk_of bytes.now }
+{
+    match bytes {
+        [digit @ b'1'..=b'8', b' ', ..] => *digit - b'0',
+        _ => 0,
+    }
+}

@@ -1,0 +1,73 @@
+-- The rows of a batch by their keys.
+use Rattle.std.proofs.Common.{◌≡◌, ◌<◌, ℕ, suc, ◌==◌, ◌&&◌, Bool, true, false, cond, ◌||◌, List, [], ◌∷◌, ◌++◌, map, length, refl, sym, ap, ◌∙◌, subst, arith, Option, Some, None, is_some, Result, Ok, Err, OnOk, get_or, length-append}
+use Rattle.std.proofs.Math.Seq.{take-append_seam}
+use Rattle.std.specs.List.{list_any, IsDistinct}
+use Rattle.std.specs.Map.{lookup, values_of}
+use Rattle.std.specs.Ordering.{eq_by_cmp}
+use Rattle.std.specs.Result.{is_err}
+use Rattle.std.proofs.lemmas.Grind.{common_steps}
+use Rattle.std.proofs.lemmas.List.{map-append, map_push, length_push}
+use Rattle.std.proofs.lemmas.List.Elements.{All-append, All-push}
+use Rattle.std.proofs.lemmas.Map.Keys.{IsDistinct-push}
+use Rattle.zh_records.specs.declared.row.Row.{Row}
+use Rattle.zh_records.specs.Rows.{row_key, has_key, AreRows, IsSpeakableRow}
+use Rattle.zh_records.specs.Keys.{key_cmp}
+use Rattle.zh_records.proofs.CallerLemmas.{key_test, keys_alike, fresh_from_distinct}
+use Rattle.zh_desks.specs.Batches.{AreKeyed}
+
+-- a key is this one
+abbrev pub is_key : ℕ → ℕ → ℕ × ℕ → Bool
+is_key municipality list key = (municipality == key.0) && (list == key.1)
+
+found_first : (m l : ℕ) (e : (ℕ × ℕ) × Row) (rest : Option Row) (others : Bool) → e.0 ≡ row_key e.1 → is_some rest ≡ others
+    → is_some (cond (is_key m l e.0) (Some e.1) rest) ≡ eq_by_cmp key_cmp (m, l) (row_key e.1) || others
+found_first m l e rest others keyed same = by (is_key m l e.0) (ap (is_key m l) keyed ∙ sym (key_test m l e.1.municipality e.1.list))
+  where
+    by : (b : Bool) → b ≡ eq_by_cmp key_cmp (m, l) (row_key e.1) → is_some (cond b (Some e.1) rest) ≡ eq_by_cmp key_cmp (m, l) (row_key e.1) || others
+    by true is = ap (λ c. c || others) is
+    by false is = same ∙ ap (λ c. c || others) is
+
+-- the map has an entry under a key exactly where a row with it is held
+pub found : (m l : ℕ) (es : List ((ℕ × ℕ) × Row)) → AreKeyed es → is_some (lookup (is_key m l) es) ≡ has_key (values_of es) (m, l)
+found m l [] keyed = refl
+found m l (e ∷ es) keyed = found_first m l e (lookup (is_key m l) es) (has_key (values_of es) (m, l)) (keyed 0 e (omega arith)) (found m l es (λ k d within. keyed (suc k) d (omega arith)))
+
+-- where there is none, it has none
+pub not_found : (m l : ℕ) (es : List ((ℕ × ℕ) × Row)) → AreKeyed es → has_key (values_of es) (m, l) ≡ false → lookup (is_key m l) es ≡ None
+not_found m l es keyed none = by (lookup (is_key m l) es) (found m l es keyed ∙ none)
+  where
+    by : (o : Option Row) → is_some o ≡ false → o ≡ None
+    by None h = refl
+    by (Some x) h = cc
+
+pub keyed_more : (es : List ((ℕ × ℕ) × Row)) (row : Row) → AreKeyed es → AreKeyed (es ++ (row_key row, row) ∷ [])
+keyed_more es row keyed = grind (arith, common_steps, All-append)
+
+-- a row with a key of its own after others
+pub rows_more : (rows : List Row) (row : Row) → AreRows rows → length rows < 1000 → has_key rows (row_key row) ≡ false → IsSpeakableRow row → AreRows (rows ++ row ∷ [])
+rows_more rows row are few fresh speakable = record {
+  most = omega (arith, length_push rows row);
+  speakable = All-push IsSpeakableRow rows row are.speakable speakable;
+  keys = subst (IsDistinct (eq_by_cmp key_cmp)) (sym (map_push row_key rows row)) (IsDistinct-push keys_alike (map row_key rows) (row_key row) are.keys fresh);
+}
+
+-- what holds where a result is no error
+pub on_no_error : {A B : Type 0} (result : Result A B) (P : Type 0) → is_err result ≡ false → OnOk result P → P
+on_no_error (Ok x) P h on = on
+on_no_error (Err e) P h on = cc
+
+-- the element at the seam of two lists
+get_or-seam : {X : Type 0} (xs : List X) (y : X) (ys : List X) (d : X) → get_or (xs ++ y ∷ ys) (length xs) d ≡ y
+get_or-seam [] y ys d = refl
+get_or-seam (x ∷ xs) y ys d = get_or-seam xs y ys d
+
+-- of rows with keys of their own, none before a row has its key
+pub fresh_next : (done rest : List Row) (row : Row) → AreRows (done ++ row ∷ rest) → has_key done (row_key row) ≡ false
+fresh_next done rest row are =
+    let keys : map row_key (done ++ row ∷ rest) ≡ map row_key done ++ row_key row ∷ map row_key rest = map-append row_key done (row ∷ rest) in
+    let distinct = subst (IsDistinct (eq_by_cmp key_cmp)) keys are.keys in
+    let fresh = fresh_from_distinct (map row_key done ++ row_key row ∷ map row_key rest) (length (map row_key done)) (0, 0) distinct
+    (omega (arith, length-append (map row_key done) (row_key row ∷ map row_key rest))) in
+    subst (λ (key : ℕ × ℕ). list_any (eq_by_cmp key_cmp key) (map row_key done) ≡ false) (get_or-seam (map row_key done) (row_key row) (map row_key rest) (0, 0))
+    (subst (λ (before : List (ℕ × ℕ)). list_any (eq_by_cmp key_cmp (get_or (map row_key done ++ row_key row ∷ map row_key rest) (length (map row_key done)) (0, 0))) before ≡ false)
+    (take-append_seam (map row_key done) (row_key row ∷ map row_key rest)) fresh)

@@ -1,0 +1,28 @@
+-- Municipalities and lists of a set-up.
+use Rattle.std.proofs.Common.{◌≡◌, ◌≤◌, ℕ, Bool, true, false, not, cond, length, Option, Some, None, refl, arith, rules, ap, ◌∙◌}
+use Rattle.std.proofs.lemmas.Grind.{common_steps}
+use Rattle.std.proofs.lemmas.Option.{gets}
+use Rattle.zh_districts.specs.Canton.{Canton, has_municipality, stands, constituency_of}
+use Rattle.zh_districts.specs.Misplaced.{misplaced}
+use Rattle.zh_districts.specs.declared.misplaced.Misplaced.{Misplaced}
+
+-- a municipality of the set-up has a number from 1
+pub municipality_within : (canton : Canton) (municipality : ℕ) → has_municipality canton municipality ≡ true → (1 ≤ municipality) × (municipality ≤ length canton.municipalities)
+municipality_within canton municipality there = (search rules, search rules)
+
+-- a list that stands somewhere is one of the groups
+pub list_within : (canton : Canton) (constituency list : ℕ) → stands canton constituency list ≡ true → (1 ≤ list) × (list ≤ length canton.groups)
+list_within canton constituency list there = (search rules, grind (arith, common_steps, gets))
+
+none_of : (there standing : Bool) (a b : Misplaced) → cond (not there) (Some a) (cond (not standing) (Some b) None) ≡ None → (there ≡ true) × (standing ≡ true)
+none_of true true a b none = (refl, refl)
+none_of true false a b none = absurd (cc)
+none_of false standing a b none = absurd (cc)
+
+-- a list that is not misplaced stands in a municipality of the set-up
+pub placed : (canton : Canton) (municipality list : ℕ) → misplaced canton municipality list ≡ None → (has_municipality canton municipality ≡ true) × (stands canton (constituency_of canton municipality) list ≡ true)
+placed canton municipality list none = none_of (has_municipality canton municipality) (stands canton (constituency_of canton municipality) list) _ _ none
+
+-- the other way round
+pub not_misplaced : (canton : Canton) (municipality list : ℕ) → has_municipality canton municipality ≡ true → stands canton (constituency_of canton municipality) list ≡ true → misplaced canton municipality list ≡ None
+not_misplaced canton municipality list there standing = rw (there, standing) refl

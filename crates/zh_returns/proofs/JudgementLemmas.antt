@@ -1,0 +1,74 @@
+-- What an accepted command puts into the count is within the limits.
+use Rattle.std.proofs.Common.{◌≡◌, ◌≤◌, ◌∙◌, ℕ, Bool, true, false, not, cond, List, map, Option, Some, None, sym, ap, subst, refl, arith}
+use Rattle.std.specs.Prelude.{slice_get}
+use Rattle.std.specs.FinSet as set
+use Rattle.std.proofs.lemmas.Bool.{true≢false, ltb-false}
+use Rattle.std.proofs.lemmas.Bool.Decides.{nat_tests}
+use Rattle.std.proofs.lemmas.List.{get_or-map, length-map}
+use Rattle.std.proofs.lemmas.List.Elements.{All-get_or}
+use Rattle.std.proofs.lemmas.Option.{slice_get_within, get_or_from_slice_get}
+use Rattle.zh_districts.specs.Misplaced.{misplaced}
+use Rattle.zh_districts.specs.declared.misplaced.Misplaced.{Misplaced}
+use Rattle.zh_returns.specs.declared.entry.Entry.{Entry}
+use Rattle.zh_records.specs.declared.row.Row.{Row}
+use Rattle.zh_returns.specs.declared.verdict.Verdict.{Verdict}
+use Rattle.zh_returns.specs.declared.verdict.Verdict.TheVariants.{Accept, Refused}
+use Rattle.zh_returns.specs.declared.verdict.Reason.TheVariants as reasons
+use Rattle.zh_returns.specs.Judgement.{judge_row, judge_content, unless_misplaced, against, too_many, is_refusal, of_all}
+use Rattle.zh_records.specs.Rows.{IsSpeakableRow, IsBatch}
+use Rattle.zh_returns.specs.Step.{MayStand}
+use Rattle.zh_returns.specs.Tally.{Tally, held}
+use Rattle.zh_returns.proofs.VerdictLemmas.{none_refused}
+
+-- a content that is not refused is for a list that stands in its municipality, and is not too much
+pub record Passes (tally : Tally) (municipality list : ℕ) (content : Option ℕ) : Type 0 where
+  pub place : misplaced tally.canton municipality list ≡ None
+  pub enough : too_many content ≡ false
+
+-- the tests of a content, in their order
+tested : (place : Option Misplaced) (many closed : Bool) (last : Verdict) → is_refusal (unless_misplaced place (cond many (Refused reasons.Votes) (cond closed (Refused reasons.Closed) last))) ≡ false →
+    (place ≡ None) × (many ≡ false)
+tested (Some misplaced) many closed last passes = absurd (true≢false passes)
+tested None true closed last passes = absurd (true≢false passes)
+tested None false closed last passes = (refl, refl)
+
+pub passes : (tally : Tally) (municipality list number : ℕ) (content : Option ℕ) → is_refusal (judge_content tally municipality list number content) ≡ false → Passes tally municipality list content
+passes tally municipality list number content is =
+    let t = tested (misplaced tally.canton municipality list) (too_many content) (set.contains tally.closed municipality) (against (held tally municipality list) number content) is in
+    record { place = t.0; enough = t.1 }
+
+-- so a row that is not refused may stand in the count
+pub row_kept : (tally : Tally) (row : Row) → 1 ≤ row.number → is_refusal (judge_row tally row) ≡ false → MayStand tally.canton row
+row_kept tally row number is =
+    let p = passes tally row.municipality row.list row.number (Some row.votes) is in
+    record { place = p.place; number = number; votes = ltb-false 1000000000 row.votes p.enough }
+
+-- what is accepted after the tests
+reached : (place : Option Misplaced) (many closed : Bool) (last : Verdict) → unless_misplaced place (cond many (Refused reasons.Votes) (cond closed (Refused reasons.Closed) last)) ≡ Accept → last ≡ Accept
+reached (Some misplaced) many closed last is = absurd (cc)
+reached None true closed last is = absurd (cc)
+reached None false true last is = absurd (cc)
+reached None false false last is = is
+
+-- an accepted number is 1, or one more than the number held
+number_from_one : (entry : Option Entry) (number : ℕ) (content : Option ℕ) → against entry number content ≡ Accept → 1 ≤ number
+number_from_one None number content is = grind (arith, nat_tests)
+number_from_one (Some entry) number content is = grind (arith, nat_tests)
+
+pub accepted_from_one : (tally : Tally) (municipality list number : ℕ) (content : Option ℕ) → judge_content tally municipality list number content ≡ Accept → 1 ≤ number
+accepted_from_one tally municipality list number content is =
+    number_from_one (held tally municipality list) number content (
+    reached (misplaced tally.canton municipality list) (too_many content) (set.contains tally.closed municipality) (against (held tally municipality list) number content) is
+    )
+
+-- so do the rows of an accepted batch
+pub rows_kept : (tally : Tally) (rows : List Row) (i : ℕ) (row : Row) → IsBatch rows → of_all (map (judge_row tally) rows) ≡ Accept → slice_get rows i ≡ Some row → MayStand tally.canton row
+rows_kept tally rows i row batch accepted is =
+    let within = slice_get_within rows i row is in
+    let here = get_or_from_slice_get rows i row row is in
+    let speakable : IsSpeakableRow row = subst IsSpeakableRow here (All-get_or IsSpeakableRow rows i row within batch.are_rows.speakable) in
+    let unrefused : is_refusal (judge_row tally row) ≡ false =
+    ap (λ (r : Row). is_refusal (judge_row tally r)) (sym here)
+    ∙ ap is_refusal (sym (get_or-map (judge_row tally) rows i row Accept within))
+    ∙ All-get_or (λ v. is_refusal v ≡ false) (map (judge_row tally) rows) i Accept (omega (arith, length-map rows (judge_row tally))) (none_refused (map (judge_row tally) rows) accepted) in
+    row_kept tally row speakable.number.0 unrefused

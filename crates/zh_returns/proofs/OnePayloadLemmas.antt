@@ -1,0 +1,134 @@
+-- Two counts for one set-up with the same bytes are the same count.
+use Rattle.std.proofs.Common.{◌≡◌, ◌<◌, ◌≤◌, ◌+◌, ◌*◌, ◌/◌, ◌%◌, ◌^◌, ◌∙◌, ◌==◌, ◌⊎◌, ℕ, zero, suc, true, false, cond, List, length, get_or, take, drop, map, Option, Some, None, sym, ap, refl, arith, inl, inr}
+use Rattle.std.specs.Prelude.{IfSome}
+use Rattle.std.specs.Int.{w32, w64, from_be_bytes, to_be_bytes}
+use Rattle.std.specs.List.{flat_map, slice_index}
+use Rattle.std.specs.Cmp.{nat_cmp_total}
+use Rattle.std.specs.FinMap as map_of
+use Rattle.std.specs.FinSet as set_of
+use Rattle.std.proofs.lemmas.Bool.{cases_lt}
+use Rattle.std.proofs.lemmas.Map.Lookups.{exact_unsigned}
+use Rattle.std.proofs.lemmas.Nat.{from_be_bytes-to_be_bytes_4, from_be_bytes-to_be_bytes_8}
+use Rattle.zh_districts.specs.Canton.{Canton, IsCanton, has_municipality, stands, constituency_of}
+use Rattle.zh_returns.specs.declared.entry.Entry.{Entry}
+use Rattle.zh_returns.specs.Limits.{IsTally, IsEntry}
+use Rattle.zh_returns.specs.Payload.{payload_spelling, entry_spelling, content_spelling, closed_byte, numbers, table_of}
+use Rattle.zh_returns.specs.Tables.{place_of, bit_of}
+use Rattle.zh_returns.specs.Tally.{Tally, held}
+use Rattle.zh_records.proofs.CallerLemmas.{block_at, exact_keys, keys_total}
+use Rattle.zh_returns.proofs.ClosedBytesLemmas.{closed_bit, never}
+use Rattle.zh_returns.proofs.EntryBytesLemmas.{entries_wide}
+use Rattle.zh_returns.proofs.PlaceLemmas.{key_of-place_of}
+use Rattle.zh_returns.proofs.TallyTableLemmas.{length-table_of, at_table_of}
+use Rattle.zh_returns.proofs.PayloadLemmas.{parts}
+use Rattle.zh_districts.proofs.CallerLemmas.{municipality_within, list_within}
+
+abbrev entry_of : ℕ → Option ℕ → Option Entry
+entry_of number votes = Some (record { number = number; votes = votes })
+
+-- what sixteen bytes are read as, where they are those of nothing or of an entry
+abbrev entry_from : List ℕ → Option Entry
+entry_from bytes =
+    cond (get_or bytes 0 0 == 0) None (
+    entry_of (from_be_bytes w32 (take 4 (drop 4 bytes))) (cond (get_or bytes 0 0 == 1) (Some (from_be_bytes w32 (take 4 (drop 8 bytes)))) None)
+    )
+
+content_back : (number : ℕ) (votes : Option ℕ) → number < 2 ^ 32 → IfSome votes (λ v. v ≤ 1000000000) → entry_from (content_spelling number votes) ≡ entry_of number votes
+content_back number None small few = ap (λ (n : ℕ). entry_of n None) (from_be_bytes-to_be_bytes_4 number small)
+content_back number (Some votes) small few =
+    ap (λ (n : ℕ). entry_of n (Some (from_be_bytes w32 (to_be_bytes w32 votes)))) (from_be_bytes-to_be_bytes_4 number small)
+    ∙ ap (λ (v : ℕ). entry_of number (Some v)) (from_be_bytes-to_be_bytes_4 votes (omega arith))
+
+entry_back : (h : Option Entry) → IfSome h IsEntry → entry_from (entry_spelling h) ≡ h
+entry_back None limits = refl
+entry_back (Some entry) limits = content_back entry.number entry.votes limits.number.1 limits.votes
+
+entry_once : (h k : Option Entry) → IfSome h IsEntry → IfSome k IsEntry → entry_spelling h ≡ entry_spelling k → h ≡ k
+entry_once h k limits_h limits_k same = sym (entry_back h limits_h) ∙ ap entry_from same ∙ entry_back k limits_k
+
+-- a key that has a place in the table
+record HasPlace (municipality list : ℕ) : Type 0 where
+  from_one : 1 ≤ municipality
+  within : municipality ≤ 512
+  list_from_one : 1 ≤ list
+  list_within : list ≤ 32
+
+has_place : (municipality list : ℕ) → HasPlace municipality list ⊎ (HasPlace municipality list → ⊥)
+has_place m l = elim (cases_lt 0 m) [
+  | inr none_m ↦ inr (λ place. let from = place.from_one in omega arith)
+  | inl one_m ↦ elim (cases_lt m 513) [
+    | inr past_m ↦ inr (λ place. let within = place.within in omega arith)
+    | inl in_m ↦ elim (cases_lt 0 l) [
+      | inr none_l ↦ inr (λ place. let from = place.list_from_one in omega arith)
+      | inl one_l ↦ elim (cases_lt l 33) [
+        | inr past_l ↦ inr (λ place. let within = place.list_within in omega arith)
+        | inl in_l ↦ inl (record { from_one = omega arith; within = omega arith; list_from_one = omega arith; list_within = omega arith })
+      ]
+    ]
+  ]
+]
+
+-- under a key without a place nothing is held
+nothing_outside : (canton : Canton) (m l : ℕ) (h : Option Entry) → IsCanton canton → IfSome h (λ _. stands canton (constituency_of canton m) l ≡ true) →
+    IfSome h (λ _. has_municipality canton m ≡ true) → (HasPlace m l → ⊥) → h ≡ None
+nothing_outside canton m l None limits list there outside = refl
+nothing_outside canton m l (Some entry) limits list there outside =
+    let municipality = municipality_within canton m there in
+    let group = list_within canton (constituency_of canton m) l list in
+    let municipalities = limits.municipalities in
+    let groups = limits.groups in
+    absurd (outside (record { from_one = municipality.0; within = omega arith; list_from_one = group.0; list_within = omega arith }))
+
+none_held : (tally : Tally) (m l : ℕ) → IsTally tally → (HasPlace m l → ⊥) → held tally m l ≡ None
+none_held tally m l limits outside = nothing_outside tally.canton m l (held tally m l) limits.canton (limits.lists m l) (limits.municipalities m l) outside
+
+-- what the bytes have at the place of a key is what is held under the key
+spelled_at : (tally : Tally) (m l : ℕ) → HasPlace m l → take 16 (drop (16 * place_of m l) (flat_map entry_spelling (table_of tally 512))) ≡ entry_spelling (held tally m l)
+spelled_at tally m l place =
+    let from = place.from_one in
+    let within = place.within in
+    let list_from = place.list_from_one in
+    let list_in = place.list_within in
+    let small : place_of m l < 32 * 512 = omega arith in
+    let inside : place_of m l < length (table_of tally 512) = omega (arith, length-table_of tally 512) in
+    block_at entry_spelling 16 entries_wide (table_of tally 512) (place_of m l) None inside
+    ∙ ap entry_spelling (at_table_of tally 512 (place_of m l) small ∙ ap (map_of.get tally.entries) (key_of-place_of m l from list_from list_in))
+
+same_held : (a b : Tally) → IsTally a → IsTally b → flat_map entry_spelling (table_of a 512) ≡ flat_map entry_spelling (table_of b 512) → (m l : ℕ) → held a m l ≡ held b m l
+same_held a b limits_a limits_b same m l = elim (has_place m l) [
+  | inl place ↦
+      entry_once (held a m l) (held b m l) (limits_a.entries m l) (limits_b.entries m l) (
+      sym (spelled_at a m l place) ∙ ap (λ (all : List ℕ). take 16 (drop (16 * place_of m l) all)) same ∙ spelled_at b m l place
+      )
+  | inr outside ↦ none_held a m l limits_a outside ∙ sym (none_held b m l limits_b outside)
+]
+
+-- no municipality outside the table is closed
+open_outside : (tally : Tally) (m : ℕ) → IsTally tally → ((1 ≤ m) × (m ≤ 512) → ⊥) → set_of.contains tally.closed m ≡ false
+open_outside tally m limits outside =
+    let municipalities = limits.canton.municipalities in
+    never (set_of.contains tally.closed m) (λ is. let there = municipality_within tally.canton m (limits.closed m is) in outside (there.0, omega arith))
+
+same_closed : (a b : Tally) → IsTally a → IsTally b → map (closed_byte a) (numbers 0 64) ≡ map (closed_byte b) (numbers 0 64) → (m : ℕ) → set_of.contains a.closed m ≡ set_of.contains b.closed m
+same_closed a b limits_a limits_b same zero = open_outside a 0 limits_a (λ is. omega arith) ∙ sym (open_outside b 0 limits_b (λ is. omega arith))
+same_closed a b limits_a limits_b same (suc m) =
+    let next : m + 1 ≡ suc m = omega arith in
+    elim (cases_lt m 512) [
+      | inl inside ↦
+          ap (set_of.contains a.closed) (sym next) ∙ sym (closed_bit a 64 m (omega arith))
+          ∙ ap (λ (bytes : List ℕ). bit_of (slice_index bytes (m / 8)) (m % 8)) same
+          ∙ closed_bit b 64 m (omega arith) ∙ ap (set_of.contains b.closed) next
+      | inr outside ↦ open_outside a (suc m) limits_a (λ is. omega arith) ∙ sym (open_outside b (suc m) limits_b (λ is. omega arith))
+    ]
+
+pub tally_once : (a b : Tally) → IsTally a → IsTally b → a.canton ≡ b.canton → payload_spelling a ≡ payload_spelling b → a ≡ b
+tally_once a b limits_a limits_b canton same =
+    let of_a = parts a (payload_spelling b) same in
+    let of_b = parts b (payload_spelling b) refl in
+    let entries : a.entries ≡ b.entries = map_of.same_map keys_total exact_keys a.entries b.entries (λ key. same_held a b limits_a limits_b (sym of_a.entries ∙ of_b.entries) key.0 key.1) in
+    let closed : a.closed ≡ b.closed = set_of.same_set nat_cmp_total exact_unsigned a.closed b.closed (same_closed a b limits_a limits_b (sym of_a.closed ∙ of_b.closed)) in
+    let accepted : a.accepted ≡ b.accepted =
+    sym (from_be_bytes-to_be_bytes_8 a.accepted limits_a.accepted) ∙ ap (λ (bytes : List ℕ). from_be_bytes w64 (take 8 bytes)) same
+    ∙ from_be_bytes-to_be_bytes_8 b.accepted limits_b.accepted
+    in
+    λ i. record { canton = canton i; entries = entries i; closed = closed i; accepted = accepted i }
