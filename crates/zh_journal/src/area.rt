@@ -46,14 +46,15 @@ impl Area {
     pub fn open<D: Disk>(disk: &mut D, base: u64) -> Result<Area, OpenFault>
         requires { base + AREA_LENGTH ≤ DISK_LENGTH }
 
-        ensures found { D.honest → IfOk result (λ a. (rs : List (List ℕ)) × Reads base (D.trail disk.old).now.bytes rs a.end × (length rs ≡ a.count)) }
+        ensures kept { D.honest disk.new → D.honest disk.old }
+        ensures found { D.honest disk.new → IfOk result (λ a. (rs : List (List ℕ)) × Reads base (D.trail disk.old).now.bytes rs a.end × (length rs ≡ a.count)) }
 
         ensures base { IfOk result (λ a. a.base ≡ base) }
 
         // It is damaged exactly where the rules give no records.
-        ensures damaged { D.honest → IsErrOf result OpenFault.Damaged → records_of base (D.trail disk.old).now.bytes ≡ None }
+        ensures damaged { D.honest disk.new → IsErrOf result OpenFault.Damaged → records_of base (D.trail disk.old).now.bytes ≡ None }
 
-        ensures same { D.honest → D.trail disk.new ≡ D.trail disk.old }
+        ensures same { D.honest disk.new → D.trail disk.new ≡ D.trail disk.old }
         ensures later { D.failures disk.old ≤ D.failures disk.new }
         ensures cause { IsErrOf result OpenFault.Device → HasRisen (D.failures disk.old) (D.failures disk.new) }
     {
@@ -100,10 +101,11 @@ impl Area {
         requires i { i < self.now.count }
         requires buffer { LONGEST_PAYLOAD ≤ length buffer.old }
 
-        ensures payload { D.honest → (rs : List (List ℕ)) (j : ℕ) → Reads self.now.base (D.trail disk.old).now.bytes rs j → i < length rs → IfOk result (λ payload. slice_get rs i ≡ Some payload.now) }
+        ensures kept { D.honest disk.new → D.honest disk.old }
+        ensures payload { D.honest disk.new → (rs : List (List ℕ)) (j : ℕ) → Reads self.now.base (D.trail disk.old).now.bytes rs j → i < length rs → IfOk result (λ payload. slice_get rs i ≡ Some payload.now) }
 
         ensures most { IfOk result (λ payload. length payload.now ≤ LONGEST_PAYLOAD) }
-        ensures same { D.honest → D.trail disk.new ≡ D.trail disk.old }
+        ensures same { D.honest disk.new → D.trail disk.new ≡ D.trail disk.old }
         ensures later { D.failures disk.old ≤ D.failures disk.new }
         ensures cause { IsErrOf result AreaFault.Device → HasRisen (D.failures disk.old) (D.failures disk.new) }
     {
@@ -126,12 +128,14 @@ impl Area {
         requires some { 1 ≤ length payload.now }
         requires most { length payload.now ≤ LONGEST_PAYLOAD }
 
+        ensures kept { D.honest disk.new → D.honest disk.old }
+
         // Each image at each moment is one from the start, with the record or without it.
-        ensures any_moment { D.honest → Leaves (AddsOrNot self.old.base self.old.end payload.now) (D.trail disk.old) (D.trail disk.new) }
+        ensures any_moment { D.honest disk.new → Leaves (AddsOrNot self.old.base self.old.end payload.now) (D.trail disk.old) (D.trail disk.new) }
 
-        ensures added { D.honest → OnOk result (Moves (Adds self.old.base self.old.end payload.now) (D.trail disk.old).now (D.trail disk.new).now) }
+        ensures added { D.honest disk.new → OnOk result (Moves (Adds self.old.base self.old.end payload.now) (D.trail disk.old).now (D.trail disk.new).now) }
 
-        ensures settled { D.honest → OnOk result ((D.trail disk.new).now.pending ≡ []) }
+        ensures settled { D.honest disk.new → OnOk result ((D.trail disk.new).now.pending ≡ []) }
 
         ensures ok { OnOk result (self.new ≡ grown self.old (length payload.now)) }
         ensures err { OnErr result (self.new ≡ self.old) }
@@ -160,9 +164,10 @@ impl Area {
         requires size { length zeros.now ≡ AREA_LENGTH }
         requires zero { (k : ℕ) → slice_index zeros.now k ≡ 0 }
 
-        ensures any_moment { D.honest → Leaves (SameOutside base AREA_LENGTH) (D.trail disk.old) (D.trail disk.new) }
+        ensures kept { D.honest disk.new → D.honest disk.old }
+        ensures any_moment { D.honest disk.new → Leaves (SameOutside base AREA_LENGTH) (D.trail disk.old) (D.trail disk.new) }
 
-        ensures cleared { D.honest → OnOk result (IsCleared base (D.trail disk.old).now.bytes (D.trail disk.new).now.bytes) }
+        ensures cleared { D.honest disk.new → OnOk result (IsCleared base (D.trail disk.old).now.bytes (D.trail disk.new).now.bytes) }
 
         ensures empty { IfOk result (λ a. a ≡ record { base = base; end = 0; count = 0 }) }
         ensures later { D.failures disk.old ≤ D.failures disk.new }

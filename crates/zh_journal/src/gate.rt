@@ -14,9 +14,10 @@ pub const OPEN_GATE: u8 = 0xA5;
 pub fn open_gate<D: Disk>(disk: &mut D, gate: u64) -> Result<(), DiskFault>
     requires { gate < DISK_LENGTH }
 
-    ensures any_moment { D.honest → Leaves (FromBytes gate (D.trail disk.old)) (D.trail disk.old) (D.trail disk.new) }
+    ensures kept { D.honest disk.new → D.honest disk.old }
+    ensures any_moment { D.honest disk.new → Leaves (FromBytes gate (D.trail disk.old)) (D.trail disk.old) (D.trail disk.new) }
 
-    ensures ok { D.honest → OnOk result ((D.trail disk.new).now ≡ settled (splice gate (OPEN_GATE ∷ []) (D.trail disk.old).now.bytes)) }
+    ensures ok { D.honest disk.new → OnOk result ((D.trail disk.new).now ≡ settled (splice gate (OPEN_GATE ∷ []) (D.trail disk.old).now.bytes)) }
 
     ensures cause { HasCause (D.failures disk.old) (D.failures disk.new) result }
 {

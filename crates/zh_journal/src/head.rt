@@ -21,9 +21,10 @@ pub(crate) fn read_head<D: Disk>(disk: &mut D, at: u64, left: u32) -> Result<Hea
     requires room { at + 256 * left ≤ DISK_LENGTH }
     requires left { 1 ≤ left }
 
-    ensures head { D.honest → IfOk result (λ head. Heads (D.trail disk.old).now.bytes at left head) }
+    ensures kept { D.honest disk.new → D.honest disk.old }
+    ensures head { D.honest disk.new → IfOk result (λ head. Heads (D.trail disk.old).now.bytes at left head) }
     ensures pages { IfOk result (λ head. TakesAtMost left head) }
-    ensures same { D.honest → D.trail disk.new ≡ D.trail disk.old }
+    ensures same { D.honest disk.new → D.trail disk.new ≡ D.trail disk.old }
     ensures cause { HasCause (D.failures disk.old) (D.failures disk.new) result }
 {
     let mut head = [0; 4];

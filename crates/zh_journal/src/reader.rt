@@ -53,8 +53,10 @@ impl Reader {
     ) -> Result<Option<&'b [u8]>, AreaFault>
         requires { LONGEST_PAYLOAD ≤ length buffer.old }
 
+        ensures kept { D.honest disk.new → D.honest disk.old }
+
         // Of the records that are left it gives the first, and leaves the others.
-        ensures first { D.honest → (r : List ℕ) (rs : List (List ℕ)) → Frames self.old.base (D.trail disk.old).now.bytes self.old.page (r ∷ rs) self.old.end → IfOk result (λ payload. (option_copied payload ≡ Some r) × Frames self.old.base (D.trail disk.old).now.bytes self.new.page rs self.old.end) }
+        ensures first { D.honest disk.new → (r : List ℕ) (rs : List (List ℕ)) → Frames self.old.base (D.trail disk.old).now.bytes self.old.page (r ∷ rs) self.old.end → IfOk result (λ payload. (option_copied payload ≡ Some r) × Frames self.old.base (D.trail disk.old).now.bytes self.new.page rs self.old.end) }
 
         ensures none { IfOk result (λ payload. IsNone payload ↔ (self.old.page ≡ self.old.end)) }
         ensures further { IfOk result (λ payload. OnSome payload (self.old.page < self.new.page)) }
@@ -63,7 +65,7 @@ impl Reader {
         ensures end { self.new.end ≡ self.old.end }
         ensures err { OnErr result (self.new ≡ self.old) }
 
-        ensures same { D.honest → D.trail disk.new ≡ D.trail disk.old }
+        ensures same { D.honest disk.new → D.trail disk.new ≡ D.trail disk.old }
         ensures later { D.failures disk.old ≤ D.failures disk.new }
         ensures cause { IsErrOf result AreaFault.Device → HasRisen (D.failures disk.old) (D.failures disk.new) }
     {

@@ -22,11 +22,12 @@ fn read_page<D: Disk>(
     requires room { at + 256 * pages_of len ≤ DISK_LENGTH }
     requires buffer { len ≤ length buffer.old }
 
-    ensures read { D.honest → OnOk result ((k : ℕ) → 255 * i ≤ k + 3 → k + 3 < 255 * i + 255 → k < len → slice_index buffer.new k ≡ slice_index (D.trail disk.old).now.bytes (at + 4 + k + i)) }
+    ensures kept { D.honest disk.new → D.honest disk.old }
+    ensures read { D.honest disk.new → OnOk result ((k : ℕ) → 255 * i ≤ k + 3 → k + 3 < 255 * i + 255 → k < len → slice_index buffer.new k ≡ slice_index (D.trail disk.old).now.bytes (at + 4 + k + i)) }
 
-    ensures kept { (k : ℕ) → k + 3 < 255 * i → slice_index buffer.new k ≡ slice_index buffer.old k }
+    ensures rest { (k : ℕ) → k + 3 < 255 * i → slice_index buffer.new k ≡ slice_index buffer.old k }
 
-    ensures same { D.honest → D.trail disk.new ≡ D.trail disk.old }
+    ensures same { D.honest disk.new → D.trail disk.new ≡ D.trail disk.old }
     ensures cause { HasCause (D.failures disk.old) (D.failures disk.new) result }
 {
     let from = (255 * i).saturating_sub(3);
@@ -48,9 +49,10 @@ fn read_payload<D: Disk>(
     requires room { at + 256 * pages_of len ≤ DISK_LENGTH }
     requires buffer { len ≤ length buffer.old }
 
-    ensures read { D.honest → OnOk result ((r : List ℕ) → IsStaged (D.trail disk.old).now.bytes at r → length r ≡ len → take len buffer.new ≡ r) }
+    ensures kept { D.honest disk.new → D.honest disk.old }
+    ensures read { D.honest disk.new → OnOk result ((r : List ℕ) → IsStaged (D.trail disk.old).now.bytes at r → length r ≡ len → take len buffer.new ≡ r) }
 
-    ensures same { D.honest → D.trail disk.new ≡ D.trail disk.old }
+    ensures same { D.honest disk.new → D.trail disk.new ≡ D.trail disk.old }
     ensures cause { HasCause (D.failures disk.old) (D.failures disk.new) result }
 {
     for i in 0..pages_of(len) {
@@ -70,10 +72,11 @@ pub(crate) fn read_record<D: Disk>(
     requires room { at + 256 * left ≤ DISK_LENGTH }
     requires buffer { LONGEST_PAYLOAD ≤ length buffer.old }
 
-    ensures read { D.honest → (r : List ℕ) → slice_index (D.trail disk.old).now.bytes at ≡ 165 → IsStaged (D.trail disk.old).now.bytes at r → HasSize r → pages_of (length r) ≤ left → IfOk result (λ len. (len ≡ length r) × (take len buffer.new ≡ r)) }
+    ensures kept { D.honest disk.new → D.honest disk.old }
+    ensures read { D.honest disk.new → (r : List ℕ) → slice_index (D.trail disk.old).now.bytes at ≡ 165 → IsStaged (D.trail disk.old).now.bytes at r → HasSize r → pages_of (length r) ≤ left → IfOk result (λ len. (len ≡ length r) × (take len buffer.new ≡ r)) }
 
     ensures len { IfOk result (λ len. (len ≤ LONGEST_PAYLOAD) × (1 ≤ len → pages_of len ≤ left)) }
-    ensures same { D.honest → D.trail disk.new ≡ D.trail disk.old }
+    ensures same { D.honest disk.new → D.trail disk.new ≡ D.trail disk.old }
     ensures cause { HasCause (D.failures disk.old) (D.failures disk.new) result }
 {
     if left == 0 {
@@ -91,10 +94,11 @@ pub(crate) fn read_record<D: Disk>(
 pub(crate) fn find_page<D: Disk>(disk: &mut D, base: u64, i: u32) -> Result<u32, DiskFault>
     requires { base + AREA_LENGTH ≤ DISK_LENGTH }
 
-    ensures found { D.honest → (rs : List (List ℕ)) (j : ℕ) → Reads base (D.trail disk.old).now.bytes rs j → i < length rs → IfOk result (λ page. Frames base (D.trail disk.old).now.bytes page (drop i rs) j) }
+    ensures kept { D.honest disk.new → D.honest disk.old }
+    ensures found { D.honest disk.new → (rs : List (List ℕ)) (j : ℕ) → Reads base (D.trail disk.old).now.bytes rs j → i < length rs → IfOk result (λ page. Frames base (D.trail disk.old).now.bytes page (drop i rs) j) }
 
     ensures inside { IfOk result (λ page. page ≤ AREA_PAGES) }
-    ensures same { D.honest → D.trail disk.new ≡ D.trail disk.old }
+    ensures same { D.honest disk.new → D.trail disk.new ≡ D.trail disk.old }
     ensures cause { HasCause (D.failures disk.old) (D.failures disk.new) result }
 {
     let mut page = 0;

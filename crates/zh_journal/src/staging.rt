@@ -13,9 +13,10 @@ fn write_page<D: Disk>(disk: &mut D, at: u64, payload: &[u8], i: u32) -> Result<
     requires i { i < pages_of (length payload.now) }
     requires room { at + 256 * pages_of (length payload.now) ≤ DISK_LENGTH }
 
-    ensures any_moment { D.honest → Leaves (SameOutside (at + 256 * i + 1) 255) (D.trail disk.old) (D.trail disk.new) }
+    ensures kept { D.honest disk.new → D.honest disk.old }
+    ensures any_moment { D.honest disk.new → Leaves (SameOutside (at + 256 * i + 1) 255) (D.trail disk.old) (D.trail disk.new) }
 
-    ensures ok { D.honest → OnOk result ((D.trail disk.new).now.bytes ≡ splice (at + 256 * i + 1) (body_of payload.now i) (D.trail disk.old).now.bytes) }
+    ensures ok { D.honest disk.new → OnOk result ((D.trail disk.new).now.bytes ≡ splice (at + 256 * i + 1) (body_of payload.now i) (D.trail disk.old).now.bytes) }
 
     ensures cause { HasCause (D.failures disk.old) (D.failures disk.new) result }
 {
@@ -28,9 +29,10 @@ pub(crate) fn stage<D: Disk>(disk: &mut D, at: u64, payload: &[u8]) -> Result<()
     requires len { length payload.now ≤ LONGEST_PAYLOAD }
     requires room { at + 256 * pages_of (length payload.now) ≤ DISK_LENGTH }
 
-    ensures any_moment { D.honest → Leaves (SameButBodies at (pages_of (length payload.now))) (D.trail disk.old) (D.trail disk.new) }
+    ensures kept { D.honest disk.new → D.honest disk.old }
+    ensures any_moment { D.honest disk.new → Leaves (SameButBodies at (pages_of (length payload.now))) (D.trail disk.old) (D.trail disk.new) }
 
-    ensures ok { D.honest → OnOk result (IsWritten (D.trail disk.new).now.bytes at payload.now) }
+    ensures ok { D.honest disk.new → OnOk result (IsWritten (D.trail disk.new).now.bytes at payload.now) }
 
     ensures cause { HasCause (D.failures disk.old) (D.failures disk.new) result }
 {

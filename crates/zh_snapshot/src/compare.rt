@@ -9,9 +9,10 @@ use zh_disk::{Disk, DiskFault};
 pub(crate) fn stand_at<D: Disk>(disk: &mut D, at: u64, bytes: &[u8]) -> Result<bool, DiskFault>
     requires { at + length bytes.now ≤ DISK_LENGTH }
 
-    ensures equal { D.honest → IfOk result (λ equal. IsTrue equal ↔ (slice_range (D.trail disk.old).now.bytes at (at + length bytes.now) ≡ bytes.now)) }
+    ensures kept { D.honest disk.new → D.honest disk.old }
+    ensures equal { D.honest disk.new → IfOk result (λ equal. IsTrue equal ↔ (slice_range (D.trail disk.old).now.bytes at (at + length bytes.now) ≡ bytes.now)) }
 
-    ensures same { D.honest → D.trail disk.new ≡ D.trail disk.old }
+    ensures same { D.honest disk.new → D.trail disk.new ≡ D.trail disk.old }
     ensures cause { HasCause (D.failures disk.old) (D.failures disk.new) result }
 {
     let mut buffer = [0; 256];
@@ -37,10 +38,11 @@ pub(crate) fn lend<'b, D: Disk>(
     requires room { at + n ≤ DISK_LENGTH }
     requires buffer { n ≤ length buffer.old }
 
-    ensures bytes { D.honest → IfOk result (λ bytes. bytes.now ≡ slice_range (D.trail disk.old).now.bytes at (at + n)) }
+    ensures kept { D.honest disk.new → D.honest disk.old }
+    ensures bytes { D.honest disk.new → IfOk result (λ bytes. bytes.now ≡ slice_range (D.trail disk.old).now.bytes at (at + n)) }
 
     ensures len { IfOk result (λ bytes. length bytes.now ≡ n) }
-    ensures same { D.honest → D.trail disk.new ≡ D.trail disk.old }
+    ensures same { D.honest disk.new → D.trail disk.new ≡ D.trail disk.old }
     ensures cause { HasCause (D.failures disk.old) (D.failures disk.new) result }
 {
     disk.read_at(at, &mut buffer[..n])?;

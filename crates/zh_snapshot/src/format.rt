@@ -18,8 +18,9 @@ use zh_journal::{AREA_LENGTH, Area, OPEN_GATE, open_gate};
 
 // Closes the disk gate, where it is open.
 fn close_disk<D: Disk>(disk: &mut D) -> Result<(), DiskFault>
-    ensures any_moment { D.honest → Leaves KeptOrBlank (D.trail disk.old) (D.trail disk.new) }
-    ensures closed { D.honest → OnOk result (((D.trail disk.new).now.pending ≡ []) × IsBlank (D.trail disk.new).now.bytes) }
+    ensures kept { D.honest disk.new → D.honest disk.old }
+    ensures any_moment { D.honest disk.new → Leaves KeptOrBlank (D.trail disk.old) (D.trail disk.new) }
+    ensures closed { D.honest disk.new → OnOk result (((D.trail disk.new).now.pending ≡ []) × IsBlank (D.trail disk.new).now.bytes) }
     ensures cause { HasCause (D.failures disk.old) (D.failures disk.new) result }
 {
     disk.sync()?;
@@ -37,8 +38,9 @@ fn write_parts<D: Disk>(disk: &mut D, setup: &[u8], first: &[u8]) -> Result<(), 
     requires setup { length setup.now ≤ SETUP_LIMIT }
     requires first { length first.now ≡ SNAPSHOT_LENGTH }
 
-    ensures any_moment { D.honest → Leaves (SameOutside 1 1118719) (D.trail disk.old) (D.trail disk.new) }
-    ensures written { D.honest → OnOk result (HasParts setup.now first.now (D.trail disk.new).now.bytes) }
+    ensures kept { D.honest disk.new → D.honest disk.old }
+    ensures any_moment { D.honest disk.new → Leaves (SameOutside 1 1118719) (D.trail disk.old) (D.trail disk.new) }
+    ensures written { D.honest disk.new → OnOk result (HasParts setup.now first.now (D.trail disk.new).now.bytes) }
     ensures cause { HasCause (D.failures disk.old) (D.failures disk.new) result }
 {
     disk.write_at(HEADER, &header_bytes(setup.len() as u32))?;
@@ -52,8 +54,9 @@ fn empty_slots<D: Disk>(disk: &mut D, zeros: &[u8]) -> Result<(), FormatFault>
     requires size { length zeros.now ≡ AREA_LENGTH }
     requires zero { (k : ℕ) → slice_index zeros.now k ≡ 0 }
 
-    ensures any_moment { D.honest → Leaves (SameOutside 1 1118719) (D.trail disk.old) (D.trail disk.new) }
-    ensures emptied { D.honest → OnOk result (IsEmptied (D.trail disk.old).now.bytes (D.trail disk.new).now.bytes) }
+    ensures kept { D.honest disk.new → D.honest disk.old }
+    ensures any_moment { D.honest disk.new → Leaves (SameOutside 1 1118719) (D.trail disk.old) (D.trail disk.new) }
+    ensures emptied { D.honest disk.new → OnOk result (IsEmptied (D.trail disk.old).now.bytes (D.trail disk.new).now.bytes) }
     ensures memory { result ≢ Err FormatFault.Memory }
     ensures later { D.failures disk.old ≤ D.failures disk.new }
     ensures cause { IsErrOf result FormatFault.Device → HasRisen (D.failures disk.old) (D.failures disk.new) }
@@ -74,9 +77,10 @@ impl Store {
         requires setup { length setup.now ≤ SETUP_LIMIT }
         requires first { length first.now ≡ SNAPSHOT_LENGTH }
 
-        ensures moments { D.honest → Formats setup.now first.now (D.trail disk.old) (D.trail disk.new) }
+        ensures kept { D.honest disk.new → D.honest disk.old }
+        ensures moments { D.honest disk.new → Formats setup.now first.now (D.trail disk.old) (D.trail disk.new) }
 
-        ensures formatted { D.honest → OnOk result (((D.trail disk.new).now.pending ≡ []) × IsFormatted setup.now first.now (D.trail disk.new).now.bytes) }
+        ensures formatted { D.honest disk.new → OnOk result (((D.trail disk.new).now.pending ≡ []) × IsFormatted setup.now first.now (D.trail disk.new).now.bytes) }
 
         ensures untouched { IsErrOf result FormatFault.Memory → disk.new ≡ disk.old }
         ensures later { D.failures disk.old ≤ D.failures disk.new }

@@ -14,15 +14,16 @@ use zh_journal::OPEN_GATE;
 
 // The length of the set-up bytes.
 pub(crate) fn open_header<D: Disk>(disk: &mut D) -> Result<u32, OpenFault>
-    ensures right { D.honest → IfOk result (λ len. (slice_index (D.trail disk.old).now.bytes 0 ≡ 165) × (len ≤ SETUP_LIMIT) × (slice_range (D.trail disk.old).now.bytes 1 15 ≡ header_bytes len)) }
+    ensures kept { D.honest disk.new → D.honest disk.old }
+    ensures right { D.honest disk.new → IfOk result (λ len. (slice_index (D.trail disk.old).now.bytes 0 ≡ 165) × (len ≤ SETUP_LIMIT) × (slice_range (D.trail disk.old).now.bytes 1 15 ≡ header_bytes len)) }
 
     ensures most { IfOk result (λ len. len ≤ SETUP_LIMIT) }
-    ensures blank { D.honest → IsErrOf result OpenFault.Blank → IsBlank (D.trail disk.old).now.bytes }
+    ensures blank { D.honest disk.new → IsErrOf result OpenFault.Blank → IsBlank (D.trail disk.old).now.bytes }
 
-    ensures damaged { D.honest → IsErrOf result OpenFault.Damaged → (slice_index (D.trail disk.old).now.bytes 0 ≡ 165) × ((len : ℕ) → len ≤ SETUP_LIMIT → slice_range (D.trail disk.old).now.bytes 1 15 ≢ header_bytes len) }
+    ensures damaged { D.honest disk.new → IsErrOf result OpenFault.Damaged → (slice_index (D.trail disk.old).now.bytes 0 ≡ 165) × ((len : ℕ) → len ≤ SETUP_LIMIT → slice_range (D.trail disk.old).now.bytes 1 15 ≢ header_bytes len) }
 
     ensures memory { result ≢ Err OpenFault.Memory }
-    ensures same { D.honest → D.trail disk.new ≡ D.trail disk.old }
+    ensures same { D.honest disk.new → D.trail disk.new ≡ D.trail disk.old }
     ensures later { D.failures disk.old ≤ D.failures disk.new }
     ensures cause { IsErrOf result OpenFault.Device → HasRisen (D.failures disk.old) (D.failures disk.new) }
 {
@@ -41,9 +42,10 @@ pub(crate) fn open_header<D: Disk>(disk: &mut D) -> Result<u32, OpenFault>
 pub(crate) fn open_slot<D: Disk>(disk: &mut D, slot: u64) -> Result<Option<u64>, DiskFault>
     requires { slot + 9 ≤ DISK_LENGTH }
 
-    ensures slot { D.honest → IfOk result (λ found. MatchOption found (slice_index (D.trail disk.old).now.bytes slot ≢ 165) (λ generation. (slice_index (D.trail disk.old).now.bytes slot ≡ 165) × (from_be_bytes w64 (slice_range (D.trail disk.old).now.bytes (slot + 1) (slot + 9)) ≡ generation))) }
+    ensures kept { D.honest disk.new → D.honest disk.old }
+    ensures slot { D.honest disk.new → IfOk result (λ found. MatchOption found (slice_index (D.trail disk.old).now.bytes slot ≢ 165) (λ generation. (slice_index (D.trail disk.old).now.bytes slot ≡ 165) × (from_be_bytes w64 (slice_range (D.trail disk.old).now.bytes (slot + 1) (slot + 9)) ≡ generation))) }
 
-    ensures same { D.honest → D.trail disk.new ≡ D.trail disk.old }
+    ensures same { D.honest disk.new → D.trail disk.new ≡ D.trail disk.old }
     ensures cause { HasCause (D.failures disk.old) (D.failures disk.new) result }
 {
     let mut head = [0; 9];

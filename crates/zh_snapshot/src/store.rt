@@ -45,18 +45,20 @@ impl Model for Store {
 impl Store {
     /// Finds what stands on the disk: a sync, then reads alone. All growth comes before the first of them.
     pub fn open<D: Disk>(alloc: Global, disk: &mut D) -> Result<Store, OpenFault>
+        ensures kept { D.honest disk.new → D.honest disk.old }
+
         // At each moment an image is one from the start, and after the sync what a read gave.
-        ensures any_moment { D.honest → Leaves (Settles (D.trail disk.old).now.bytes) (D.trail disk.old) (D.trail disk.new) }
+        ensures any_moment { D.honest disk.new → Leaves (Settles (D.trail disk.old).now.bytes) (D.trail disk.old) (D.trail disk.new) }
 
-        ensures settled { D.honest → OnOk result ((D.trail disk.new).now ≡ settled (D.trail disk.old).now.bytes) }
+        ensures settled { D.honest disk.new → OnOk result ((D.trail disk.new).now ≡ settled (D.trail disk.old).now.bytes) }
 
-        ensures framed { D.honest → IfOk result (λ s. (x : Content) × (j : ℕ) × IsFramed x j (D.trail disk.old).now.bytes × Fits s x j) }
+        ensures framed { D.honest disk.new → IfOk result (λ s. (x : Content) × (j : ℕ) × IsFramed x j (D.trail disk.old).now.bytes × Fits s x j) }
         ensures whole { IfOk result (λ s. s.broken ≡ false) }
 
-        ensures blank { D.honest → IsErrOf result OpenFault.Blank → IsBlank (D.trail disk.old).now.bytes }
+        ensures blank { D.honest disk.new → IsErrOf result OpenFault.Blank → IsBlank (D.trail disk.old).now.bytes }
 
         // It is damaged where the disk gate is open, and no content is framed.
-        ensures damaged { D.honest → IsErrOf result OpenFault.Damaged → (IsBlank (D.trail disk.old).now.bytes → ⊥) × ((x : Content) (j : ℕ) → IsFramed x j (D.trail disk.old).now.bytes → ⊥) }
+        ensures damaged { D.honest disk.new → IsErrOf result OpenFault.Damaged → (IsBlank (D.trail disk.old).now.bytes → ⊥) × ((x : Content) (j : ℕ) → IsFramed x j (D.trail disk.old).now.bytes → ⊥) }
 
         ensures untouched { IsErrOf result OpenFault.Memory → disk.new ≡ disk.old }
         ensures later { D.failures disk.old ≤ D.failures disk.new }
@@ -72,14 +74,15 @@ impl Store {
         requires size { length zeros.items ≡ AREA_LENGTH }
         requires zero { (k : ℕ) → slice_index zeros.items k ≡ 0 }
 
-        ensures framed { D.honest → IfOk result (λ s. (x : Content) × (j : ℕ) × IsFramed x j (D.trail disk.old).now.bytes × Fits s x j) }
+        ensures kept { D.honest disk.new → D.honest disk.old }
+        ensures framed { D.honest disk.new → IfOk result (λ s. (x : Content) × (j : ℕ) × IsFramed x j (D.trail disk.old).now.bytes × Fits s x j) }
         ensures whole { IfOk result (λ s. s.broken ≡ false) }
-        ensures blank { D.honest → IsErrOf result OpenFault.Blank → IsBlank (D.trail disk.old).now.bytes }
+        ensures blank { D.honest disk.new → IsErrOf result OpenFault.Blank → IsBlank (D.trail disk.old).now.bytes }
 
-        ensures damaged { D.honest → IsErrOf result OpenFault.Damaged → (IsBlank (D.trail disk.old).now.bytes → ⊥) × ((x : Content) (j : ℕ) → IsFramed x j (D.trail disk.old).now.bytes → ⊥) }
+        ensures damaged { D.honest disk.new → IsErrOf result OpenFault.Damaged → (IsBlank (D.trail disk.old).now.bytes → ⊥) × ((x : Content) (j : ℕ) → IsFramed x j (D.trail disk.old).now.bytes → ⊥) }
 
         ensures memory { result ≢ Err OpenFault.Memory }
-        ensures same { D.honest → D.trail disk.new ≡ D.trail disk.old }
+        ensures same { D.honest disk.new → D.trail disk.new ≡ D.trail disk.old }
         ensures later { D.failures disk.old ≤ D.failures disk.new }
         ensures cause { IsErrOf result OpenFault.Device → HasRisen (D.failures disk.old) (D.failures disk.new) }
     {
@@ -99,9 +102,10 @@ impl Store {
 
     /// Whether the disk's set-up bytes are these.
     pub fn setup_equals<D: Disk>(&self, disk: &mut D, setup: &[u8]) -> Result<bool, StoreFault>
-        ensures equal { D.honest → (x : Content) (j : ℕ) → IsFramed x j (D.trail disk.old).now.bytes → length x.setup ≡ self.now.setup_length → IfOk result (λ equal. IsTrue equal ↔ (x.setup ≡ setup.now)) }
+        ensures kept { D.honest disk.new → D.honest disk.old }
+        ensures equal { D.honest disk.new → (x : Content) (j : ℕ) → IsFramed x j (D.trail disk.old).now.bytes → length x.setup ≡ self.now.setup_length → IfOk result (λ equal. IsTrue equal ↔ (x.setup ≡ setup.now)) }
 
-        ensures same { D.honest → D.trail disk.new ≡ D.trail disk.old }
+        ensures same { D.honest disk.new → D.trail disk.new ≡ D.trail disk.old }
         ensures later { D.failures disk.old ≤ D.failures disk.new }
         ensures cause { IsErrOf result StoreFault.Device → HasRisen (D.failures disk.old) (D.failures disk.new) }
     {
@@ -119,10 +123,11 @@ impl Store {
     ) -> Result<&'b [u8], StoreFault>
         requires { SNAPSHOT_LENGTH ≤ length buffer.old }
 
-        ensures payload { D.honest → (x : Content) (j : ℕ) → IsFramed x j (D.trail disk.old).now.bytes → IfOk result (λ payload. payload.now ≡ x.snapshot) }
+        ensures kept { D.honest disk.new → D.honest disk.old }
+        ensures payload { D.honest disk.new → (x : Content) (j : ℕ) → IsFramed x j (D.trail disk.old).now.bytes → IfOk result (λ payload. payload.now ≡ x.snapshot) }
 
         ensures len { IfOk result (λ payload. length payload.now ≡ SNAPSHOT_LENGTH) }
-        ensures same { D.honest → D.trail disk.new ≡ D.trail disk.old }
+        ensures same { D.honest disk.new → D.trail disk.new ≡ D.trail disk.old }
         ensures later { D.failures disk.old ≤ D.failures disk.new }
         ensures cause { IsErrOf result StoreFault.Device → HasRisen (D.failures disk.old) (D.failures disk.new) }
     {
@@ -139,10 +144,11 @@ impl Store {
         requires i { i < self.now.area.count }
         requires buffer { LONGEST_PAYLOAD ≤ length buffer.old }
 
-        ensures payload { D.honest → (x : Content) (j : ℕ) → IsFramed x j (D.trail disk.old).now.bytes → i < length x.records → IfOk result (λ payload. slice_get x.records i ≡ Some payload.now) }
+        ensures kept { D.honest disk.new → D.honest disk.old }
+        ensures payload { D.honest disk.new → (x : Content) (j : ℕ) → IsFramed x j (D.trail disk.old).now.bytes → i < length x.records → IfOk result (λ payload. slice_get x.records i ≡ Some payload.now) }
 
         ensures most { IfOk result (λ payload. length payload.now ≤ LONGEST_PAYLOAD) }
-        ensures same { D.honest → D.trail disk.new ≡ D.trail disk.old }
+        ensures same { D.honest disk.new → D.trail disk.new ≡ D.trail disk.old }
         ensures later { D.failures disk.old ≤ D.failures disk.new }
         ensures cause { IsErrOf result StoreFault.Device → HasRisen (D.failures disk.old) (D.failures disk.new) }
     {
@@ -189,11 +195,13 @@ impl Store {
         requires some { 1 ≤ length payload.now }
         requires most { length payload.now ≤ LONGEST_PAYLOAD }
 
-        // Each image at each moment is one from the start, with the record or without it.
-        ensures any_moment { D.honest → Leaves (StoreAddsOrNot self.old.area.end payload.now) (D.trail disk.old) (D.trail disk.new) }
+        ensures kept { D.honest disk.new → D.honest disk.old }
 
-        ensures added { D.honest → OnOk result (Moves (StoreAdds self.old.area.end payload.now) (D.trail disk.old).now (D.trail disk.new).now) }
-        ensures settled { D.honest → OnOk result ((D.trail disk.new).now.pending ≡ []) }
+        // Each image at each moment is one from the start, with the record or without it.
+        ensures any_moment { D.honest disk.new → Leaves (StoreAddsOrNot self.old.area.end payload.now) (D.trail disk.old) (D.trail disk.new) }
+
+        ensures added { D.honest disk.new → OnOk result (Moves (StoreAdds self.old.area.end payload.now) (D.trail disk.old).now (D.trail disk.new).now) }
+        ensures settled { D.honest disk.new → OnOk result ((D.trail disk.new).now.pending ≡ []) }
 
         ensures ok { OnOk result (self.new ≡ record self.old { area = grown self.old.area (length payload.now) }) }
         ensures device { IsErrOf result AppendFault.Device → self.new ≡ record self.old { broken = true } }

@@ -11,4 +11,4 @@ returns-clause-head g c = λ h.
     let is = (c.in_ok-read_at.ensures.read h).ok in
     let first : c.args.at + 0 ≡ c.args.at = omega arith in
     let gate : slice_index b c.args.at ≡ 165 = sym (ap (slice_index b) first) ∙ sym (slice_at b c.args.at (c.args.at + 4) 0 (omega arith)) ∙ sym (ap (λ (l : List ℕ). slice_index l 0) is) ∙ c.if-gate.false in
-    (gate, head_record b into c.args.at c.args.left (256 * slice_index into 2 + slice_index into 3) (omega (arith, g.met.D.Disk.size c.args.disk.now h, c.requires.room)) is refl (omega arith) (omega arith) (sym c.pages_of.ensures ∙ c.if-pages_of-pages.false) c.if-pages-left.false)
+    (gate, head_record b into c.args.at c.args.left (256 * slice_index into 2 + slice_index into 3) (omega (arith, g.met.D.Disk.size c.args.disk.now (c.in_ok-read_at.ensures.kept h), c.requires.room)) is refl (omega arith) (omega arith) (sym c.pages_of.ensures ∙ c.if-pages_of-pages.false) c.if-pages-left.false)

@@ -7,7 +7,7 @@ use Rattle.zh_journal.proofs.staging.stage.Goals as goal
 pub returns-in_err-write_page-clause-any_moment : goal.returns-in_err-write_page-clause-any_moment
 returns-in_err-write_page-clause-any_moment g c = λ h.
     let n = pages_of (length c.args.payload.now) in
-    leaves_more (SameButBodies c.args.at n) _ _ _ (but_refl c.args.at n) (but_trans c.args.at n) (c.loop-i.invariant.moments h)
+    leaves_more (SameButBodies c.args.at n) _ _ _ (but_refl c.args.at n) (but_trans c.args.at n) (c.loop-i.invariant.moments (c.write_page.ensures.kept h))
     (leaves_weaken _ _ _ _ (λ x f image by. one_page c.args.at n c.loop-i.i (omega arith) x f by) (c.write_page.ensures.any_moment h))
 
 pub loop-i-preserved : goal.loop-i-preserved
@@ -15,9 +15,10 @@ loop-i-preserved g c =
     let n = pages_of (length c.args.payload.now) in
     record {
       later = omega arith;
-      moments = λ h. leaves_more (SameButBodies c.args.at n) _ _ _ (but_refl c.args.at n) (but_trans c.args.at n) (c.loop-i.invariant.moments h)
+      kept = λ h. c.loop-i.invariant.kept (c.write_page.ensures.kept h);
+      moments = λ h. leaves_more (SameButBodies c.args.at n) _ _ _ (but_refl c.args.at n) (but_trans c.args.at n) (c.loop-i.invariant.moments (c.write_page.ensures.kept h))
           (leaves_weaken _ _ _ _ (λ x f image by. one_page c.args.at n c.loop-i.i (omega arith) x f by) (c.write_page.ensures.any_moment h));
-      reads = λ h. staged_next (g.D.Disk.trail c.loop-i.disk).now.bytes c.args.at c.args.payload.now c.loop-i.i (omega arith) (omega (arith, g.met.D.Disk.size c.loop-i.disk h, c.requires.room)) (c.loop-i.invariant.reads h) _ (c.in_ok-write_page.ensures.ok h);
+      reads = λ h. staged_next (g.D.Disk.trail c.loop-i.disk).now.bytes c.args.at c.args.payload.now c.loop-i.i (omega arith) (omega (arith, g.met.D.Disk.size c.loop-i.disk (c.write_page.ensures.kept h), c.requires.room)) (c.loop-i.invariant.reads (c.write_page.ensures.kept h)) _ (c.in_ok-write_page.ensures.ok h);
     }
 
 pub returns-clause-ok : goal.returns-clause-ok

@@ -8,4 +8,4 @@ pub returns-clause-any_moment : goal.returns-clause-any_moment
 returns-clause-any_moment g c = λ h.
     let wide : length c.page_of-page.result ≡ 255 = ap length c.page_of-page.ensures ∙ length-body c.args.payload.now c.args.i c.requires.i in
     subst (λ (n : ℕ). Leaves (SameOutside (c.args.at + 256 * c.args.i + 1) n) (g.D.Disk.trail c.args.disk.now) (g.D.Disk.trail c.write_at.new.self)) wide
-    (write_leaves _ _ (c.args.at + 256 * c.args.i + 1) c.page_of-page.result _ (omega (arith, wide, g.met.D.Disk.size c.args.disk.now h, c.requires.i, c.requires.room)) (c.write_at.ensures.written h))
+    (write_leaves _ _ (c.args.at + 256 * c.args.i + 1) c.page_of-page.result _ (omega (arith, wide, g.met.D.Disk.size c.args.disk.now (c.write_at.ensures.kept h), c.requires.i, c.requires.room)) (c.write_at.ensures.written h))

@@ -11,14 +11,18 @@ returns-in_err-clear-clause-any_moment g c = λ h.
 
 pub returns-in_err-write_at-clause-any_moment : goal.returns-in_err-write_at-clause-any_moment
 returns-in_err-write_at-clause-any_moment g c = λ h.
-    one_more _ _ _ (leaves_weaken _ _ _ _ (λ x f image by. same_wider 332032 262144 1 1118719 (omega arith) (omega arith) x f by) (c.clear.ensures.any_moment h))
-    (behind_gate _ _ 594176 _ _ (g.met.D.Disk.size c.clear.new.disk h) (omega arith) (omega arith) (c.in_err-write_at.ensures.written h))
+    let h1 = c.in_err-write_at.ensures.kept h in
+    one_more _ _ _ (leaves_weaken _ _ _ _ (λ x f image by. same_wider 332032 262144 1 1118719 (omega arith) (omega arith) x f by) (c.clear.ensures.any_moment h1))
+    (behind_gate _ _ 594176 _ _ (g.met.D.Disk.size c.clear.new.disk h1) (omega arith) (omega arith) (c.in_err-write_at.ensures.written h))
 
 pub returns-clause-any_moment : goal.returns-clause-any_moment
 returns-clause-any_moment g c = λ h.
-    one_more _ _ _ (leaves_weaken _ _ _ _ (λ x f image by. same_wider 332032 262144 1 1118719 (omega arith) (omega arith) x f by) (c.clear.ensures.any_moment h))
-    (behind_gate _ _ 594176 _ _ (g.met.D.Disk.size c.clear.new.disk h) (omega arith) (omega arith) (c.in_ok-write_at.ensures.written h))
+    let h1 = c.in_ok-write_at.ensures.kept h in
+    one_more _ _ _ (leaves_weaken _ _ _ _ (λ x f image by. same_wider 332032 262144 1 1118719 (omega arith) (omega arith) x f by) (c.clear.ensures.any_moment h1))
+    (behind_gate _ _ 594176 _ _ (g.met.D.Disk.size c.clear.new.disk h1) (omega arith) (omega arith) (c.in_ok-write_at.ensures.written h))
 
 pub returns-clause-emptied : goal.returns-clause-emptied
 returns-clause-emptied g c = λ h.
-    emptied _ (g.D.Disk.trail c.clear.new.disk).now.bytes _ (g.met.D.Disk.size c.args.disk.now h) (c.in_ok-clear.ensures.cleared h) (ap (λ (t : Trail). t.now.bytes) (c.in_ok-write_at.ensures.written h).ok)
+    let h1 = c.in_ok-write_at.ensures.kept h in
+    let h0 = c.clear.ensures.kept h1 in
+    emptied _ (g.D.Disk.trail c.clear.new.disk).now.bytes _ (g.met.D.Disk.size c.args.disk.now h0) (c.in_ok-clear.ensures.cleared h1) (ap (λ (t : Trail). t.now.bytes) (c.in_ok-write_at.ensures.written h).ok)

@@ -8,22 +8,22 @@ use Rattle.zh_journal.proofs.area.Area.append.Goals as goal
 pub returns-in_err-stage-clause-any_moment : goal.returns-in_err-stage-clause-any_moment
 returns-in_err-stage-clause-any_moment g c = λ h.
     subst (λ (p : Place). Leaves (AddsOrNot p.base p.end c.args.payload.now) (g.D.Disk.trail c.args.disk.now) (g.D.Disk.trail c.stage.new.disk)) c.self.view_is
-    (at_staging c.self.inside.base c.self.inside.end c.args.payload.now (c.requires.some, c.requires.most) (omega (arith, c.self.invariant, ap (λ (p : Place). p.end) c.self.view_is)) _ _ (omega (arith, c.self.invariant, g.met.D.Disk.size c.args.disk.now h)) (c.stage.ensures.any_moment h))
+    (at_staging c.self.inside.base c.self.inside.end c.args.payload.now (c.requires.some, c.requires.most) (omega (arith, c.self.invariant, ap (λ (p : Place). p.end) c.self.view_is)) _ _ (omega (arith, c.self.invariant, g.met.D.Disk.size c.args.disk.now (c.stage.ensures.kept h))) (c.stage.ensures.any_moment h))
 
 pub returns-in_err-open_gate-clause-any_moment : goal.returns-in_err-open_gate-clause-any_moment
 returns-in_err-open_gate-clause-any_moment g c = λ h.
     subst (λ (p : Place). Leaves (AddsOrNot p.base p.end c.args.payload.now) (g.D.Disk.trail c.args.disk.now) (g.D.Disk.trail c.open_gate.new.disk)) c.self.view_is
-    (at_opening c.self.inside.base c.self.inside.end c.args.payload.now (c.requires.some, c.requires.most) (omega (arith, c.self.invariant, ap (λ (p : Place). p.end) c.self.view_is)) _ _ (omega (arith, c.self.invariant, g.met.D.Disk.size c.args.disk.now h)) (c.stage.ensures.any_moment h) _
-    (c.in_ok-stage.ensures.ok h) (c.open_gate.ensures.any_moment h))
+    (at_opening c.self.inside.base c.self.inside.end c.args.payload.now (c.requires.some, c.requires.most) (omega (arith, c.self.invariant, ap (λ (p : Place). p.end) c.self.view_is)) _ _ (omega (arith, c.self.invariant, g.met.D.Disk.size c.args.disk.now (c.stage.ensures.kept (c.open_gate.ensures.kept h)))) (c.stage.ensures.any_moment (c.open_gate.ensures.kept h)) _
+    (c.in_ok-stage.ensures.ok (c.open_gate.ensures.kept h)) (c.open_gate.ensures.any_moment h))
 
 pub returns-clause-any_moment : goal.returns-clause-any_moment
 returns-clause-any_moment g c = λ h.
     subst (λ (p : Place). Leaves (AddsOrNot p.base p.end c.args.payload.now) (g.D.Disk.trail c.args.disk.now) (g.D.Disk.trail c.open_gate.new.disk)) c.self.view_is
-    (at_opening c.self.inside.base c.self.inside.end c.args.payload.now (c.requires.some, c.requires.most) (omega (arith, c.self.invariant, ap (λ (p : Place). p.end) c.self.view_is)) _ _ (omega (arith, c.self.invariant, g.met.D.Disk.size c.args.disk.now h)) (c.stage.ensures.any_moment h) _
-    (c.in_ok-stage.ensures.ok h) (c.open_gate.ensures.any_moment h))
+    (at_opening c.self.inside.base c.self.inside.end c.args.payload.now (c.requires.some, c.requires.most) (omega (arith, c.self.invariant, ap (λ (p : Place). p.end) c.self.view_is)) _ _ (omega (arith, c.self.invariant, g.met.D.Disk.size c.args.disk.now (c.stage.ensures.kept (c.open_gate.ensures.kept h)))) (c.stage.ensures.any_moment (c.open_gate.ensures.kept h)) _
+    (c.in_ok-stage.ensures.ok (c.open_gate.ensures.kept h)) (c.open_gate.ensures.any_moment h))
 
 pub returns-clause-added : goal.returns-clause-added
 returns-clause-added g c = λ h.
     subst (λ (p : Place). Moves (Adds p.base p.end c.args.payload.now) (g.D.Disk.trail c.args.disk.now).now (g.D.Disk.trail c.open_gate.new.disk).now) c.self.view_is
-    (at_end c.self.inside.base c.self.inside.end c.args.payload.now (c.requires.some, c.requires.most) (omega (arith, c.self.invariant, ap (λ (p : Place). p.end) c.self.view_is)) _ _ (omega (arith, c.self.invariant, g.met.D.Disk.size c.args.disk.now h)) (c.stage.ensures.any_moment h) (g.D.Disk.trail c.open_gate.new.disk)
-    (c.in_ok-stage.ensures.ok h) (c.in_ok-open_gate.ensures.ok h))
+    (at_end c.self.inside.base c.self.inside.end c.args.payload.now (c.requires.some, c.requires.most) (omega (arith, c.self.invariant, ap (λ (p : Place). p.end) c.self.view_is)) _ _ (omega (arith, c.self.invariant, g.met.D.Disk.size c.args.disk.now (c.stage.ensures.kept (c.open_gate.ensures.kept h)))) (c.stage.ensures.any_moment (c.open_gate.ensures.kept h)) (g.D.Disk.trail c.open_gate.new.disk)
+    (c.in_ok-stage.ensures.ok (c.open_gate.ensures.kept h)) (c.in_ok-open_gate.ensures.ok h))

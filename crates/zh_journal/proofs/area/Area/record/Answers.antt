@@ -11,7 +11,7 @@ returns-clause-payload g c = λ h rs j reads low.
     let base = c.self.inside.base in
     let page = c.in_ok-page.page in
     let reads' : Reads c.self.inside.base b rs j = subst (λ (p : Place). Reads p.base b rs j) (sym c.self.view_is) reads in
-    let here = frames_cut c.self.inside.base b page j c.args.i rs low (c.in_ok-page.ensures.found h rs j reads' low) in
-    let there = subst (λ (t : Trail). Frames c.self.inside.base t.now.bytes page (here.0 ∷ drop (c.args.i + 1) rs) j) (sym (c.in_ok-page.ensures.same h)) here.2 in
+    let here = frames_cut c.self.inside.base b page j c.args.i rs low (c.in_ok-page.ensures.found (c.in_ok-len.ensures.kept h) rs j reads' low) in
+    let there = subst (λ (t : Trail). Frames c.self.inside.base t.now.bytes page (here.0 ∷ drop (c.args.i + 1) rs) j) (sym (c.in_ok-page.ensures.same (c.in_ok-len.ensures.kept h))) here.2 in
     let room = frames_room c.self.inside.base b page j here.0 (drop (c.args.i + 1) rs) here.2 in
     here.1 ∙ ap Some (sym (c.in_ok-len.ensures.read h here.0 there.0 there.1.0.0 there.1.0.1 (omega (arith, room, reads.1.0))).1)

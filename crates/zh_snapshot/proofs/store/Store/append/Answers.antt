@@ -5,12 +5,12 @@ use Rattle.zh_snapshot.proofs.store.Store.append.Goals as goal
 
 pub returns-in-Ok-clause-any_moment : goal.returns-in-Ok-clause-any_moment
 returns-in-Ok-clause-any_moment g c = λ h.
-    at_moments _ _ c.args.payload.now c.args.self.now _ _ c.self.invariant.1 (ap (λ (s : State). s.area.end) c.self.view_is) (g.met.D.Disk.size c.args.disk.now h) (c.append.ensures.any_moment h)
+    at_moments _ _ c.args.payload.now c.args.self.now _ _ c.self.invariant.1 (ap (λ (s : State). s.area.end) c.self.view_is) (g.met.D.Disk.size c.args.disk.now (c.append.ensures.kept h)) (c.append.ensures.any_moment h)
 
 pub returns-in-Ok-clause-added : goal.returns-in-Ok-clause-added
 returns-in-Ok-clause-added g c = λ h.
-    at_ok _ _ c.args.payload.now c.args.self.now (g.D.Disk.trail c.args.disk.now) (g.D.Disk.trail c.append.new.disk) c.self.invariant.1 (ap (λ (s : State). s.area.end) c.self.view_is) (g.met.D.Disk.size c.args.disk.now h) (c.in-Ok.ensures.added h)
+    at_ok _ _ c.args.payload.now c.args.self.now (g.D.Disk.trail c.args.disk.now) (g.D.Disk.trail c.append.new.disk) c.self.invariant.1 (ap (λ (s : State). s.area.end) c.self.view_is) (g.met.D.Disk.size c.args.disk.now (c.append.ensures.kept h)) (c.in-Ok.ensures.added h)
 
 pub returns-in-Err-Device-clause-any_moment : goal.returns-in-Err-Device-clause-any_moment
 returns-in-Err-Device-clause-any_moment g c = λ h.
-    at_moments _ _ c.args.payload.now c.args.self.now _ _ c.self.invariant.1 (ap (λ (s : State). s.area.end) c.self.view_is) (g.met.D.Disk.size c.args.disk.now h) (c.append.ensures.any_moment h)
+    at_moments _ _ c.args.payload.now c.args.self.now _ _ c.self.invariant.1 (ap (λ (s : State). s.area.end) c.self.view_is) (g.met.D.Disk.size c.args.disk.now (c.append.ensures.kept h)) (c.append.ensures.any_moment h)

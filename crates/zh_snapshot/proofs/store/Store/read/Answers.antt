@@ -31,25 +31,30 @@ returns-in_err-setup_length-clause-damaged g c = λ h is.
 pub returns-in_default-clause-damaged : goal.returns-in_default-clause-damaged
 returns-in_default-clause-damaged g c = λ h is.
     let b = (g.D.Disk.trail c.args.disk.now).now.bytes in
-    let now2 = bytes_of _ _ (c.open_header.ensures.same h) in
-    no_slot b c.in_ok-setup_length.setup_length (c.in_ok-setup_length.ensures.right h)
+    let now2 = bytes_of _ _ (c.open_header.ensures.same (c.open_slot.ensures.kept h)) in
+    no_slot b c.in_ok-setup_length.setup_length (c.in_ok-setup_length.ensures.right (c.open_slot.ensures.kept h))
     (slot_shut c.in_ok-generation.field-0 b (subst (Slot c.in_ok-generation.field-0) now2 (c.in_ok-generation.ensures.slot h)) c.in_default.is)
 
 pub returns-in_err-area-clause-damaged : goal.returns-in_err-area-clause-damaged
 returns-in_err-area-clause-damaged g c = λ h is.
+    let h2 = c.open.ensures.kept h in
+    let h1 = c.open_slot.ensures.kept h2 in
     let b = (g.D.Disk.trail c.args.disk.now).now.bytes in
-    let now3 = bytes_of _ _ (c.open_slot.ensures.same h ∙ c.open_header.ensures.same h) in
+    let now3 = bytes_of _ _ (c.open_slot.ensures.same h2 ∙ c.open_header.ensures.same h1) in
     let fault : c.in_err-area.field-0.0 ≡ of_area.Damaged = area_damaged c.in_err-area.field-0.0 (err_of _ _ _ c.from_residual-in_err-area.ensures.1 is) in
     let none = c.in_err-area.ensures.damaged h (ap (λ (e : area.OpenFault). Err e) fault) in
-    no_journal b c.in_ok-setup_length.setup_length (c.in_ok-setup_length.ensures.right h) (subst (λ (l : List ℕ). records_of 332032 l ≡ None) now3 none)
+    no_journal b c.in_ok-setup_length.setup_length (c.in_ok-setup_length.ensures.right h1) (subst (λ (l : List ℕ). records_of 332032 l ≡ None) now3 none)
 
 pub returns-clause-framed : goal.returns-clause-framed
 returns-clause-framed g c = λ h.
+    let h2 = c.in_ok-area.ensures.kept h in
+    let h1 = c.open_slot.ensures.kept h2 in
+    let h0 = c.open_header.ensures.kept h1 in
     let b = (g.D.Disk.trail c.args.disk.now).now.bytes in
-    let now2 = bytes_of _ _ (c.open_header.ensures.same h) in
-    let now3 = bytes_of _ _ (c.open_slot.ensures.same h) ∙ now2 in
+    let now2 = bytes_of _ _ (c.open_header.ensures.same h1) in
+    let now3 = bytes_of _ _ (c.open_slot.ensures.same h2) ∙ now2 in
     let found = c.in_ok-area.ensures.found h in
-    framed_all b c.in_ok-setup_length.setup_length c.in-Some.generation c.in_ok-area.area found.0 (g.met.D.Disk.size c.args.disk.now h)
-    (c.in_ok-setup_length.ensures.right h)
-    (slot_open c.in_ok-generation.field-0 b c.in-Some.generation (subst (Slot c.in_ok-generation.field-0) now2 (c.in_ok-generation.ensures.slot h)) c.in-Some.is)
+    framed_all b c.in_ok-setup_length.setup_length c.in-Some.generation c.in_ok-area.area found.0 (g.met.D.Disk.size c.args.disk.now h0)
+    (c.in_ok-setup_length.ensures.right h1)
+    (slot_open c.in_ok-generation.field-0 b c.in-Some.generation (subst (Slot c.in_ok-generation.field-0) now2 (c.in_ok-generation.ensures.slot h2)) c.in-Some.is)
     (subst (λ (l : List ℕ). Reads 332032 l found.0 c.in_ok-area.area.end) now3 found.1) found.2

@@ -1,0 +1,15 @@
+use Rattle.std.proofs.Common.{◌∷◌, arith, ap, ◌∙◌}
+use Rattle.std.specs.Prelude.{map}
+use Rattle.zh_file.specs.Past.{items}
+use Rattle.zh_file.specs.Held.{moment}
+use Rattle.zh_file.proofs.Calls.{writes}
+use Rattle.zh_file.proofs.stored.StoredDisk.write_at.Goals as goal
+
+pub returns-clause-written : goal.returns-clause-written
+returns-clause-written g c = λ clean.
+    let call = c.write_at-done.ensures in
+    let size = c.args.self.now.size (call.clean clean) in
+    writes _ _ _ _ _ _ c.args.at c.args.from.now c.write_at-done.result c.reported-2.result c.reported-2.ensures.ok
+    c.push-2.ensures
+    (ap (map (moment g.D.Disk.seen)) c.push.ensures ∙ ap (λ h. moment g.D.Disk.seen h ∷ map (moment g.D.Disk.seen) (items c.args.self.now.before)) c.of.ensures)
+    (omega (arith, c.requires, size)) call.others call.written

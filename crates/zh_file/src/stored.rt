@@ -1,0 +1,158 @@
+// A disk over a file, as the trait of files has it.
+ghost use Rattle.std.specs.Prelude.{◌≡◌, ◌≤◌, ◌+◌, ℕ, List, length, slice_index, true, false, is_ok, IsTrue, IfOk, IsErr, OnErr};
+ghost use Rattle.std.proofs.Common.{sym, ◌∙◌};
+ghost use Rattle.sqlite_disk.specs.Disk.{Only};
+ghost use Rattle.zh_disk.specs.declared.disk.TheConstants.{DISK_LENGTH};
+ghost use Rattle.zh_disk.specs.Disk.{HasCause, IsSettled, Reads, Writes, Syncs, fresh_trail};
+ghost use Rattle.zh_file.specs.Ranges.{pairs};
+
+use crate::fault::OpenFault;
+use crate::past::Past;
+use crate::ranges::Ranges;
+use sqlite_disk::Disk as File;
+use std::io;
+use std::snapshot::Snapshot;
+use zh_disk::{DISK_LENGTH, Disk, DiskFault};
+
+/// A file, and the ranges that were written since its last sync, which only clauses read.
+#[derive(Drop)]
+pub struct Held<D: File + Drop> {
+    pub(crate) file: D,
+    pub(crate) written: Ranges,
+}
+
+/// A disk over a file. Once a write or a sync has failed each call fails, and nothing more is asked of
+/// the file: a write that failed may have reached it, and a sync after one that failed does not report
+/// what was lost.
+#[derive(Drop)]
+pub struct Stored<D: File + Drop> {
+    held: Held<D>,
+    // what was held before each write and each sync that succeeded
+    before: Past<Held<D>>,
+    // a write or a sync has failed
+    is_over: bool,
+    failures: u64,
+    ghost usable: { is_over ≡ false → IsTrue (D.is_usable held.file) },
+    ghost size: { IsTrue (D.is_clean held.file) → length (D.seen held.file) ≡ DISK_LENGTH },
+    // a stop may leave nothing else than the images of the moment
+    ghost sizes: { IsTrue (D.is_clean held.file) → (c : List ℕ) → D.may_leave held.file c → length c ≡ DISK_LENGTH },
+    ghost same: { IsTrue (D.is_clean held.file) → (c : List ℕ) → D.may_leave held.file c → (k : ℕ)
+        → IsSettled (pairs held.written) k → slice_index c k ≡ slice_index (D.seen held.file) k },
+}
+
+impl<D: File + Drop> Stored<D> {
+    ghost use Rattle.zh_file.specs.Stored.{stored_honest, stored_trail, stored_failures};
+
+    /// The disk that a file holds, as it was synced.
+    pub(crate) fn start(mut file: D) -> Result<Stored<D>, OpenFault>
+        requires usable { IsTrue (D.is_usable file) }
+        requires synced { Only (D.seen file) (D.may_leave file) }
+        ensures kept { IfOk result (λ d. stored_honest D.is_clean d → IsTrue (D.is_clean file)) }
+        ensures begins { IfOk result (λ d. stored_trail D.seen d ≡ fresh_trail (D.seen file)) }
+        ensures failures { IfOk result (λ d. stored_failures d ≡ 0) }
+    {
+        match file.len() {
+            Ok(len) if len as u64 == DISK_LENGTH => Ok(Stored {
+                held: Held {
+                    file,
+                    written: Ranges::new(),
+                },
+                before: Past::new(),
+                is_over: false,
+                failures: 0,
+            }),
+            Ok(_) => Err(OpenFault::Size),
+            Err(_) => Err(OpenFault::Device),
+        }
+    }
+}
+
+// The answer of a call, which is counted where it failed.
+fn reported(failures: &mut u64, done: io::Result<()>) -> Result<(), DiskFault>
+    ensures ok { is_ok result ≡ is_ok done }
+    ensures cause { HasCause failures.old failures.new result }
+{
+    match done {
+        Ok(()) => Ok(()),
+        Err(_) => {
+            *failures = failures.saturating_add(1);
+            Err(DiskFault::Device)
+        }
+    }
+}
+
+// The answer of a call of which nothing is asked of the file.
+fn refused() -> io::Result<()>
+    ensures { IsErr result }
+{
+    Err(io::ErrorKind::Other.into())
+}
+
+impl<D: File + Drop> Disk for Stored<D> {
+    ghost use Rattle.zh_file.specs.Stored.{stored_honest, stored_trail, stored_failures, is_over, StaysOver};
+
+    ghost honest = { stored_honest D.is_clean };
+
+    ghost trail = { stored_trail D.seen };
+
+    ghost failures = { stored_failures };
+
+    ghost leaves = { λ d. D.may_leave d.held.file };
+
+    ghost leaves_images = { λ d h c left. record { size = d.sizes h c left ∙ sym (d.size h); same = d.same h c left } };
+
+    ghost size = { λ d h. d.size h };
+
+    fn read_at(&mut self, at: u64, into: &mut [u8]) -> Result<(), DiskFault>
+        requires { at + length into.old ≤ DISK_LENGTH }
+        ensures kept { stored_honest D.is_clean self.new → stored_honest D.is_clean self.old }
+        ensures read { stored_honest D.is_clean self.new → Reads (stored_trail D.seen self.old) (stored_trail D.seen self.new) at (length into.old) into.new result }
+        ensures cause { HasCause (stored_failures self.old) (stored_failures self.new) result }
+        ensures over { is_over self.old ≡ true → StaysOver self.old self.new result }
+    {
+        if self.is_over {
+            return reported(&mut self.failures, refused());
+        }
+        let done = self.held.file.read_at(at as usize, into);
+        reported(&mut self.failures, done)
+    }
+
+    fn write_at(&mut self, at: u64, from: &[u8]) -> Result<(), DiskFault>
+        requires { at + length from.now ≤ DISK_LENGTH }
+        ensures kept { stored_honest D.is_clean self.new → stored_honest D.is_clean self.old }
+        ensures written { stored_honest D.is_clean self.new → Writes (stored_trail D.seen self.old) (stored_trail D.seen self.new) at from.now result }
+        ensures cause { HasCause (stored_failures self.old) (stored_failures self.new) result }
+        ensures over { is_over self.old ≡ true → StaysOver self.old self.new result }
+        ensures ends { OnErr result (is_over self.new ≡ true) }
+    {
+        if self.is_over {
+            return reported(&mut self.failures, refused());
+        }
+        self.before.push(Snapshot::of(&self.held));
+        let done = self.held.file.write_at(at as usize, from);
+        self.held.written.push(at, from.len());
+        self.is_over = done.is_err();
+        reported(&mut self.failures, done)
+    }
+
+    fn sync(&mut self) -> Result<(), DiskFault>
+        ensures kept { stored_honest D.is_clean self.new → stored_honest D.is_clean self.old }
+        ensures synced { stored_honest D.is_clean self.new → Syncs (stored_trail D.seen self.old) (stored_trail D.seen self.new) result }
+        ensures cause { HasCause (stored_failures self.old) (stored_failures self.new) result }
+        ensures over { is_over self.old ≡ true → StaysOver self.old self.new result }
+        ensures ends { OnErr result (is_over self.new ≡ true) }
+    {
+        if self.is_over {
+            return reported(&mut self.failures, refused());
+        }
+        let before = Snapshot::of(&self.held);
+        let done = self.held.file.sync();
+        if done.is_ok() {
+            self.before.push(before);
+            self.held.written = Ranges::new();
+        } else {
+            self.is_over = true;
+        }
+        reported(&mut self.failures, done)
+    }
+}
