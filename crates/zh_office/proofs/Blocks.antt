@@ -2,16 +2,15 @@
 use Rattle.std.proofs.Common.{◌≡◌, ℕ, ◌+◌, ◌≤◌, ◌<◌, List, [], ◌∷◌, ◌++◌, map, take, length, refl, sym, ap, ◌∙◌, subst, arith, append_assoc, Option, Some, None, Result, Ok, Err, length-append}
 use Rattle.std.proofs.lemmas.List.{append-nil, take_all}
 use Rattle.std.specs.Io.KnownBytes.{Appends, Consumes}
-use Rattle.zh_commands.specs.Lines.{desk_of}
-use Rattle.zh_commands.specs.Replies.{reply_text}
-use Rattle.zh_commands.specs.declared.replies.Reply.{Reply}
+use Rattle.zh_ledger.specs.Submissions.{Log, nothing, followed_by}
 use Rattle.zh_office.specs.Office.{command_read}
-use Rattle.zh_office.specs.Runs.{OnDisk, Log, nothing, followed_by, logged, Runs, Turn}
+use Rattle.zh_office.specs.Runs.{OnDisk, Runs, Turn, logged, text_after}
+use Rattle.zh_office.specs.declared.answer.Answer.{Answer}
 use Rattle.zh_office.specs.Text.{HasNoEnd, unfinished, heard, ended_lines, last_line}
 use Rattle.zh_office.specs.Served.{BreaksOff, TakesBlock, Writes}
 use Rattle.zh_commands.specs.declared.output.WriteFault.{WriteFault}
 use Rattle.zh_office.proofs.Texts.{ended_none, ended_first, unfinished_all, unfinished_first, HasNoEnd-append}
-use Rattle.zh_office.proofs.Running.{Runs-append, Runs-one}
+use Rattle.zh_office.proofs.Running.{Runs-append, Runs-one, Runs-map}
 
 -- what is appended in two parts
 pub Appends-append : (a b c : Option (List ℕ)) (xs ys : List ℕ) → Appends a b xs → Appends b c ys → Appends a c (xs ++ ys)
@@ -46,6 +45,11 @@ pub record Progress (honest : Type 0) (first writer : Option (List ℕ)) (old no
   pub counted : count ≡ length answered
   pub clean : HasNoEnd line
 
+-- the same under a stronger hypothesis
+pub Progress-map : (P Q : Type 0) → (Q → P) → (first writer : Option (List ℕ)) (old now : OnDisk) (all : List (List ℕ)) (end line rest : List ℕ) (count : ℕ) → Progress P first writer old now all end line rest count → Progress Q first writer old now all end line rest count
+Progress-map P Q weaker first writer old now all end line rest count p =
+    record { answered = p.answered; out = p.out; log = p.log; written = p.written; run = Runs-map P Q weaker old p.answered p.out p.log now p.run; lines = p.lines; left = p.left; counted = p.counted; clean = p.clean }
+
 -- before the first line
 pub Progress-start : (honest : Type 0) (writer : Option (List ℕ)) (old : OnDisk) (line block : List ℕ) → HasNoEnd line → Progress honest writer writer old old (ended_lines (line ++ block)) (heard (unfinished (line ++ block))) line block 0
 Progress-start honest writer old line block clean = record {
@@ -72,19 +76,19 @@ behind_line line part others rest clean part_clean rest_is =
     ∙ ap heard (unfinished_first (line ++ part) others (HasNoEnd-append line part clean part_clean))
 
 -- the next line is answered
-pub Progress-more : (honest : Type 0) (first writer writer' : Option (List ℕ)) (old now new : OnDisk) (all : List (List ℕ)) (end line rest part others : List ℕ) (count : ℕ) (reply : Reply)
+pub Progress-more : (honest : Type 0) (first writer writer' : Option (List ℕ)) (old now new : OnDisk) (all : List (List ℕ)) (end line rest part others : List ℕ) (count : ℕ) (answer : Answer)
     → Progress honest first writer old now all end line rest count → HasNoEnd part → rest ≡ part ++ 10 ∷ others
-    → Turn honest now (heard (line ++ part)) reply new → Appends writer writer' (reply_text (desk_of (heard (line ++ part))) reply)
+    → Turn honest now (heard (line ++ part)) answer new → Appends writer writer' (text_after (heard (line ++ part)) answer new)
     → Progress honest first writer' old new all end [] others (count + 1)
-Progress-more honest first writer writer' old now new all end line rest part others count reply p part_clean rest_is turn written =
+Progress-more honest first writer writer' old now new all end line rest part others count answer p part_clean rest_is turn written =
     let next = heard (line ++ part) in
-    let log = logged (command_read now.office turn.reading) reply in
+    let log = logged (command_read now.office turn.reading) answer in
     record {
       answered = p.answered ++ next ∷ [];
-      out = p.out ++ reply_text (desk_of next) reply;
+      out = p.out ++ text_after next answer new;
       log = followed_by p.log log;
-      written = Appends-append first writer writer' p.out (reply_text (desk_of next) reply) p.written written;
-      run = Runs-append honest old now new p.answered (next ∷ []) p.out (reply_text (desk_of next) reply) p.log log p.run (Runs-one honest now new next reply turn);
+      written = Appends-append first writer writer' p.out (text_after next answer new) p.written written;
+      run = Runs-append honest old now new p.answered (next ∷ []) p.out (text_after next answer new) p.log log p.run (Runs-one honest now new next answer turn);
       lines = p.lines ∙ ap (λ ls. p.answered ++ ls) (next_line line part others rest p.clean part_clean rest_is) ∙ sym (append_assoc p.answered (next ∷ []) (ended_lines others));
       left = sym (behind_line line part others rest p.clean part_clean rest_is) ∙ p.left;
       counted = omega (arith, p.counted, length-append p.answered (next ∷ []));
@@ -92,11 +96,11 @@ Progress-more honest first writer writer' old now new all end line rest part oth
     }
 
 -- the answer to the next line is not written whole
-pub Progress-breaks : (honest : Type 0) (first writer writer' : Option (List ℕ)) (old now new : OnDisk) (all : List (List ℕ)) (end line rest part others : List ℕ) (count : ℕ) (reply : Reply) (front : ℕ)
+pub Progress-breaks : (honest : Type 0) (first writer writer' : Option (List ℕ)) (old now new : OnDisk) (all : List (List ℕ)) (end line rest part others : List ℕ) (count : ℕ) (answer : Answer) (front : ℕ)
     → Progress honest first writer old now all end line rest count → HasNoEnd part → rest ≡ part ++ 10 ∷ others
-    → Turn honest now (heard (line ++ part)) reply new → front < length (reply_text (desk_of (heard (line ++ part))) reply) → Appends writer writer' (take front (reply_text (desk_of (heard (line ++ part))) reply))
+    → Turn honest now (heard (line ++ part)) answer new → front < length (text_after (heard (line ++ part)) answer new) → Appends writer writer' (take front (text_after (heard (line ++ part)) answer new))
     → BreaksOff honest all first writer' old new
-Progress-breaks honest first writer writer' old now new all end line rest part others count reply front p part_clean rest_is turn short written =
+Progress-breaks honest first writer writer' old now new all end line rest part others count answer front p part_clean rest_is turn short written =
     let next = heard (line ++ part) in
     record {
       answered = p.answered;
@@ -107,11 +111,11 @@ Progress-breaks honest first writer writer' old now new all end line rest part o
       log = p.log;
       mid = now;
       run = p.run;
-      reply = reply;
+      answer = answer;
       turn = turn;
       front = front;
       part = short;
-      written = Appends-append first writer writer' p.out (take front (reply_text (desk_of next) reply)) p.written written;
+      written = Appends-append first writer writer' p.out (take front (text_after next answer new)) p.written written;
     }
 
 -- the next line was answered by a call that succeeded
@@ -121,7 +125,7 @@ pub Progress-answered : (honest : Type 0) (first writer writer' : Option (List �
 Progress-answered honest first writer writer' old now new all end line rest part others bytes count result done p part_clean rest_is bytes_are w ok =
     let v : Writes honest writer writer' now (heard (line ++ part)) result new = subst (λ b. Writes honest writer writer' now b result new) bytes_are w in
     let all_written = rw ok at v.ok in
-    Progress-more honest first writer writer' old now new all end line rest part others count v.reply p part_clean rest_is v.turn all_written
+    Progress-more honest first writer writer' old now new all end line rest part others count v.answer p part_clean rest_is v.turn all_written
 
 -- the next line was answered by a call that failed
 pub Progress-failed : (honest : Type 0) (first writer writer' : Option (List ℕ)) (old now new : OnDisk) (all : List (List ℕ)) (end line rest part others bytes : List ℕ) (count : ℕ) (result : Result (Unit {0}) WriteFault) (fault : WriteFault)
@@ -130,7 +134,7 @@ pub Progress-failed : (honest : Type 0) (first writer writer' : Option (List ℕ
 Progress-failed honest first writer writer' old now new all end line rest part others bytes count result fault p part_clean rest_is bytes_are w err =
     let v : Writes honest writer writer' now (heard (line ++ part)) result new = subst (λ b. Writes honest writer writer' now b result new) bytes_are w in
     let front = rw err at v.err in
-    Progress-breaks honest first writer writer' old now new all end line rest part others count v.reply front.0 p part_clean rest_is v.turn front.1 front.2
+    Progress-breaks honest first writer writer' old now new all end line rest part others count v.answer front.0 p part_clean rest_is v.turn front.1 front.2
 
 -- a last line of bytes that fit
 pub last_line_is : (line : List ℕ) → 0 < length line → length line ≤ 121 → last_line line ≡ line ∷ []
@@ -158,7 +162,7 @@ last_failed honest writer writer' old new line bytes result fault some fits byte
       log = nothing;
       mid = old;
       run = (refl, (refl, refl));
-      reply = v.reply;
+      answer = v.answer;
       turn = v.turn;
       front = front.0;
       part = front.1;
@@ -173,11 +177,11 @@ last_answered honest writer writer' old new line bytes result done some fits byt
     let v : Writes honest writer writer' old line result new = subst (λ b. Writes honest writer writer' old b result new) bytes_are w in
     let all_written = rw ok at v.ok in
     let one = last_line_is line some fits in
-    let log = logged (command_read old.office v.turn.reading) v.reply in (
-      reply_text (desk_of line) v.reply,
+    let log = logged (command_read old.office v.turn.reading) v.answer in (
+      text_after line v.answer new,
       log,
       all_written,
-      subst (λ ls. Runs honest old ls (reply_text (desk_of line) v.reply) log new) (sym one) (Runs-one honest old new line v.reply v.turn),
+      subst (λ ls. Runs honest old ls (text_after line v.answer new) log new) (sym one) (Runs-one honest old new line v.answer v.turn),
       ap length (sym one),
     )
 

@@ -2,15 +2,14 @@
 use Rattle.std.proofs.Common.{◌≡◌, inl, inr, ℕ, ◌+◌, ◌-◌, ◌^◌, min, List, [], ◌∷◌, ◌++◌, map, take, length, refl, sym, ap, ◌∙◌, subst, arith, append_assoc, Option, Some, None, length-append}
 use Rattle.std.proofs.lemmas.List.{append-nil, map-append}
 use Rattle.std.specs.Io.KnownBytes.{Appends, Consumes, Keeps, IsAtEnd}
-use Rattle.zh_commands.specs.Lines.{desk_of}
-use Rattle.zh_commands.specs.Replies.{reply_text}
+use Rattle.zh_ledger.specs.Submissions.{Log, nothing, followed_by, IsLogged}
 use Rattle.zh_office.specs.Office.{command_read}
-use Rattle.zh_office.specs.Runs.{OnDisk, Log, nothing, followed_by, logged, Runs, IsLogged}
+use Rattle.zh_office.specs.Runs.{OnDisk, Runs, ledger_of, logged, text_after}
 use Rattle.zh_office.specs.Text.{HasNoEnd, ended, unfinished, heard, ended_lines, last_line, lines_of}
 use Rattle.zh_office.specs.Served.{BreaksOff, TakesBlock, ServesAll, ServesEnded, ServesFront}
 use Rattle.zh_office.proofs.Texts.{ended-append, unfinished-append, unfinished_has_no_end, HasNoEnd-take, ended_lines-heard, unfinished-heard, heard-heard, last_line-heard}
-use Rattle.zh_office.proofs.Running.{Runs-append, Runs-one}
-use Rattle.zh_office.proofs.Stretch.{run_is_logged}
+use Rattle.zh_office.proofs.Running.{Runs-append, Runs-one, Runs-map}
+use Rattle.zh_office.proofs.Lifting.{run_is_logged}
 use Rattle.zh_office.proofs.Blocks.{Appends-append, Appends-none, Consumes-append, Consumes-none}
 
 -- what was read so far has been answered up to its last LF, and what counts of the rest is held
@@ -23,6 +22,11 @@ pub record Serving (honest : Type 0) (first reader begun writer : Option (List �
   pub run : Runs honest old (ended_lines input) out log now
   pub held : line ≡ heard (unfinished input)
   pub counted : count ≡ min (length (ended_lines input)) (2 ^ 64 - 1)
+
+-- the same under a stronger hypothesis
+pub Serving-map : (P Q : Type 0) → (Q → P) → (first reader begun writer : Option (List ℕ)) (old now : OnDisk) (line : List ℕ) (count : ℕ) → Serving P first reader begun writer old now line count → Serving Q first reader begun writer old now line count
+Serving-map P Q weaker first reader begun writer old now line count s =
+    record { input = s.input; out = s.out; log = s.log; read = s.read; written = s.written; run = Runs-map P Q weaker old (ended_lines s.input) s.out s.log now s.run; held = s.held; counted = s.counted }
 
 pub Serving-start : (honest : Type 0) (reader writer : Option (List ℕ)) (old : OnDisk) (line : List ℕ) → line ≡ [] → Serving honest reader reader writer writer old old line 0
 Serving-start honest reader writer old line none = record {
@@ -89,23 +93,23 @@ BreaksOff-after honest begun writer writer' old now new lines all others out log
   log = followed_by log b.log;
   mid = b.mid;
   run = Runs-append honest old now b.mid front b.answered out b.out log b.log run b.run;
-  reply = b.reply;
+  answer = b.answer;
   turn = b.turn;
   front = b.front;
   part = b.part;
   written =
-      subst (λ xs. Appends begun writer' xs) (sym (append_assoc out b.out (take b.front (reply_text (desk_of b.last) b.reply))))
-      (Appends-append begun writer writer' out (b.out ++ take b.front (reply_text (desk_of b.last) b.reply)) written b.written);
+      subst (λ xs. Appends begun writer' xs) (sym (append_assoc out b.out (take b.front (text_after b.last b.answer new))))
+      (Appends-append begun writer writer' out (b.out ++ take b.front (text_after b.last b.answer new)) written b.written);
 }
 
 -- what a run that breaks off leaves of an honest disk, the last line with it
 pub BreaksOff-kept : (honest : Type 0) (begun writer : Option (List ℕ)) (old new : OnDisk) (lines : List (List ℕ)) (b : BreaksOff honest lines begun writer old new)
-    → honest → IsLogged old (followed_by b.log (logged (command_read b.mid.office b.turn.reading) b.reply)) new
+    → honest → IsLogged (ledger_of old) (followed_by b.log (logged (command_read b.mid.office b.turn.reading) b.answer)) (ledger_of new)
 BreaksOff-kept honest begun writer old new lines b h =
-    let answer = reply_text (desk_of b.last) b.reply in
-    let last = logged (command_read b.mid.office b.turn.reading) b.reply in
-    run_is_logged honest h old (b.answered ++ b.last ∷ []) (b.out ++ answer) (followed_by b.log last) new
-    (Runs-append honest old b.mid new b.answered (b.last ∷ []) b.out answer b.log last b.run (Runs-one honest b.mid new b.last b.reply b.turn))
+    let text = text_after b.last b.answer new in
+    let last = logged (command_read b.mid.office b.turn.reading) b.answer in
+    run_is_logged honest h old (b.answered ++ b.last ∷ []) (b.out ++ text) (followed_by b.log last) new
+    (Runs-append honest old b.mid new b.answered (b.last ∷ []) b.out text b.log last b.run (Runs-one honest b.mid new b.last b.answer b.turn))
 
 -- an answer within a block was not written whole
 pub Serving-breaks : (honest : Type 0) (first reader reader' begun writer writer' : Option (List ℕ)) (old now new : OnDisk) (line block : List ℕ) (count : ℕ)

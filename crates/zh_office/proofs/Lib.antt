@@ -1,13 +1,8 @@
 pub mod Texts
-pub mod Wording
-pub mod Fronts
 pub mod Others
-pub mod Kept
-pub mod Stretch
+pub mod BrokenLemmas
 pub mod Running
+pub mod Lifting
+pub mod NightLemmas
 pub mod Blocks
 pub mod Inputs
-pub mod Replaying
-pub mod Opened
-pub mod Night
-pub mod Endings

@@ -1,14 +1,14 @@
 -- What a line of one desk leaves to the others.
 use Rattle.std.proofs.Common.{◌≡◌, ◌≢◌, ◌≤◌, ◌-◌, ℕ, List, Option, None, Ok, arith, ap, ◌∙◌}
 use Rattle.std.proofs.lemmas.List.{get_or-set_other}
-use Rattle.zh_commands.proofs.Spellings.{desk_of-read}
-use Rattle.zh_commands.specs.Lines.{Reads, desk_of}
+use Rattle.zh_commands.proofs.CallerLemmas.{desk_of-read}
+use Rattle.zh_commands.specs.Lines.{ParsesAs, desk_of}
 use Rattle.zh_commands.specs.declared.lines.Line.{Line}
 use Rattle.zh_desks.specs.Batches.{Held, rows_of, with_batch}
-use Rattle.zh_returns.specs.declared.row.Row.{Row}
+use Rattle.zh_records.specs.declared.row.Row.{Row}
 
 -- a batch at the desk of a line leaves the batch of each other desk
-pub others_held : (bytes : List ℕ) (line : Line) (old new : Held) (batch : Option (List Row)) → Reads bytes (Ok line) → new ≡ with_batch old line.desk batch
+pub others_held : (bytes : List ℕ) (line : Line) (old new : Held) (batch : Option (List Row)) → ParsesAs bytes (Ok line) → new ≡ with_batch old line.desk batch
     → (desk : ℕ) → 1 ≤ desk → desk ≢ desk_of bytes → rows_of new desk ≡ rows_of old desk
 others_held bytes line old new batch reads is desk from_one other =
     let own : desk_of bytes ≡ line.desk = desk_of-read bytes line reads in

@@ -1,12 +1,7 @@
 pub mod Text
 pub mod Office
 pub mod Code
-pub mod Stands
 pub mod Opened
-pub mod Keeping
 pub mod Runs
-pub mod Night
 pub mod Served
-pub mod Faults
-pub mod Words
-pub mod Program
+pub mod Night

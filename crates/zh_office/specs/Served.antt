@@ -1,13 +1,12 @@
 -- What was served of a reader's bytes.
 use Rattle.std.specs.Prelude.{◌≡◌, ◌<◌, ◌⊎◌, ◌-◌, ◌^◌, ℕ, List, ◌∷◌, ◌++◌, take, min, length, Option, Result, OnOk, OnErr}
 use Rattle.std.specs.Io.KnownBytes.{Appends, Consumes, IsAtEnd}
-use Rattle.zh_commands.specs.Lines.{desk_of}
-use Rattle.zh_commands.specs.Replies.{reply_text}
-use Rattle.zh_commands.specs.declared.replies.Reply.{Reply}
 use Rattle.zh_commands.specs.declared.output.WriteFault.{WriteFault}
-use Rattle.zh_office.specs.Office.{command_read}
+use Rattle.zh_ledger.specs.Submissions.{Log, followed_by, IsLogged}
 use Rattle.zh_office.specs.Text.{lines_of, ended_lines, heard, unfinished}
-use Rattle.zh_office.specs.Runs.{OnDisk, Log, Runs, Turn, logged, followed_by, IsLogged}
+use Rattle.zh_office.specs.Office.{command_read}
+use Rattle.zh_office.specs.Runs.{OnDisk, Runs, Turn, ledger_of, logged, text_after}
+use Rattle.zh_office.specs.declared.answer.Answer.{Answer}
 
 -- the input was read to its end, all its lines are answered, and this is their number, which stops at the greatest u64
 pub record ServesAll (honest : Type 0) (reader reader' writer writer' : Option (List ℕ)) (old new : OnDisk) (count : ℕ) : Type 0 where
@@ -19,7 +18,7 @@ pub record ServesAll (honest : Type 0) (reader reader' writer writer' : Option (
   pub written : Appends writer writer' out
   pub run : Runs honest old (lines_of input) out log new
   pub counted : count ≡ min (length (lines_of input)) (2 ^ 64 - 1)
-  pub kept : honest → IsLogged old log new
+  pub kept : honest → IsLogged (ledger_of old) log (ledger_of new)
 
 -- the lines that are ended in what was read are answered, and what follows them is not
 pub record ServesEnded (honest : Type 0) (reader reader' writer writer' : Option (List ℕ)) (old new : OnDisk) : Type 0 where
@@ -29,7 +28,7 @@ pub record ServesEnded (honest : Type 0) (reader reader' writer writer' : Option
   pub read : Consumes reader reader' input
   pub written : Appends writer writer' out
   pub run : Runs honest old (ended_lines input) out log new
-  pub kept : honest → IsLogged old log new
+  pub kept : honest → IsLogged (ledger_of old) log (ledger_of new)
 
 -- of the lines of a text some are answered, and of the answer to the next a front is written, and not all
 pub record BreaksOff (honest : Type 0) (lines : List (List ℕ)) (writer writer' : Option (List ℕ)) (old new : OnDisk) : Type 0 where
@@ -41,11 +40,11 @@ pub record BreaksOff (honest : Type 0) (lines : List (List ℕ)) (writer writer'
   pub log : Log
   pub mid : OnDisk
   pub run : Runs honest old answered out log mid
-  pub reply : Reply
-  pub turn : Turn honest mid last reply new
+  pub answer : Answer
+  pub turn : Turn honest mid last answer new
   pub front : ℕ
-  pub part : front < length (reply_text (desk_of last) reply)
-  pub written : Appends writer writer' (out ++ take front (reply_text (desk_of last) reply))
+  pub part : front < length (text_after last answer new)
+  pub written : Appends writer writer' (out ++ take front (text_after last answer new))
 
 -- what can be answered of what was read: the lines that are ended in it, and at the end of the input the last one too
 abbrev pub AreDue : Option (List ℕ) → List ℕ → List (List ℕ) → Type 0
@@ -58,14 +57,14 @@ pub record ServesFront (honest : Type 0) (reader reader' writer writer' : Option
   pub read : Consumes reader reader' input
   pub due : AreDue reader' input lines
   pub breaks : BreaksOff honest lines writer writer' old new
-  pub kept : honest → IsLogged old (followed_by breaks.log (logged (command_read breaks.mid.office breaks.turn.reading) breaks.reply)) new
+  pub kept : honest → IsLogged (ledger_of old) (followed_by breaks.log (logged (command_read breaks.mid.office breaks.turn.reading) breaks.answer)) (ledger_of new)
 
 -- a line is answered, and all of its answer is written, or a front of it and not all
 pub record Writes (honest : Type 0) (writer writer' : Option (List ℕ)) (old : OnDisk) (bytes : List ℕ) (result : Result (Unit {0}) WriteFault) (new : OnDisk) : Type 0 where
-  pub reply : Reply
-  pub turn : Turn honest old bytes reply new
-  pub ok : OnOk result (Appends writer writer' (reply_text (desk_of bytes) reply))
-  pub err : OnErr result ((front : ℕ) × (front < length (reply_text (desk_of bytes) reply)) × Appends writer writer' (take front (reply_text (desk_of bytes) reply)))
+  pub answer : Answer
+  pub turn : Turn honest old bytes answer new
+  pub ok : OnOk result (Appends writer writer' (text_after bytes answer new))
+  pub err : OnErr result ((front : ℕ) × (front < length (text_after bytes answer new)) × Appends writer writer' (take front (text_after bytes answer new)))
 
 -- the block of bytes behind these of a line gave so many lines; they are answered, and these bytes of a line are left
 pub record TakesBlock (honest : Type 0) (writer writer' : Option (List ℕ)) (old : OnDisk) (line block : List ℕ) (new : OnDisk) (line' : List ℕ) (count : ℕ) : Type 0 where

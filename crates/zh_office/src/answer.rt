@@ -1,12 +1,15 @@
 //! Answers to the lines of the desks.
 
 ghost use Rattle.std.specs.Prelude.{◌≡◌, IfNone};
-ghost use Rattle.zh_returns.specs.Rows.{FitsRow};
-ghost use Rattle.zh_office.specs.Office.{refusal_of, shown, answer_to_show, row_refusal};
+ghost use Rattle.zh_records.specs.Rows.{FitsRow};
+ghost use Rattle.zh_districts.specs.Misplaced.{misplaced};
+ghost use Rattle.zh_office.specs.Office.{refusal_of, reply_to, shown, place_refusal, answer_to_show, row_refusal, refusal_by};
 
 use zh_commands::{Refusal, Reply};
-use zh_desks::Batch;
-use zh_returns::{Count, Entry, MOST_ROWS, MOST_VOTES, Row, Why};
+use zh_desks::RowFault;
+use zh_districts::Misplaced;
+use zh_ledger::Outcome;
+use zh_returns::{Count, Entry, MOST_VOTES, Reason, Row};
 
 /// What an office answers to a line.
 #[derive(Clone, Copy, Debug, PartialEq, Eq)]
@@ -15,18 +18,34 @@ pub enum Answer {
     Reply(Reply),
 }
 
-pub(crate) fn refusal_of(why: Why) -> Refusal
-    ensures { result ≡ refusal_of why }
+/// The name under which a judgement is refused.
+fn refusal_of(reason: Reason) -> Refusal
+    ensures { result ≡ refusal_of reason }
 {
-    match why {
-        Why::Municipality => Refusal::Municipality,
-        Why::List => Refusal::List,
-        Why::Votes => Refusal::Votes,
-        Why::Closed => Refusal::Closed,
-        Why::Stale => Refusal::Stale,
-        Why::Gap => Refusal::Gap,
-        Why::Conflict => Refusal::Conflict,
-        Why::NotClosed(municipality) => Refusal::NotClosed(municipality),
+    match reason {
+        Reason::Municipality => Refusal::Municipality,
+        Reason::List => Refusal::List,
+        Reason::Votes => Refusal::Votes,
+        Reason::Closed => Refusal::Closed,
+        Reason::Stale => Refusal::Stale,
+        Reason::Gap => Refusal::Gap,
+        Reason::Conflict => Refusal::Conflict,
+        Reason::NotClosed(municipality) => Refusal::NotClosed(municipality),
+    }
+}
+
+/// The reply that reports the outcome of a command.
+pub(crate) fn reply_to(outcome: Outcome) -> Reply
+    ensures { result ≡ reply_to outcome }
+{
+    match outcome {
+        Outcome::Stored(accepted) => Reply::Stored(accepted),
+        Outcome::Same => Reply::Same,
+        Outcome::Refused(reason) => Reply::Refused(refusal_of(reason)),
+        Outcome::Spent => Reply::Refused(Refusal::Spent),
+        Outcome::Full => Reply::Refused(Refusal::Full),
+        Outcome::Device => Reply::Refused(Refusal::Device),
+        Outcome::Broken => Reply::Refused(Refusal::ReopenDisk),
     }
 }
 
@@ -50,42 +69,52 @@ fn shown(entry: Option<Entry>) -> Reply
     }
 }
 
+/// The name under which a list that has no place is refused.
+fn place_refusal(place: Misplaced) -> Refusal
+    ensures { result ≡ place_refusal place }
+{
+    match place {
+        Misplaced::Municipality => Refusal::Municipality,
+        Misplaced::List => Refusal::List,
+    }
+}
+
 /// What is held of a list in a municipality.
 pub(crate) fn answer_to_show(count: &Count<'_>, municipality: u32, list: u32) -> Reply
     ensures { result ≡ answer_to_show count.now municipality list }
 {
-    let setup = count.setup();
-    if municipality == 0 || municipality > setup.municipalities() {
-        return Reply::Refused(Refusal::Municipality);
+    match count.setup().misplaced(municipality, list) {
+        Some(place) => Reply::Refused(place_refusal(place)),
+        None => shown(count.entry(municipality, list)),
     }
-    let constituency = setup.constituency_of(municipality);
-    if list == 0 || list > setup.groups() || !setup.stands(constituency, list) {
-        return Reply::Refused(Refusal::List);
-    }
-    shown(count.entry(municipality, list))
 }
 
-/// Why a row is not put behind those of a batch, if it is not: the first that applies.
-pub(crate) fn row_refusal(count: &Count<'_>, batch: &Batch, row: Row) -> Option<Refusal>
-    ensures first { result ≡ row_refusal count.now batch.now row }
+/// Why a row is refused whatever the batch holds, if it is: the first that applies.
+pub(crate) fn row_refusal(count: &Count<'_>, row: Row) -> Option<Refusal>
+    ensures first { result ≡ row_refusal (misplaced count.now.canton row.municipality row.list) row }
     ensures fits { IfNone result (FitsRow row) }
 {
     let setup = count.setup();
-    if row.municipality == 0 || row.municipality > setup.municipalities() {
-        return Some(Refusal::Municipality);
-    }
-    let constituency = setup.constituency_of(row.municipality);
-    if row.list == 0 || row.list > setup.groups() || !setup.stands(constituency, row.list) {
-        return Some(Refusal::List);
+    if let Some(place) = setup.misplaced(row.municipality, row.list) {
+        return Some(place_refusal(place));
     }
     if row.votes > MOST_VOTES {
         return Some(Refusal::Votes);
     }
-    if batch.has_key(row.municipality, row.list) {
-        return Some(Refusal::Twice);
-    }
-    if batch.len() >= MOST_ROWS {
-        return Some(Refusal::BatchFull);
-    }
+    // So a row that is not refused fits its bytes.
+    let is_small = setup.municipalities() <= 512 && setup.groups() <= 32;
+    prove!(is_small);
     None
+}
+
+/// The name under which a batch refuses a row.
+pub(crate) fn refusal_by(fault: RowFault) -> Refusal
+    ensures { result ≡ refusal_by fault }
+{
+    match fault {
+        RowFault::NoBatch => Refusal::NoBatch,
+        RowFault::Twice => Refusal::Twice,
+        RowFault::BatchFull => Refusal::BatchFull,
+        RowFault::Memory => Refusal::Memory,
+    }
 }

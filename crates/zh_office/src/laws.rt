@@ -1,12 +1,13 @@
 //! Laws of an office on a disk.
 
 ghost use Rattle.std.specs.Prelude.{ℕ, List};
+ghost use Rattle.zh_ledger.specs.Submissions.{Log, IsLogged};
 ghost use Rattle.zh_office.specs.Night.{Law};
-ghost use Rattle.zh_office.specs.Runs.{OnDisk, Log, Runs, IsLogged};
+ghost use Rattle.zh_office.specs.Runs.{OnDisk, Runs, ledger_of};
 
 /// What a run of lines leaves of an office on an honest disk, at each moment and at its end.
 pub fn stretches()
-    ensures { (old : OnDisk) (lines : List (List ℕ)) (out : List ℕ) (log : Log) (new : OnDisk) → Runs (Unit {0}) old lines out log new → IsLogged old log new }
+    ensures { (old : OnDisk) (lines : List (List ℕ)) (out : List ℕ) (log : Log) (new : OnDisk) → Runs (Unit {0}) old lines out log new → IsLogged (ledger_of old) log (ledger_of new) }
 {}
 
 /// A night of lines, stops and openings on an honest disk that was formatted for the office, event by event.

@@ -1,17 +1,17 @@
 //! The office.
 
-ghost use Rattle.std.specs.Prelude.{◌≡◌, ◌≢◌, ◌≤◌, ℕ, length};
+ghost use Rattle.std.specs.Prelude.{◌≡◌, ◌≢◌, ◌≤◌, ℕ};
 ghost use Rattle.zh_commands.specs.Lines.{desk_of};
 ghost use Rattle.zh_desks.specs.Batches.{rows_of};
-ghost use Rattle.zh_office.specs.Runs.{Answers, UnlessStored, on_disk};
+ghost use Rattle.zh_office.specs.Runs.{Turn, UnlessStored, on_disk};
 
 use crate::answer::Answer;
-use crate::ledger::Ledger;
 use std::alloc::Global;
 use std::marker::Model;
 use zh_commands::{LineFault, Refusal, Reply, parse_line};
 use zh_desks::Desks;
 use zh_disk::Disk;
+use zh_ledger::Ledger;
 use zh_returns::Count;
 
 /// The count of an election, kept on a disk, and the desks that change it.
@@ -54,7 +54,7 @@ impl<'s> Office<'s> {
     pub fn faulted(&self) -> bool
         ensures { result ≡ self.now.ledger.store.broken }
     {
-        self.ledger.faulted()
+        self.ledger.is_broken()
     }
 
     /// Answers a line, given without its LF. Of all lines a row alone may take memory.
@@ -62,8 +62,10 @@ impl<'s> Office<'s> {
     /// An accepted command is on the disk before it is answered `stored`. After `device` the disk may hold it or not,
     /// and the count is without it.
     pub fn line<D: Disk>(&mut self, disk: &mut D, bytes: &[u8]) -> Answer
-        // On an honest disk the answer's turn also tells what each image holds at each moment since the call began.
-        ensures answers { Answers D.honest (on_disk self.old (D.failures disk.old) (D.trail disk.old)) bytes.now result (on_disk self.new (D.failures disk.new) (D.trail disk.new)) }
+        ensures kept { D.honest disk.new → D.honest disk.old }
+
+        // While the disk is honest the turn also says what each image holds at each moment since the call began.
+        ensures turn { Turn (D.honest disk.new) (on_disk self.old (D.failures disk.old) (D.trail disk.old)) bytes.now result (on_disk self.new (D.failures disk.new) (D.trail disk.new)) }
 
         ensures others { (desk : ℕ) → 1 ≤ desk → desk ≢ desk_of bytes.now → rows_of self.new.held desk ≡ rows_of self.old.held desk }
         ensures untouched { UnlessStored result disk.old disk.new }

@@ -3,12 +3,13 @@
 ghost use Rattle.std.specs.Prelude.{◌≡◌, ◌++◌, ℕ, List, length, MatchResult, IfOk, IsErrOf};
 ghost use Rattle.std.specs.Io.KnownBytes.{Appends};
 ghost use Rattle.zh_office.specs.Text.{HasNoEnd, ended_lines, last_line};
-ghost use Rattle.zh_office.specs.Runs.{Log, Runs, on_disk};
+ghost use Rattle.zh_ledger.specs.Submissions.{Log};
+ghost use Rattle.zh_office.specs.Runs.{Runs, on_disk};
 ghost use Rattle.zh_office.specs.Served.{TakesBlock, BreaksOff, ServesAll, ServesEnded, ServesFront, Writes};
 
 use crate::answer::Answer;
-use crate::hearing::{Line, hear, split_line};
 use crate::office::Office;
+use crate::partial_line::{Line, hear, split_line};
 use std::io::{Read, Write};
 use thiserror::Error;
 use zh_commands::{WriteFault, desk_of, put, write_reply};
@@ -49,7 +50,8 @@ impl<'s> Office<'s> {
         writer: &mut W,
         disk: &mut D,
     ) -> Result<(), WriteFault>
-        ensures { Writes D.honest (W.contents writer.old) (W.contents writer.new) (on_disk self.old (D.failures disk.old) (D.trail disk.old)) bytes.now result (on_disk self.new (D.failures disk.new) (D.trail disk.new)) }
+        ensures kept { D.honest disk.new → D.honest disk.old }
+        ensures written { Writes (D.honest disk.new) (W.contents writer.old) (W.contents writer.new) (on_disk self.old (D.failures disk.old) (D.trail disk.old)) bytes.now result (on_disk self.new (D.failures disk.new) (D.trail disk.new)) }
     {
         let desk = desk_of(bytes);
         let Answer::Reply(reply) = self.line(disk, bytes);
@@ -67,9 +69,10 @@ impl<'s> Office<'s> {
         disk: &mut D,
     ) -> Result<usize, WriteFault>
         requires { HasNoEnd line.old.items }
+        ensures kept { D.honest disk.new → D.honest disk.old }
         ensures taken { MatchResult result
-            (λ count. TakesBlock D.honest (W.contents writer.old) (W.contents writer.new) (on_disk self.old (D.failures disk.old) (D.trail disk.old)) line.old.items block.now (on_disk self.new (D.failures disk.new) (D.trail disk.new)) line.new.items count)
-            (λ _. BreaksOff D.honest (ended_lines (line.old.items ++ block.now)) (W.contents writer.old) (W.contents writer.new) (on_disk self.old (D.failures disk.old) (D.trail disk.old)) (on_disk self.new (D.failures disk.new) (D.trail disk.new))) }
+            (λ count. TakesBlock (D.honest disk.new) (W.contents writer.old) (W.contents writer.new) (on_disk self.old (D.failures disk.old) (D.trail disk.old)) line.old.items block.now (on_disk self.new (D.failures disk.new) (D.trail disk.new)) line.new.items count)
+            (λ _. BreaksOff (D.honest disk.new) (ended_lines (line.old.items ++ block.now)) (W.contents writer.old) (W.contents writer.new) (on_disk self.old (D.failures disk.old) (D.trail disk.old)) (on_disk self.new (D.failures disk.new) (D.trail disk.new))) }
     {
         let mut rest = block;
         let mut count = 0;
@@ -91,10 +94,11 @@ impl<'s> Office<'s> {
         writer: &mut W,
         disk: &mut D,
     ) -> Result<u64, WriteFault>
-        ensures { MatchResult result
+        ensures kept { D.honest disk.new → D.honest disk.old }
+        ensures finished { MatchResult result
             (λ count. (out : List ℕ) × (log : Log) × Appends (W.contents writer.old) (W.contents writer.new) out
-            × Runs D.honest (on_disk self.old (D.failures disk.old) (D.trail disk.old)) (last_line line.now.items) out log (on_disk self.new (D.failures disk.new) (D.trail disk.new)) × (count ≡ length (last_line line.now.items)))
-            (λ _. BreaksOff D.honest (last_line line.now.items) (W.contents writer.old) (W.contents writer.new) (on_disk self.old (D.failures disk.old) (D.trail disk.old)) (on_disk self.new (D.failures disk.new) (D.trail disk.new))) }
+            × Runs (D.honest disk.new) (on_disk self.old (D.failures disk.old) (D.trail disk.old)) (last_line line.now.items) out log (on_disk self.new (D.failures disk.new) (D.trail disk.new)) × (count ≡ length (last_line line.now.items)))
+            (λ _. BreaksOff (D.honest disk.new) (last_line line.now.items) (W.contents writer.old) (W.contents writer.new) (on_disk self.old (D.failures disk.old) (D.trail disk.old)) (on_disk self.new (D.failures disk.new) (D.trail disk.new))) }
     {
         if line.is_empty() {
             return Ok(0);
@@ -116,13 +120,14 @@ impl<'s> Office<'s> {
         disk: &mut D,
         turns: u64,
     ) -> Result<u64, ServeFault>
-        ensures ok { IfOk result (λ count. ServesAll D.honest (R.remaining reader.old) (R.remaining reader.new)
+        ensures kept { D.honest disk.new → D.honest disk.old }
+        ensures ok { IfOk result (λ count. ServesAll (D.honest disk.new) (R.remaining reader.old) (R.remaining reader.new)
             (W.contents writer.old) (W.contents writer.new) (on_disk self.old (D.failures disk.old) (D.trail disk.old)) (on_disk self.new (D.failures disk.new) (D.trail disk.new)) count) }
-        ensures read { IsErrOf result ServeFault.Read → ServesEnded D.honest (R.remaining reader.old) (R.remaining reader.new)
+        ensures read { IsErrOf result ServeFault.Read → ServesEnded (D.honest disk.new) (R.remaining reader.old) (R.remaining reader.new)
             (W.contents writer.old) (W.contents writer.new) (on_disk self.old (D.failures disk.old) (D.trail disk.old)) (on_disk self.new (D.failures disk.new) (D.trail disk.new)) }
-        ensures write { IsErrOf result ServeFault.Write → ServesFront D.honest (R.remaining reader.old) (R.remaining reader.new)
+        ensures write { IsErrOf result ServeFault.Write → ServesFront (D.honest disk.new) (R.remaining reader.old) (R.remaining reader.new)
             (W.contents writer.old) (W.contents writer.new) (on_disk self.old (D.failures disk.old) (D.trail disk.old)) (on_disk self.new (D.failures disk.new) (D.trail disk.new)) }
-        ensures turns { IsErrOf result ServeFault.Turns → ServesEnded D.honest (R.remaining reader.old) (R.remaining reader.new)
+        ensures turns { IsErrOf result ServeFault.Turns → ServesEnded (D.honest disk.new) (R.remaining reader.old) (R.remaining reader.new)
             (W.contents writer.old) (W.contents writer.new) (on_disk self.old (D.failures disk.old) (D.trail disk.old)) (on_disk self.new (D.failures disk.new) (D.trail disk.new)) }
     {
         let mut block = blank_block();

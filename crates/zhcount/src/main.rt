@@ -4,9 +4,10 @@
 use std::io::ErrorKind;
 use std::process::ExitCode;
 use std::{env, io};
-use zh_office::program;
+use zh_file::Unknown;
+use zh_program::program;
 
-/// Hands the files, the words behind the program's name and the standard streams to the office, and gives its status.
+/// Hands the files, the arguments and the standard streams to the program, and returns its status.
 fn main(rt: HostRuntime) -> ExitCode {
     match words(&rt) {
         Ok(words) => ExitCode::from(program(
@@ -16,6 +17,8 @@ fn main(rt: HostRuntime) -> ExitCode {
             &mut rt.stdin(),
             &mut rt.stdout(),
             &mut rt.stderr(),
+            Unknown,
+            &mut None,
         )),
         Err(error) if error.kind() == ErrorKind::InvalidData => {
             let _ = eprintln!(rt; "error: a word is not in UTF-8");

@@ -1,4 +1,4 @@
-use Rattle.zh_office.proofs.Night.{law}
+use Rattle.zh_office.proofs.NightLemmas.{law}
 use Rattle.zh_office.proofs.laws.nights.Goals as goal
 
 pub returns : goal.returns

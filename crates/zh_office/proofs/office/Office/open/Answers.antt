@@ -1,121 +1,13 @@
-use Rattle.std.proofs.Common.{◌≡◌, ◌∙◌, Err, refl, sym, ap, subst}
-use Rattle.zh_disk.specs.Disk.{Trail, Moment, Leaves}
-use Rattle.zh_returns.specs.Tally.{Tally}
-use Rattle.zh_snapshot.specs.Image.{IsFramed}
-use Rattle.zh_snapshot.specs.Store.{Settles}
-use Rattle.zh_snapshot.specs.declared.fault.OpenFault as store
-use Rattle.zh_office.specs.declared.fault.OpenFault.{OpenFault}
-use Rattle.zh_office.proofs.Opened.{IsRead, err_of, store_damaged, no_blank, no_difference, damaged_all, damaged_snapshot, damaged_records, setup_told, setup_untold, found_stands, frames_read}
-use Rattle.zh_office.proofs.office.Office.open.Given.{Over}
-use Rattle.zh_office.proofs.office.Office.open.Goals.{In_ok-snapshot}
+use Rattle.std.proofs.Common.{sym, ap, Err}
+use Rattle.zh_ledger.specs.declared.fault.OpenFault.{OpenFault}
+use Rattle.zh_ledger.proofs.OpenedLemmas.{err_of}
 use Rattle.zh_office.proofs.office.Office.open.Goals as goal
 
-pub returns-in_err-store-clause-damaged : goal.returns-in_err-store-clause-damaged
-returns-in_err-store-clause-damaged g c = λ h is.
-    let fault = store_damaged c.in_err-store.field-0.0 (err_of _ _ _ c.from_residual-in_err-store.ensures.1 is) in
-    damaged_all c.args.setup.now _ (c.in_err-store.ensures.damaged h (ap (λ (e : store.OpenFault). Err e) fault))
-
-pub returns-in_err-setup_equals-clause-any_moment : goal.returns-in_err-setup_equals-clause-any_moment
-returns-in_err-setup_equals-clause-any_moment g c = λ h.
-    let old = g.D.Disk.trail c.args.disk.now in
-    subst (Leaves (Settles old.now.bytes) old) (sym (c.setup_equals.ensures.same h)) (c.open.ensures.any_moment h)
-
-pub returns-then-not-branch-clause-any_moment : goal.returns-then-not-branch-clause-any_moment
-returns-then-not-branch-clause-any_moment g c = λ h.
-    let old = g.D.Disk.trail c.args.disk.now in
-    subst (Leaves (Settles old.now.bytes) old) (sym (c.setup_equals.ensures.same h)) (c.open.ensures.any_moment h)
-
-pub returns-in_err-snapshot-clause-any_moment : goal.returns-in_err-snapshot-clause-any_moment
-returns-in_err-snapshot-clause-any_moment g c = λ h.
-    let old = g.D.Disk.trail c.args.disk.now in
-    subst (Leaves (Settles old.now.bytes) old) (sym (c.snapshot.ensures.same h ∙ c.setup_equals.ensures.same h)) (c.open.ensures.any_moment h)
-
-pub returns-then-not-decode-clause-any_moment : goal.returns-then-not-decode-clause-any_moment
-returns-then-not-decode-clause-any_moment g c = λ h.
-    let old = g.D.Disk.trail c.args.disk.now in
-    subst (Leaves (Settles old.now.bytes) old) (sym (c.snapshot.ensures.same h ∙ c.setup_equals.ensures.same h)) (c.open.ensures.any_moment h)
-
-pub returns-in_err-replay-clause-any_moment : goal.returns-in_err-replay-clause-any_moment
-returns-in_err-replay-clause-any_moment g c = λ h.
-    let old = g.D.Disk.trail c.args.disk.now in
-    subst (Leaves (Settles old.now.bytes) old) (sym (c.replay.ensures.same h ∙ c.snapshot.ensures.same h ∙ c.setup_equals.ensures.same h)) (c.open.ensures.any_moment h)
-
-pub returns-clause-any_moment : goal.returns-clause-any_moment
-returns-clause-any_moment g c = λ h.
-    let old = g.D.Disk.trail c.args.disk.now in
-    subst (Leaves (Settles old.now.bytes) old) (sym (c.replay.ensures.same h ∙ c.snapshot.ensures.same h ∙ c.setup_equals.ensures.same h)) (c.open.ensures.any_moment h)
+pub returns-in_err-ledger-clause-differs : goal.returns-in_err-ledger-clause-differs
+returns-in_err-ledger-clause-differs g c = λ h is. c.in_err-ledger.ensures.differs h (ap (λ (e : OpenFault). Err e) (sym (err_of _ _ _ c.from_residual-in_err-ledger.ensures.1 is)))
 
 pub returns-clause-settled : goal.returns-clause-settled
-returns-clause-settled g c = λ h.
-    ap (λ (t : Trail). t.now) (c.replay.ensures.same h ∙ c.snapshot.ensures.same h ∙ c.setup_equals.ensures.same h) ∙ c.in_ok-store.ensures.settled h
-
-pub returns-then-not-branch-clause-differs : goal.returns-then-not-branch-clause-differs
-returns-then-not-branch-clause-differs g c = λ h is.
-    let found = c.in_ok-store.ensures.framed h in
-    let here = subst (λ (m : Moment). IsFramed found.0 found.1 m.bytes) (sym (c.in_ok-store.ensures.settled h)) found.2 in
-    let told = c.in_ok-setup_equals.ensures.equal h found.0 found.1 here found.3.setup in
-    record {
-      content = found.0;
-      end = found.1;
-      framed = found.2;
-      other = setup_untold c.in_ok-setup_equals.field-0 found.0.setup c.deref.result.now _ told (c.deref.ensures.value ∙ c.in_ok-bytes.ensures.spelling) c.if-not-branch.true;
-    }
-
--- what was read before the count
-read_all : (g : Over) (c : In_ok-snapshot g) → g.D.Disk.honest → IsRead c.args.setup.now (g.D.Disk.trail c.args.disk.now).now.bytes c.in_ok-store.store c.in_ok-snapshot.field-0.now
-read_all g c h =
-    let found = c.in_ok-store.ensures.framed h in
-    let here = subst (λ (m : Moment). IsFramed found.0 found.1 m.bytes) (sym (c.in_ok-store.ensures.settled h)) found.2 in
-    let told = c.in_ok-setup_equals.ensures.equal h found.0 found.1 here found.3.setup in
-    let later = subst (λ (t : Trail). IsFramed found.0 found.1 t.now.bytes) (sym (c.setup_equals.ensures.same h)) here in
-    record {
-      content = found.0;
-      end = found.1;
-      long = g.met.D.Disk.size c.args.disk.now h;
-      framed = found.2;
-      fits = found.3;
-      own = setup_told c.in_ok-setup_equals.field-0 found.0.setup c.deref.result.now _ told (c.deref.ensures.value ∙ c.in_ok-bytes.ensures.spelling) c.if-not-branch.false;
-      snapshot = c.in_ok-snapshot.ensures.payload h found.0 found.1 later;
-    }
-
-pub returns-then-not-decode-clause-damaged : goal.returns-then-not-decode-clause-damaged
-returns-then-not-decode-clause-damaged g c = λ h is.
-    let canton_is : c.in_ok-count.count.canton ≡ c.args.setup.now = ap (λ (t : Tally). t.canton) c.in_ok-count.ensures in
-    damaged_snapshot c.args.setup.now _ _ c.in_ok-snapshot.field-0.now (read_all g (goal.at.returns-then-not-decode-clause-damaged g c).In_ok-snapshot h) (λ start same. c.if-not-decode.ensures.refused refl start (same ∙ sym canton_is))
-
-pub returns-in_err-replay-clause-blank : goal.returns-in_err-replay-clause-blank
-returns-in_err-replay-clause-blank g c = λ h is.
-    absurd (no_blank c.in_err-replay.field-0.0 c.in_err-replay.ensures.only (err_of _ _ _ c.from_residual-in_err-replay.ensures.1 is))
-
-pub returns-in_err-replay-clause-differs : goal.returns-in_err-replay-clause-differs
-returns-in_err-replay-clause-differs g c = λ h is.
-    absurd (no_difference c.in_err-replay.field-0.0 c.in_err-replay.ensures.only (err_of _ _ _ c.from_residual-in_err-replay.ensures.1 is))
-
-pub returns-in_err-replay-clause-damaged : goal.returns-in_err-replay-clause-damaged
-returns-in_err-replay-clause-damaged g c = λ h is.
-    let canton_is : c.in_ok-count.count.canton ≡ c.args.setup.now = ap (λ (t : Tally). t.canton) c.in_ok-count.ensures in
-    let read = read_all g (goal.at.returns-in_err-replay-clause-damaged g c).In_ok-snapshot h in
-    let still = ap (λ (t : Trail). t.now) (c.snapshot.ensures.same h ∙ c.setup_equals.ensures.same h) ∙ c.in_ok-store.ensures.settled h in
-    let framed = frames_read _ _ _ _ read c.reader.result (g.D.Disk.trail c.snapshot.new.disk).now still c.reader.ensures in
-    let fault = err_of _ _ _ c.from_residual-in_err-replay.ensures.1 is in
-    damaged_records c.args.setup.now _ _ c.in_ok-snapshot.field-0.now read c.decode.new.self (c.decode.ensures.canton ∙ canton_is) c.decode.ensures.limits (c.if-not-decode.ensures.read refl)
-    (c.in_err-replay.ensures.damaged h read.content.records framed (ap (λ (e : OpenFault). Err e) (sym fault)))
+returns-clause-settled g c = λ h. c.in_ok-ledger.ensures.settled h
 
 pub returns-clause-opened : goal.returns-clause-opened
-returns-clause-opened g c = λ h.
-    let canton_is : c.in_ok-count.count.canton ≡ c.args.setup.now = ap (λ (t : Tally). t.canton) c.in_ok-count.ensures in
-    let start = c.decode.new.self in
-    let read = read_all g (goal.at.returns-clause-opened g c).In_ok-snapshot h in
-    let still = ap (λ (t : Trail). t.now) (c.snapshot.ensures.same h ∙ c.setup_equals.ensures.same h) ∙ c.in_ok-store.ensures.settled h in
-    let framed = frames_read _ _ _ _ read c.reader.result (g.D.Disk.trail c.snapshot.new.disk).now still c.reader.ensures in
-    let replays = c.in_ok-replay.ensures.replayed h read.content.records framed in
-    record {
-      set_up = c.replay.ensures.canton ∙ c.decode.ensures.canton ∙ canton_is;
-      held = c.new-2.ensures;
-      whole = c.in_ok-store.ensures.whole;
-      content = read.content;
-      end = read.end;
-      framed = read.framed;
-      fits = read.fits;
-      stands = found_stands c.args.setup.now _ _ c.in_ok-snapshot.field-0.now read start c.replay.new.count (c.decode.ensures.canton ∙ canton_is) c.replay.ensures.canton c.decode.ensures.limits (c.if-not-decode.ensures.read refl) replays;
-    }
+returns-clause-opened g c = λ h. record { ledger = c.in_ok-ledger.ensures.opened h; held = c.new.ensures }

@@ -1,31 +1,31 @@
 use Rattle.std.proofs.Common.{arith}
 use Rattle.zh_office.proofs.Blocks.{Consumes-none}
-use Rattle.zh_office.proofs.Inputs.{Serving-start, Serving-clean, Serving-more, Serving-breaks, Serving-last_breaks, Serving-stops, Serving-ends, Consumes-kept}
+use Rattle.zh_office.proofs.Inputs.{Serving-map, Serving-start, Serving-clean, Serving-more, Serving-breaks, Serving-last_breaks, Serving-stops, Serving-ends, Consumes-kept}
 use Rattle.zh_office.proofs.office.Office.serve.Goals as goal
 
 pub loop-init : goal.loop-init
-loop-init g c = Serving-start _ _ _ _ _ c.new-line.ensures
+loop-init g c = record { kept = λ h. h; serving = Serving-start _ _ _ _ _ c.new-line.ensures }
 
 pub returns-in_default-clause-read : goal.returns-in_default-clause-read
-returns-in_default-clause-read g c = λ _. Serving-stops _ _ _ _ _ _ _ _ _ _ c.loop.invariant (Consumes-kept _ _ c.in_default.ensures.bytes)
+returns-in_default-clause-read g c = λ _. Serving-stops _ _ _ _ _ _ _ _ _ _ c.loop.invariant.serving (Consumes-kept _ _ c.in_default.ensures.bytes)
 
 pub returns-in_err-last-clause-write : goal.returns-in_err-last-clause-write
 returns-in_err-last-clause-write g c =
-    λ _. Serving-last_breaks _ _ _ _ _ _ _ _ _ _ _ _ c.loop.invariant (rw c.if-len-eq0.true at c.in-Ok.ensures.bytes.0) (c.in-Ok.ensures.bytes.1 c.if-len-eq0.true (omega (arith, c.read.auto.buf))) (rw c.in_err-last.was at c.finish.ensures)
+    λ _. Serving-last_breaks _ _ _ _ _ _ _ _ _ _ _ _ (Serving-map _ _ c.finish.ensures.kept _ _ _ _ _ _ _ _ c.loop.invariant.serving) (rw c.if-len-eq0.true at c.in-Ok.ensures.bytes.0) (c.in-Ok.ensures.bytes.1 c.if-len-eq0.true (omega (arith, c.read.auto.buf))) (rw c.in_err-last.was at c.finish.ensures.finished)
 
 pub returns-then-len-eq0-clause-ok : goal.returns-then-len-eq0-clause-ok
 returns-then-len-eq0-clause-ok g c =
-    let last = rw c.in_ok-last.was at c.finish.ensures in
-    Serving-ends _ _ _ _ _ _ _ _ _ _ _ _ _ _ _ _ c.loop.invariant (rw c.if-len-eq0.true at c.in-Ok.ensures.bytes.0) (c.in-Ok.ensures.bytes.1 c.if-len-eq0.true (omega (arith, c.read.auto.buf))) last.2 last.3 last.4 c.saturating_add.ensures
+    let last = rw c.in_ok-last.was at c.finish.ensures.finished in
+    Serving-ends _ _ _ _ _ _ _ _ _ _ _ _ _ _ _ _ (Serving-map _ _ c.finish.ensures.kept _ _ _ _ _ _ _ _ c.loop.invariant.serving) (rw c.if-len-eq0.true at c.in-Ok.ensures.bytes.0) (c.in-Ok.ensures.bytes.1 c.if-len-eq0.true (omega (arith, c.read.auto.buf))) last.2 last.3 last.4 c.saturating_add.ensures
 
 pub take_block-requires : goal.take_block-requires
-take_block-requires g c = Serving-clean _ _ _ _ _ _ _ _ _ c.loop.invariant
+take_block-requires g c = Serving-clean _ _ _ _ _ _ _ _ _ c.loop.invariant.serving
 
 pub returns-in_err-lines-clause-write : goal.returns-in_err-lines-clause-write
-returns-in_err-lines-clause-write g c = λ _. Serving-breaks _ _ _ _ _ _ _ _ _ _ _ _ _ c.loop.invariant c.in-Ok.ensures.bytes.0 (rw c.in_err-lines.was at c.take_block.ensures.taken)
+returns-in_err-lines-clause-write g c = λ _. Serving-breaks _ _ _ _ _ _ _ _ _ _ _ _ _ (Serving-map _ _ c.take_block.ensures.kept _ _ _ _ _ _ _ _ c.loop.invariant.serving) c.in-Ok.ensures.bytes.0 (rw c.in_err-lines.was at c.take_block.ensures.taken)
 
 pub loop-preserved : goal.loop-preserved
-loop-preserved g c = Serving-more _ _ _ _ _ _ _ _ _ _ _ _ _ _ _ _ c.loop.invariant c.in-Ok.ensures.bytes.0 (rw c.in_ok-lines.was at c.take_block.ensures.taken) c.saturating_add-count.ensures
+loop-preserved g c = record { kept = λ h. c.loop.invariant.kept (c.take_block.ensures.kept h); serving = Serving-more _ _ _ _ _ _ _ _ _ _ _ _ _ _ _ _ (Serving-map _ _ c.take_block.ensures.kept _ _ _ _ _ _ _ _ c.loop.invariant.serving) c.in-Ok.ensures.bytes.0 (rw c.in_ok-lines.was at c.take_block.ensures.taken) c.saturating_add-count.ensures }
 
 pub returns-clause-turns : goal.returns-clause-turns
-returns-clause-turns g c = λ _. Serving-stops _ _ _ _ _ _ _ _ _ _ c.loop.invariant (Consumes-none _)
+returns-clause-turns g c = λ _. Serving-stops _ _ _ _ _ _ _ _ _ _ c.loop.invariant.serving (Consumes-none _)

@@ -8,4 +8,7 @@ invariant-loop g l =
     let contents = g.W.Write.contents in
     let failures = g.D.Disk.failures in
     let trail = g.D.Disk.trail in
-    Serving g.D.Disk.honest (remaining l.fn.reader) (remaining l.reader) (contents l.fn.writer) (contents l.writer) (on_disk l.fn.self (failures l.fn.disk) (trail l.fn.disk)) (on_disk l.self (failures l.disk) (trail l.disk)) l.line.items l.count
+    record {
+      kept : g.D.Disk.honest l.disk → g.D.Disk.honest l.fn.disk;
+      serving : Serving (g.D.Disk.honest l.disk) (remaining l.fn.reader) (remaining l.reader) (contents l.fn.writer) (contents l.writer) (on_disk l.fn.self (failures l.fn.disk) (trail l.fn.disk)) (on_disk l.self (failures l.disk) (trail l.disk)) l.line.items l.count;
+    }

@@ -11,7 +11,8 @@ invariant-loop-ended g l =
     let trail = g.D.Disk.trail in
     let line = l.fn.line.items in
     record {
-      progress : Progress g.D.Disk.honest (contents l.fn.writer) (contents l.writer) (on_disk l.fn.self (failures l.fn.disk) (trail l.fn.disk)) (on_disk l.self (failures l.disk) (trail l.disk)) (ended_lines (line ++ l.block)) (heard (unfinished (line ++ l.block))) l.line.items l.rest l.count;
+      kept : g.D.Disk.honest l.disk → g.D.Disk.honest l.fn.disk;
+      progress : Progress (g.D.Disk.honest l.disk) (contents l.fn.writer) (contents l.writer) (on_disk l.fn.self (failures l.fn.disk) (trail l.fn.disk)) (on_disk l.self (failures l.disk) (trail l.disk)) (ended_lines (line ++ l.block)) (heard (unfinished (line ++ l.block))) l.line.items l.rest l.count;
       room : l.count + length l.rest ≤ length l.block;
     }
 

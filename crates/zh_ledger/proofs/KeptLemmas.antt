@@ -1,0 +1,88 @@
+-- How an image that the ledger knows takes one more command.
+use Rattle.std.proofs.Common.{◌≡◌, inl, inr, ⊎_elim, ◌<◌, ◌-◌, ◌^◌, ℕ, ◌+◌, List, [], ◌∷◌, ◌++◌, length, arith, refl, subst, ap, sym, ◌∙◌}
+use Rattle.std.specs.Prelude.{All}
+use Rattle.std.proofs.lemmas.List.{map-append}
+use Rattle.std.proofs.lemmas.List.Elements.{All-append}
+use Rattle.std.proofs.lemmas.Grind.{common_steps}
+use Rattle.zh_disk.specs.Disk.{Trail, Moves, Leaves}
+use Rattle.zh_disk.proofs.Runs.{leaves_weaken}
+use Rattle.zh_journal.specs.Pages.{pages_of}
+use Rattle.zh_returns.specs.Judgement.{judge}
+use Rattle.zh_records.specs.Spelling.{command_spelling, IsSpeakable}
+use Rattle.zh_returns.specs.Step.{step, after, changed, on_verdict}
+use Rattle.zh_returns.specs.Tally.{Tally}
+use Rattle.zh_records.specs.declared.command.Command.{Command}
+use Rattle.zh_returns.specs.declared.verdict.Verdict.{Verdict}
+use Rattle.zh_returns.specs.declared.verdict.Verdict.TheVariants.{Accept}
+use Rattle.zh_snapshot.specs.Image.{Content, IsClean, with_record}
+use Rattle.zh_snapshot.specs.Store.{Fits, StoreAdds, StoreAddsOrNot}
+use Rattle.zh_snapshot.proofs.Contents.{fits_grown}
+use Rattle.zh_ledger.specs.Ledger.{Ledger, stored}
+use Rattle.zh_ledger.specs.Stands.{AreAccepted, Replays, StandsFor, Holds, IsKept}
+use Rattle.zh_ledger.proofs.StandsLemmas.{holds_kept}
+use Rattle.zh_ledger.specs.Images.{KeepsOrSteps, Stores}
+
+-- the count after one command more
+pub after_more : (tally : Tally) (cs : List Command) (c : Command) → after tally (cs ++ c ∷ []) ≡ step (after tally cs) c
+after_more tally [] c = refl
+after_more tally (d ∷ cs) c = after_more (step tally d) cs c
+
+pub accepted_more : (tally : Tally) (cs : List Command) (c : Command) → AreAccepted tally cs → judge (after tally cs) c ≡ Accept → (after tally cs).accepted < 2 ^ 64 - 1 → AreAccepted tally (cs ++ c ∷ [])
+accepted_more tally [] c each accept room = (accept, (room, tt))
+accepted_more tally (d ∷ cs) c each accept room = (each.0, (each.1.0, accepted_more (step tally d) cs c each.1.1 accept room))
+
+pub speakable_more : (cs : List Command) (c : Command) → All IsSpeakable cs → IsSpeakable c → All IsSpeakable (cs ++ c ∷ [])
+speakable_more cs c each one = grind (arith, common_steps, All-append)
+
+-- an accepted command leaves the set-up as it is
+pub step_canton : (tally : Tally) (command : Command) → judge tally command ≡ Accept → (step tally command).canton ≡ tally.canton
+step_canton tally command accept = ap (λ (v : Verdict). (on_verdict v (changed tally command) tally).canton) accept
+
+pub replays_more : (start tally : Tally) (rs : List (List ℕ)) (c : Command) → Replays start rs tally → IsSpeakable c → judge tally c ≡ Accept → tally.accepted < 2 ^ 64 - 1 → Replays start (rs ++ command_spelling c ∷ []) (step tally c)
+replays_more start tally rs c by speakable accept room = record {
+  commands = by.commands ++ c ∷ [];
+  speakable = speakable_more by.commands c by.speakable speakable;
+  spelled = ap (λ (l : List (List ℕ)). l ++ command_spelling c ∷ []) by.spelled ∙ sym (map-append command_spelling by.commands (c ∷ []));
+  accepted = accepted_more start by.commands c by.accepted (subst (λ (t : Tally). judge t c ≡ Accept) by.count accept) (subst (λ (t : Tally). t.accepted < 2 ^ 64 - 1) by.count room);
+  count = ap (λ (t : Tally). step t c) by.count ∙ sym (after_more start by.commands c);
+}
+
+pub stands_more : (x : Content) (tally : Tally) (c : Command) → StandsFor x tally → IsSpeakable c → judge tally c ≡ Accept → tally.accepted < 2 ^ 64 - 1 → StandsFor (with_record x (command_spelling c)) (step tally c)
+stands_more x tally c by speakable accept room =
+    let same = step_canton tally c accept in
+    record {
+      setup = subst (λ canton. x.setup ≡ Rattle.zh_districts.specs.Spelling.setup_spelling canton) (sym same) by.setup;
+      start = by.start;
+      canton = by.canton ∙ sym same;
+      limits = by.limits;
+      snapshot = by.snapshot;
+      replays = replays_more by.start tally x.records c by.replays speakable accept room;
+    }
+
+module _ (s : Ledger) (c : Command) (speakable : IsSpeakable c) (accept : judge s.tally c ≡ Accept) (room : s.tally.accepted < 2 ^ 64 - 1) where
+  added : (old new : List ℕ) (x : Content) (j : ℕ) → Fits s.store x j → StandsFor x s.tally → IsClean (with_record x (command_spelling c)) (j + pages_of (length (command_spelling c))) new → IsKept (stored s c) new
+  added old new x j fits stands clean = record {
+    content = with_record x (command_spelling c);
+    end = j + pages_of (length (command_spelling c));
+    clean = clean;
+    fits = fits_grown s.store x j (command_spelling c) fits;
+    stands = stands_more x s.tally c stands speakable accept room;
+  }
+
+  pub stores : (old new : List ℕ) → StoreAdds s.store.area.end (command_spelling c) old new → Stores s c old new
+  stores old new adds kept =
+      let clean = adds kept.content (subst (λ (n : ℕ). IsClean kept.content n old) kept.fits.end kept.clean) in
+      added old new kept.content kept.end kept.fits kept.stands (subst (λ (n : ℕ). IsClean (with_record kept.content (command_spelling c)) (n + pages_of (length (command_spelling c))) new) (sym kept.fits.end) clean)
+
+  pub keeps_or_steps : (old new : List ℕ) → StoreAddsOrNot s.store.area.end (command_spelling c) old new → KeepsOrSteps s c old new
+  keeps_or_steps old new adds kept =
+      ⊎_elim
+      (λ (still : IsClean kept.content s.store.area.end new). inl (record { content = kept.content; end = kept.end; clean = subst (λ (n : ℕ). IsClean kept.content n new) (sym kept.fits.end) still; stands = kept.stands }))
+      (λ more. inr (holds_kept (stored s c) new (added old new kept.content kept.end kept.fits kept.stands (subst (λ (n : ℕ). IsClean (with_record kept.content (command_spelling c)) (n + pages_of (length (command_spelling c))) new) (sym kept.fits.end) more))))
+      (adds kept.content (subst (λ (n : ℕ). IsClean kept.content n old) kept.fits.end kept.clean))
+
+  pub each_moment : (t u : Trail) → Leaves (StoreAddsOrNot s.store.area.end (command_spelling c)) t u → Leaves (KeepsOrSteps s c) t u
+  each_moment t u run = leaves_weaken _ _ t u (λ d e image by. keeps_or_steps d e by) run
+
+  pub last_moment : (t u : Trail) → Moves (StoreAdds s.store.area.end (command_spelling c)) t.now u.now → Moves (Stores s c) t.now u.now
+  last_moment t u moves = λ d image. let from = moves d image in (from.0, from.1, stores from.0 d from.2)

@@ -1,0 +1,154 @@
+-- What formatting leaves, and what opening finds.
+use Rattle.std.proofs.Common.{◌≡◌, ◌∙◌, ℕ, ◌≤◌, List, [], ◌++◌, Bool, true, false, Result, Err, ◌⊎◌, inl, inr, length, take, drop, refl, sym, ap, subst, arith, append-nil}
+use Rattle.std.specs.Prelude.{◌↔◌, IsTrue}
+use Rattle.std.specs.Result.{IsErrAnd}
+use Rattle.std.proofs.lemmas.List.{take-append-le, take_all, drop_all}
+use Rattle.zh_districts.specs.Canton.{Canton}
+use Rattle.zh_districts.specs.Spelling.{setup_spelling}
+use Rattle.zh_disk.specs.Disk.{Moment, Trail, IsImage, IsSettled, settled}
+use Rattle.zh_disk.proofs.Runs.{synced_image}
+use Rattle.zh_journal.specs.Pages.{Frames}
+use Rattle.zh_journal.specs.Place.{Rest}
+use Rattle.zh_returns.specs.Limits.{IsTally}
+use Rattle.zh_returns.specs.Payload.{payload_spelling}
+use Rattle.zh_returns.specs.Tally.{Tally, empty}
+use Rattle.zh_snapshot.specs.Format.{Formats, IsFormatted}
+use Rattle.zh_returns.proofs.CallerLemmas.{tally_once}
+use Rattle.zh_snapshot.specs.Image.{Content, IsBlank, IsFramed, IsClean}
+use Rattle.zh_snapshot.specs.Store.{State, Fits}
+use Rattle.zh_snapshot.specs.declared.fault.OpenFault as store
+use Rattle.zh_snapshot.specs.declared.fault.OpenFault.TheVariants as of_store
+use Rattle.zh_snapshot.proofs.Contents.{framed_once}
+use Rattle.zh_ledger.specs.Opened.{IsNew, IsDamaged, OpenedAs}
+use Rattle.zh_ledger.specs.Stands.{StandsFor, Replays}
+use Rattle.zh_ledger.specs.declared.fault.OpenFault.{OpenFault}
+use Rattle.zh_ledger.specs.declared.fault.OpenFault.TheVariants as faults
+use Rattle.zh_ledger.proofs.ReplayLemmas.{replays_none}
+
+-- bytes that fill a buffer are all of it
+pub filled : (n size : ℕ) (spelled out before after given : List ℕ) → size ≡ n → length before ≡ n → length out ≡ n → out ≡ spelled ++ drop n before → given ≡ take size (out ++ after) → given ≡ spelled
+filled n size spelled out before after given long room whole is lent =
+    let fits : size ≤ length out = omega arith in
+    let all : take size out ≡ out = take_all size out (omega arith) in
+    let none : drop n before ≡ [] = drop_all n before (omega arith) in
+    lent ∙ take-append-le size out after fits ∙ all ∙ is ∙ ap (λ (rest : List ℕ). spelled ++ rest) none ∙ append-nil spelled
+
+pub formats_as : (setup setup' first first' : List ℕ) (old new : Trail) → setup ≡ setup' → first ≡ first' → Formats setup first old new → Formats setup' first' old new
+formats_as setup setup' first first' old new same_setup same_first formats =
+    subst (λ (s : List ℕ). Formats s first' old new) same_setup (subst (λ (f : List ℕ). Formats setup f old new) same_first formats)
+
+-- where nothing is pending what a read gives is the one image
+pub one_image : (m : Moment) (c : List ℕ) → m.pending ≡ [] → IsImage m c → c ≡ m.bytes
+one_image m c rest image = synced_image m c (record { size = image.size; same = λ k s. image.same k (subst (λ (p : List (ℕ × ℕ)). IsSettled p k) (sym rest) tt) })
+
+-- the content that a formatting leaves stands for the count before the first line
+new_stands : (canton : Canton) (setup first : List ℕ) → setup ≡ setup_spelling canton → first ≡ payload_spelling (empty canton) → IsTally (empty canton)
+    → StandsFor (record { setup = setup; generation = 1; snapshot = first; records = [] }) (empty canton)
+new_stands canton setup first same_setup same_first limits = record {
+  setup = same_setup;
+  start = empty canton;
+  canton = refl;
+  limits = limits;
+  snapshot = sym same_first;
+  replays = replays_none (empty canton);
+}
+
+pub new_image : (canton : Canton) (setup first : List ℕ) (m : Moment) → setup ≡ setup_spelling canton → first ≡ payload_spelling (empty canton) → IsTally (empty canton)
+    → (m.pending ≡ []) × IsFormatted setup first m.bytes → (c : List ℕ) → IsImage m c → IsNew canton c
+new_image canton setup first m same_setup same_first limits formatted c image =
+    let content : Content = record { setup = setup; generation = 1; snapshot = first; records = [] } in
+    record {
+      content = content;
+      end = 0;
+      clean = subst (IsClean content 0) (sym (one_image m c formatted.0 image)) formatted.1.clean;
+      stands = new_stands canton setup first same_setup same_first limits;
+    }
+
+-- an error that a `?` made
+pub err_of : {T E : Type 0} (r : Result T E) (P : E → Type 0) (e : E) → IsErrAnd r P → r ≡ Err e → P e
+err_of r P e and is = subst (λ (x : Result _ _). IsErrAnd x P) is and
+
+pub store_damaged : (e : store.OpenFault) → OpenedAs e faults.Damaged → e ≡ of_store.Damaged
+store_damaged of_store.Device is = absurd (cc)
+store_damaged of_store.Blank is = absurd (cc)
+store_damaged of_store.Damaged is = refl
+store_damaged of_store.Memory is = absurd (cc)
+
+-- where a call tells two faults alone
+pub no_blank : {T : Type 0} (e : OpenFault) → (◌≡◌ {A = Result T OpenFault} (Err e) (Err faults.Device)) ⊎ (◌≡◌ {A = Result T OpenFault} (Err e) (Err faults.Damaged)) → faults.Blank ≡ e → ⊥
+no_blank e (inl device) is = cc
+no_blank e (inr damaged) is = cc
+
+pub no_difference : {T : Type 0} (e : OpenFault) → (◌≡◌ {A = Result T OpenFault} (Err e) (Err faults.Device)) ⊎ (◌≡◌ {A = Result T OpenFault} (Err e) (Err faults.Damaged)) → faults.SetupDiffers ≡ e → ⊥
+no_difference e (inl device) is = cc
+no_difference e (inr damaged) is = cc
+
+-- a disk on which no store stands
+pub damaged_all : (canton : Canton) (bytes : List ℕ) → (IsBlank bytes → ⊥) × ((x : Content) (j : ℕ) → IsFramed x j bytes → ⊥) → IsDamaged canton bytes
+damaged_all canton bytes none = record {
+  gate = none.0;
+  setup = λ x j framed. absurd (none.1 x j framed);
+  nothing = λ x j framed tally same stands. none.1 x j framed;
+}
+
+-- a disk whose content stands for no count of this set-up, which is its own
+pub damaged_one : (canton : Canton) (bytes : List ℕ) (x : Content) (j : ℕ) → length bytes ≡ 1118720 → IsFramed x j bytes → x.setup ≡ setup_spelling canton
+    → ((tally : Tally) → tally.canton ≡ canton → StandsFor x tally → ⊥) → IsDamaged canton bytes
+damaged_one canton bytes x j long framed same none = record {
+  gate = λ blank. blank framed.gate;
+  setup = λ y k other. ap (λ (z : Content). z.setup) (framed_once y x k j bytes long other framed) ∙ same;
+  nothing = λ y k other tally same_canton stands.
+      none tally same_canton (subst (λ (z : Content). StandsFor z tally) (framed_once y x k j bytes long other framed) stands);
+}
+
+-- what a comparison with the set-up bytes told
+pub setup_told : (equal : Bool) (setup given spelled : List ℕ) → IsTrue equal ↔ (setup ≡ given) → given ≡ spelled → equal ≡ true → setup ≡ spelled
+setup_told equal setup given spelled told is right = told.0 right ∙ is
+
+pub setup_untold : (equal : Bool) (setup given spelled : List ℕ) → IsTrue equal ↔ (setup ≡ given) → given ≡ spelled → equal ≡ false → setup ≡ spelled → ⊥
+setup_untold equal setup given spelled told is wrong same = let right = told.1 (same ∙ sym is) in cc
+
+-- what was read of a disk with this set-up: its content, which the store fits, and the content's snapshot
+pub record IsRead (canton : Canton) (bytes : List ℕ) (s : State) (payload : List ℕ) : Type 0 where
+  pub content : Content
+  pub end : ℕ
+  pub long : length bytes ≡ 1118720
+  pub framed : IsFramed content end bytes
+  pub fits : Fits s content end
+  pub own : content.setup ≡ setup_spelling canton
+  pub snapshot : payload ≡ content.snapshot
+
+-- where no count of the set-up has the snapshot
+pub damaged_snapshot : (canton : Canton) (bytes : List ℕ) (s : State) (payload : List ℕ) → IsRead canton bytes s payload
+    → ((start : Tally) → start.canton ≡ canton → IsTally start → payload_spelling start ≡ payload → ⊥) → IsDamaged canton bytes
+damaged_snapshot canton bytes s payload read none =
+    damaged_one canton bytes read.content read.end read.long read.framed read.own (λ tally same stands.
+    none stands.start (stands.canton ∙ same) stands.limits (stands.snapshot ∙ sym read.snapshot))
+
+-- where the records lead nowhere from the one count that has it
+pub damaged_records : (canton : Canton) (bytes : List ℕ) (s : State) (payload : List ℕ) (read : IsRead canton bytes s payload) (start : Tally) → start.canton ≡ canton → IsTally start → payload_spelling start ≡ payload
+    → ((tally : Tally) → Replays start read.content.records tally → ⊥) → IsDamaged canton bytes
+damaged_records canton bytes s payload read start its limits spelled none =
+    damaged_one canton bytes read.content read.end read.long read.framed read.own (λ tally same stands.
+    let once : stands.start ≡ start = tally_once stands.start start stands.limits limits (stands.canton ∙ same ∙ sym its) (stands.snapshot ∙ sym read.snapshot ∙ sym spelled) in
+    none tally (subst (λ (t : Tally). Replays t read.content.records tally) once stands.replays))
+
+-- where they lead to a count
+pub found_stands : (canton : Canton) (bytes : List ℕ) (s : State) (payload : List ℕ) (read : IsRead canton bytes s payload) (start tally : Tally) → start.canton ≡ canton → tally.canton ≡ start.canton → IsTally start → payload_spelling start ≡ payload
+    → Replays start read.content.records tally → StandsFor read.content tally
+found_stands canton bytes s payload read start tally its same limits spelled replays = record {
+  setup = read.own ∙ ap setup_spelling (sym (same ∙ its));
+  start = start;
+  canton = sym same;
+  limits = limits;
+  snapshot = spelled ∙ read.snapshot;
+  replays = replays;
+}
+
+-- the records lie before the page where the store has them end
+pub frames_read : (canton : Canton) (bytes : List ℕ) (s : State) (payload : List ℕ) (read : IsRead canton bytes s payload) (reader : Rest) (now : Moment) → now ≡ settled bytes → reader ≡ record { base = 332032; page = 0; end = s.area.end }
+    → Frames reader.base now.bytes reader.page read.content.records reader.end
+frames_read canton bytes s payload read reader now same is =
+    subst (λ (m : Moment). Frames reader.base m.bytes reader.page read.content.records reader.end) (sym same)
+    (subst (λ (r : Rest). Frames r.base bytes r.page read.content.records r.end) (sym is)
+    (subst (λ (j : ℕ). Frames 332032 bytes 0 read.content.records j) read.fits.end read.framed.slot.records.0))

@@ -1,0 +1,163 @@
+-- Which records lead from one count to another.
+use Rattle.std.proofs.Common.{◌≡◌, ◌∙◌, ◌<◌, ◌-◌, ◌^◌, ℕ, List, [], ◌∷◌, map, arith, refl, sym, ap, subst, Option, Some, Bor}
+use Rattle.std.specs.List.{All}
+use Rattle.std.specs.Prelude.{IsNone, ◌↔◌}
+use Rattle.std.specs.Option.{option_copied}
+use Rattle.std.proofs.lemmas.List.Elements.{All-cons, All-nil, All-head, All-tail}
+use Rattle.zh_disk.specs.Disk.{Trail}
+use Rattle.zh_journal.specs.Pages.{Frames}
+use Rattle.zh_journal.proofs.Walk.{frames_room}
+use Rattle.zh_returns.specs.Judgement.{judge}
+use Rattle.zh_records.specs.Spelling.{command_spelling, IsSpeakable}
+use Rattle.zh_returns.specs.Step.{step, after}
+use Rattle.zh_returns.specs.Tally.{Tally}
+use Rattle.zh_records.specs.declared.command.Command.{Command}
+use Rattle.zh_returns.specs.declared.verdict.Verdict.TheVariants.{Accept}
+use Rattle.zh_records.proofs.CallerLemmas.{command_once}
+use Rattle.zh_ledger.specs.Stands.{Replays, AreAccepted}
+
+pub replays_none : (tally : Tally) → Replays tally [] tally
+replays_none tally = record { commands = []; speakable = All-nil IsSpeakable; spelled = refl; accepted = tt; count = refl }
+
+-- the record's command is one that is accepted, with a number left for it
+pub record IsNext (start : Tally) (r : List ℕ) (command : Command) : Type 0 where
+  pub speakable : IsSpeakable command
+  pub spelled : command_spelling command ≡ r
+  pub accepted : judge start command ≡ Accept
+  pub room : start.accepted < 2 ^ 64 - 1
+
+pub replays_one : (start : Tally) (r : List ℕ) (command : Command) → IsNext start r command → Replays start (r ∷ []) (step start command)
+replays_one start r command next = record {
+  commands = command ∷ [];
+  speakable = All-cons IsSpeakable command [] next.speakable (All-nil IsSpeakable);
+  spelled = ap (λ (x : List ℕ). x ∷ []) (sym next.spelled);
+  accepted = (next.accepted, (next.room, tt));
+  count = refl;
+}
+
+-- the first record is one of a command that is accepted, and the others lead on from there
+pub record Begins (start : Tally) (r : List ℕ) (rs : List (List ℕ)) (tally : Tally) : Type 0 where
+  pub command : Command
+  pub next : IsNext start r command
+  pub rest : Replays (step start command) rs tally
+
+pub replays_first : (start : Tally) (r : List ℕ) (rs : List (List ℕ)) (tally : Tally) → Replays start (r ∷ rs) tally → Begins start r rs tally
+replays_first start r rs tally replays = at replays.commands replays.speakable replays.spelled replays.accepted replays.count
+  where
+    at : (commands : List Command) → All IsSpeakable commands → r ∷ rs ≡ map command_spelling commands → AreAccepted start commands → tally ≡ after start commands → Begins start r rs tally
+    at [] speakable spelled accepted count = absurd (cc)
+    at (command ∷ commands) speakable spelled accepted count = record {
+      command = command;
+      next = record { speakable = All-head IsSpeakable command commands speakable; spelled = cc; accepted = accepted.0; room = accepted.1.0 };
+      rest = record { commands = commands; speakable = All-tail IsSpeakable command commands speakable; spelled = cc; accepted = accepted.1.1; count = count };
+    }
+
+replays_begun : (start : Tally) (r : List ℕ) (rs : List (List ℕ)) (tally : Tally) → Begins start r rs tally → Replays start (r ∷ rs) tally
+replays_begun start r rs tally begins = record {
+  commands = begins.command ∷ begins.rest.commands;
+  speakable = All-cons IsSpeakable begins.command begins.rest.commands begins.next.speakable begins.rest.speakable;
+  spelled = λ i. sym begins.next.spelled i ∷ begins.rest.spelled i;
+  accepted = (begins.next.accepted, (begins.next.room, begins.rest.accepted));
+  count = begins.rest.count;
+}
+
+-- a list of no records leads nowhere
+pub replays_still : (start tally : Tally) → Replays start [] tally → tally ≡ start
+replays_still start tally replays = at replays.commands replays.spelled replays.count
+  where
+    at : (commands : List Command) → [] ≡ map command_spelling commands → tally ≡ after start commands → tally ≡ start
+    at [] spelled count = count
+    at (command ∷ commands) spelled count = absurd (cc)
+
+-- where a record led
+landed : (start : Tally) (r : List ℕ) (mid : Tally) → Replays start (r ∷ []) mid → (command : Command) × IsNext start r command × (mid ≡ step start command)
+landed start r mid one =
+    let begins = replays_first start r [] mid one in
+    (begins.command, begins.next, replays_still _ mid begins.rest)
+
+-- a record, and then others
+pub replays_more : (start mid tally : Tally) (r : List ℕ) (rs : List (List ℕ)) → Replays start (r ∷ []) mid → Replays mid rs tally → Replays start (r ∷ rs) tally
+replays_more start mid tally r rs one others =
+    let there = landed start r mid one in
+    replays_begun start r rs tally (record { command = there.0; next = there.1; rest = subst (λ (t : Tally). Replays t rs tally) there.2 others })
+
+-- a record leads to one count alone
+pub replays_less : (start mid tally : Tally) (r : List ℕ) (rs : List (List ℕ)) → Replays start (r ∷ []) mid → Replays start (r ∷ rs) tally → Replays mid rs tally
+replays_less start mid tally r rs one all =
+    let there = landed start r mid one in
+    let begins = replays_first start r rs tally all in
+    let same : begins.command ≡ there.0 = command_once begins.command there.0 begins.next.speakable there.1.speakable (begins.next.spelled ∙ sym there.1.spelled) in
+    subst (λ (t : Tally). Replays t rs tally) (ap (step start) same ∙ sym there.2) begins.rest
+
+-- of these records the ones from this page on are left, and where they lead from the count now is where all lead from the start
+pub record Remains (base : ℕ) (bytes : List ℕ) (page end : ℕ) (start : Tally) (records : List (List ℕ)) (now : Tally) : Type 0 where
+  pub rest : List (List ℕ)
+  pub framed : Frames base bytes page rest end
+  pub leads : (tally : Tally) → Replays now rest tally → Replays start records tally
+  pub led : (tally : Tally) → Replays start records tally → Replays now rest tally
+
+pub remains_all : (base : ℕ) (bytes : List ℕ) (page end : ℕ) (start : Tally) (records : List (List ℕ)) → Frames base bytes page records end → Remains base bytes page end start records start
+remains_all base bytes page end start records framed = record { rest = records; framed = framed; leads = λ tally replays. replays; led = λ tally replays. replays }
+
+-- at the last page nothing is left
+pub remains_nothing : (base : ℕ) (bytes : List ℕ) (page end : ℕ) (start : Tally) (records : List (List ℕ)) (now : Tally) → page ≡ end → Remains base bytes page end start records now → Replays start records now
+remains_nothing base bytes page end start records now last remains = at remains.rest remains.framed remains.leads
+  where
+    at : (rest : List (List ℕ)) → Frames base bytes page rest end → ((tally : Tally) → Replays now rest tally → Replays start records tally) → Replays start records now
+    at [] framed leads = leads now (replays_none now)
+    at (r ∷ rs) framed leads = absurd (omega (arith, frames_room base bytes page end r rs framed))
+
+-- before it a record is left
+pub record IsAhead (base : ℕ) (bytes : List ℕ) (page end : ℕ) (start : Tally) (records : List (List ℕ)) (now : Tally) : Type 0 where
+  pub first : List ℕ
+  pub others : List (List ℕ)
+  pub framed : Frames base bytes page (first ∷ others) end
+  pub leads : (tally : Tally) → Replays now (first ∷ others) tally → Replays start records tally
+  pub led : (tally : Tally) → Replays start records tally → Replays now (first ∷ others) tally
+
+pub remains_some : (base : ℕ) (bytes : List ℕ) (page end : ℕ) (start : Tally) (records : List (List ℕ)) (now : Tally) → (page ≡ end → ⊥) → Remains base bytes page end start records now → IsAhead base bytes page end start records now
+remains_some base bytes page end start records now before remains = at remains.rest remains.framed remains.leads remains.led
+  where
+    at : (rest : List (List ℕ)) → Frames base bytes page rest end → ((tally : Tally) → Replays now rest tally → Replays start records tally) → ((tally : Tally) → Replays start records tally → Replays now rest tally) → IsAhead base bytes page end start records now
+    at [] framed leads led = absurd (before framed)
+    at (r ∷ rs) framed leads led = record { first = r; others = rs; framed = framed; leads = leads; led = led }
+
+-- once the first of them is replayed, the others are left
+pub remains_less : (base : ℕ) (bytes : List ℕ) (page end : ℕ) (start : Tally) (records : List (List ℕ)) (now : Tally) (ahead : IsAhead base bytes page end start records now)
+    → (page' : ℕ) (next : Tally) → Frames base bytes page' ahead.others end → Replays now (ahead.first ∷ []) next → Remains base bytes page' end start records next
+remains_less base bytes page end start records now ahead page' next framed one = record {
+  rest = ahead.others;
+  framed = framed;
+  leads = λ tally replays. ahead.leads tally (replays_more now next tally ahead.first ahead.others one replays);
+  led = λ tally replays. replays_less now next tally ahead.first ahead.others one (ahead.led tally replays);
+}
+
+-- where the first of them is of no command that is accepted, the records lead nowhere
+pub remains_stuck : (base : ℕ) (bytes : List ℕ) (page end : ℕ) (start : Tally) (records : List (List ℕ)) (now : Tally) (ahead : IsAhead base bytes page end start records now)
+    → ((command : Command) → IsNext now ahead.first command → ⊥) → (tally : Tally) → Replays start records tally → ⊥
+remains_stuck base bytes page end start records now ahead none tally replays =
+    let begins = replays_first now ahead.first ahead.others tally (ahead.led tally replays) in
+    none begins.command begins.next
+
+-- the same records, where place and disk are called by other names
+pub frames_as : (base base' : ℕ) (disk disk' : Trail) (page end end' : ℕ) (records : List (List ℕ)) → base' ≡ base → disk' ≡ disk → end' ≡ end → Frames base disk.now.bytes page records end → Frames base' disk'.now.bytes page records end'
+frames_as base base' disk disk' page end end' records same_base same_disk same_end framed =
+    subst (λ (b : ℕ). Frames b disk'.now.bytes page records end') (sym same_base)
+    (subst (λ (t : Trail). Frames base t.now.bytes page records end') (sym same_disk)
+    (subst (λ (e : ℕ). Frames base disk.now.bytes page records e) (sym same_end) framed))
+
+no_none : (got : Option (Bor (List ℕ))) (payload : Bor (List ℕ)) → got ≡ Some payload → IsNone got → ⊥
+no_none got payload is none = let here = subst (λ (o : Option (Bor (List ℕ))). IsNone o) is none in cc
+
+-- what a reader gave is the first of the records that are left, and it goes on to the others
+pub remains_next : (base base' : ℕ) (old now : Trail) (page page' end end' : ℕ) (start : Tally) (records : List (List ℕ)) (count : Tally) (got : Option (Bor (List ℕ))) (payload : Bor (List ℕ))
+    → base' ≡ base → now ≡ old → end' ≡ end → got ≡ Some payload
+    → IsNone got ↔ (page ≡ end')
+    → ((r : List ℕ) (rs : List (List ℕ)) → Frames base' now.now.bytes page (r ∷ rs) end' → (option_copied got ≡ Some r) × Frames base' now.now.bytes page' rs end')
+    → Remains base old.now.bytes page end start records count
+    → (ahead : IsAhead base old.now.bytes page end start records count) × (payload.now ≡ ahead.first) × Frames base old.now.bytes page' ahead.others end
+remains_next base base' old now page page' end end' start records count got payload same_base same_disk same_end some none first remains =
+    let ahead = remains_some base old.now.bytes page end start records count (λ last. no_none got payload some (none.1 (last ∙ sym same_end))) remains in
+    let here = first ahead.first ahead.others (frames_as base base' old now page end end' (ahead.first ∷ ahead.others) same_base same_disk same_end ahead.framed) in
+    let given : Some payload.now ≡ Some ahead.first = sym (ap option_copied some) ∙ here.0 in
+    (ahead, cc, frames_as base' base now old page' end' end ahead.others (sym same_base) (sym same_disk) (sym same_end) here.1)

@@ -1,0 +1,73 @@
+-- That an image stands for one count, and what counts are after commands.
+use Rattle.std.proofs.Common.{◌≡◌, ℕ, ◌+◌, ◌≤◌, List, [], ◌∷◌, ◌++◌, length, map, refl, sym, ◌∙◌, ap, subst, arith}
+use Rattle.std.specs.Prelude.{All, drop, slice_range}
+use Rattle.std.specs.Int.{w32, to_be_bytes, from_be_bytes}
+use Rattle.std.proofs.lemmas.List.Elements.{All-head, All-tail}
+use Rattle.std.proofs.lemmas.Nat.{from_be_bytes-to_be_bytes_4}
+use Rattle.zh_journal.proofs.Areas.{reads_once}
+use Rattle.zh_returns.specs.Judgement.{judge}
+use Rattle.zh_records.specs.Spelling.{command_spelling, IsSpeakable}
+use Rattle.zh_returns.specs.Step.{step, after, changed, on_verdict}
+use Rattle.zh_returns.specs.Tally.{Tally}
+use Rattle.zh_records.specs.declared.command.Command.{Command}
+use Rattle.zh_returns.specs.declared.verdict.Verdict.{Verdict}
+use Rattle.zh_returns.specs.declared.verdict.Verdict.TheVariants as verdicts
+use Rattle.zh_returns.proofs.CallerLemmas.{tally_once}
+use Rattle.zh_records.proofs.CallerLemmas.{command_once}
+use Rattle.zh_snapshot.specs.Image.{Content, IsFramed, header_bytes}
+use Rattle.zh_ledger.specs.Ledger.{Ledger}
+use Rattle.zh_ledger.specs.Stands.{StandsFor, Holds, IsKept}
+
+header_read : (a b : ℕ) → a ≤ 65536 → b ≤ 65536 → header_bytes a ≡ header_bytes b → a ≡ b
+header_read a b few_a few_b same =
+    let bytes : to_be_bytes w32 a ≡ to_be_bytes w32 b = ap (drop 10) same in
+    sym (from_be_bytes-to_be_bytes_4 a (omega arith)) ∙ ap (from_be_bytes w32) bytes ∙ from_be_bytes-to_be_bytes_4 b (omega arith)
+
+-- an image has one content
+pub framed_alike : (x y : Content) (j k : ℕ) (c : List ℕ) → IsFramed x j c → IsFramed y k c → (x ≡ y) × (j ≡ k)
+framed_alike x y j k c one two =
+    let len = header_read (length x.setup) (length y.setup) one.most two.most (sym one.header ∙ two.header) in
+    let setup : x.setup ≡ y.setup = sym one.setup ∙ ap (λ (n : ℕ). slice_range c 4096 (4096 + n)) len ∙ two.setup in
+    let generation : x.generation ≡ y.generation = sym one.slot.generation ∙ two.slot.generation in
+    let snapshot : x.snapshot ≡ y.snapshot = sym one.slot.snapshot ∙ two.slot.snapshot in
+    let read = reads_once 332032 c x.records y.records j k one.slot.records two.slot.records in
+    ((λ i. record { setup = setup i; generation = generation i; snapshot = snapshot i; records = read.0 i }), read.1)
+
+commands_once : (cs ds : List Command) → All IsSpeakable cs → All IsSpeakable ds → map command_spelling cs ≡ map command_spelling ds → cs ≡ ds
+commands_once [] [] all_c all_d same = refl
+commands_once [] (d ∷ ds) all_c all_d same = absurd (cc)
+commands_once (c ∷ cs) [] all_c all_d same = absurd (cc)
+commands_once (c ∷ cs) (d ∷ ds) all_c all_d same =
+    let here : command_spelling c ≡ command_spelling d = cc in
+    let there : map command_spelling cs ≡ map command_spelling ds = cc in
+    let first = command_once c d (All-head IsSpeakable c cs all_c) (All-head IsSpeakable d ds all_d) here in
+    let others = commands_once cs ds (All-tail IsSpeakable c cs all_c) (All-tail IsSpeakable d ds all_d) there in
+    λ i. first i ∷ others i
+
+-- a content stands for one count of a set-up
+pub stands_alike : (x : Content) (t u : Tally) → t.canton ≡ u.canton → StandsFor x t → StandsFor x u → t ≡ u
+stands_alike x t u canton one two =
+    let start : one.start ≡ two.start = tally_once one.start two.start one.limits two.limits (one.canton ∙ canton ∙ sym two.canton) (one.snapshot ∙ sym two.snapshot) in
+    let same = commands_once one.replays.commands two.replays.commands one.replays.speakable two.replays.speakable (sym one.replays.spelled ∙ two.replays.spelled) in
+    one.replays.count ∙ (λ i. after (start i) (same i)) ∙ sym two.replays.count
+
+pub one_count : (bytes : List ℕ) (x y : Content) (j k : ℕ) (t u : Tally) → IsFramed x j bytes → IsFramed y k bytes → StandsFor x t → StandsFor y u → t.canton ≡ u.canton → t ≡ u
+one_count bytes x y j k t u framed framed' one two canton =
+    stands_alike y t u canton (subst (λ (z : Content). StandsFor z t) (framed_alike x y j k bytes framed framed').0 one) two
+
+-- an image that the ledger knows holds its count
+pub holds_kept : (s : Ledger) (c : List ℕ) → IsKept s c → Holds s.tally c
+holds_kept s c kept = record { content = kept.content; end = kept.end; clean = kept.clean; stands = kept.stands }
+
+on_verdict_canton : (v : Verdict) (new old : Tally) → new.canton ≡ old.canton → (on_verdict v new old).canton ≡ old.canton
+on_verdict_canton verdicts.Accept new old same = same
+on_verdict_canton verdicts.Same new old same = refl
+on_verdict_canton (verdicts.Refused w) new old same = refl
+
+pub after_canton : (t : Tally) (cs : List Command) → (after t cs).canton ≡ t.canton
+after_canton t [] = refl
+after_canton t (c ∷ cs) = after_canton (step t c) cs ∙ on_verdict_canton (judge t c) (changed t c) t refl
+
+pub after-append : (t : Tally) (cs ds : List Command) → after t (cs ++ ds) ≡ after (after t cs) ds
+after-append t [] ds = refl
+after-append t (c ∷ cs) ds = after-append (step t c) cs ds

@@ -1,0 +1,36 @@
+-- What submitted commands leave on an honest disk, moment by moment.
+use Rattle.std.specs.Prelude.{◌≡◌, ◌⊎◌, ◌≤◌, ℕ, List, length, take}
+use Rattle.zh_disk.specs.Disk.{Trail, Moves, Leaves}
+use Rattle.zh_returns.specs.Tally.{Tally}
+use Rattle.zh_returns.specs.Step.{step, after}
+use Rattle.zh_records.specs.declared.command.Command.{Command}
+use Rattle.zh_ledger.specs.declared.outcome.Outcome.{Outcome}
+use Rattle.zh_ledger.specs.declared.outcome.Outcome.TheVariants.{Stored, Device}
+use Rattle.zh_ledger.specs.Ledger.{Ledger, stored}
+use Rattle.zh_ledger.specs.Stands.{Holds, IsKept}
+
+-- an image that the ledger knows comes to hold the count before, or the stepped one
+abbrev pub KeepsOrSteps : Ledger → Command → List ℕ → List ℕ → Type 0
+KeepsOrSteps s command old new = IsKept s old → Holds s.tally new ⊎ Holds (step s.tally command) new
+
+-- it becomes the one that the ledger knows once the command is stored
+abbrev pub Stores : Ledger → Command → List ℕ → List ℕ → Type 0
+Stores s command old new = IsKept s old → IsKept (stored s command) new
+
+-- At each moment the command is kept whole or not at all; after `Stored` it is kept; after every other outcome but
+-- `Device` no call of the disk wrote or synced.
+abbrev pub LeavesBy : Ledger → Command → Outcome → Trail → Trail → Type 0
+LeavesBy s command (Stored accepted) old new = Leaves (KeepsOrSteps s command) old new × Moves (Stores s command) old.now new.now
+LeavesBy s command Device old new = Leaves (KeepsOrSteps s command) old new
+LeavesBy s command outcome old new = new ≡ old
+
+-- a clean image that stands for the count after the first of these commands, in order, at least so many of them
+pub record HasSome (tally : Tally) (commands : List Command) (least : ℕ) (c : List ℕ) : Type 0 where
+  pub number : ℕ
+  pub at_least : least ≤ number
+  pub within : number ≤ length commands
+  pub holds : Holds (after tally (take number commands)) c
+
+-- an image that the ledger knows comes to have some of these commands, at least so many of them
+abbrev pub ComesToHave : Ledger → List Command → ℕ → List ℕ → List ℕ → Type 0
+ComesToHave s commands least old new = IsKept s old → HasSome s.tally commands least new

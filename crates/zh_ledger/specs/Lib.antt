@@ -1,0 +1,7 @@
+pub mod Ledger
+pub mod Code
+pub mod Stands
+pub mod Images
+pub mod Opened
+pub mod Submissions
+pub mod Night

@@ -1,0 +1,55 @@
+-- What formatting leaves, and what opening finds.
+use Rattle.std.specs.Prelude.{◌≡◌, ◌≢◌, ℕ, List, false}
+use Rattle.zh_districts.specs.Canton.{Canton}
+use Rattle.zh_districts.specs.Spelling.{setup_spelling}
+use Rattle.zh_returns.specs.Tally.{Tally, empty}
+use Rattle.zh_snapshot.specs.Image.{Content, IsBlank, IsFramed}
+use Rattle.zh_snapshot.specs.Store.{Fits}
+use Rattle.zh_snapshot.specs.declared.fault.OpenFault as store
+use Rattle.zh_snapshot.specs.declared.fault.OpenFault.TheVariants as of_store
+use Rattle.zh_ledger.specs.declared.fault.OpenFault.{OpenFault}
+use Rattle.zh_ledger.specs.declared.fault.OpenFault.TheVariants as faults
+use Rattle.zh_ledger.specs.Ledger.{Ledger}
+use Rattle.zh_ledger.specs.Stands.{StandsFor, Holds}
+
+-- a clean image that stands for the count before the first command
+abbrev pub IsNew : Canton → List ℕ → Type 0
+IsNew canton c = Holds (empty canton) c
+
+-- a ledger of this set-up that met no fault of the device
+pub record IsReady (canton : Canton) (s : Ledger) : Type 0 where
+  pub set_up : s.tally.canton ≡ canton
+  pub whole : s.store.broken ≡ false
+
+-- these bytes of a disk are framed, with a content that the ledger's store knows and that stands for its count
+pub record IsFound (bytes : List ℕ) (s : Ledger) : Type 0 where
+  pub content : Content
+  pub end : ℕ
+  pub framed : IsFramed content end bytes
+  pub fits : Fits s.store content end
+  pub stands : StandsFor content s.tally
+
+-- a ledger of this set-up that holds what these bytes stand for
+pub record IsOpened (canton : Canton) (bytes : List ℕ) (s : Ledger) : Type 0 where
+  pub ready : IsReady canton s
+  pub found : IsFound bytes s
+
+-- the disk gate is open, header, slot and records are right, and the set-up bytes are those of another set-up
+pub record Differs (canton : Canton) (bytes : List ℕ) : Type 0 where
+  pub content : Content
+  pub end : ℕ
+  pub framed : IsFramed content end bytes
+  pub other : content.setup ≢ setup_spelling canton
+
+-- the disk gate is open, and there is no content, or one with this set-up that stands for no count
+pub record IsDamaged (canton : Canton) (bytes : List ℕ) : Type 0 where
+  pub gate : IsBlank bytes → ⊥
+  pub setup : (x : Content) (j : ℕ) → IsFramed x j bytes → x.setup ≡ setup_spelling canton
+  pub nothing : (x : Content) (j : ℕ) → IsFramed x j bytes → (tally : Tally) → tally.canton ≡ canton → StandsFor x tally → ⊥
+
+-- the fault of a store's opening as one of a ledger's
+abbrev pub OpenedAs : store.OpenFault → OpenFault → Type 0
+OpenedAs of_store.Device e = e ≡ faults.Device
+OpenedAs of_store.Blank e = e ≡ faults.Blank
+OpenedAs of_store.Damaged e = e ≡ faults.Damaged
+OpenedAs of_store.Memory e = e ≡ faults.Memory

@@ -1,0 +1,51 @@
+-- What a disk's content stands for.
+use Rattle.std.specs.Prelude.{◌≡◌, ◌<◌, ◌-◌, ◌^◌, ℕ, List, [], ◌∷◌, All, map}
+use Rattle.zh_districts.specs.Spelling.{setup_spelling}
+use Rattle.zh_returns.specs.Tally.{Tally}
+use Rattle.zh_returns.specs.Limits.{IsTally}
+use Rattle.zh_returns.specs.Judgement.{judge}
+use Rattle.zh_returns.specs.Step.{step, after}
+use Rattle.zh_returns.specs.Payload.{payload_spelling}
+use Rattle.zh_records.specs.Spelling.{command_spelling, IsSpeakable}
+use Rattle.zh_records.specs.declared.command.Command.{Command}
+use Rattle.zh_returns.specs.declared.verdict.Verdict.TheVariants.{Accept}
+use Rattle.zh_snapshot.specs.Image.{Content, IsClean}
+use Rattle.zh_snapshot.specs.Store.{Fits}
+use Rattle.zh_ledger.specs.Ledger.{Ledger}
+
+-- each of these commands is accepted in turn, with a number left for it
+abbrev pub AreAccepted : Tally → List Command → Type 0
+AreAccepted tally [] = Unit {0}
+AreAccepted tally (command ∷ commands) = (judge tally command ≡ Accept) × ((tally.accepted < 2 ^ 64 - 1) × AreAccepted (step tally command) commands)
+
+-- the records are those of these commands, which are accepted in turn from the one count on and give the other
+pub record Replays (start : Tally) (records : List (List ℕ)) (tally : Tally) : Type 0 where
+  pub commands : List Command
+  pub speakable : All IsSpeakable commands
+  pub spelled : records ≡ map command_spelling commands
+  pub accepted : AreAccepted start commands
+  pub count : tally ≡ after start commands
+
+-- the set-up bytes are those of this count's set-up, and its records lead from the count of its snapshot to this one
+pub record StandsFor (x : Content) (tally : Tally) : Type 0 where
+  pub setup : x.setup ≡ setup_spelling tally.canton
+  pub start : Tally
+  pub canton : start.canton ≡ tally.canton
+  pub limits : IsTally start
+  pub snapshot : payload_spelling start ≡ x.snapshot
+  pub replays : Replays start x.records tally
+
+-- a clean image that stands for this count
+pub record Holds (tally : Tally) (c : List ℕ) : Type 0 where
+  pub content : Content
+  pub end : ℕ
+  pub clean : IsClean content end c
+  pub stands : StandsFor content tally
+
+-- a clean image that is the one that the ledger knows, and stands for the ledger's count
+pub record IsKept (s : Ledger) (c : List ℕ) : Type 0 where
+  pub content : Content
+  pub end : ℕ
+  pub clean : IsClean content end c
+  pub fits : Fits s.store content end
+  pub stands : StandsFor content s.tally

@@ -1,0 +1,31 @@
+//! Laws of a ledger on a disk.
+
+ghost use Rattle.std.specs.Prelude.{◌≡◌, ℕ, List};
+ghost use Rattle.zh_returns.specs.Tally.{Tally};
+ghost use Rattle.zh_records.specs.declared.command.Command.{Command};
+ghost use Rattle.zh_snapshot.specs.Image.{Content, IsFramed};
+ghost use Rattle.zh_ledger.specs.Night.{Law};
+ghost use Rattle.zh_ledger.specs.Stands.{StandsFor};
+ghost use Rattle.zh_ledger.specs.Submissions.{OnDisk, Log, Submits, IsLogged};
+ghost use Rattle.zh_ledger.specs.declared.outcome.Outcome.{Outcome};
+
+/// The bytes of a disk stand for one count of a set-up at most.
+pub fn one_count()
+    ensures { (bytes : List ℕ) (x y : Content) (j k : ℕ) (tally other : Tally) → IsFramed x j bytes → IsFramed y k bytes →
+        StandsFor x tally → StandsFor y other → tally.canton ≡ other.canton → tally ≡ other }
+{}
+
+/// What commands that are submitted one after the other leave on an honest disk, at each moment and at the end.
+pub fn submissions()
+    ensures { (old : OnDisk) (commands : List (Command × Outcome)) (log : Log) (new : OnDisk) → Submits old commands log new → IsLogged old log new }
+{}
+
+/// A night of commands, stops and openings on an honest disk that was formatted for the ledger, event by event.
+///
+/// Each image of the disk stands for the count after all commands that were accepted since the last opening, or after
+/// all but the last, which then nobody acknowledged. So each opening finds, stretch by stretch, the first of the
+/// accepted commands, in order, among them all that were acknowledged, and each once. An opening is refused only for
+/// memory or by the device.
+pub fn nights()
+    ensures { Law }
+{}

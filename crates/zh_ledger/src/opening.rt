@@ -1,0 +1,95 @@
+//! Formatting a disk, and opening the ledger that stands there.
+
+ghost use Rattle.std.specs.Prelude.{◌≡◌, ◌≤◌, ℕ, length, List, [], IfOk, OnOk, IsErrOf};
+ghost use Rattle.zh_districts.specs.Spelling.{setup_spelling};
+ghost use Rattle.zh_disk.specs.Disk.{IsImage, Leaves, settled};
+ghost use Rattle.zh_journal.specs.Cause.{HasRisen};
+ghost use Rattle.zh_returns.specs.Tally.{empty};
+ghost use Rattle.zh_returns.specs.Payload.{payload_spelling};
+ghost use Rattle.zh_snapshot.specs.Image.{IsBlank};
+ghost use Rattle.zh_snapshot.specs.Store.{Settles};
+ghost use Rattle.zh_snapshot.specs.Format.{Formats};
+ghost use Rattle.zh_ledger.specs.Opened.{IsNew, IsReady, IsOpened, Differs, IsDamaged};
+
+use crate::fault::OpenFault;
+use crate::ledger::Ledger;
+use crate::replay::replay;
+use std::alloc::{AllocError, Global};
+use zh_disk::Disk;
+use zh_districts::{Setup, setup_bytes};
+use zh_returns::{Count, PAYLOAD_LENGTH};
+use zh_snapshot::{FormatFault, Store};
+
+/// Room for a snapshot or a record.
+fn buffer(alloc: Global) -> Result<Vec<u8>, AllocError>
+    ensures { IfOk result (λ buffer. length buffer.items ≡ PAYLOAD_LENGTH) }
+{
+    vec![in alloc; 0; PAYLOAD_LENGTH]
+}
+
+impl<'s> Ledger<'s> {
+    /// Makes a disk one on which nothing has been returned yet, whatever stands there. Memory is taken before the
+    /// first call of the device.
+    pub fn format<D: Disk>(alloc: Global, setup: &Setup, disk: &mut D) -> Result<(), FormatFault>
+        ensures kept { D.honest disk.new → D.honest disk.old }
+
+        // The disk gate is closed, the disk is written, the gate is opened: docs/FORMATS.md has the moments.
+        ensures any_moment { D.honest disk.new → Formats (setup_spelling setup.now) (payload_spelling (empty setup.now)) (D.trail disk.old) (D.trail disk.new) }
+
+        ensures formatted { D.honest disk.new → OnOk result ((c : List ℕ) → IsImage (D.trail disk.new).now c → IsNew setup.now c) }
+
+        ensures settled { D.honest disk.new → OnOk result ((D.trail disk.new).now.pending ≡ []) }
+        ensures untouched { IsErrOf result FormatFault.Memory → disk.new ≡ disk.old }
+        ensures later { D.failures disk.old ≤ D.failures disk.new }
+        ensures cause { IsErrOf result FormatFault.Device → HasRisen (D.failures disk.old) (D.failures disk.new) }
+    {
+        let bytes = setup_bytes(alloc, setup)?;
+        let mut first = buffer(alloc)?;
+        Count::new(alloc, setup)?.encode(&mut first);
+        Store::format(alloc, disk, &bytes, &first)
+    }
+
+    /// Opens the ledger that stands on a disk: a sync, then reads alone. Memory is taken before the first of them.
+    ///
+    /// `Blank` comes where the disk gate is closed; `Damaged` where header, slot or records break a rule of
+    /// docs/FORMATS.md; `SetupDiffers` where they are right and the disk's set-up is another; and `Damaged` again where
+    /// the set-up is the same and the snapshot or a record is not one of an election with that set-up.
+    pub fn open<D: Disk>(
+        alloc: Global,
+        setup: &'s Setup,
+        disk: &mut D,
+    ) -> Result<Ledger<'s>, OpenFault>
+        ensures kept { D.honest disk.new → D.honest disk.old }
+
+        // At each moment an image is one from the start, and after the sync what a read gave.
+        ensures any_moment { D.honest disk.new → Leaves (Settles (D.trail disk.old).now.bytes) (D.trail disk.old) (D.trail disk.new) }
+
+        ensures settled { D.honest disk.new → OnOk result ((D.trail disk.new).now ≡ settled (D.trail disk.old).now.bytes) }
+
+        ensures ready { IfOk result (IsReady setup.now) }
+        ensures opened { D.honest disk.new → IfOk result (IsOpened setup.now (D.trail disk.old).now.bytes) }
+        ensures blank { D.honest disk.new → IsErrOf result OpenFault.Blank → IsBlank (D.trail disk.old).now.bytes }
+        ensures differs { D.honest disk.new → IsErrOf result OpenFault.SetupDiffers → Differs setup.now (D.trail disk.old).now.bytes }
+        ensures damaged { D.honest disk.new → IsErrOf result OpenFault.Damaged → IsDamaged setup.now (D.trail disk.old).now.bytes }
+        ensures untouched { IsErrOf result OpenFault.Memory → disk.new ≡ disk.old }
+        ensures later { D.failures disk.old ≤ D.failures disk.new }
+        ensures cause { IsErrOf result OpenFault.Device → HasRisen (D.failures disk.old) (D.failures disk.new) }
+    {
+        let bytes = setup_bytes(alloc, setup)?;
+        let mut count = Count::new(alloc, setup)?;
+        let mut buffer = buffer(alloc)?;
+        let store = Store::open(alloc, disk)?;
+        if !store.setup_equals(disk, &bytes)? {
+            return Err(OpenFault::SetupDiffers);
+        }
+        if !count.decode(store.snapshot(disk, &mut buffer)?) {
+            return Err(OpenFault::Damaged);
+        }
+        replay(&mut store.reader(), disk, &mut buffer, &mut count)?;
+        Ok(Ledger {
+            count,
+            store,
+            buffer,
+        })
+    }
+}

@@ -1,8 +1,0 @@
-use Rattle.std.proofs.Common.{◌≡◌}
-use Rattle.zh_disk.specs.Memory.{memory_trail}
-use Rattle.zh_office.proofs.Endings.{begun_as, rehearses}
-use Rattle.zh_office.proofs.working.rehearse.Goals as goal
-
-pub returns : goal.returns
-returns g c = begun_as _ (c.serve_on.new.input ≡ c.args.input.now × c.serve_on.new.out ≡ c.args.out.now) _ _ _ _ _ _ c.serve_on.result
-    (λ start begins. rehearses c.in_ok-setup.setup (Unit {0}) (memory_trail c.format.new.disk) start c.in_ok-setup.ensures tt (c.in_ok-format.ensures.formatted tt) begins) c.serve_on.ensures

@@ -1,0 +1,9 @@
+//! The program `zhcount`: its arguments, its tasks, and how they end.
+#![tactic(auto)]
+
+mod arguments;
+mod entry;
+mod fault;
+mod tasks;
+
+pub use entry::program;
