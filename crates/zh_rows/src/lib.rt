@@ -1,4 +1,5 @@
-//! The worked examples of the count office, from the bytes of its lines to the bytes of its replies.
+//! Tests of the count office that are code: refused allocations, and streams that fail or give single bytes. All that
+//! a text can say is a case of `zh_cases`.
 #![tactic(auto)]
 
 #[cfg(test)]

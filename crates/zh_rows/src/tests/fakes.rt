@@ -1,8 +1,20 @@
-//! Readers and writers that are slow, or fail.
+//! Rehearsals, and inputs and outputs that are slow or fail.
 
 use std::io::{self, ErrorKind, Read, Write};
+use zh_file::Unknown;
+use zh_program::program;
 
-/// Gives the bytes of a text one by one, and fails once so many are given, or comes to its end there.
+/// Runs the program without arguments, and gives its status.
+pub(crate) fn run_rehearsal<I: Read, O: Write, F: Write>(
+    rt: &HostRuntime,
+    input: &mut I,
+    out: &mut O,
+    faults: &mut F,
+) -> u8 {
+    program(rt, rt.alloc(), &[], input, out, faults, Unknown, &mut None)
+}
+
+/// Gives the bytes of a text one by one, and then comes to its end or fails.
 #[derive(Drop)]
 pub(crate) struct SlowReader<'a> {
     pub(crate) text: &'a [u8],
@@ -23,7 +35,7 @@ impl Read for SlowReader<'_> {
     }
 }
 
-/// Takes one byte of each write, as long as writes are left, and fails then.
+/// Takes one byte of each write, as long as writes are left, and then fails.
 #[derive(Drop)]
 pub(crate) struct SlowWriter {
     pub(crate) bytes: Vec<u8>,

@@ -1,0 +1,84 @@
+//! Turns on the files of the folder.
+
+use crate::fault::Fault;
+use crate::words::read_bytes;
+use std::fs;
+use std::io::ErrorKind;
+
+/// A name, and what stands after it.
+fn named<'t>(text: &'t str, end: char) -> Result<(&'t str, &'t str), Fault> {
+    text.split_once(end)
+        .ok_or(Fault::Text("a name and more are needed"))
+}
+
+/// Whether two files hold the same bytes.
+fn compare(rt: &HostRuntime, one: &str, other: &str) -> Result<&'static str, Fault> {
+    if fs::read(rt, one)? == fs::read(rt, other)? {
+        Ok("ok")
+    } else {
+        Ok("differs")
+    }
+}
+
+/// Appends bytes to a file.
+fn append(rt: &HostRuntime, name: &str, bytes: &[u8]) -> Result<&'static str, Fault> {
+    let mut all = fs::read(rt, name)?;
+    all.extend_from_slice(bytes)?;
+    fs::write(rt, name, all)?;
+    Ok("ok")
+}
+
+/// Writes a file with another's text, where `OLD => NEW` puts the new in the place of the old.
+fn replace(rt: &HostRuntime, from: &str, to: &str, change: &str) -> Result<&'static str, Fault> {
+    let Some((old, new)) = change.split_once("=>") else {
+        return Err(Fault::Text("a change is OLD => NEW"));
+    };
+    let text = fs::read_to_string(rt, from)?;
+    let text = text.as_str().replace(rt.alloc(), old.trim(), new.trim())?;
+    fs::write(rt, to, text.as_str().as_bytes())?;
+    Ok("ok")
+}
+
+/// Removes a file.
+fn remove(rt: &HostRuntime, name: &str) -> Result<&'static str, Fault> {
+    match fs::remove_file(rt, name) {
+        Ok(()) => Ok("ok"),
+        Err(error) if error.kind() == ErrorKind::NotFound => Ok("missing"),
+        Err(error) => Err(Fault::File(error)),
+    }
+}
+
+/// Makes a turn on files.
+pub(crate) fn act_on_files(
+    rt: &HostRuntime,
+    word: &str,
+    rest: &str,
+) -> Result<&'static str, Fault> {
+    match word {
+        "file" => {
+            let (name, text) = named(rest, '\n')?;
+            fs::write(rt, name, text.as_bytes())?;
+            Ok("ok")
+        }
+        "write" => {
+            let (name, bytes) = named(rest, ' ')?;
+            fs::write(rt, name, read_bytes(rt.alloc(), bytes)?)?;
+            Ok("ok")
+        }
+        "append" => {
+            let (name, bytes) = named(rest, ' ')?;
+            append(rt, name, &read_bytes(rt.alloc(), bytes)?)
+        }
+        "replace" => {
+            let (from, rest) = named(rest, ' ')?;
+            let (to, change) = named(rest, ' ')?;
+            replace(rt, from, to, change)
+        }
+        "same" => {
+            let (one, other) = named(rest, ' ')?;
+            compare(rt, one, other)
+        }
+        "remove" => remove(rt, rest),
+        _ => Err(Fault::Text("there is no such turn")),
+    }
+}

@@ -1,0 +1,110 @@
+//! Runs the cases of the count office that stand in files, and says where an answer is not the one that the file has.
+#![tactic(auto)]
+
+mod bench;
+mod device;
+mod fault;
+mod files;
+mod lines;
+mod program;
+mod repeat;
+mod setups;
+mod sweep;
+mod turn;
+mod words;
+
+use bench::Bench;
+use fault::Fault;
+use lines::lines_of;
+use setups::setups_of;
+use std::process::ExitCode;
+use std::{env, fs};
+use turn::run_turn;
+
+/// How far the cases of a file went.
+#[derive(Clone, Copy, Default)]
+struct Progress {
+    /// The number of the line at work.
+    line: usize,
+    cases: u64,
+    turns: u64,
+}
+
+/// Runs the cases of a text.
+fn run_text(rt: &HostRuntime, text: &str, progress: &mut Progress) -> Result<(), Fault> {
+    let lines = lines_of(rt.alloc(), text, &mut progress.line)?;
+    let setups = setups_of(rt, &lines, &mut progress.line)?;
+    let mut bench = Bench::new(rt.alloc(), &setups)?;
+    for line in &lines {
+        progress.line = line.number;
+        run_turn(rt, &mut bench, line)?;
+        progress.turns = progress.turns.saturating_add(1);
+        if line.text.as_str().starts_with("case ") {
+            progress.cases = progress.cases.saturating_add(1);
+        }
+    }
+    Ok(())
+}
+
+/// Runs the cases of a file, and prints how it went. It gives the cases and the turns, none where one went wrong.
+fn run_file(rt: &HostRuntime, name: &str) -> Result<Option<Progress>, Fault> {
+    let text = fs::read_to_string(rt, name)?;
+    let mut progress = Progress::default();
+    match run_text(rt, text.as_str(), &mut progress) {
+        Ok(()) => {
+            println!(rt;
+                "{name}: {} cases, {} turns",
+                progress.cases, progress.turns
+            )?;
+            Ok(Some(progress))
+        }
+        Err(fault) => {
+            eprintln!(rt; "{name}:{}: {fault}", progress.line)?;
+            Ok(None)
+        }
+    }
+}
+
+/// The files that the arguments name, or else all of the folder that end in `.case`, in the order of their names.
+fn names_of_files(rt: &HostRuntime) -> Result<Vec<String>, Fault> {
+    let mut names: Vec<String> = env::args(rt)?.skip(1).collect(rt.alloc())?;
+    if !names.is_empty() {
+        return Ok(names);
+    }
+    for entry in fs::read_dir(rt, ".")? {
+        let entry = entry?;
+        if entry.file_name().ends_with(".case") {
+            names.push(String::from_str(rt.alloc(), entry.file_name())?)?;
+        }
+    }
+    names.sort()?;
+    Ok(names)
+}
+
+/// Runs all files, and says whether all answers were the expected ones.
+fn run_all(rt: &HostRuntime) -> Result<bool, Fault> {
+    let mut all = Progress::default();
+    let mut is_right = true;
+    for name in names_of_files(rt)? {
+        match run_file(rt, name.as_str())? {
+            Some(done) => {
+                all.cases = all.cases.saturating_add(done.cases);
+                all.turns = all.turns.saturating_add(done.turns);
+            }
+            None => is_right = false,
+        }
+    }
+    println!(rt; "all: {} cases, {} turns", all.cases, all.turns)?;
+    Ok(is_right)
+}
+
+fn main(rt: HostRuntime) -> ExitCode {
+    match run_all(&rt) {
+        Ok(true) => ExitCode::SUCCESS,
+        Ok(false) => ExitCode::FAILURE,
+        Err(fault) => {
+            let _ = eprintln!(rt; "zh_cases: {fault}");
+            ExitCode::FAILURE
+        }
+    }
+}

@@ -1,0 +1,51 @@
+//! Runs of the program on the files of the folder.
+
+use crate::fault::Fault;
+use std::fs;
+use zh_file::Unknown;
+use zh_program::program;
+
+/// Appends the lines of a text, each after a separator.
+pub(crate) fn push_lines(answer: &mut String, separator: &str, text: &[u8]) -> Result<(), Fault> {
+    let Ok(text) = str::from_utf8(text) else {
+        return Err(Fault::Text("an answer is no text"));
+    };
+    for line in text.lines() {
+        if !answer.is_empty() {
+            answer.push_str(separator)?;
+        }
+        answer.push_str(line)?;
+    }
+    Ok(())
+}
+
+/// Runs the program on `ARGUMENTS < INPUT`, where INPUT is a file. The answer is its status, the lines of its output
+/// and those of its standard error.
+pub(crate) fn run_program(rt: &HostRuntime, text: &str) -> Result<String, Fault> {
+    let alloc = rt.alloc();
+    let (words, name) = text.split_once('<').unwrap_or((text, ""));
+    let mut input = Vec::new(alloc);
+    if !name.is_empty() {
+        input = fs::read(rt, name.trim())?;
+    }
+    let mut arguments = Vec::new(alloc);
+    for word in words.split_whitespace() {
+        arguments.push(String::from_str(alloc, word)?)?;
+    }
+    let mut reader = input.as_slice();
+    let (mut out, mut faults) = (Vec::new(alloc), Vec::new(alloc));
+    let status = program(
+        rt,
+        alloc,
+        &arguments,
+        &mut reader,
+        &mut out,
+        &mut faults,
+        Unknown,
+        &mut None,
+    );
+    let mut answer = format!(in alloc; "{status}")?;
+    push_lines(&mut answer, "; ", &out)?;
+    push_lines(&mut answer, " | ", &faults)?;
+    Ok(answer)
+}

@@ -1,0 +1,102 @@
+//! Repetitions: lines that come once for each of several values.
+
+use crate::fault::Fault;
+use crate::lines::Line;
+use std::alloc::{AllocError, Global};
+
+const NO_VALUES: Fault = Fault::Text("a repetition has a name and values");
+
+/// The numbers of `1 to 60`, or of `1 to 59 by 2`.
+fn numbers_of(alloc: Global, from: &str, to: &str) -> Result<Vec<String>, Fault> {
+    let (to, by) = to.split_once(" by ").unwrap_or((to, "1"));
+    let (Ok(from), Ok(to), Ok(by)) = (from.parse::<u32>(), to.parse::<u32>(), by.parse::<u32>())
+    else {
+        return Err(NO_VALUES);
+    };
+    let mut numbers = Vec::new(alloc);
+    for number in from..=to {
+        if by > 0 && (number - from) % by == 0 {
+            numbers.push(format!(in alloc; "{number}")?)?;
+        }
+    }
+    Ok(numbers)
+}
+
+/// The values of such a list, or of one with commas, as `keep, old, a5`.
+fn values_of(alloc: Global, list: &str) -> Result<Vec<String>, Fault> {
+    if let Some((from, to)) = list.split_once(" to ") {
+        return numbers_of(alloc, from.trim(), to.trim());
+    }
+    let mut values = Vec::new(alloc);
+    for value in list.split(',') {
+        values.push(String::from_str(alloc, value.trim())?)?;
+    }
+    Ok(values)
+}
+
+/// What stands for `NAME`, `NAME+5` or `NAME-5`.
+fn value_of(
+    alloc: Global,
+    inside: &str,
+    name: &str,
+    value: &str,
+) -> Result<Option<String>, AllocError> {
+    let Some(change) = inside.strip_prefix(name) else {
+        return Ok(None);
+    };
+    if change.is_empty() {
+        return Ok(Some(String::from_str(alloc, value)?));
+    }
+    let (Ok(number), Ok(change)) = (value.parse::<i64>(), change.parse::<i64>()) else {
+        return Ok(None);
+    };
+    Ok(Some(format!(in alloc; "{}", number.saturating_add(change))?))
+}
+
+/// A text with the value in place of the name, wherever that stands in braces.
+pub(crate) fn with_value(
+    alloc: Global,
+    text: &str,
+    name: &str,
+    value: &str,
+) -> Result<String, AllocError> {
+    let mut out = String::new(alloc);
+    for (count, part) in text.split('{').enumerate() {
+        let (inside, after) = part.split_once('}').unwrap_or((part, ""));
+        match value_of(alloc, inside, name, value)? {
+            Some(value) if count > 0 => {
+                out.push_str(value.as_str())?;
+                out.push_str(after)?;
+            }
+            _ => {
+                if count > 0 {
+                    out.push('{')?;
+                }
+                out.push_str(part)?;
+            }
+        }
+    }
+    Ok(out)
+}
+
+/// Appends the lines of a repetition, once for each value of `NAME = VALUES`.
+pub(crate) fn repeat(
+    alloc: Global,
+    lines: &mut Vec<Line>,
+    head: &str,
+    body: &[Line],
+) -> Result<(), Fault> {
+    let Some((name, list)) = head.split_once('=') else {
+        return Err(NO_VALUES);
+    };
+    for value in values_of(alloc, list)? {
+        for line in body {
+            let text = with_value(alloc, line.text.as_str(), name.trim(), value.as_str())?;
+            lines.push(Line {
+                number: line.number,
+                text,
+            })?;
+        }
+    }
+    Ok(())
+}

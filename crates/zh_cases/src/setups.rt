@@ -1,0 +1,50 @@
+//! The set-ups of a file's cases.
+
+use crate::fault::Fault;
+use crate::lines::{Line, lines_of};
+use std::fs;
+use zh_districts::{Setup, read_setup, rehearsal};
+
+/// A set-up, and the name by which a file asks for it.
+#[derive(Drop)]
+pub(crate) struct Named {
+    pub(crate) name: String,
+    pub(crate) setup: Setup,
+}
+
+/// The set-up whose text, its repetitions written out, stands in the file of this name; or that of the rehearsal.
+fn setup_of(rt: &HostRuntime, name: &str) -> Result<Setup, Fault> {
+    let alloc = rt.alloc();
+    if name == "rehearsal" {
+        return Ok(rehearsal(alloc)?);
+    }
+    let file = fs::read_to_string(rt, name)?;
+    let mut text = String::new(alloc);
+    for line in lines_of(alloc, file.as_str(), &mut 0)? {
+        text.push_str(line.text.as_str())?;
+        text.push('\n')?;
+    }
+    match read_setup(alloc, text.as_str().as_bytes()) {
+        Ok(setup) => Ok(setup),
+        Err(_) => Err(Fault::Text("this is no set-up")),
+    }
+}
+
+/// The set-ups that these lines ask for. `number` is that of the line that was looked at last.
+pub(crate) fn setups_of(
+    rt: &HostRuntime,
+    lines: &[Line],
+    number: &mut usize,
+) -> Result<Vec<Named>, Fault> {
+    let mut setups = Vec::new(rt.alloc());
+    for line in lines {
+        *number = line.number;
+        if let Some(name) = line.text.as_str().strip_prefix("setup ") {
+            setups.push(Named {
+                name: String::from_str(rt.alloc(), name)?,
+                setup: setup_of(rt, name)?,
+            })?;
+        }
+    }
+    Ok(setups)
+}

@@ -1,0 +1,60 @@
+//! Inputs that give one byte at a time.
+
+use super::fakes::{SlowReader, run_rehearsal};
+use std::test::Fail;
+use zh_disk::MemoryDisk;
+use zh_districts::rehearsal;
+use zh_office::{Office, ServeFault};
+
+#[test]
+fn each_byte_needs_a_turn_and_the_end_too(rt: HostRuntime) -> Result<(), Fail> {
+    let setup = rehearsal(rt.alloc())?;
+    let mut disk = MemoryDisk::blank(rt.alloc())?;
+    Office::format(rt.alloc(), &setup, &mut disk)?;
+    let mut office = Office::open(rt.alloc(), &setup, &mut disk)?;
+    let table: [(&[u8], u64, Result<u64, ServeFault>, &[u8]); 8] = [
+        (b"1 show 1 1\n", 10, Err(ServeFault::Turns), b""),
+        (b"1 show 1 1\n", 11, Err(ServeFault::Turns), b"1 none\n"),
+        (b"1 show 1 1\n", 12, Ok(1), b"1 none\n"),
+        (b"1 open", 6, Err(ServeFault::Turns), b""),
+        (b"1 open", 7, Ok(1), b"1 held 0\n"),
+        (b"1 return 1 1 1 5\n", 16, Err(ServeFault::Turns), b""),
+        (
+            b"1 return 1 1 1 5\n",
+            17,
+            Err(ServeFault::Turns),
+            b"1 stored 1\n",
+        ),
+        (b"1 return 1 1 1 5\n", 18, Ok(1), b"1 same\n"),
+    ];
+    for (text, turns, end, written) in table {
+        let mut input = SlowReader { text, at_end: None };
+        let mut out = Vec::new(rt.alloc());
+        let found = office.serve(&mut input, &mut out, &mut disk, turns);
+        assert_eq!(rt; (found, out.as_slice()), (end, written), "{turns} turns");
+    }
+    Ok(())
+}
+
+#[test]
+fn the_fault_of_too_many_turns_has_its_name(rt: HostRuntime) -> Result<(), Fail> {
+    let name = format!(in rt.alloc(); "{}", ServeFault::Turns)?;
+    assert_eq!(rt; name.as_str(), "turns");
+    Ok(())
+}
+
+#[test]
+fn a_hundred_thousand_bytes_are_read(rt: HostRuntime) -> Result<(), Fail> {
+    let text = vec![in rt.alloc(); b'x'; 100_000]?;
+    let mut input = SlowReader {
+        text: &text,
+        at_end: None,
+    };
+    let (mut out, mut faults) = (Vec::new(rt.alloc()), Vec::new(rt.alloc()));
+    let status = run_rehearsal(&rt, &mut input, &mut out, &mut faults);
+    assert_eq!(rt;
+        (status, out.as_slice()),
+        (0, b"0 refused syntax\n".as_slice())
+    );
+    Ok(())
+}
