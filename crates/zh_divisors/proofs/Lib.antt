@@ -1,7 +1,13 @@
+pub mod CallerLemmas
 pub mod Divisor
 pub mod Ends
 pub mod Giving
+pub mod LineLemmas
+pub mod LineRuleLemmas
+pub mod LineSeatsLemmas
+pub mod LineTotalsLemmas
 pub mod OneFit
+pub mod PassingLemmas
 pub mod Ratios
 pub mod Sums
 pub mod WorthLemmas

@@ -1,6 +1,7 @@
-//! What is true of every apportionment.
+//! What is true of every apportionment, and of every line.
 ghost use Rattle.std.specs.Prelude.{◌≡◌, ℕ, ◌<◌, ◌≤◌, Any, List, length, sum};
 ghost use Rattle.zh_divisors.specs.Fit.{IsFit, IsStrictFit, IsTied};
+ghost use Rattle.zh_divisors.specs.Line.{IsGreatestDivisor, IsLeastDivisor, greatest_divisor, least_divisor};
 ghost use Rattle.zh_divisors.specs.Shares.{Apportionment, RoundsEach};
 
 /// A strict fit is the only fit, and is there exactly where some divisor rounds without a half.
@@ -21,4 +22,19 @@ pub fn one_fit()
     ensures divisor { (weights : List ℕ) (house : ℕ) (seats : List ℕ) →
         1 ≤ house → Any (λ w. 0 < w) weights → IsStrictFit weights house seats →
         (shares : Apportionment) × (shares.seats ≡ seats) × RoundsEach weights shares }
+{}
+
+/// A line has both divisors of the rule, each only once, and they are those of the definition.
+pub fn line_rule()
+    ensures least { (n : ℕ) (votes others : ℕ → ℕ) (target : ℕ) →
+        ((i : ℕ) → i < n → 1 ≤ others i) →
+        IsLeastDivisor n votes others target (least_divisor n votes others target) }
+    ensures greatest { (n : ℕ) (votes others : ℕ → ℕ) (target : ℕ) →
+        ((i : ℕ) → i < n → 1 ≤ others i) → 1 ≤ target →
+        IsGreatestDivisor n votes others target (greatest_divisor n votes others target) }
+    ensures one_least { (n : ℕ) (votes others : ℕ → ℕ) (target x y : ℕ) →
+        IsLeastDivisor n votes others target x → IsLeastDivisor n votes others target y → x ≡ y }
+    ensures one_greatest { (n : ℕ) (votes others : ℕ → ℕ) (target x y : ℕ) →
+        IsGreatestDivisor n votes others target x → IsGreatestDivisor n votes others target y →
+        x ≡ y }
 {}

@@ -1,0 +1,35 @@
+/* Lower apportionment in plain C: the search for divisors, written from its rule alone.
+ * It is measured against the proved one, and shows that both give the same answers. */
+#ifndef SEARCH_H
+#define SEARCH_H
+
+#include <stdint.h>
+
+enum { LINES = 32, CELLS = LINES * LINES };
+
+enum answer { FOUND, NO_VOTES, TIED, EXHAUSTED };
+
+/* Votes row by row; what each row and each column is to get. */
+struct question {
+    int rows, columns;
+    uint64_t votes[CELLS];
+    uint32_t row_totals[LINES], column_totals[LINES];
+};
+
+/* Divisors in millionths. `row` and `column` are those of NO_VOTES and TIED, from 0. */
+struct outcome {
+    enum answer answer;
+    int row, column, half_steps;
+    uint64_t of_rows[LINES], of_columns[LINES];
+    uint32_t seats[CELLS];
+};
+
+uint64_t line(int n, const uint64_t *votes, const uint64_t *others, uint32_t target, uint64_t most);
+
+/* The search, up to 1,000 rounds. */
+void find(const struct question *q, struct outcome *out);
+
+/* Seats of a house in proportion to weights; 0 where they are tied. */
+int apportion(int n, const uint64_t *weights, uint32_t house, uint32_t *seats);
+
+#endif

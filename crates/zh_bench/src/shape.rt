@@ -1,0 +1,38 @@
+//! How large the made-up elections are, and how many.
+ghost use Rattle.std.specs.Prelude.{◌≤◌};
+
+#[derive(Clone, Copy)]
+pub(crate) struct Shape {
+    pub(crate) rows: usize,
+    pub(crate) columns: usize,
+    pub(crate) house: u32,
+    pub(crate) elections: u64,
+    ghost some_row: { 1 ≤ rows },
+    ghost few_rows: { rows ≤ 32 },
+    ghost some_column: { 1 ≤ columns },
+    ghost few_columns: { columns ≤ 32 },
+    ghost some_seat: { 1 ≤ house },
+    ghost few_seats: { house ≤ 400 },
+}
+
+impl Shape {
+    /// The shape that four words give: rows, columns, seats of the house, elections.
+    pub(crate) fn of(words: &[String]) -> Option<Self> {
+        let rows = words.first()?.parse().ok()?;
+        let columns = words.get(1)?.parse().ok()?;
+        let house = words.get(2)?.parse().ok()?;
+        let elections = words.get(3)?.parse().ok()?;
+        if !(1..=32).contains(&rows)
+            || !(1..=32).contains(&columns)
+            || !(1..=400).contains(&house)
+        {
+            return None;
+        }
+        Some(Shape {
+            rows,
+            columns,
+            house,
+            elections,
+        })
+    }
+}

@@ -1,0 +1,67 @@
+//! What became of elections.
+ghost use Rattle.std.specs.Prelude.{◌≡◌, ◌≤◌, length};
+
+use crate::shape::Shape;
+use std::fmt;
+use zh_lower::Lower;
+
+/// How many had seats, were tied and were exhausted, and a number that all divisors and seats go into.
+#[derive(Clone, Copy, Default)]
+pub(crate) struct Tally {
+    found: u64,
+    tied: u64,
+    exhausted: u64,
+    sum: u64,
+}
+
+impl Tally {
+    fn mix(&mut self, number: u64) {
+        self.sum = (self.sum ^ number).wrapping_mul(1_099_511_628_211);
+    }
+
+    /// Seats were found, and go into the sum with their divisors.
+    pub(crate) fn note_found(&mut self, shape: &Shape, lower: &Lower)
+        requires rows { length lower.now.divisors.of_rows ≡ shape.now.rows }
+        requires columns { length lower.now.divisors.of_columns ≡ shape.now.columns }
+    {
+        self.found = self.found.saturating_add(1);
+        for row in 1..=shape.rows as u32 {
+            self.mix(lower.row_divisor(row));
+        }
+        for column in 1..=shape.columns as u32 {
+            self.mix(lower.column_divisor(column));
+        }
+        for row in 1..=shape.rows as u32 {
+            self.mix_row(shape, lower, row);
+        }
+    }
+
+    /// The seats of a row go into the sum.
+    fn mix_row(&mut self, shape: &Shape, lower: &Lower, row: u32)
+        requires row_from_1 { 1 ≤ row }
+        requires row { row ≤ length lower.now.divisors.of_rows }
+        requires columns { length lower.now.divisors.of_columns ≡ shape.now.columns }
+    {
+        for column in 1..=shape.columns as u32 {
+            self.mix(u64::from(lower.seats(row, column)));
+        }
+    }
+
+    pub(crate) fn note_tied(&mut self) {
+        self.tied = self.tied.saturating_add(1);
+    }
+
+    pub(crate) fn note_exhausted(&mut self) {
+        self.exhausted = self.exhausted.saturating_add(1);
+    }
+}
+
+impl fmt::Display for Tally {
+    fn fmt<W: fmt::Write>(&self, f: &mut fmt::Formatter<W>) -> fmt::Result {
+        write!(
+            f,
+            "{} found, {} tied, {} exhausted, {}",
+            self.found, self.tied, self.exhausted, self.sum
+        )
+    }
+}

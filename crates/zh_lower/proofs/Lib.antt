@@ -1,0 +1,7 @@
+mod CellLemmas
+mod FilledLemmas
+mod LineLemmas
+mod OneAnswerLemmas
+mod PlaceLemmas
+mod StateLemmas
+mod SumLemmas

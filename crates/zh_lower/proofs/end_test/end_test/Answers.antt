@@ -1,0 +1,19 @@
+use Rattle.std.proofs.Common.{refl}
+use Rattle.zh_lower.specs.Asked.{asked}
+use Rattle.zh_lower.specs.Divisors.{millionths}
+use Rattle.zh_lower.proofs.PlaceLemmas.{HasNone-tested, rounded-few}
+use Rattle.zh_lower.proofs.end_test.end_test.Goals as goal
+
+pub follows-requires-clause-few : goal.follows-requires-clause-few
+follows-requires-clause-few c =
+    rw c.round_cells.ensures (rounded-few (asked c.args.question.now) (millionths c.args.of_rows.now c.args.of_columns.now))
+
+pub returns-else-are_two_ways-clause-none : goal.returns-else-are_two_ways-clause-none
+returns-else-are_two_ways-clause-none c =
+    HasNone-tested (asked c.args.question.now) _ c.round_cells.new.seats _ c.requires.proper refl c.round_cells.ensures
+    c.follows.ensures c.if-follows.false
+
+pub returns-in_default-clause-none : goal.returns-in_default-clause-none
+returns-in_default-clause-none c =
+    HasNone-tested (asked c.args.question.now) _ c.round_cells.new.seats _ c.requires.proper refl c.round_cells.ensures
+    c.follows.ensures c.if-follows.false

@@ -1,0 +1,8 @@
+use Rattle.zh_lower.proofs.OneAnswerLemmas.{no_seats, only_seats}
+use Rattle.zh_lower.proofs.laws.one_answer.Goals as goal
+
+pub returns-clause-one : goal.returns-clause-one
+returns-clause-one c = only_seats
+
+pub returns-clause-tied : goal.returns-clause-tied
+returns-clause-tied c = no_seats

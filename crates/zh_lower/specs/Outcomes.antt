@@ -1,0 +1,63 @@
+-- What the outcomes of an end test, of a round and of a search say.
+use Rattle.std.specs.Prelude.{◌≡◌, ◌≢◌, ℕ, ◌-◌, ◌*◌, ◌<◌, ◌≤◌, IsTrue, List, slice_index}
+use Rattle.zh_lower.specs.Divisors.{Divisors}
+use Rattle.zh_lower.specs.Question.{AreTotals, EachColumnHasVotes, EachRowHasVotes, Question, cell}
+use Rattle.zh_lower.specs.SeatMatrix.{IsStrict, IsWeak}
+use Rattle.zh_lower.specs.States.{is_half, state, with_columns_renewed, with_rows_renewed}
+use Rattle.zh_lower.specs.declared.end_test.Ending.{Ending}
+use Rattle.zh_lower.specs.declared.end_test.Ending.TheVariants.{Found, Tied}
+
+-- each line is to get 1 to 400 seats, and has votes
+pub record IsProper (q : Question) : Type 0 where
+  pub row_totals : AreTotals q.rows q.row_totals
+  pub column_totals : AreTotals q.columns q.column_totals
+  pub row_votes : EachRowHasVotes q
+  pub column_votes : EachColumnHasVotes q
+
+-- the quotient in row d and column g, both counted from 0, lies on a half
+abbrev pub HasHalf : Question → Divisors → ℕ → ℕ → Type 0
+HasHalf q x d g =
+    IsTrue (is_half (cell q.columns q.votes d g * (x.scale * x.scale)) (slice_index x.of_rows d * slice_index x.of_columns g))
+
+-- row d and column g, both counted from 1, have the first quotient on a half, by row and then column
+pub record IsFirstHalf (q : Question) (x : Divisors) (d g : ℕ) : Type 0 where
+  pub row_from_1 : 1 ≤ d
+  pub row : d ≤ q.rows
+  pub column_from_1 : 1 ≤ g
+  pub column : g ≤ q.columns
+  pub half : HasHalf q x (d - 1) (g - 1)
+  pub rows_before : (e f : ℕ) → e < d - 1 → f < q.columns → ¬ HasHalf q x e f
+  pub columns_before : (f : ℕ) → f < g - 1 → ¬ HasHalf q x (d - 1) f
+
+-- two different ways to round that meet all totals
+pub record AreTwoWays (q : Question) (x : Divisors) (seats others : List ℕ) : Type 0 where
+  pub one_way : IsWeak q x seats
+  pub other_way : IsWeak q x others
+  pub differ : seats ≢ others
+
+-- some divisors give two different matrices, and have their first quotient on a half in row d and column g
+pub record IsTied (q : Question) (d g : ℕ) : Type 0 where
+  pub divisors : Divisors
+  pub seats : List ℕ
+  pub others : List ℕ
+  pub ways : AreTwoWays q divisors seats others
+  pub first : IsFirstHalf q divisors d g
+
+-- no seats follow strictly from these divisors
+abbrev pub HasNone : Question → Divisors → Type 0
+HasNone q x = (seats : List ℕ) → ¬ IsStrict q x seats
+
+-- nor from the first n states of the search
+abbrev pub NoneBefore : Question → ℕ → Type 0
+NoneBefore q n = (k : ℕ) → k < n → HasNone q (state q k)
+
+-- an end with these divisors and seats
+abbrev pub Ends : Question → Divisors → List ℕ → Ending → Type 0
+Ends q x seats Found = IsStrict q x seats
+Ends q x seats (Tied d g) = IsTied q d g
+
+-- a round without an end: its two half-steps led from one state to the other
+pub record GoesOn (q : Question) (before after : Divisors) : Type 0 where
+  pub after_is : after ≡ with_rows_renewed q (with_columns_renewed q before)
+  pub none_between : HasNone q (with_columns_renewed q before)
+  pub none_after : HasNone q after

@@ -1,0 +1,31 @@
+//! Why no seats are found.
+ghost use Rattle.std.specs.Prelude.{◌≡◌};
+ghost use Rattle.zh_lower.specs.declared.fault.LowerFault.TheVariants.{Memory};
+
+use std::alloc::AllocError;
+use thiserror::Error;
+
+/// Why a lower apportionment gives no seats. Rows and columns are counted from 1.
+#[derive(Clone, Copy, Debug, PartialEq, Eq, Error)]
+pub enum LowerFault {
+    #[error("out of memory")]
+    Memory,
+    /// This row, the first such, has no vote.
+    #[error("row {0} has no votes")]
+    NoVotes(u32),
+    /// Two different matrices stand under the same divisors, and this row and column have the first
+    /// quotient on a half.
+    #[error("tied, with the first half in row {0} and column {1}")]
+    Tied(u32, u32),
+    /// The search came to its end.
+    #[error("the search is exhausted")]
+    Exhausted,
+}
+
+impl From<AllocError> for LowerFault {
+    ghost from_gives = { λ _ fault. fault ≡ Memory };
+
+    fn from(_error: AllocError) -> LowerFault {
+        LowerFault::Memory
+    }
+}

@@ -1,0 +1,70 @@
+//! The seats that were found, with their divisors.
+ghost use Rattle.std.specs.Prelude.{◌≡◌, ◌-◌, ◌*◌, ◌≤◌, length, slice_index};
+ghost use Rattle.zh_lower.specs.Divisors.{millionths};
+ghost use Rattle.zh_lower.specs.SeatMatrix.{seats_of};
+
+use std::marker::Model;
+
+/// The seats of each group, a column, in each constituency, a row, and the divisors that give them. Rows and
+/// columns are counted from 1.
+#[derive(Debug, Drop)]
+pub struct Lower {
+    seats: Vec<u32>,
+    row_divisors: Vec<u64>,
+    column_divisors: Vec<u64>,
+}
+
+impl Model for Lower {
+    ghost use Rattle.std.specs.Prelude.{◌≡◌, ◌*◌, length};
+    ghost use Rattle.zh_lower.specs.Divisors.{millionths};
+    ghost use Rattle.zh_lower.specs.SeatMatrix.{SeatMatrix};
+
+    ghost Value = { SeatMatrix };
+
+    ghost view = { λ l. record { seats = l.seats.items; divisors = millionths l.row_divisors.items l.column_divisors.items } };
+
+    ghost invariant = { λ l. length l.seats.items ≡ length l.row_divisors.items * length l.column_divisors.items };
+}
+
+impl Lower {
+    pub(crate) fn new(seats: Vec<u32>, row_divisors: Vec<u64>, column_divisors: Vec<u64>) -> Self
+        requires { length seats.items ≡ length row_divisors.items * length column_divisors.items }
+        ensures { result ≡ record { seats = seats.items; divisors = millionths row_divisors.items column_divisors.items } }
+    {
+        Lower {
+            seats,
+            row_divisors,
+            column_divisors,
+        }
+    }
+
+    /// The seats of a group in a constituency, 0 to 400.
+    pub fn seats(&self, row: u32, column: u32) -> u32
+        requires row_from_1 { 1 ≤ row }
+        requires row { row ≤ length self.now.divisors.of_rows }
+        requires column_from_1 { 1 ≤ column }
+        requires column { column ≤ length self.now.divisors.of_columns }
+        ensures { result ≡ seats_of self.now row column }
+    {
+        let before = (row - 1) as usize * self.column_divisors.len();
+        self.seats[before + (column - 1) as usize]
+    }
+
+    /// The divisor of a constituency in millionths, 1 to 10^18.
+    pub fn row_divisor(&self, row: u32) -> u64
+        requires from_1 { 1 ≤ row }
+        requires there { row ≤ length self.now.divisors.of_rows }
+        ensures { result ≡ slice_index self.now.divisors.of_rows (row - 1) }
+    {
+        self.row_divisors[(row - 1) as usize]
+    }
+
+    /// The divisor of a group in millionths, 1 to 10^12.
+    pub fn column_divisor(&self, column: u32) -> u64
+        requires from_1 { 1 ≤ column }
+        requires there { column ≤ length self.now.divisors.of_columns }
+        ensures { result ≡ slice_index self.now.divisors.of_columns (column - 1) }
+    {
+        self.column_divisors[(column - 1) as usize]
+    }
+}
