@@ -1,0 +1,9 @@
+-- Which groups take part, as far as they were looked at.
+use Rattle.std.proofs.Common.{◌≡◌, ℕ, ◌-◌, ◌≤◌, ◌↔◌, Bool, false, IsTrue, List, length, get_or}
+use Rattle.zh_totals.specs.Totals.{VoteTotals}
+use Rattle.zh_quorum.specs.Quorum.{TakesPart}
+
+-- the flags of the first n groups
+pub record AreParticipatingTo (totals : VoteTotals) (taking : List Bool) (n : ℕ) : Type 0 where
+  pub one_each : length taking ≡ n
+  pub each : (g : ℕ) → 1 ≤ g → g ≤ n → IsTrue (get_or taking (g - 1) false) ↔ TakesPart totals g

@@ -1,0 +1,8 @@
+//! The quorum: which groups take part in the apportionment (GPR section 102).
+#![tactic(auto)]
+
+pub use quorum::participating;
+
+mod quorum;
+#[cfg(test)]
+mod tests;

@@ -1,0 +1,6 @@
+pub mod Sums
+pub mod Totals
+pub mod Counting
+pub mod Parts
+pub mod Changes
+pub mod Inside

@@ -1,0 +1,14 @@
+//! Vote totals: the votes of each group in each constituency.
+#![tactic(auto)]
+
+mod change;
+mod commands;
+mod entries;
+mod laws;
+#[cfg(test)]
+mod tests;
+mod totals;
+
+pub use change::Change;
+pub use laws::{changes_are_noted, totals_are_few};
+pub use totals::Totals;

@@ -1,0 +1,118 @@
+//! The vote totals of an election.
+
+ghost use Rattle.std.specs.Prelude.{◌≡◌, ◌+◌, ◌-◌, ◌*◌, ◌^◌, ◌≤◌, ◌<◌, length, replicate, set, slice_index, IfOk};
+ghost use Rattle.zh_returns.specs.Tally.{empty};
+ghost use Rattle.zh_totals.specs.Changes.{IsChange, noted};
+ghost use Rattle.zh_totals.specs.Counting.{totals_of};
+ghost use Rattle.zh_totals.specs.Totals.{AreTotals, votes_in, constituency_votes, place_in};
+
+use crate::change::Change;
+use std::alloc::{AllocError, Global};
+use std::marker::Model;
+use zh_districts::Setup;
+
+/// The votes of each group in each constituency, for one set-up. Constituencies and groups are numbered from 1. All
+/// votes together are at most 10^14. The memory is taken in `new`, and no call on made totals takes any.
+#[derive(Debug, Drop)]
+pub struct Totals<'s> {
+    setup: &'s Setup,
+    votes: Vec<u64>,
+    constituencies: Vec<u64>,
+}
+
+impl<'s> Model for Totals<'s> {
+    ghost use Rattle.zh_totals.specs.Totals.{VoteTotals};
+
+    ghost Value = { VoteTotals };
+
+    ghost use Rattle.zh_totals.specs.Inside.{totals_in, IsInside};
+
+    ghost view = { totals_in };
+
+    ghost invariant = { IsInside };
+}
+
+/// So many sums without votes.
+fn no_votes(alloc: Global, sums: usize) -> Result<Vec<u64>, AllocError>
+    ensures { IfOk result (λ votes. votes.items ≡ replicate sums 0) }
+{
+    vec![in alloc; 0; sums]
+}
+
+/// Replaces the votes before a change by those after it in one sum.
+fn replace(sums: &mut [u64], place: usize, change: &Change)
+    requires place { place < length sums.old }
+    requires before { change.now.before ≤ slice_index sums.old place }
+    requires most { slice_index sums.old place ≤ 10 ^ 14 }
+    ensures { sums.new ≡ set sums.old place (slice_index sums.old place - change.now.before + change.now.after) }
+{
+    sums[place] = sums[place] - u64::from(change.before) + u64::from(change.after);
+}
+
+impl<'s> Totals<'s> {
+    /// The totals of an election before its first return.
+    pub fn new(alloc: Global, setup: &'s Setup) -> Result<Totals<'s>, AllocError>
+        ensures { IfOk result (λ totals. totals ≡ totals_of (empty setup.now)) }
+    {
+        let constituencies = setup.constituencies() as usize;
+        let groups = setup.groups() as usize;
+        Ok(Totals {
+            setup,
+            votes: no_votes(alloc, constituencies * groups)?,
+            constituencies: no_votes(alloc, constituencies)?,
+        })
+    }
+
+    /// The set-up that the totals are for.
+    pub fn setup(&self) -> &'s Setup
+        ensures setup { result.now ≡ self.now.canton }
+        ensures limits { AreTotals self.now }
+    {
+        self.setup
+    }
+
+    /// The votes of a group in a constituency.
+    pub fn votes(&self, constituency: u32, group: u32) -> u64
+        requires from_one { 1 ≤ constituency }
+        requires there { constituency ≤ length self.now.canton.constituencies }
+        requires group_from_one { 1 ≤ group }
+        requires group_there { group ≤ length self.now.canton.groups }
+        ensures votes { result ≡ votes_in self.now constituency group }
+        ensures most { result ≤ 10 ^ 14 }
+    {
+        self.votes[self.place(constituency, group)]
+    }
+
+    /// The votes of all groups in a constituency.
+    pub fn constituency(&self, constituency: u32) -> u64
+        requires from_one { 1 ≤ constituency }
+        requires there { constituency ≤ length self.now.canton.constituencies }
+        ensures votes { result ≡ constituency_votes self.now constituency }
+        ensures most { result ≤ 10 ^ 14 }
+    {
+        self.constituencies[(constituency - 1) as usize]
+    }
+
+    /// Replaces the votes before a change by those after it, in one sum and in its constituency.
+    pub fn note(&mut self, change: &Change)
+        requires { IsChange self.old change.now }
+        ensures { self.new ≡ noted self.old change.now }
+    {
+        let place = self.place(change.constituency, change.list);
+        replace(&mut self.votes, place, change);
+        let constituency = (change.constituency - 1) as usize;
+        replace(&mut self.constituencies, constituency, change);
+    }
+
+    /// The place of a sum in the table.
+    fn place(&self, constituency: u32, group: u32) -> usize
+        requires from_one { 1 ≤ constituency }
+        requires there { constituency ≤ length self.now.canton.constituencies }
+        requires group_from_one { 1 ≤ group }
+        requires group_there { group ≤ length self.now.canton.groups }
+        ensures place { result ≡ place_in self.now.canton constituency group }
+        ensures within { result < length self.now.canton.constituencies * length self.now.canton.groups }
+    {
+        (constituency - 1) as usize * self.setup.groups() as usize + (group - 1) as usize
+    }
+}

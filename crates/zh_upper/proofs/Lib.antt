@@ -1,0 +1,5 @@
+pub mod CallerLemmas
+pub mod FaultLemmas
+pub mod ParticipantLemmas
+pub mod SpreadLemmas
+pub mod VoterSumLemmas

@@ -1,0 +1,2 @@
+pub mod UpperSeats
+pub mod VoterNumbers

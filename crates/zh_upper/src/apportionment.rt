@@ -1,0 +1,56 @@
+ghost use Rattle.std.specs.Prelude.{◌≡◌, ◌^◌, ◌<◌, ◌≤◌, All, Any, IfOk, MatchBool, length};
+ghost use Rattle.zh_divisors.specs.Shares.{HasDivisor, RoundsEach};
+ghost use Rattle.zh_upper.specs.UpperSeats.{AreTied, AreUpperSeats, HasNoGroup, HasNoVoters, IsReportedWhere, of_participants, shares_of_participants};
+
+use crate::fault::UpperFault;
+use crate::participants::{of_participants, spread};
+use crate::seats::Upper;
+use std::alloc::Global;
+use zh_divisors::{ShareFault, Weights, apportion};
+
+/// Whether some voter sum is not 0.
+fn has_voters(sums: &[u64]) -> bool
+    ensures { MatchBool result (Any (λ v. 0 < v) sums.now) (All (λ v. v ≡ 0) sums.now) }
+{
+    sums.iter().any(|sum| *sum > 0)
+}
+
+/// The seats of the house for each group, in proportion to the voter sums of the groups that take part (GPR
+/// section 103). The other groups are left out and get no seats.
+pub fn upper(
+    alloc: Global,
+    voters: &[u64],
+    taking: &[bool],
+    house: u32,
+) -> Result<Upper, UpperFault>
+    requires one_each { length taking.now ≡ length voters.now }
+    requires at_most_32 { length voters.now ≤ 32 }
+    requires each_small { All (λ v. v ≤ 10 ^ 14) voters.now }
+    requires at_least_one { 1 ≤ house }
+    requires at_most_400 { house ≤ 400 }
+    ensures seats { IfOk result (λ upper. AreUpperSeats voters.now taking.now house upper.seats) }
+    ensures divisor { IfOk result (λ upper. HasDivisor (of_participants voters.now taking.now)
+        (shares_of_participants upper taking.now)) }
+    ensures rounds { IfOk result (λ upper. RoundsEach (of_participants voters.now taking.now)
+        (shares_of_participants upper taking.now)) }
+
+    ensures no_group { IsReportedWhere result UpperFault.NoGroup (HasNoGroup taking.now) }
+    ensures no_voters { IsReportedWhere result UpperFault.NoVoters (HasNoVoters voters.now taking.now) }
+    ensures tied { IsReportedWhere result UpperFault.Tied (AreTied voters.now taking.now house) }
+{
+    if !taking.contains(&true) {
+        return Err(UpperFault::NoGroup);
+    }
+    let sums = of_participants(alloc, voters, taking)?;
+    if !has_voters(&sums) {
+        return Err(UpperFault::NoVoters);
+    }
+    let weights = Weights::new(alloc, &sums)?;
+    let shares = match apportion(alloc, &weights, house) {
+        Ok(shares) => shares,
+        Err(ShareFault::Memory) => return Err(UpperFault::Memory),
+        Err(ShareFault::Tied) => return Err(UpperFault::Tied),
+    };
+    let seats = spread(alloc, shares.seats(), taking)?;
+    Ok(Upper::new(seats, shares.num(), shares.den()))
+}

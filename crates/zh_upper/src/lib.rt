@@ -1,0 +1,23 @@
+//! Voter numbers and upper seats: the seats of each group in the whole canton (GPR section 103).
+//!
+//! The votes of a list are divided by the seats of its constituency, which gives its voter number: a voter
+//! has as many votes as the constituency has seats. The voter numbers of a group are added up over the
+//! canton, and the house is apportioned to the groups that take part in proportion to these sums.
+#![tactic(auto)]
+
+pub use apportionment::upper;
+pub use fault::UpperFault;
+pub use laws::one_voter_number;
+pub use number::voter_number;
+pub use seats::Upper;
+pub use sums::voters;
+
+mod apportionment;
+mod fault;
+mod laws;
+mod number;
+mod participants;
+mod seats;
+mod sums;
+#[cfg(test)]
+mod tests;
