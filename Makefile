@@ -1,11 +1,23 @@
 # Thin names for the commands of the README.
-.PHONY: run test fmt
+.PHONY: run test cases refused bench fmt
 
 run:
 	@cd crates/zhcount && rt run
 
 test:
 	rt ci
+	@tests/real_file.sh
+
+cases:
+	@cd crates/zh_cases && rt run > /dev/null
+	@folder=$$(mktemp -d) && cp crates/zh_cases/data/* $$folder && cd $$folder && \
+	$(CURDIR)/crates/zh_cases/out/zh_cases $(CASES); status=$$?; rm -r $$folder; exit $$status
+
+refused:
+	@tests/refused_allocations.sh
+
+bench:
+	@bench/run
 
 fmt:
 	for crate in crates/*; do (cd $$crate && rt fmt); done
