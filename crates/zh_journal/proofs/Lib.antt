@@ -8,4 +8,6 @@ pub mod Records
 pub mod Clearing
 pub mod Payload
 pub mod Walk
+pub mod MovedLemmas
+pub mod ReaderLemmas
 pub mod Areas

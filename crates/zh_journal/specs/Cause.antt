@@ -1,4 +1,4 @@
--- When a fault of the device is told.
+-- When a fault of the device is reported.
 use Rattle.std.specs.Prelude.{ℕ, ◌<◌, ◌≤◌, ◌-◌, ◌^◌, ◌⊎◌}
 
 -- the disk's failure count rose, or stands at its end, which passes for risen

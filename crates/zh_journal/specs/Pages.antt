@@ -24,7 +24,7 @@ abbrev pub bodies : ℕ → List ℕ → ℕ → List ℕ
 bodies zero c at = []
 bodies (suc n) c at = slice_range c (at + 1) (at + 256) ++ bodies n c (at + 256)
 
--- the pages from this place on have this record behind their gates, and zeros behind it
+-- the pages from this place on have this record behind their gates, and zeros after it
 abbrev pub IsWritten : List ℕ → ℕ → List ℕ → Type 0
 IsWritten c at r = bodies (pages_of (length r)) c at ≡ take (255 * pages_of (length r)) (spelling r ++ zeros 255)
 
@@ -66,7 +66,7 @@ pub record SameButBodies (at n : ℕ) (old new : List ℕ) : Type 0 where
   pub same : (k : ℕ) → IsUntouched at n k → slice_index new k ≡ slice_index old k
 
 -- An append of r at page j makes an image of this one: nothing is changed outside the area,
--- and the area's records are those of before or these and r, clean behind.
+-- and the area's records are those of before or these and r, clean after them.
 pub record AddsOrNot (base j : ℕ) (r : List ℕ) (old new : List ℕ) : Type 0 where
   pub around : SameOutside base 262144 old new
   pub area : (rs : List (List ℕ)) → HoldsArea base j rs old → HoldsArea base j rs new ⊎ HoldsArea base (j + pages_of (length r)) (rs ++ r ∷ []) new

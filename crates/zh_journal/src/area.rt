@@ -1,15 +1,15 @@
 // An area of records.
-ghost use Rattle.std.specs.Prelude.{◌≡◌, ◌+◌, ◌*◌, ◌↔◌, ◌<◌, ◌≤◌, ℕ, List, None, [], ◌∷◌, ◌++◌, length, slice_get, slice_index, IfOk, OnOk, OnErr, IsErrOf};
+ghost use Rattle.std.specs.Prelude.{◌≡◌, ◌+◌, ◌*◌, ◌↔◌, ◌<◌, ◌≤◌, ℕ, List, None, Some, [], ◌∷◌, ◌++◌, length, slice_get, slice_index, IfOk, OnOk, OnErr, IsErrOf};
 ghost use Rattle.zh_disk.specs.Disk.{Leaves, Moves, SameOutside};
 ghost use Rattle.zh_disk.specs.declared.disk.TheConstants.{DISK_LENGTH};
 ghost use Rattle.zh_journal.specs.Cause.{HasRisen};
-ghost use Rattle.zh_journal.specs.Pages.{Reads, AddsOrNot, Adds, IsCleared, pages_of};
+ghost use Rattle.zh_journal.specs.Pages.{Frames, Reads, AddsOrNot, Adds, IsCleared, pages_of};
 ghost use Rattle.zh_journal.specs.Place.{pages_left, grown};
 ghost use Rattle.zh_journal.specs.Records.{records_of};
 
+use crate::extent::extent_of;
 use crate::fault::{AppendFault, AreaFault, OpenFault};
 use crate::gate::open_gate;
-use crate::head::{Head, read_head};
 use crate::page::{AREA_LENGTH, AREA_PAGES, LONGEST_PAYLOAD, PAGE_LENGTH, pages_of};
 use crate::reader::Reader;
 use crate::reading::{find_page, read_record};
@@ -42,14 +42,26 @@ impl Model for Area {
 }
 
 impl Area {
-    /// Finds the records of the area that begins at this place. It reads one head a record, and writes nothing.
-    pub fn open<D: Disk>(disk: &mut D, base: u64) -> Result<Area, OpenFault>
-        requires { base + AREA_LENGTH ≤ DISK_LENGTH }
+    /// Finds the records of the area that begins at this place. It reads the area once, into the caller's bytes, and
+    /// writes nothing.
+    pub fn open<D: Disk>(
+        disk: &mut D,
+        base: u64,
+        mut pages: Vec<u8>,
+    ) -> Result<(Area, Reader), OpenFault>
+        requires base { base + AREA_LENGTH ≤ DISK_LENGTH }
+        requires size { length pages.items ≡ AREA_LENGTH }
 
         ensures kept { D.honest disk.new → D.honest disk.old }
-        ensures found { D.honest disk.new → IfOk result (λ a. (rs : List (List ℕ)) × Reads base (D.trail disk.old).now.bytes rs a.end × (length rs ≡ a.count)) }
+        ensures found { D.honest disk.new → IfOk result (λ opened. (rs : List (List ℕ)) × Reads base (D.trail disk.old).now.bytes rs opened.0.end × (length rs ≡ opened.0.count)) }
 
-        ensures base { IfOk result (λ a. a.base ≡ base) }
+        // These are the records of the area, which are one list at most.
+        ensures records { D.honest disk.new → IfOk result (λ opened. (rs : List (List ℕ)) × (records_of base (D.trail disk.old).now.bytes ≡ Some rs) × (length rs ≡ opened.0.count)) }
+
+        ensures base { IfOk result (λ opened. opened.0.base ≡ base) }
+
+        // The reader has all of them left.
+        ensures left { D.honest disk.new → (rs : List (List ℕ)) (j : ℕ) → Reads base (D.trail disk.old).now.bytes rs j → IfOk result (λ opened. Frames 0 opened.1.pages opened.1.page rs opened.1.end) }
 
         // It is damaged exactly where the rules give no records.
         ensures damaged { D.honest disk.new → IsErrOf result OpenFault.Damaged → records_of base (D.trail disk.old).now.bytes ≡ None }
@@ -58,19 +70,16 @@ impl Area {
         ensures later { D.failures disk.old ≤ D.failures disk.new }
         ensures cause { IsErrOf result OpenFault.Device → HasRisen (D.failures disk.old) (D.failures disk.new) }
     {
-        let mut end = 0;
-        let mut count = 0;
-        while end < AREA_PAGES {
-            match read_head(disk, base + PAGE_LENGTH * (end as u64), AREA_PAGES - end)? {
-                Head::Closed => break,
-                Head::Damaged => return Err(OpenFault::Damaged),
-                Head::Record(len) => {
-                    end += pages_of(len);
-                    count += 1;
-                }
-            }
-        }
-        Ok(Area { base, end, count })
+        disk.read_at(base, &mut pages)?;
+        let Some(extent) = extent_of(&pages) else {
+            return Err(OpenFault::Damaged);
+        };
+        let area = Area {
+            base,
+            end: extent.end,
+            count: extent.count,
+        };
+        Ok((area, Reader::new(pages, extent.end)))
     }
 
     /// The number of records.
@@ -81,7 +90,7 @@ impl Area {
         self.count
     }
 
-    /// The number of pages behind the last record.
+    /// The number of pages after the last record.
     pub fn pages_left(&self) -> u32
         ensures left { result ≡ pages_left self.now }
         ensures all { self.now.end + result ≡ AREA_PAGES }
@@ -90,8 +99,8 @@ impl Area {
     }
 
     /// Lends the payload of record `i`, counted from 0, from the caller's buffer. It reads the heads of the
-    /// records before it; to go through all of them take a `reader`. Where the disk gives no such record any
-    /// more, the payload is empty, as no record's is.
+    /// records before it; `open` gives all of them in order. Where the disk gives no such record any more, the
+    /// payload is empty, as no record's is.
     pub fn record<'b, D: Disk>(
         &self,
         disk: &mut D,
@@ -115,14 +124,7 @@ impl Area {
         Ok(&buffer[..len as usize])
     }
 
-    /// A reader that stands before the first record.
-    pub fn reader(&self) -> Reader
-        ensures { result ≡ record { base = self.now.base; page = 0; end = self.now.end } }
-    {
-        Reader::new(self.base, self.end)
-    }
-
-    /// Writes a record behind the last one: bytes 1 to 255 of each of its pages, a sync, the gate of the first
+    /// Writes a record after the last one: bytes 1 to 255 of each of its pages, a sync, the gate of the first
     /// page, a sync.
     pub fn append<D: Disk>(&mut self, disk: &mut D, payload: &[u8]) -> Result<(), AppendFault>
         requires some { 1 ≤ length payload.now }

@@ -5,6 +5,7 @@
 #![tactic(auto)]
 
 mod area;
+mod extent;
 mod fault;
 mod gate;
 mod head;

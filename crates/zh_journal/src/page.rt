@@ -23,7 +23,7 @@ pub fn pages_of(len: u32) -> u32
 }
 
 // Puts these bytes in the place of those that are there.
-fn overwrite(page: &mut [u8], at: usize, from: &[u8])
+pub(crate) fn overwrite(page: &mut [u8], at: usize, from: &[u8])
     requires { at + length from.now ≤ length page.old }
     ensures { page.new ≡ splice at from.now page.old }
 {

@@ -1,84 +1,111 @@
-// Going through the records of an area.
-ghost use Rattle.std.specs.Prelude.{◌≡◌, ◌+◌, ◌<◌, ◌≤◌, ◌↔◌, ℕ, List, ◌∷◌, length, IfOk, OnErr, OnSome, IsNone, IsErrOf};
+// The records of an area, one after the other, from the pages that an opening read.
+ghost use Rattle.std.specs.Prelude.{◌≡◌, ◌+◌, ◌-◌, ◌*◌, ◌<◌, ◌≤◌, ◌↔◌, ℕ, List, ◌∷◌, length, take, slice_index, OnSome, IsNone};
 ghost use Rattle.std.specs.Option.{option_copied};
-ghost use Rattle.zh_disk.specs.declared.disk.TheConstants.{DISK_LENGTH};
-ghost use Rattle.zh_journal.specs.declared.page.TheConstants.{AREA_LENGTH, AREA_PAGES};
-ghost use Rattle.zh_journal.specs.Cause.{HasRisen};
-ghost use Rattle.zh_journal.specs.Pages.{Frames};
+ghost use Rattle.zh_journal.specs.declared.page.TheConstants.{AREA_LENGTH, AREA_PAGES, LONGEST_PAYLOAD};
+ghost use Rattle.zh_journal.specs.Pages.{pages_of, IsStaged, Frames};
 
-use crate::fault::AreaFault;
-use crate::page::{LONGEST_PAYLOAD, PAGE_LENGTH, pages_of};
-use crate::reading::read_record;
+use crate::page::{AREA_LENGTH, AREA_PAGES, LONGEST_PAYLOAD, PAGE_LENGTH, overwrite, pages_of};
 use std::marker::Model;
-use zh_disk::Disk;
 
-/// A reader that goes through the records of an area once, page by page.
-///
-/// It is made by `Area::reader`, and is of use as long as nothing else is written to the area.
+/// The records that `Area::open` found, to be gone through once, in order. It holds the area's pages as they were
+/// read, so that nothing of them is read again.
 #[derive(Debug, Drop)]
 pub struct Reader {
-    base: u64,
+    pages: Vec<u8>,
     page: u32,
     end: u32,
 }
 
 impl Model for Reader {
-    ghost use Rattle.std.specs.Prelude.{◌+◌, ◌≤◌};
-    ghost use Rattle.zh_disk.specs.declared.disk.TheConstants.{DISK_LENGTH};
+    ghost use Rattle.std.specs.Prelude.{◌≡◌, ◌≤◌, ℕ, List, length};
     ghost use Rattle.zh_journal.specs.declared.page.TheConstants.{AREA_LENGTH, AREA_PAGES};
+    ghost use Rattle.zh_journal.specs.Pages.{Frames};
     ghost use Rattle.zh_journal.specs.Place.{Rest};
 
     ghost Value = { Rest };
 
-    ghost view = { λ r. record { base = r.base; page = r.page; end = r.end } };
+    ghost view = { λ r. record { pages = r.pages.items; page = r.page; end = r.end } };
 
-    ghost invariant = { λ r. (r.base + AREA_LENGTH ≤ DISK_LENGTH) × (r.page ≤ r.end) × (r.end ≤ AREA_PAGES) };
+    ghost invariant = { λ r. (length r.pages.items ≡ AREA_LENGTH) × (r.end ≤ AREA_PAGES) × ((rs : List (List ℕ)) × Frames 0 r.pages.items r.page rs r.end) };
 }
 
 impl Reader {
-    pub(crate) fn new(base: u64, end: u32) -> Reader
-        requires base { base + AREA_LENGTH ≤ DISK_LENGTH }
+    // Those of these pages, which end at this page.
+    pub(crate) fn new(pages: Vec<u8>, end: u32) -> Reader
+        requires size { length pages.items ≡ AREA_LENGTH }
         requires end { end ≤ AREA_PAGES }
-        ensures { result ≡ record { base = base; page = 0; end = end } }
+        requires framed { (rs : List (List ℕ)) × Frames 0 pages.items 0 rs end }
+        ensures { result ≡ record { pages = pages.items; page = 0; end = end } }
     {
-        Reader { base, page: 0, end }
+        Reader {
+            pages,
+            page: 0,
+            end,
+        }
     }
 
-    /// Lends the payload of the next record from the caller's buffer, or says that there is none. Where the disk
-    /// gives no such record any more, the payload is empty, as no record's is, and is the last.
-    pub fn next<'b, D: Disk>(
-        &mut self,
-        disk: &mut D,
-        buffer: &'b mut [u8],
-    ) -> Result<Option<&'b [u8]>, AreaFault>
+    /// Lends the payload of the next record from the caller's buffer, or says that there is none.
+    pub fn next<'b>(&mut self, buffer: &'b mut [u8]) -> Option<&'b [u8]>
         requires { LONGEST_PAYLOAD ≤ length buffer.old }
 
-        ensures kept { D.honest disk.new → D.honest disk.old }
-
         // Of the records that are left it gives the first, and leaves the others.
-        ensures first { D.honest disk.new → (r : List ℕ) (rs : List (List ℕ)) → Frames self.old.base (D.trail disk.old).now.bytes self.old.page (r ∷ rs) self.old.end → IfOk result (λ payload. (option_copied payload ≡ Some r) × Frames self.old.base (D.trail disk.old).now.bytes self.new.page rs self.old.end) }
+        ensures first { (r : List ℕ) (rs : List (List ℕ)) → Frames 0 self.old.pages self.old.page (r ∷ rs) self.old.end → (option_copied result ≡ Some r) × Frames 0 self.old.pages self.new.page rs self.old.end }
 
-        ensures none { IfOk result (λ payload. IsNone payload ↔ (self.old.page ≡ self.old.end)) }
-        ensures further { IfOk result (λ payload. OnSome payload (self.old.page < self.new.page)) }
+        ensures none { IsNone result ↔ (self.old.page ≡ self.old.end) }
+        ensures further { OnSome result (self.old.page < self.new.page) }
         ensures within { self.new.page ≤ self.new.end }
-        ensures base { self.new.base ≡ self.old.base }
+        ensures pages { self.new.pages ≡ self.old.pages }
         ensures end { self.new.end ≡ self.old.end }
-        ensures err { OnErr result (self.new ≡ self.old) }
-
-        ensures same { D.honest disk.new → D.trail disk.new ≡ D.trail disk.old }
-        ensures later { D.failures disk.old ≤ D.failures disk.new }
-        ensures cause { IsErrOf result AreaFault.Device → HasRisen (D.failures disk.old) (D.failures disk.new) }
     {
         if self.page == self.end {
-            return Ok(None);
+            return None;
         }
-        let at = self.base + PAGE_LENGTH * (self.page as u64);
-        let len = read_record(disk, at, self.end - self.page, buffer)?;
-        self.page = if len == 0 {
-            self.end
-        } else {
-            self.page + pages_of(len)
-        };
-        Ok(Some(&buffer[..len as usize]))
+        let at = PAGE_LENGTH as usize * self.page as usize;
+        let len = length_at(&self.pages, at);
+        copy_payload(&self.pages, at, len, buffer);
+        self.page += pages_of(len);
+        Some(&buffer[..len as usize])
     }
+}
+
+// The length of the payload of the record at this place.
+fn length_at(pages: &[u8], at: usize) -> u32
+    requires { at + 4 ≤ length pages.now }
+    ensures { (r : List ℕ) → IsStaged pages.now at r → result ≡ length r }
+{
+    256 * (pages[at + 2] as u32) + (pages[at + 3] as u32)
+}
+
+// Copies the payload of the record at this place, whose head gives this length.
+fn copy_payload(pages: &[u8], at: usize, len: u32, buffer: &mut [u8])
+    requires len { len ≤ LONGEST_PAYLOAD }
+    requires room { at + 256 * pages_of len ≤ length pages.now }
+    requires buffer { len ≤ length buffer.old }
+
+    ensures { (r : List ℕ) → IsStaged pages.now at r → length r ≡ len → take len buffer.new ≡ r }
+{
+    for i in 0..pages_of(len) {
+        copy_page(pages, at, len, i, buffer);
+    }
+}
+
+// Copies what page i of a record has of its payload. Byte k of a payload on page i stands at place 4 + k + i of
+// the record: after three bytes of the head and the gates up to that of its page.
+fn copy_page(pages: &[u8], at: usize, len: u32, i: u32, buffer: &mut [u8])
+    requires len { len ≤ LONGEST_PAYLOAD }
+    requires i { i < pages_of len }
+    requires room { at + 256 * pages_of len ≤ length pages.now }
+    requires buffer { len ≤ length buffer.old }
+
+    ensures copied { (k : ℕ) → 255 * i ≤ k + 3 → k + 3 < 255 * i + 255 → k < len → slice_index buffer.new k ≡ slice_index pages.now (at + 4 + k + i) }
+    ensures rest { (k : ℕ) → k + 3 < 255 * i → slice_index buffer.new k ≡ slice_index buffer.old k }
+{
+    let from = (255 * i).saturating_sub(3) as usize;
+    let to = (255 * i + 252).min(len) as usize;
+    let gates = i as usize;
+    overwrite(
+        buffer,
+        from,
+        &pages[at + 4 + from + gates..at + 4 + to + gates],
+    );
 }

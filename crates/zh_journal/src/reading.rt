@@ -9,7 +9,7 @@ use crate::page::{AREA_LENGTH, AREA_PAGES, LONGEST_PAYLOAD, PAGE_LENGTH, pages_o
 use zh_disk::{Disk, DiskFault};
 
 // Reads what page i of a record has of its payload. Byte k of a payload on page i stands at place
-// 4 + k + i of the record: behind three bytes of the head and the gates up to that of its page.
+// 4 + k + i of the record: after three bytes of the head and the gates up to that of its page.
 fn read_page<D: Disk>(
     disk: &mut D,
     at: u64,

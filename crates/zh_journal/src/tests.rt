@@ -31,7 +31,7 @@ fn pages_are_counted(rt: HostRuntime) {
 #[test]
 fn a_record_is_found_again(rt: HostRuntime) -> Result<(), Fail> {
     let mut disk = MemoryDisk::blank(rt.alloc())?;
-    let mut area = Area::open(&mut disk, BASE)?;
+    let mut area = open_area(rt.alloc(), &mut disk)?;
     area.append(&mut disk, &RETURN)?;
     assert_eq!(rt; area.records(), 1);
     assert_eq!(rt; area.pages_left(), 1_023);
@@ -42,7 +42,7 @@ fn a_record_is_found_again(rt: HostRuntime) -> Result<(), Fail> {
         [0xA5, 1, 0, 12, 1, 0, 1, 1, 0, 0, 0, 1, 0, 0, 2, 13, 0]
     );
     disk.stop(Stop::Old);
-    let found = Area::open(&mut disk, BASE)?;
+    let found = open_area(rt.alloc(), &mut disk)?;
     assert_eq!(rt; found.records(), 1);
     let mut buffer = [9u8; 16_317];
     assert_eq!(rt; found.record(&mut disk, 0, &mut buffer)?, RETURN.as_slice());
@@ -54,6 +54,21 @@ fn zeros(alloc: Global, n: usize) -> Result<Vec<u8>, AllocError>
     ensures zero { IfOk result (λ v. (k : ℕ) → slice_index v.items k ≡ 0) }
 {
     vec![in alloc; 0; n]
+}
+
+// the zeros of an area
+fn area_bytes(alloc: Global) -> Result<Vec<u8>, AllocError>
+    ensures len { IfOk result (λ v. length v.items ≡ 262144) }
+    ensures zero { IfOk result (λ v. (k : ℕ) → slice_index v.items k ≡ 0) }
+{
+    zeros(alloc, 262_144)
+}
+
+fn open_area(alloc: Global, disk: &mut MemoryDisk) -> Result<Area, Fail>
+    ensures { IfOk result (λ area. area.base ≡ 332032) }
+{
+    let (area, _) = Area::open(disk, BASE, area_bytes(alloc)?)?;
+    Ok(area)
 }
 
 // bytes that change from place to place, and with n
@@ -68,7 +83,7 @@ fn counted(n: u8) -> [u8; 663] {
 #[test]
 fn long_records_are_read_in_order(rt: HostRuntime) -> Result<(), Fail> {
     let mut disk = MemoryDisk::blank(rt.alloc())?;
-    let mut area = Area::open(&mut disk, BASE)?;
+    let mut area = open_area(rt.alloc(), &mut disk)?;
     area.append(&mut disk, &counted(1))?;
     area.append(&mut disk, &RETURN)?;
     area.append(&mut disk, &counted(2))?;
@@ -79,36 +94,27 @@ fn long_records_are_read_in_order(rt: HostRuntime) -> Result<(), Fail> {
         area.record(&mut disk, 2, &mut buffer)?,
         counted(2).as_slice()
     );
-    let mut reader = area.reader();
-    assert_eq!(rt;
-        reader.next(&mut disk, &mut buffer)?,
-        Some(counted(1).as_slice())
-    );
-    assert_eq!(rt;
-        reader.next(&mut disk, &mut buffer)?,
-        Some(RETURN.as_slice())
-    );
-    assert_eq!(rt;
-        reader.next(&mut disk, &mut buffer)?,
-        Some(counted(2).as_slice())
-    );
-    assert_eq!(rt; reader.next(&mut disk, &mut buffer)?, None);
+    let (_, mut reader) = Area::open(&mut disk, BASE, area_bytes(rt.alloc())?)?;
+    assert_eq!(rt; reader.next(&mut buffer), Some(counted(1).as_slice()));
+    assert_eq!(rt; reader.next(&mut buffer), Some(RETURN.as_slice()));
+    assert_eq!(rt; reader.next(&mut buffer), Some(counted(2).as_slice()));
+    assert_eq!(rt; reader.next(&mut buffer), None);
     Ok(())
 }
 
 #[test]
 fn a_stop_within_the_pages_leaves_no_record(rt: HostRuntime) -> Result<(), Fail> {
     let mut disk = MemoryDisk::blank(rt.alloc())?;
-    let mut area = Area::open(&mut disk, BASE)?;
+    let mut area = open_area(rt.alloc(), &mut disk)?;
     let mut fuse = FuseDisk::new(disk, 1);
     let stopped = area.append(&mut fuse, &counted(0));
     assert_eq!(rt; stopped, Err(AppendFault::Device));
     let mut disk = fuse.into_inner();
     disk.stop(Stop::Fill(0xA5));
-    let mut area = Area::open(&mut disk, BASE)?;
+    let mut area = open_area(rt.alloc(), &mut disk)?;
     assert_eq!(rt; area.records(), 0);
     area.append(&mut disk, &RETURN)?;
-    let found = Area::open(&mut disk, BASE)?;
+    let found = open_area(rt.alloc(), &mut disk)?;
     assert_eq!(rt; found.records(), 1);
     Ok(())
 }
@@ -117,7 +123,7 @@ fn a_stop_within_the_pages_leaves_no_record(rt: HostRuntime) -> Result<(), Fail>
 fn an_append_of_three_pages_makes_six_calls(rt: HostRuntime) -> Result<(), Fail> {
     for (calls, answer) in [(5, Err(AppendFault::Device)), (6, Ok(()))] {
         let mut disk = MemoryDisk::blank(rt.alloc())?;
-        let mut area = Area::open(&mut disk, BASE)?;
+        let mut area = open_area(rt.alloc(), &mut disk)?;
         let mut fuse = FuseDisk::new(disk, calls);
         assert_eq!(rt; area.append(&mut fuse, &counted(0)), answer);
     }
@@ -125,9 +131,9 @@ fn an_append_of_three_pages_makes_six_calls(rt: HostRuntime) -> Result<(), Fail>
 }
 
 #[test]
-fn a_full_area_is_told_and_cleared(rt: HostRuntime) -> Result<(), Fail> {
+fn a_full_area_is_reported_and_cleared(rt: HostRuntime) -> Result<(), Fail> {
     let mut disk = MemoryDisk::blank(rt.alloc())?;
-    let mut area = Area::open(&mut disk, BASE)?;
+    let mut area = open_area(rt.alloc(), &mut disk)?;
     for _ in 0..1_022 {
         area.append(&mut disk, &[7])?;
     }
@@ -135,11 +141,11 @@ fn a_full_area_is_told_and_cleared(rt: HostRuntime) -> Result<(), Fail> {
     area.append(&mut disk, &[7; 253])?;
     assert_eq!(rt; area.pages_left(), 0);
     assert_eq!(rt; area.append(&mut disk, &[7]), Err(AppendFault::Full));
-    assert_eq!(rt; Area::open(&mut disk, BASE)?.records(), 1_023);
-    let zeros = zeros(rt.alloc(), 262_144)?;
+    assert_eq!(rt; open_area(rt.alloc(), &mut disk)?.records(), 1_023);
+    let zeros = area_bytes(rt.alloc())?;
     assert_eq!(rt; Area::clear(&mut disk, BASE, &zeros)?.records(), 0);
     disk.sync()?;
-    assert_eq!(rt; Area::open(&mut disk, BASE)?.records(), 0);
+    assert_eq!(rt; open_area(rt.alloc(), &mut disk)?.records(), 0);
     Ok(())
 }
 
@@ -157,7 +163,8 @@ fn heads_are_judged(rt: HostRuntime) -> Result<(), Fail> {
     ] {
         let mut disk = MemoryDisk::blank(rt.alloc())?;
         disk.write_at(BASE, &head)?;
-        let found = Area::open(&mut disk, BASE).map(|area| area.records());
+        let pages = area_bytes(rt.alloc())?;
+        let found = Area::open(&mut disk, BASE, pages).map(|(area, _)| area.records());
         assert_eq!(rt; found, records, "with {head:?}");
     }
     Ok(())

@@ -1,4 +1,8 @@
 pub mod Ranges
+pub mod SlotLemmas
+pub mod FillLemmas
+pub mod RefillLemmas
+pub mod SwitchLemmas
 pub mod Closing
 pub mod Parts
 pub mod Phases

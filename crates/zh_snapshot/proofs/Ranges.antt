@@ -1,13 +1,14 @@
 -- What stands in a range of places.
-use Rattle.std.proofs.Common.{◌≡◌, Bool, true, false, not, ◌⊎◌, inl, inr, ⊎_elim, ℕ, ◌+◌, ◌-◌, ◌<◌, ◌≤◌, List, length, take, refl, sym, ◌∙◌, ap, arith}
+use Rattle.std.proofs.Common.{◌≡◌, Bool, true, false, not, ◌⊎◌, inl, inr, ⊎_elim, ℕ, ◌+◌, ◌-◌, ◌<◌, ◌≤◌, List, length, take, refl, sym, ◌∙◌, ap, subst, arith}
 use Rattle.std.specs.Prelude.{slice_index, slice_range}
 use Rattle.std.proofs.lemmas.List.{ext_get_or, get_or-take, length-take-le}
 use Rattle.std.proofs.lemmas.Bool.{cases_lt}
 use Rattle.std.proofs.lemmas.Slice.Eq.{bytes_eq-Decides}
 use Rattle.std.specs.Bool.{Decides}
 use Rattle.std.specs.Str.{bytes_eq}
-use Rattle.zh_disk.specs.Disk.{SameOutside}
-use Rattle.zh_journal.proofs.Bodies.{slice_same, slice_at, length-slice}
+use Rattle.zh_disk.specs.Disk.{SameOutside, splice}
+use Rattle.zh_disk.proofs.Images.{splice_same}
+use Rattle.zh_journal.proofs.Bodies.{slice_same, slice_at, slice_spliced, length-slice}
 
 pub same_trans : (at n : ℕ) (x y z : List ℕ) → SameOutside at n x y → SameOutside at n y z → SameOutside at n x z
 same_trans at n x y z a b = record { size = b.size ∙ a.size; same = λ k out. b.same k out ∙ a.same k out }
@@ -18,6 +19,13 @@ same_wider at n at' n' low high x y by = record { size = by.size; same = λ k ou
 -- a range that a write does not reach
 pub slice_kept : (at n a b : ℕ) (x y : List ℕ) → SameOutside at n x y → (b ≤ at) ⊎ (at + n ≤ a) → a ≤ b → b ≤ length x → slice_range y a b ≡ slice_range x a b
 slice_kept at n a b x y by out le fits = slice_same y x a b by.size le (omega (arith, by.size)) (λ k low high. by.same k (⊎_elim (λ before. inl (omega arith)) (λ behind. inr (omega arith)) out))
+
+-- a write that is done
+pub placed : (at : ℕ) (bytes old new : List ℕ) → at + length bytes ≤ length old → new ≡ splice at bytes old → SameOutside at (length bytes) old new × (slice_range new at (at + length bytes) ≡ bytes)
+placed at bytes old new fits is = (
+  subst (λ (l : List ℕ). SameOutside at (length bytes) old l) (sym is) (splice_same at bytes old fits),
+  ap (λ (l : List ℕ). slice_range l at (at + length bytes)) is ∙ slice_spliced at bytes old (at + length bytes) refl fits,
+)
 
 -- a part of what was read
 pub slice_part : (b into : List ℕ) (at n i j : ℕ) → into ≡ slice_range b at (at + n) → at + n ≤ length b → i ≤ j → j ≤ n → slice_range into i j ≡ slice_range b (at + i) (at + j)

@@ -1,31 +1,60 @@
 -- What a store knows of its disk, and what its calls leave there.
-use Rattle.std.specs.Prelude.{◌≡◌, ◌⊎◌, ◌+◌, ℕ, Bool, List, length}
-use Rattle.zh_journal.specs.Place.{Place}
+use Rattle.std.specs.Prelude.{◌≡◌, ◌⊎◌, ◌+◌, ◌↔◌, ℕ, Bool, true, IsTrue, List, length}
+use Rattle.zh_journal.specs.Place.{Place, grown}
 use Rattle.zh_journal.specs.Pages.{pages_of}
-use Rattle.zh_snapshot.specs.Image.{Content, IsClean, with_record}
+use Rattle.zh_snapshot.specs.declared.layout.Slot.{Slot}
+use Rattle.zh_snapshot.specs.Layout.{other, journal_at}
+use Rattle.zh_snapshot.specs.Slots.{IsOpen, IsInUse}
+use Rattle.zh_snapshot.specs.Image.{Content, IsFramed, IsClean, with_record, with_snapshot}
 
--- the length of the set-up bytes, the generation, where the records end, and whether a writing call met a fault of the device
+-- the length of the set-up bytes, the slot in use and its generation, whether the other slot's gate is open, where the
+-- records end, and whether a writing call met a fault of the device
 pub record State : Type 0 where
   pub setup_length : ℕ
+  pub slot : Slot
   pub generation : ℕ
+  pub other_open : Bool
   pub area : Place
   pub broken : Bool
 
 -- an image with this content, whose records end at this page, is the one that the store knows
-pub record Fits (s : State) (x : Content) (j : ℕ) : Type 0 where
+pub record Fits (s : State) (x : Content) (j : ℕ) (c : List ℕ) : Type 0 where
   pub setup : length x.setup ≡ s.setup_length
   pub generation : x.generation ≡ s.generation
   pub end : j ≡ s.area.end
   pub count : length x.records ≡ s.area.count
+  pub slot : IsInUse s.slot c
+  pub other_slot : IsOpen (other s.slot) c ↔ IsTrue s.other_open
+
+-- with one record more, whose payload has this length
+abbrev pub longer : State → ℕ → State
+longer s len = record s { area = grown s.area len }
+
+-- after a fault of the device in a call that writes
+abbrev pub broken_since : State → State
+broken_since s = record s { broken = true }
+
+-- with a new snapshot in the other slot
+abbrev pub switched : State → State
+switched s = record s { slot = other s.slot; generation = s.generation + 1; other_open = true; area = record { base = journal_at (other s.slot); end = 0; count = 0 } }
 
 -- what a read gave at the start, and nothing else, is left
 abbrev pub Settles : List ℕ → List ℕ → List ℕ → Type 0
 Settles bytes old new = (old ≡ bytes) × (new ≡ bytes)
 
--- a clean image whose records end at page j becomes one with the record r, and is clean
-abbrev pub StoreAdds : ℕ → List ℕ → List ℕ → List ℕ → Type 0
-StoreAdds j r old new = (x : Content) → IsClean x j old → IsClean (with_record x r) (j + pages_of (length r)) new
+-- a clean image that fits becomes one with the record r, is clean, and fits
+abbrev pub StoreAdds : State → List ℕ → List ℕ → List ℕ → Type 0
+StoreAdds s r old new = (x : Content) (j : ℕ) → IsClean x j old → Fits s x j old → IsClean (with_record x r) (j + pages_of (length r)) new × Fits (longer s (length r)) (with_record x r) (j + pages_of (length r)) new
 
 -- or stays one without
-abbrev pub StoreAddsOrNot : ℕ → List ℕ → List ℕ → List ℕ → Type 0
-StoreAddsOrNot j r old new = (x : Content) → IsClean x j old → IsClean x j new ⊎ IsClean (with_record x r) (j + pages_of (length r)) new
+abbrev pub StoreAddsOrNot : State → List ℕ → List ℕ → List ℕ → Type 0
+StoreAddsOrNot s r old new = (x : Content) (j : ℕ) → IsClean x j old → Fits s x j old → IsClean x j new ⊎ IsClean (with_record x r) (j + pages_of (length r)) new
+
+-- an image that fits becomes a clean one with this snapshot and no records, one generation later, and fits
+abbrev pub StoreSwitches : State → List ℕ → List ℕ → List ℕ → Type 0
+StoreSwitches s payload old new = (x : Content) (j : ℕ) → IsFramed x j old → Fits s x j old → IsClean (with_snapshot x payload) 0 new × Fits (switched s) (with_snapshot x payload) 0 new
+
+-- or keeps its content, and is clean if it was
+pub record StoreSwitchesOrNot (s : State) (payload old new : List ℕ) : Type 0 where
+  pub framed : (x : Content) (j : ℕ) → IsFramed x j old → Fits s x j old → IsFramed x j new ⊎ IsClean (with_snapshot x payload) 0 new
+  pub clean : (x : Content) (j : ℕ) → IsClean x j old → Fits s x j old → IsClean x j new ⊎ IsClean (with_snapshot x payload) 0 new

@@ -54,7 +54,7 @@ pub enum OpenFault {
     /// The disk gate is closed.
     #[error("the disk is blank")]
     Blank,
-    /// The disk gate is open, and what stands behind it breaks a rule of the format.
+    /// The disk gate is open, and what stands after it breaks a rule of the format.
     #[error("the disk is damaged")]
     Damaged,
     #[error("out of memory")]
@@ -133,6 +133,19 @@ pub enum AppendFault {
     /// Too few pages are left.
     #[error("the journal is full")]
     Full,
+    /// The device failed in an earlier call that writes, so the store has to be opened again.
+    #[error("the store is broken")]
+    Broken,
+}
+
+/// Switching.
+#[derive(Clone, Copy, Debug, PartialEq, Eq, Error)]
+pub enum SwitchFault {
+    #[error("the device failed")]
+    Device,
+    /// The generation is the last one.
+    #[error("the generations are spent")]
+    Spent,
     /// The device failed in an earlier call that writes, so the store has to be opened again.
     #[error("the store is broken")]
     Broken,

@@ -9,7 +9,7 @@ ghost use Rattle.zh_snapshot.specs.declared.layout.TheConstants.{SETUP_LIMIT, SN
 
 use crate::fault::FormatFault;
 use crate::header::header_bytes;
-use crate::layout::{AREA_1, HEADER, SETUP, SLOT_1, SLOT_2, SNAPSHOT_1};
+use crate::layout::{HEADER, SETUP, Slot};
 use crate::store::Store;
 use crate::zeros::zeros;
 use std::alloc::Global;
@@ -45,8 +45,8 @@ fn write_parts<D: Disk>(disk: &mut D, setup: &[u8], first: &[u8]) -> Result<(), 
 {
     disk.write_at(HEADER, &header_bytes(setup.len() as u32))?;
     disk.write_at(SETUP, setup)?;
-    disk.write_at(SLOT_1, &[OPEN_GATE, 0, 0, 0, 0, 0, 0, 0, 1])?;
-    disk.write_at(SNAPSHOT_1, first)
+    disk.write_at(Slot::First.head(), &[OPEN_GATE, 0, 0, 0, 0, 0, 0, 0, 1])?;
+    disk.write_at(Slot::First.snapshot(), first)
 }
 
 // Writes zeros over the first slot's journal, and over the second slot's head.
@@ -61,8 +61,8 @@ fn empty_slots<D: Disk>(disk: &mut D, zeros: &[u8]) -> Result<(), FormatFault>
     ensures later { D.failures disk.old ≤ D.failures disk.new }
     ensures cause { IsErrOf result FormatFault.Device → HasRisen (D.failures disk.old) (D.failures disk.new) }
 {
-    Area::clear(disk, AREA_1, zeros)?;
-    disk.write_at(SLOT_2, &[0; 9])?;
+    Area::clear(disk, Slot::First.journal(), zeros)?;
+    disk.write_at(Slot::Second.head(), &[0; 9])?;
     Ok(())
 }
 

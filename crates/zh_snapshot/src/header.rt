@@ -1,4 +1,4 @@
-// What stands behind the disk gate.
+// What stands after the disk gate.
 ghost use Rattle.std.specs.Prelude.{◌≡◌, ◌≢◌, ◌≤◌, ℕ, length, IfSome, IfNone};
 ghost use Rattle.zh_snapshot.specs.Image.{header_bytes};
 ghost use Rattle.zh_snapshot.specs.declared.layout.TheConstants.{SETUP_LIMIT};

@@ -7,13 +7,16 @@ mod compare;
 mod fault;
 mod format;
 mod header;
+mod laws;
 mod layout;
 mod opening;
+mod refill;
 mod store;
 #[cfg(test)]
 mod tests;
 mod zeros;
 
-pub use fault::{AppendFault, FormatFault, OpenFault, StoreFault};
+pub use fault::{AppendFault, FormatFault, OpenFault, StoreFault, SwitchFault};
+pub use laws::one_content;
 pub use layout::{SETUP_LIMIT, SNAPSHOT_LENGTH};
 pub use store::Store;

@@ -1,14 +1,15 @@
 // What stands at the heads of a disk and of a slot.
-ghost use Rattle.std.specs.Prelude.{◌≡◌, ◌≢◌, ◌+◌, ◌≤◌, ℕ, slice_index, slice_range, IfOk, IsErrOf, MatchOption};
-ghost use Rattle.std.specs.Int.{w64, from_be_bytes};
+ghost use Rattle.std.specs.Prelude.{◌≡◌, ◌≢◌, ◌≤◌, ℕ, List, Some, slice_index, slice_range, IfOk, IsErrOf};
 ghost use Rattle.zh_disk.specs.Disk.{HasCause};
-ghost use Rattle.zh_disk.specs.declared.disk.TheConstants.{DISK_LENGTH};
 ghost use Rattle.zh_journal.specs.Cause.{HasRisen};
 ghost use Rattle.zh_snapshot.specs.Image.{IsBlank, header_bytes};
+ghost use Rattle.zh_snapshot.specs.Slots.{HasHead, IsFound};
+ghost use Rattle.zh_snapshot.specs.declared.layout.Slot.TheVariants.{First, Second};
 ghost use Rattle.zh_snapshot.specs.declared.layout.TheConstants.{SETUP_LIMIT};
 
 use crate::fault::OpenFault;
 use crate::header::setup_length;
+use crate::layout::Slot;
 use zh_disk::{Disk, DiskFault};
 use zh_journal::OPEN_GATE;
 
@@ -38,21 +39,76 @@ pub(crate) fn open_header<D: Disk>(disk: &mut D) -> Result<u32, OpenFault>
     Ok(len)
 }
 
-// The generation of the slot at this place, where its gate is open.
-pub(crate) fn open_slot<D: Disk>(disk: &mut D, slot: u64) -> Result<Option<u64>, DiskFault>
-    requires { slot + 9 ≤ DISK_LENGTH }
-
+// The generation of a slot, where its gate is open.
+fn read_head<D: Disk>(disk: &mut D, slot: Slot) -> Result<Option<u64>, DiskFault>
     ensures kept { D.honest disk.new → D.honest disk.old }
-    ensures slot { D.honest disk.new → IfOk result (λ found. MatchOption found (slice_index (D.trail disk.old).now.bytes slot ≢ 165) (λ generation. (slice_index (D.trail disk.old).now.bytes slot ≡ 165) × (from_be_bytes w64 (slice_range (D.trail disk.old).now.bytes (slot + 1) (slot + 9)) ≡ generation))) }
+    ensures head { D.honest disk.new → IfOk result (λ found. HasHead slot found (D.trail disk.old).now.bytes) }
 
     ensures same { D.honest disk.new → D.trail disk.new ≡ D.trail disk.old }
     ensures cause { HasCause (D.failures disk.old) (D.failures disk.new) result }
 {
     let mut head = [0; 9];
-    disk.read_at(slot, &mut head)?;
+    disk.read_at(slot.head(), &mut head)?;
     let [gate, a, b, c, d, e, f, g, h] = head;
     if gate != OPEN_GATE {
         return Ok(None);
     }
     Ok(Some(u64::from_be_bytes([a, b, c, d, e, f, g, h])))
+}
+
+/// The slot in use.
+#[derive(Clone, Copy, Debug, PartialEq, Eq)]
+pub(crate) struct InUse {
+    pub(crate) slot: Slot,
+    pub(crate) generation: u64,
+    // whether the gate of the other slot is open too
+    pub(crate) other_open: bool,
+}
+
+// Of two slots with open gates the one with the greater generation.
+fn newer(first: u64, second: u64) -> Option<InUse>
+    ensures { (c : List ℕ) → HasHead First (Some first) c → HasHead Second (Some second) c → IsFound result c }
+{
+    let (slot, generation) = if first > second {
+        (Slot::First, first)
+    } else if second > first {
+        (Slot::Second, second)
+    } else {
+        return None;
+    };
+    Some(InUse {
+        slot,
+        generation,
+        other_open: true,
+    })
+}
+
+// The one with an open gate, and of two the newer.
+fn in_use(first: Option<u64>, second: Option<u64>) -> Option<InUse>
+    ensures { (c : List ℕ) → HasHead First first c → HasHead Second second c → IsFound result c }
+{
+    let (slot, generation) = match (first, second) {
+        (None, None) => return None,
+        (Some(generation), None) => (Slot::First, generation),
+        (None, Some(generation)) => (Slot::Second, generation),
+        (Some(one), Some(two)) => return newer(one, two),
+    };
+    Some(InUse {
+        slot,
+        generation,
+        other_open: false,
+    })
+}
+
+// The slot in use, where there is one.
+pub(crate) fn find_slot<D: Disk>(disk: &mut D) -> Result<Option<InUse>, DiskFault>
+    ensures kept { D.honest disk.new → D.honest disk.old }
+    ensures found { D.honest disk.new → IfOk result (λ found. IsFound found (D.trail disk.old).now.bytes) }
+
+    ensures same { D.honest disk.new → D.trail disk.new ≡ D.trail disk.old }
+    ensures cause { HasCause (D.failures disk.old) (D.failures disk.new) result }
+{
+    let first = read_head(disk, Slot::First)?;
+    let second = read_head(disk, Slot::Second)?;
+    Ok(in_use(first, second))
 }

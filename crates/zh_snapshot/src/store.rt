@@ -1,16 +1,19 @@
 // A store: the set-up bytes, a snapshot, and the records since.
-ghost use Rattle.std.specs.Prelude.{◌≡◌, ◌≢◌, ◌+◌, ◌<◌, ◌≤◌, ◌↔◌, ℕ, Bool, true, false, List, [], ◌∷◌, ◌++◌, length, slice_get, slice_index, IsTrue, IfOk, OnOk, OnErr, IsErrOf};
-ghost use Rattle.zh_disk.specs.Disk.{Leaves, Moves, settled};
+mod switch;
+
+ghost use Rattle.std.specs.Prelude.{◌≡◌, ◌≢◌, ◌+◌, ◌<◌, ◌≤◌, ◌↔◌, ℕ, Bool, true, false, List, [], ◌∷◌, ◌++◌, length, slice_get, slice_index, IsTrue, Some, None, IfOk, OnOk, OnErr, IsErrOf};
+ghost use Rattle.zh_disk.specs.Disk.{Leaves, Moves, SameOutside, settled};
 ghost use Rattle.zh_journal.specs.Cause.{HasRisen};
-ghost use Rattle.zh_journal.specs.Pages.{pages_of};
-ghost use Rattle.zh_journal.specs.Place.{pages_left, grown};
-ghost use Rattle.zh_snapshot.specs.Image.{Content, IsBlank, IsFramed};
-ghost use Rattle.zh_snapshot.specs.Store.{State, Fits, Settles, StoreAdds, StoreAddsOrNot};
+ghost use Rattle.zh_journal.specs.Pages.{pages_of, Frames};
+ghost use Rattle.zh_journal.specs.Place.{pages_left};
+ghost use Rattle.zh_snapshot.specs.Image.{Content, IsBlank, IsFramed, content_of};
+ghost use Rattle.zh_snapshot.specs.Slots.{IsInUse};
+ghost use Rattle.zh_snapshot.specs.Store.{State, Fits, Settles, StoreAdds, StoreAddsOrNot, longer};
 
 use crate::compare::{lend, stand_at};
 use crate::fault::{AppendFault, OpenFault, StoreFault};
-use crate::layout::{AREA_1, SETUP, SLOT_1, SNAPSHOT_1, SNAPSHOT_LENGTH};
-use crate::opening::{open_header, open_slot};
+use crate::layout::{SETUP, SNAPSHOT_LENGTH, Slot};
+use crate::opening::{find_slot, open_header};
 use crate::zeros::zeros;
 use std::alloc::Global;
 use std::marker::Model;
@@ -24,7 +27,10 @@ use zh_journal::{AREA_LENGTH, Area, LONGEST_PAYLOAD, Reader};
 #[derive(Debug, Drop)]
 pub struct Store {
     setup_length: u32,
+    slot: Slot,
     generation: u64,
+    // whether the gate of the other slot is open too
+    other_open: bool,
     area: Area,
     broken: bool,
     // those that clear an area
@@ -33,27 +39,36 @@ pub struct Store {
 
 impl Model for Store {
     ghost use Rattle.std.specs.Prelude.{◌≡◌, ◌≤◌, ℕ, length, slice_index};
+    ghost use Rattle.zh_snapshot.specs.Layout.{journal_at};
     ghost use Rattle.zh_snapshot.specs.Store.{State};
 
     ghost Value = { State };
 
-    ghost view = { λ s. record { setup_length = s.setup_length; generation = s.generation; area = s.area; broken = s.broken } };
+    ghost view = { λ s. record { setup_length = s.setup_length; slot = s.slot; generation = s.generation; other_open = s.other_open; area = s.area; broken = s.broken } };
 
-    ghost invariant = { λ s. (s.setup_length ≤ 65536) × (s.area.base ≡ 332032) × (length s.zeros.items ≡ 262144) × ((k : ℕ) → slice_index s.zeros.items k ≡ 0) };
+    ghost invariant = { λ s. (s.setup_length ≤ 65536) × (s.area.base ≡ journal_at s.slot) × (length s.zeros.items ≡ 262144) × ((k : ℕ) → slice_index s.zeros.items k ≡ 0) };
 }
 
 impl Store {
-    /// Finds what stands on the disk: a sync, then reads alone. All growth comes before the first of them.
-    pub fn open<D: Disk>(alloc: Global, disk: &mut D) -> Result<Store, OpenFault>
+    /// Finds what stands on the disk, and gives the records in order: a sync, then reads alone. Memory is taken before
+    /// the first of them, and the journal is read once.
+    pub fn open<D: Disk>(alloc: Global, disk: &mut D) -> Result<(Store, Reader), OpenFault>
         ensures kept { D.honest disk.new → D.honest disk.old }
 
         // At each moment an image is one from the start, and after the sync what a read gave.
         ensures any_moment { D.honest disk.new → Leaves (Settles (D.trail disk.old).now.bytes) (D.trail disk.old) (D.trail disk.new) }
-
         ensures settled { D.honest disk.new → OnOk result ((D.trail disk.new).now ≡ settled (D.trail disk.old).now.bytes) }
 
-        ensures framed { D.honest disk.new → IfOk result (λ s. (x : Content) × (j : ℕ) × IsFramed x j (D.trail disk.old).now.bytes × Fits s x j) }
-        ensures whole { IfOk result (λ s. s.broken ≡ false) }
+        ensures framed { D.honest disk.new → IfOk result (λ opened. (x : Content) × (j : ℕ) × IsFramed x j (D.trail disk.old).now.bytes × Fits opened.0 x j (D.trail disk.old).now.bytes) }
+
+        // This is the content of the disk; a blank or damaged one has none.
+        ensures content { D.honest disk.new → IfOk result (λ opened. (x : Content) × (content_of (D.trail disk.old).now.bytes ≡ Some x) × (length x.records ≡ opened.0.area.count)) }
+        ensures none { D.honest disk.new → (IsErrOf result OpenFault.Blank → content_of (D.trail disk.old).now.bytes ≡ None) × (IsErrOf result OpenFault.Damaged → content_of (D.trail disk.old).now.bytes ≡ None) }
+
+        ensures whole { IfOk result (λ opened. opened.0.broken ≡ false) }
+
+        // The reader has all records left.
+        ensures left { D.honest disk.new → (x : Content) (j : ℕ) → IsFramed x j (D.trail disk.old).now.bytes → IfOk result (λ opened. Frames 0 opened.1.pages opened.1.page x.records opened.1.end) }
 
         ensures blank { D.honest disk.new → IsErrOf result OpenFault.Blank → IsBlank (D.trail disk.old).now.bytes }
 
@@ -64,40 +79,50 @@ impl Store {
         ensures later { D.failures disk.old ≤ D.failures disk.new }
         ensures cause { IsErrOf result OpenFault.Device → HasRisen (D.failures disk.old) (D.failures disk.new) }
     {
+        let pages = zeros(alloc, AREA_LENGTH as usize)?;
         let zeros = zeros(alloc, AREA_LENGTH as usize)?;
         disk.sync()?;
-        Store::read(disk, zeros)
+        Store::read(disk, zeros, pages)
     }
 
     // What stands on the disk, by reads alone.
-    fn read<D: Disk>(disk: &mut D, zeros: Vec<u8>) -> Result<Store, OpenFault>
+    fn read<D: Disk>(
+        disk: &mut D,
+        zeros: Vec<u8>,
+        pages: Vec<u8>,
+    ) -> Result<(Store, Reader), OpenFault>
         requires size { length zeros.items ≡ AREA_LENGTH }
+        requires pages { length pages.items ≡ AREA_LENGTH }
         requires zero { (k : ℕ) → slice_index zeros.items k ≡ 0 }
 
         ensures kept { D.honest disk.new → D.honest disk.old }
-        ensures framed { D.honest disk.new → IfOk result (λ s. (x : Content) × (j : ℕ) × IsFramed x j (D.trail disk.old).now.bytes × Fits s x j) }
-        ensures whole { IfOk result (λ s. s.broken ≡ false) }
+        ensures framed { D.honest disk.new → IfOk result (λ opened. (x : Content) × (j : ℕ) × IsFramed x j (D.trail disk.old).now.bytes × Fits opened.0 x j (D.trail disk.old).now.bytes) }
+        ensures whole { IfOk result (λ opened. opened.0.broken ≡ false) }
+
+        // The reader has all records left.
+        ensures left { D.honest disk.new → (x : Content) (j : ℕ) → IsFramed x j (D.trail disk.old).now.bytes → IfOk result (λ opened. Frames 0 opened.1.pages opened.1.page x.records opened.1.end) }
         ensures blank { D.honest disk.new → IsErrOf result OpenFault.Blank → IsBlank (D.trail disk.old).now.bytes }
-
         ensures damaged { D.honest disk.new → IsErrOf result OpenFault.Damaged → (IsBlank (D.trail disk.old).now.bytes → ⊥) × ((x : Content) (j : ℕ) → IsFramed x j (D.trail disk.old).now.bytes → ⊥) }
-
         ensures memory { result ≢ Err OpenFault.Memory }
         ensures same { D.honest disk.new → D.trail disk.new ≡ D.trail disk.old }
         ensures later { D.failures disk.old ≤ D.failures disk.new }
         ensures cause { IsErrOf result OpenFault.Device → HasRisen (D.failures disk.old) (D.failures disk.new) }
     {
         let setup_length = open_header(disk)?;
-        let Some(generation) = open_slot(disk, SLOT_1)? else {
+        let Some(found) = find_slot(disk)? else {
             return Err(OpenFault::Damaged);
         };
-        let area = Area::open(disk, AREA_1)?;
-        Ok(Store {
+        let (area, reader) = Area::open(disk, found.slot.journal(), pages)?;
+        let store = Store {
             setup_length,
-            generation,
+            slot: found.slot,
+            generation: found.generation,
+            other_open: found.other_open,
             area,
             broken: false,
             zeros,
-        })
+        };
+        Ok((store, reader))
     }
 
     /// Whether the disk's set-up bytes are these.
@@ -124,14 +149,14 @@ impl Store {
         requires { SNAPSHOT_LENGTH ≤ length buffer.old }
 
         ensures kept { D.honest disk.new → D.honest disk.old }
-        ensures payload { D.honest disk.new → (x : Content) (j : ℕ) → IsFramed x j (D.trail disk.old).now.bytes → IfOk result (λ payload. payload.now ≡ x.snapshot) }
+        ensures payload { D.honest disk.new → (x : Content) (j : ℕ) → IsFramed x j (D.trail disk.old).now.bytes → IsInUse self.now.slot (D.trail disk.old).now.bytes → IfOk result (λ payload. payload.now ≡ x.snapshot) }
 
         ensures len { IfOk result (λ payload. length payload.now ≡ SNAPSHOT_LENGTH) }
         ensures same { D.honest disk.new → D.trail disk.new ≡ D.trail disk.old }
         ensures later { D.failures disk.old ≤ D.failures disk.new }
         ensures cause { IsErrOf result StoreFault.Device → HasRisen (D.failures disk.old) (D.failures disk.new) }
     {
-        Ok(lend(disk, SNAPSHOT_1, SNAPSHOT_LENGTH, buffer)?)
+        Ok(lend(disk, self.slot.snapshot(), SNAPSHOT_LENGTH, buffer)?)
     }
 
     /// Lends the payload of record `i`, counted from 0, from the caller's buffer, as `Area::record` does.
@@ -145,7 +170,7 @@ impl Store {
         requires buffer { LONGEST_PAYLOAD ≤ length buffer.old }
 
         ensures kept { D.honest disk.new → D.honest disk.old }
-        ensures payload { D.honest disk.new → (x : Content) (j : ℕ) → IsFramed x j (D.trail disk.old).now.bytes → i < length x.records → IfOk result (λ payload. slice_get x.records i ≡ Some payload.now) }
+        ensures payload { D.honest disk.new → (x : Content) (j : ℕ) → IsFramed x j (D.trail disk.old).now.bytes → IsInUse self.now.slot (D.trail disk.old).now.bytes → i < length x.records → IfOk result (λ payload. slice_get x.records i ≡ Some payload.now) }
 
         ensures most { IfOk result (λ payload. length payload.now ≤ LONGEST_PAYLOAD) }
         ensures same { D.honest disk.new → D.trail disk.new ≡ D.trail disk.old }
@@ -153,13 +178,6 @@ impl Store {
         ensures cause { IsErrOf result StoreFault.Device → HasRisen (D.failures disk.old) (D.failures disk.new) }
     {
         Ok(self.area.record(disk, i, buffer)?)
-    }
-
-    /// A reader that stands before the first record.
-    pub fn reader(&self) -> Reader
-        ensures { result ≡ record { base = 332032; page = 0; end = self.now.area.end } }
-    {
-        self.area.reader()
     }
 
     /// Whether a call that writes met a fault of the device, so that the store must be opened again.
@@ -176,7 +194,7 @@ impl Store {
         self.area.records()
     }
 
-    /// The number of pages behind the last record.
+    /// The number of pages after the last record.
     pub fn pages_left(&self) -> u32
         ensures { result ≡ pages_left self.now.area }
     {
@@ -190,7 +208,7 @@ impl Store {
         self.generation
     }
 
-    /// Writes a record behind the last one, as `Area::append` does.
+    /// Writes a record after the last one, as `Area::append` does.
     pub fn append<D: Disk>(&mut self, disk: &mut D, payload: &[u8]) -> Result<(), AppendFault>
         requires some { 1 ≤ length payload.now }
         requires most { length payload.now ≤ LONGEST_PAYLOAD }
@@ -198,12 +216,15 @@ impl Store {
         ensures kept { D.honest disk.new → D.honest disk.old }
 
         // Each image at each moment is one from the start, with the record or without it.
-        ensures any_moment { D.honest disk.new → Leaves (StoreAddsOrNot self.old.area.end payload.now) (D.trail disk.old) (D.trail disk.new) }
+        ensures any_moment { D.honest disk.new → Leaves (StoreAddsOrNot self.old payload.now) (D.trail disk.old) (D.trail disk.new) }
 
-        ensures added { D.honest disk.new → OnOk result (Moves (StoreAdds self.old.area.end payload.now) (D.trail disk.old).now (D.trail disk.new).now) }
+        // And nothing outside the journal is changed, whatever the images were.
+        ensures outside { D.honest disk.new → Leaves (SameOutside self.old.area.base AREA_LENGTH) (D.trail disk.old) (D.trail disk.new) }
+
+        ensures added { D.honest disk.new → OnOk result (Moves (StoreAdds self.old payload.now) (D.trail disk.old).now (D.trail disk.new).now) }
         ensures settled { D.honest disk.new → OnOk result ((D.trail disk.new).now.pending ≡ []) }
 
-        ensures ok { OnOk result (self.new ≡ record self.old { area = grown self.old.area (length payload.now) }) }
+        ensures ok { OnOk result (self.new ≡ longer self.old (length payload.now)) }
         ensures device { IsErrOf result AppendFault.Device → self.new ≡ record self.old { broken = true } }
 
         ensures broken { (result ≡ Err AppendFault.Broken) ↔ (self.old.broken ≡ true) }

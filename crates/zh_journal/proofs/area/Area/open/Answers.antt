@@ -1,37 +1,57 @@
-use Rattle.std.proofs.Common.{◌-◌, ◌+◌, ◌*◌, arith, ◌∙◌, sym, subst, ℕ}
-use Rattle.zh_disk.specs.Disk.{Trail}
-use Rattle.zh_journal.specs.declared.head.Head.TheVariants.{Record, Damaged}
-use Rattle.zh_journal.specs.Heads.{Heads, TakesAtMost}
+use Rattle.std.proofs.Common.{◌≡◌, ◌+◌, ◌≤◌, ℕ, List, length, arith, ◌∙◌, sym, ap, subst}
+use Rattle.std.specs.Prelude.{slice_range}
 use Rattle.zh_journal.specs.Pages.{Frames}
-use Rattle.zh_journal.proofs.Open.{found_more, at_page}
-use Rattle.zh_journal.proofs.Records.{records_none}
+use Rattle.zh_journal.specs.Place.{Rest}
+use Rattle.zh_journal.proofs.Areas.{reads_once}
+use Rattle.zh_journal.proofs.Records.{records_none, reads_records}
+use Rattle.zh_journal.proofs.MovedLemmas.{reads_on_disk, reads_in_pages, filled}
+use Rattle.zh_journal.proofs.area.Area.open.Given.{Over}
+use Rattle.zh_journal.proofs.area.Area.open.Goals.{After-extent_of}
 use Rattle.zh_journal.proofs.area.Area.open.Goals as goal
 
-pub returns-in-Damaged-clause-damaged : goal.returns-in-Damaged-clause-damaged
-returns-in-Damaged-clause-damaged g c = λ h is.
-    records_none c.args.base (g.D.Disk.trail c.args.disk.now).now.bytes (omega (arith, g.met.D.Disk.size c.args.disk.now (c.loop-end.invariant.kept (c.in_ok-read_head.ensures.kept h)), c.requires)) (λ rs j reads.
-    let b = (g.D.Disk.trail c.args.disk.now).now.bytes in
-    let at = c.args.base + 256 * c.loop-end.end in
-    let found = c.loop-end.invariant.found (c.in_ok-read_head.ensures.kept h) in
-    let said : Heads (g.D.Disk.trail c.loop-end.disk).now.bytes at (1024 - c.loop-end.end) Damaged = subst (Heads (g.D.Disk.trail c.loop-end.disk).now.bytes at (1024 - c.loop-end.end)) c.in-Damaged.is (c.in_ok-read_head.ensures.head h) in
-    let bad : Heads b at (1024 - c.loop-end.end) Damaged = subst (λ (t : Trail). Heads t.now.bytes at (1024 - c.loop-end.end) Damaged) (c.loop-end.invariant.same (c.in_ok-read_head.ensures.kept h)) said in
-    let here = at_page c.args.base b c.loop-end.end j reads.1 bad.0 (omega arith) 0 found.0 rs found.1 reads.0 in
-    bad.1 here.0 here.1 here.2 (omega (arith, here.3)))
+-- the pages hold what the disk has from the base on
+pages_read : (g : Over) (c : After-extent_of g) → g.D.Disk.honest c.read_at.new.self → c.deref.result.now ≡ slice_range (g.D.Disk.trail c.args.disk.now).now.bytes c.args.base (c.args.base + 262144)
+pages_read g c h =
+    let old = c.args.pages.items in
+    let size : c.args.pages.len ≡ 262144 = c.args.pages.ok.0 ∙ c.requires.size in
+    let room : length c.deref_mut.result.now ≡ 262144 = omega (arith, c.deref_mut.ensures.len, size) in
+    let into = c.read_at.new.into in
+    let long : length into ≡ c.args.pages.len = omega (arith, c.read_at.auto.into, room, size) in
+    let read : into ≡ slice_range (g.D.Disk.trail c.args.disk.now).now.bytes c.args.base (c.args.base + 262144) = (c.in_ok-read_at.ensures.read h).ok ∙ ap (λ (n : ℕ). slice_range (g.D.Disk.trail c.args.disk.now).now.bytes c.args.base (c.args.base + n)) room in
+    c.deref.ensures.value ∙ filled c.args.pages.len into old long (sym c.args.pages.ok.0) ∙ read
 
-pub loop-end-preserved : goal.loop-end-preserved
-loop-end-preserved g c =
-    let at = c.args.base + 256 * c.loop-end.end in
-    let takes : TakesAtMost (1024 - c.loop-end.end) (Record c.in-Record.len) = subst (TakesAtMost (1024 - c.loop-end.end)) c.in-Record.is c.in_ok-read_head.ensures.pages in
-    record {
-      end_in = omega (arith, takes);
-      count_in = omega (arith, takes);
-      later = omega arith;
-      kept = λ h. c.loop-end.invariant.kept (c.in_ok-read_head.ensures.kept h);
-      same = λ h. c.in_ok-read_head.ensures.same h ∙ c.loop-end.invariant.same (c.in_ok-read_head.ensures.kept h);
-      found = λ h.
-          let b = (g.D.Disk.trail c.args.disk.now).now.bytes in
-          let said : Heads (g.D.Disk.trail c.loop-end.disk).now.bytes at (1024 - c.loop-end.end) (Record c.in-Record.len) = subst (Heads (g.D.Disk.trail c.loop-end.disk).now.bytes at (1024 - c.loop-end.end)) c.in-Record.is (c.in_ok-read_head.ensures.head h) in
-          let good : Heads b at (1024 - c.loop-end.end) (Record c.in-Record.len) = subst (λ (t : Trail). Heads t.now.bytes at (1024 - c.loop-end.end) (Record c.in-Record.len)) (c.loop-end.invariant.same (c.in_ok-read_head.ensures.kept h)) said in
-          let more = found_more c.args.base b c.loop-end.end c.in-Record.len c.loop-end.count good.0 good.1 (c.loop-end.invariant.found (c.in_ok-read_head.ensures.kept h)) in
-          (more.0, subst (λ (p : ℕ). Frames c.args.base b 0 more.0 (c.loop-end.end + p)) (sym c.pages_of-end.ensures) more.1, more.2);
-    }
+pub returns-in_default-clause-damaged : goal.returns-in_default-clause-damaged
+returns-in_default-clause-damaged g c = λ h is.
+    let b = (g.D.Disk.trail c.args.disk.now).now.bytes in
+    let long = g.met.D.Disk.size c.args.disk.now (c.in_ok-read_at.ensures.kept h) in
+    let fits : c.args.base + 262144 ≤ length b = omega (arith, long, c.requires.base) in
+    records_none c.args.base b fits (λ rs j reads. c.in_default.ensures.damaged rs j (reads_in_pages c.args.base b c.deref.result.now fits (pages_read g (goal.at.returns-in_default-clause-damaged g c).After-extent_of h) rs j reads))
+
+pub returns-clause-found : goal.returns-clause-found
+returns-clause-found g c = λ h.
+    let b = (g.D.Disk.trail c.args.disk.now).now.bytes in
+    let long = g.met.D.Disk.size c.args.disk.now (c.in_ok-read_at.ensures.kept h) in
+    let fits : c.args.base + 262144 ≤ length b = omega (arith, long, c.requires.base) in
+    let found = c.in-Some.ensures.found in
+    (found.0, reads_on_disk c.args.base b c.deref.result.now fits (pages_read g (goal.at.returns-clause-found g c).After-extent_of h) found.0 c.in-Some.extent.end found.1, found.2)
+
+pub returns-clause-records : goal.returns-clause-records
+returns-clause-records g c = λ h.
+    let b = (g.D.Disk.trail c.args.disk.now).now.bytes in
+    let long = g.met.D.Disk.size c.args.disk.now (c.in_ok-read_at.ensures.kept h) in
+    let fits : c.args.base + 262144 ≤ length b = omega (arith, long, c.requires.base) in
+    let found = c.in-Some.ensures.found in
+    let reads = reads_on_disk c.args.base b c.deref.result.now fits (pages_read g (goal.at.returns-clause-records g c).After-extent_of h) found.0 c.in-Some.extent.end found.1 in
+    (found.0, reads_records c.args.base b found.0 c.in-Some.extent.end reads, found.2)
+
+pub returns-clause-left : goal.returns-clause-left
+returns-clause-left g c = λ h rs j reads.
+    let b = (g.D.Disk.trail c.args.disk.now).now.bytes in
+    let pages = c.deref.result.now in
+    let long = g.met.D.Disk.size c.args.disk.now (c.in_ok-read_at.ensures.kept h) in
+    let fits : c.args.base + 262144 ≤ length b = omega (arith, long, c.requires.base) in
+    let found = c.in-Some.ensures.found in
+    let here = reads_in_pages c.args.base b pages fits (pages_read g (goal.at.returns-clause-left g c).After-extent_of h) rs j reads in
+    let end = (reads_once 0 pages rs found.0 j c.in-Some.extent.end here found.1).1 in
+    subst (λ (left : Rest). Frames 0 left.pages left.page rs left.end) (sym c.new.ensures)
+    (subst (λ (l : List ℕ). Frames 0 l 0 rs c.in-Some.extent.end) c.deref.ensures.value (subst (λ (e : ℕ). Frames 0 pages 0 rs e) end here.0))

@@ -1,16 +1,29 @@
-use Rattle.std.proofs.Common.{ap}
+use Rattle.std.proofs.Common.{◌∙◌, ap, subst}
+use Rattle.zh_disk.specs.Disk.{Leaves, SameOutside}
+use Rattle.zh_disk.proofs.Runs.{leaves_weaken}
+use Rattle.zh_snapshot.specs.Layout.{journal_at}
 use Rattle.zh_snapshot.specs.Store.{State}
 use Rattle.zh_snapshot.proofs.Framed.{at_moments, at_ok}
 use Rattle.zh_snapshot.proofs.store.Store.append.Goals as goal
 
 pub returns-in-Ok-clause-any_moment : goal.returns-in-Ok-clause-any_moment
 returns-in-Ok-clause-any_moment g c = λ h.
-    at_moments _ _ c.args.payload.now c.args.self.now _ _ c.self.invariant.1 (ap (λ (s : State). s.area.end) c.self.view_is) (g.met.D.Disk.size c.args.disk.now (c.append.ensures.kept h)) (c.append.ensures.any_moment h)
+    at_moments _ _ c.args.payload.now c.args.self.now _ _ (c.self.invariant.1 ∙ ap (λ (s : State). journal_at s.slot) c.self.view_is) (ap (λ (s : State). s.area.end) c.self.view_is) (g.met.D.Disk.size c.args.disk.now (c.append.ensures.kept h)) (c.append.ensures.any_moment h)
 
 pub returns-in-Ok-clause-added : goal.returns-in-Ok-clause-added
 returns-in-Ok-clause-added g c = λ h.
-    at_ok _ _ c.args.payload.now c.args.self.now (g.D.Disk.trail c.args.disk.now) (g.D.Disk.trail c.append.new.disk) c.self.invariant.1 (ap (λ (s : State). s.area.end) c.self.view_is) (g.met.D.Disk.size c.args.disk.now (c.append.ensures.kept h)) (c.in-Ok.ensures.added h)
+    at_ok _ _ c.args.payload.now c.args.self.now (g.D.Disk.trail c.args.disk.now) (g.D.Disk.trail c.append.new.disk) (c.self.invariant.1 ∙ ap (λ (s : State). journal_at s.slot) c.self.view_is) (ap (λ (s : State). s.area.end) c.self.view_is) (g.met.D.Disk.size c.args.disk.now (c.append.ensures.kept h)) (c.in-Ok.ensures.added h)
 
 pub returns-in-Err-Device-clause-any_moment : goal.returns-in-Err-Device-clause-any_moment
 returns-in-Err-Device-clause-any_moment g c = λ h.
-    at_moments _ _ c.args.payload.now c.args.self.now _ _ c.self.invariant.1 (ap (λ (s : State). s.area.end) c.self.view_is) (g.met.D.Disk.size c.args.disk.now (c.append.ensures.kept h)) (c.append.ensures.any_moment h)
+    at_moments _ _ c.args.payload.now c.args.self.now _ _ (c.self.invariant.1 ∙ ap (λ (s : State). journal_at s.slot) c.self.view_is) (ap (λ (s : State). s.area.end) c.self.view_is) (g.met.D.Disk.size c.args.disk.now (c.append.ensures.kept h)) (c.append.ensures.any_moment h)
+
+pub returns-in-Ok-clause-outside : goal.returns-in-Ok-clause-outside
+returns-in-Ok-clause-outside g c = λ h.
+    subst (λ (s : State). Leaves (SameOutside s.area.base 262144) (g.D.Disk.trail c.args.disk.now) (g.D.Disk.trail c.append.new.disk)) c.self.view_is
+    (leaves_weaken _ _ _ _ (λ x f image by. by.around) (c.append.ensures.any_moment h))
+
+pub returns-in-Err-Device-clause-outside : goal.returns-in-Err-Device-clause-outside
+returns-in-Err-Device-clause-outside g c = λ h.
+    subst (λ (s : State). Leaves (SameOutside s.area.base 262144) (g.D.Disk.trail c.args.disk.now) (g.D.Disk.trail c.append.new.disk)) c.self.view_is
+    (leaves_weaken _ _ _ _ (λ x f image by. by.around) (c.append.ensures.any_moment h))
