@@ -1,5 +1,5 @@
 -- How an image that the ledger knows takes one more command.
-use Rattle.std.proofs.Common.{◌≡◌, inl, inr, ⊎_elim, ◌<◌, ◌-◌, ◌^◌, ℕ, ◌+◌, List, [], ◌∷◌, ◌++◌, length, arith, refl, subst, ap, sym, ◌∙◌}
+use Rattle.std.proofs.Common.{◌≡◌, inl, inr, ⊎_elim, ◌<◌, ◌-◌, ◌^◌, ℕ, ◌+◌, List, [], ◌∷◌, ◌++◌, length, arith, refl, subst, ap, sym, ◌∙◌, true}
 use Rattle.std.specs.Prelude.{All}
 use Rattle.std.proofs.lemmas.List.{map-append}
 use Rattle.std.proofs.lemmas.List.Elements.{All-append}
@@ -15,12 +15,11 @@ use Rattle.zh_records.specs.declared.command.Command.{Command}
 use Rattle.zh_returns.specs.declared.verdict.Verdict.{Verdict}
 use Rattle.zh_returns.specs.declared.verdict.Verdict.TheVariants.{Accept}
 use Rattle.zh_snapshot.specs.Image.{Content, IsClean, with_record}
-use Rattle.zh_snapshot.specs.Store.{Fits, StoreAdds, StoreAddsOrNot}
-use Rattle.zh_snapshot.proofs.Contents.{fits_grown}
-use Rattle.zh_ledger.specs.Ledger.{Ledger, stored}
+use Rattle.zh_snapshot.specs.Store.{StoreAdds, StoreAddsOrNot, longer}
+use Rattle.zh_ledger.specs.Ledger.{Ledger, has_room}
 use Rattle.zh_ledger.specs.Stands.{AreAccepted, Replays, StandsFor, Holds, IsKept}
-use Rattle.zh_ledger.proofs.StandsLemmas.{holds_kept}
 use Rattle.zh_ledger.specs.Images.{KeepsOrSteps, Stores}
+use Rattle.zh_ledger.proofs.RoomLemmas.{ready_already}
 
 -- the count after one command more
 pub after_more : (tally : Tally) (cs : List Command) (c : Command) → after tally (cs ++ c ∷ []) ≡ step (after tally cs) c
@@ -59,30 +58,36 @@ stands_more x tally c by speakable accept room =
       replays = replays_more by.start tally x.records c by.replays speakable accept room;
     }
 
-module _ (s : Ledger) (c : Command) (speakable : IsSpeakable c) (accept : judge s.tally c ≡ Accept) (room : s.tally.accepted < 2 ^ 64 - 1) where
-  added : (old new : List ℕ) (x : Content) (j : ℕ) → Fits s.store x j → StandsFor x s.tally → IsClean (with_record x (command_spelling c)) (j + pages_of (length (command_spelling c))) new → IsKept (stored s c) new
-  added old new x j fits stands clean = record {
+module _ (s : Ledger) (c : Command) (speakable : IsSpeakable c) (accept : judge s.tally c ≡ Accept) (number : s.tally.accepted < 2 ^ 64 - 1) (room : has_room s c ≡ true) where
+  added : (old new : List ℕ) (x : Content) (j : ℕ) → StandsFor x s.tally → IsClean (with_record x (command_spelling c)) (j + pages_of (length (command_spelling c))) new
+      → Holds (step s.tally c) new
+  added old new x j stands clean = record {
     content = with_record x (command_spelling c);
     end = j + pages_of (length (command_spelling c));
     clean = clean;
-    fits = fits_grown s.store x j (command_spelling c) fits;
-    stands = stands_more x s.tally c stands speakable accept room;
+    stands = stands_more x s.tally c stands speakable accept number;
   }
 
-  pub stores : (old new : List ℕ) → StoreAdds s.store.area.end (command_spelling c) old new → Stores s c old new
+  pub stores : (old new : List ℕ) → StoreAdds s.store (command_spelling c) old new → Stores s c old new
   stores old new adds kept =
-      let clean = adds kept.content (subst (λ (n : ℕ). IsClean kept.content n old) kept.fits.end kept.clean) in
-      added old new kept.content kept.end kept.fits kept.stands (subst (λ (n : ℕ). IsClean (with_record kept.content (command_spelling c)) (n + pages_of (length (command_spelling c))) new) (sym kept.fits.end) clean)
+      let more = adds kept.content kept.end kept.clean kept.fits in
+      subst (λ (l : Ledger). IsKept (record { tally = step s.tally c; store = longer l.store (length (command_spelling c)) }) new) (sym (ready_already s c room)) (record {
+        content = with_record kept.content (command_spelling c);
+        end = kept.end + pages_of (length (command_spelling c));
+        clean = more.0;
+        fits = more.1;
+        stands = stands_more kept.content s.tally c kept.stands speakable accept number;
+      })
 
-  pub keeps_or_steps : (old new : List ℕ) → StoreAddsOrNot s.store.area.end (command_spelling c) old new → KeepsOrSteps s c old new
+  pub keeps_or_steps : (old new : List ℕ) → StoreAddsOrNot s.store (command_spelling c) old new → KeepsOrSteps s c old new
   keeps_or_steps old new adds kept =
       ⊎_elim
-      (λ (still : IsClean kept.content s.store.area.end new). inl (record { content = kept.content; end = kept.end; clean = subst (λ (n : ℕ). IsClean kept.content n new) (sym kept.fits.end) still; stands = kept.stands }))
-      (λ more. inr (holds_kept (stored s c) new (added old new kept.content kept.end kept.fits kept.stands (subst (λ (n : ℕ). IsClean (with_record kept.content (command_spelling c)) (n + pages_of (length (command_spelling c))) new) (sym kept.fits.end) more))))
-      (adds kept.content (subst (λ (n : ℕ). IsClean kept.content n old) kept.fits.end kept.clean))
+      (λ still. inl (record { content = kept.content; end = kept.end; clean = still; stands = kept.stands }))
+      (λ more. inr (added old new kept.content kept.end kept.stands more))
+      (adds kept.content kept.end kept.clean kept.fits)
 
-  pub each_moment : (t u : Trail) → Leaves (StoreAddsOrNot s.store.area.end (command_spelling c)) t u → Leaves (KeepsOrSteps s c) t u
+  pub each_moment : (t u : Trail) → Leaves (StoreAddsOrNot s.store (command_spelling c)) t u → Leaves (KeepsOrSteps s c) t u
   each_moment t u run = leaves_weaken _ _ t u (λ d e image by. keeps_or_steps d e by) run
 
-  pub last_moment : (t u : Trail) → Moves (StoreAdds s.store.area.end (command_spelling c)) t.now u.now → Moves (Stores s c) t.now u.now
+  pub last_moment : (t u : Trail) → Moves (StoreAdds s.store (command_spelling c)) t.now u.now → Moves (Stores s c) t.now u.now
   last_moment t u moves = λ d image. let from = moves d image in (from.0, from.1, stores from.0 d from.2)

@@ -1,7 +1,14 @@
 pub mod BufferLemmas
 pub mod StandsLemmas
+pub mod RoomLemmas
 pub mod KeptLemmas
 pub mod ReplayLemmas
+pub mod SwitchLemmas
+pub mod ReadyLemmas
 pub mod OpenedLemmas
 pub mod SubmissionLemmas
+pub mod JudgedLemmas
+pub mod StretchLemmas
+pub mod CommandLemmas
+pub mod ReopeningLemmas
 pub mod NightLemmas

@@ -1,14 +1,12 @@
 -- What formatting leaves, and what opening finds.
-use Rattle.std.proofs.Common.{◌≡◌, ◌∙◌, ℕ, ◌≤◌, List, [], ◌++◌, Bool, true, false, Result, Err, ◌⊎◌, inl, inr, length, take, drop, refl, sym, ap, subst, arith, append-nil}
+use Rattle.std.proofs.Common.{◌≡◌, ◌∙◌, ℕ, ◌≤◌, List, [], ◌++◌, Bool, true, false, Result, Err, length, take, drop, refl, sym, ap, subst, arith, append-nil}
 use Rattle.std.specs.Prelude.{◌↔◌, IsTrue}
 use Rattle.std.specs.Result.{IsErrAnd}
 use Rattle.std.proofs.lemmas.List.{take-append-le, take_all, drop_all}
 use Rattle.zh_districts.specs.Canton.{Canton}
 use Rattle.zh_districts.specs.Spelling.{setup_spelling}
-use Rattle.zh_disk.specs.Disk.{Moment, Trail, IsImage, IsSettled, settled}
+use Rattle.zh_disk.specs.Disk.{Moment, Trail, IsImage, IsSettled}
 use Rattle.zh_disk.proofs.Runs.{synced_image}
-use Rattle.zh_journal.specs.Pages.{Frames}
-use Rattle.zh_journal.specs.Place.{Rest}
 use Rattle.zh_returns.specs.Limits.{IsTally}
 use Rattle.zh_returns.specs.Payload.{payload_spelling}
 use Rattle.zh_returns.specs.Tally.{Tally, empty}
@@ -21,7 +19,6 @@ use Rattle.zh_snapshot.specs.declared.fault.OpenFault.TheVariants as of_store
 use Rattle.zh_snapshot.proofs.Contents.{framed_once}
 use Rattle.zh_ledger.specs.Opened.{IsNew, IsDamaged, OpenedAs}
 use Rattle.zh_ledger.specs.Stands.{StandsFor, Replays}
-use Rattle.zh_ledger.specs.declared.fault.OpenFault.{OpenFault}
 use Rattle.zh_ledger.specs.declared.fault.OpenFault.TheVariants as faults
 use Rattle.zh_ledger.proofs.ReplayLemmas.{replays_none}
 
@@ -74,15 +71,6 @@ store_damaged of_store.Blank is = absurd (cc)
 store_damaged of_store.Damaged is = refl
 store_damaged of_store.Memory is = absurd (cc)
 
--- where a call tells two faults alone
-pub no_blank : {T : Type 0} (e : OpenFault) → (◌≡◌ {A = Result T OpenFault} (Err e) (Err faults.Device)) ⊎ (◌≡◌ {A = Result T OpenFault} (Err e) (Err faults.Damaged)) → faults.Blank ≡ e → ⊥
-no_blank e (inl device) is = cc
-no_blank e (inr damaged) is = cc
-
-pub no_difference : {T : Type 0} (e : OpenFault) → (◌≡◌ {A = Result T OpenFault} (Err e) (Err faults.Device)) ⊎ (◌≡◌ {A = Result T OpenFault} (Err e) (Err faults.Damaged)) → faults.SetupDiffers ≡ e → ⊥
-no_difference e (inl device) is = cc
-no_difference e (inr damaged) is = cc
-
 -- a disk on which no store stands
 pub damaged_all : (canton : Canton) (bytes : List ℕ) → (IsBlank bytes → ⊥) × ((x : Content) (j : ℕ) → IsFramed x j bytes → ⊥) → IsDamaged canton bytes
 damaged_all canton bytes none = record {
@@ -114,7 +102,7 @@ pub record IsRead (canton : Canton) (bytes : List ℕ) (s : State) (payload : Li
   pub end : ℕ
   pub long : length bytes ≡ 1118720
   pub framed : IsFramed content end bytes
-  pub fits : Fits s content end
+  pub fits : Fits s content end bytes
   pub own : content.setup ≡ setup_spelling canton
   pub snapshot : payload ≡ content.snapshot
 
@@ -144,11 +132,3 @@ found_stands canton bytes s payload read start tally its same limits spelled rep
   snapshot = spelled ∙ read.snapshot;
   replays = replays;
 }
-
--- the records lie before the page where the store has them end
-pub frames_read : (canton : Canton) (bytes : List ℕ) (s : State) (payload : List ℕ) (read : IsRead canton bytes s payload) (reader : Rest) (now : Moment) → now ≡ settled bytes → reader ≡ record { base = 332032; page = 0; end = s.area.end }
-    → Frames reader.base now.bytes reader.page read.content.records reader.end
-frames_read canton bytes s payload read reader now same is =
-    subst (λ (m : Moment). Frames reader.base m.bytes reader.page read.content.records reader.end) (sym same)
-    (subst (λ (r : Rest). Frames r.base bytes r.page read.content.records r.end) (sym is)
-    (subst (λ (j : ℕ). Frames 332032 bytes 0 read.content.records j) read.fits.end read.framed.slot.records.0))

@@ -4,7 +4,6 @@ use Rattle.std.specs.List.{All}
 use Rattle.std.specs.Prelude.{IsNone, ◌↔◌}
 use Rattle.std.specs.Option.{option_copied}
 use Rattle.std.proofs.lemmas.List.Elements.{All-cons, All-nil, All-head, All-tail}
-use Rattle.zh_disk.specs.Disk.{Trail}
 use Rattle.zh_journal.specs.Pages.{Frames}
 use Rattle.zh_journal.proofs.Walk.{frames_room}
 use Rattle.zh_returns.specs.Judgement.{judge}
@@ -90,42 +89,42 @@ replays_less start mid tally r rs one all =
     subst (λ (t : Tally). Replays t rs tally) (ap (step start) same ∙ sym there.2) begins.rest
 
 -- of these records the ones from this page on are left, and where they lead from the count now is where all lead from the start
-pub record Remains (base : ℕ) (bytes : List ℕ) (page end : ℕ) (start : Tally) (records : List (List ℕ)) (now : Tally) : Type 0 where
+pub record Remains (pages : List ℕ) (page end : ℕ) (start : Tally) (records : List (List ℕ)) (now : Tally) : Type 0 where
   pub rest : List (List ℕ)
-  pub framed : Frames base bytes page rest end
+  pub framed : Frames 0 pages page rest end
   pub leads : (tally : Tally) → Replays now rest tally → Replays start records tally
   pub led : (tally : Tally) → Replays start records tally → Replays now rest tally
 
-pub remains_all : (base : ℕ) (bytes : List ℕ) (page end : ℕ) (start : Tally) (records : List (List ℕ)) → Frames base bytes page records end → Remains base bytes page end start records start
-remains_all base bytes page end start records framed = record { rest = records; framed = framed; leads = λ tally replays. replays; led = λ tally replays. replays }
+pub remains_all : (pages : List ℕ) (page end : ℕ) (start : Tally) (records : List (List ℕ)) → Frames 0 pages page records end → Remains pages page end start records start
+remains_all pages page end start records framed = record { rest = records; framed = framed; leads = λ tally replays. replays; led = λ tally replays. replays }
 
 -- at the last page nothing is left
-pub remains_nothing : (base : ℕ) (bytes : List ℕ) (page end : ℕ) (start : Tally) (records : List (List ℕ)) (now : Tally) → page ≡ end → Remains base bytes page end start records now → Replays start records now
-remains_nothing base bytes page end start records now last remains = at remains.rest remains.framed remains.leads
+pub remains_nothing : (pages : List ℕ) (page end : ℕ) (start : Tally) (records : List (List ℕ)) (now : Tally) → page ≡ end → Remains pages page end start records now → Replays start records now
+remains_nothing pages page end start records now last remains = at remains.rest remains.framed remains.leads
   where
-    at : (rest : List (List ℕ)) → Frames base bytes page rest end → ((tally : Tally) → Replays now rest tally → Replays start records tally) → Replays start records now
+    at : (rest : List (List ℕ)) → Frames 0 pages page rest end → ((tally : Tally) → Replays now rest tally → Replays start records tally) → Replays start records now
     at [] framed leads = leads now (replays_none now)
-    at (r ∷ rs) framed leads = absurd (omega (arith, frames_room base bytes page end r rs framed))
+    at (r ∷ rs) framed leads = absurd (omega (arith, frames_room 0 pages page end r rs framed))
 
 -- before it a record is left
-pub record IsAhead (base : ℕ) (bytes : List ℕ) (page end : ℕ) (start : Tally) (records : List (List ℕ)) (now : Tally) : Type 0 where
+pub record IsAhead (pages : List ℕ) (page end : ℕ) (start : Tally) (records : List (List ℕ)) (now : Tally) : Type 0 where
   pub first : List ℕ
   pub others : List (List ℕ)
-  pub framed : Frames base bytes page (first ∷ others) end
+  pub framed : Frames 0 pages page (first ∷ others) end
   pub leads : (tally : Tally) → Replays now (first ∷ others) tally → Replays start records tally
   pub led : (tally : Tally) → Replays start records tally → Replays now (first ∷ others) tally
 
-pub remains_some : (base : ℕ) (bytes : List ℕ) (page end : ℕ) (start : Tally) (records : List (List ℕ)) (now : Tally) → (page ≡ end → ⊥) → Remains base bytes page end start records now → IsAhead base bytes page end start records now
-remains_some base bytes page end start records now before remains = at remains.rest remains.framed remains.leads remains.led
+pub remains_some : (pages : List ℕ) (page end : ℕ) (start : Tally) (records : List (List ℕ)) (now : Tally) → (page ≡ end → ⊥) → Remains pages page end start records now → IsAhead pages page end start records now
+remains_some pages page end start records now before remains = at remains.rest remains.framed remains.leads remains.led
   where
-    at : (rest : List (List ℕ)) → Frames base bytes page rest end → ((tally : Tally) → Replays now rest tally → Replays start records tally) → ((tally : Tally) → Replays start records tally → Replays now rest tally) → IsAhead base bytes page end start records now
+    at : (rest : List (List ℕ)) → Frames 0 pages page rest end → ((tally : Tally) → Replays now rest tally → Replays start records tally) → ((tally : Tally) → Replays start records tally → Replays now rest tally) → IsAhead pages page end start records now
     at [] framed leads led = absurd (before framed)
     at (r ∷ rs) framed leads led = record { first = r; others = rs; framed = framed; leads = leads; led = led }
 
 -- once the first of them is replayed, the others are left
-pub remains_less : (base : ℕ) (bytes : List ℕ) (page end : ℕ) (start : Tally) (records : List (List ℕ)) (now : Tally) (ahead : IsAhead base bytes page end start records now)
-    → (page' : ℕ) (next : Tally) → Frames base bytes page' ahead.others end → Replays now (ahead.first ∷ []) next → Remains base bytes page' end start records next
-remains_less base bytes page end start records now ahead page' next framed one = record {
+pub remains_less : (pages : List ℕ) (page end : ℕ) (start : Tally) (records : List (List ℕ)) (now : Tally) (ahead : IsAhead pages page end start records now)
+    → (page' : ℕ) (next : Tally) → Frames 0 pages page' ahead.others end → Replays now (ahead.first ∷ []) next → Remains pages page' end start records next
+remains_less pages page end start records now ahead page' next framed one = record {
   rest = ahead.others;
   framed = framed;
   leads = λ tally replays. ahead.leads tally (replays_more now next tally ahead.first ahead.others one replays);
@@ -133,31 +132,29 @@ remains_less base bytes page end start records now ahead page' next framed one =
 }
 
 -- where the first of them is of no command that is accepted, the records lead nowhere
-pub remains_stuck : (base : ℕ) (bytes : List ℕ) (page end : ℕ) (start : Tally) (records : List (List ℕ)) (now : Tally) (ahead : IsAhead base bytes page end start records now)
+pub remains_stuck : (pages : List ℕ) (page end : ℕ) (start : Tally) (records : List (List ℕ)) (now : Tally) (ahead : IsAhead pages page end start records now)
     → ((command : Command) → IsNext now ahead.first command → ⊥) → (tally : Tally) → Replays start records tally → ⊥
-remains_stuck base bytes page end start records now ahead none tally replays =
+remains_stuck pages page end start records now ahead none tally replays =
     let begins = replays_first now ahead.first ahead.others tally (ahead.led tally replays) in
     none begins.command begins.next
 
--- the same records, where place and disk are called by other names
-pub frames_as : (base base' : ℕ) (disk disk' : Trail) (page end end' : ℕ) (records : List (List ℕ)) → base' ≡ base → disk' ≡ disk → end' ≡ end → Frames base disk.now.bytes page records end → Frames base' disk'.now.bytes page records end'
-frames_as base base' disk disk' page end end' records same_base same_disk same_end framed =
-    subst (λ (b : ℕ). Frames b disk'.now.bytes page records end') (sym same_base)
-    (subst (λ (t : Trail). Frames base t.now.bytes page records end') (sym same_disk)
-    (subst (λ (e : ℕ). Frames base disk.now.bytes page records e) (sym same_end) framed))
+-- the same records, where the pages and their end are called by other names
+frames_as : (pages pages' : List ℕ) (page end end' : ℕ) (records : List (List ℕ)) → pages' ≡ pages → end' ≡ end → Frames 0 pages page records end → Frames 0 pages' page records end'
+frames_as pages pages' page end end' records same_pages same_end framed =
+    subst (λ (p : List ℕ). Frames 0 p page records end') (sym same_pages) (subst (λ (e : ℕ). Frames 0 pages page records e) (sym same_end) framed)
 
 no_none : (got : Option (Bor (List ℕ))) (payload : Bor (List ℕ)) → got ≡ Some payload → IsNone got → ⊥
 no_none got payload is none = let here = subst (λ (o : Option (Bor (List ℕ))). IsNone o) is none in cc
 
 -- what a reader gave is the first of the records that are left, and it goes on to the others
-pub remains_next : (base base' : ℕ) (old now : Trail) (page page' end end' : ℕ) (start : Tally) (records : List (List ℕ)) (count : Tally) (got : Option (Bor (List ℕ))) (payload : Bor (List ℕ))
-    → base' ≡ base → now ≡ old → end' ≡ end → got ≡ Some payload
+pub remains_next : (pages pages' : List ℕ) (page page' end end' : ℕ) (start : Tally) (records : List (List ℕ)) (count : Tally) (got : Option (Bor (List ℕ))) (payload : Bor (List ℕ))
+    → pages' ≡ pages → end' ≡ end → got ≡ Some payload
     → IsNone got ↔ (page ≡ end')
-    → ((r : List ℕ) (rs : List (List ℕ)) → Frames base' now.now.bytes page (r ∷ rs) end' → (option_copied got ≡ Some r) × Frames base' now.now.bytes page' rs end')
-    → Remains base old.now.bytes page end start records count
-    → (ahead : IsAhead base old.now.bytes page end start records count) × (payload.now ≡ ahead.first) × Frames base old.now.bytes page' ahead.others end
-remains_next base base' old now page page' end end' start records count got payload same_base same_disk same_end some none first remains =
-    let ahead = remains_some base old.now.bytes page end start records count (λ last. no_none got payload some (none.1 (last ∙ sym same_end))) remains in
-    let here = first ahead.first ahead.others (frames_as base base' old now page end end' (ahead.first ∷ ahead.others) same_base same_disk same_end ahead.framed) in
+    → ((r : List ℕ) (rs : List (List ℕ)) → Frames 0 pages' page (r ∷ rs) end' → (option_copied got ≡ Some r) × Frames 0 pages' page' rs end')
+    → Remains pages page end start records count
+    → (ahead : IsAhead pages page end start records count) × (payload.now ≡ ahead.first) × Frames 0 pages page' ahead.others end
+remains_next pages pages' page page' end end' start records count got payload same_pages same_end some none first remains =
+    let ahead = remains_some pages page end start records count (λ last. no_none got payload some (none.1 (last ∙ sym same_end))) remains in
+    let here = first ahead.first ahead.others (frames_as pages pages' page end end' (ahead.first ∷ ahead.others) same_pages same_end ahead.framed) in
     let given : Some payload.now ≡ Some ahead.first = sym (ap option_copied some) ∙ here.0 in
-    (ahead, cc, frames_as base' base now old page' end' end ahead.others (sym same_base) (sym same_disk) (sym same_end) here.1)
+    (ahead, cc, frames_as pages' pages page' end' end ahead.others (sym same_pages) (sym same_end) here.1)

@@ -1,10 +1,7 @@
 -- That an image stands for one count, and what counts are after commands.
-use Rattle.std.proofs.Common.{◌≡◌, ℕ, ◌+◌, ◌≤◌, List, [], ◌∷◌, ◌++◌, length, map, refl, sym, ◌∙◌, ap, subst, arith}
-use Rattle.std.specs.Prelude.{All, drop, slice_range}
-use Rattle.std.specs.Int.{w32, to_be_bytes, from_be_bytes}
+use Rattle.std.proofs.Common.{◌≡◌, ℕ, List, [], ◌∷◌, ◌++◌, map, refl, sym, ◌∙◌, subst}
+use Rattle.std.specs.Prelude.{All}
 use Rattle.std.proofs.lemmas.List.Elements.{All-head, All-tail}
-use Rattle.std.proofs.lemmas.Nat.{from_be_bytes-to_be_bytes_4}
-use Rattle.zh_journal.proofs.Areas.{reads_once}
 use Rattle.zh_returns.specs.Judgement.{judge}
 use Rattle.zh_records.specs.Spelling.{command_spelling, IsSpeakable}
 use Rattle.zh_returns.specs.Step.{step, after, changed, on_verdict}
@@ -14,24 +11,10 @@ use Rattle.zh_returns.specs.declared.verdict.Verdict.{Verdict}
 use Rattle.zh_returns.specs.declared.verdict.Verdict.TheVariants as verdicts
 use Rattle.zh_returns.proofs.CallerLemmas.{tally_once}
 use Rattle.zh_records.proofs.CallerLemmas.{command_once}
-use Rattle.zh_snapshot.specs.Image.{Content, IsFramed, header_bytes}
+use Rattle.zh_snapshot.specs.Image.{Content, IsFramed}
+use Rattle.zh_snapshot.proofs.Contents.{framed_alike}
 use Rattle.zh_ledger.specs.Ledger.{Ledger}
 use Rattle.zh_ledger.specs.Stands.{StandsFor, Holds, IsKept}
-
-header_read : (a b : ℕ) → a ≤ 65536 → b ≤ 65536 → header_bytes a ≡ header_bytes b → a ≡ b
-header_read a b few_a few_b same =
-    let bytes : to_be_bytes w32 a ≡ to_be_bytes w32 b = ap (drop 10) same in
-    sym (from_be_bytes-to_be_bytes_4 a (omega arith)) ∙ ap (from_be_bytes w32) bytes ∙ from_be_bytes-to_be_bytes_4 b (omega arith)
-
--- an image has one content
-pub framed_alike : (x y : Content) (j k : ℕ) (c : List ℕ) → IsFramed x j c → IsFramed y k c → (x ≡ y) × (j ≡ k)
-framed_alike x y j k c one two =
-    let len = header_read (length x.setup) (length y.setup) one.most two.most (sym one.header ∙ two.header) in
-    let setup : x.setup ≡ y.setup = sym one.setup ∙ ap (λ (n : ℕ). slice_range c 4096 (4096 + n)) len ∙ two.setup in
-    let generation : x.generation ≡ y.generation = sym one.slot.generation ∙ two.slot.generation in
-    let snapshot : x.snapshot ≡ y.snapshot = sym one.slot.snapshot ∙ two.slot.snapshot in
-    let read = reads_once 332032 c x.records y.records j k one.slot.records two.slot.records in
-    ((λ i. record { setup = setup i; generation = generation i; snapshot = snapshot i; records = read.0 i }), read.1)
 
 commands_once : (cs ds : List Command) → All IsSpeakable cs → All IsSpeakable ds → map command_spelling cs ≡ map command_spelling ds → cs ≡ ds
 commands_once [] [] all_c all_d same = refl

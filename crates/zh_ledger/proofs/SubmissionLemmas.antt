@@ -1,5 +1,5 @@
 -- What submitted commands leave, command by command.
-use Rattle.std.proofs.Common.{◌≡◌, ◌⊎◌, inl, inr, ⊎_elim, ℕ, suc, ◌+◌, List, [], ◌∷◌, take, refl, sym, ◌∙◌, ap, subst, arith, one-add, zero-add, add-zero, Bool, true}
+use Rattle.std.proofs.Common.{◌≡◌, inl, ⊎_elim, ℕ, suc, ◌+◌, List, [], ◌∷◌, take, refl, sym, ◌∙◌, ap, subst, arith, one-add, zero-add, add-zero, Bool, true}
 use Rattle.std.proofs.lemmas.List.{append-nil}
 use Rattle.zh_disk.specs.Disk.{Trail, Leaves, Moves, IsImage}
 use Rattle.zh_disk.proofs.Runs.{leaves_none, leaves_now, leaves_join, leaves_weaken}
@@ -8,8 +8,8 @@ use Rattle.zh_returns.specs.Tally.{Tally}
 use Rattle.zh_records.specs.declared.command.Command.{Command}
 use Rattle.zh_ledger.specs.declared.outcome.Outcome.{Outcome}
 use Rattle.zh_ledger.specs.declared.outcome.Outcome.TheVariants.{Stored, Device, Broken}
-use Rattle.zh_ledger.specs.Ledger.{Ledger, MayResult, MayResultWhere, after_outcome, stored}
-use Rattle.zh_ledger.specs.Stands.{Holds, IsKept}
+use Rattle.zh_ledger.specs.Ledger.{Ledger, MayResultWhere, Becomes, stored}
+use Rattle.zh_ledger.specs.Stands.{Holds}
 use Rattle.zh_ledger.specs.Images.{KeepsOrSteps, Stores, LeavesBy, HasSome, ComesToHave}
 use Rattle.zh_ledger.specs.Submissions.{OnDisk, on_disk, Submission, Log, nothing, followed_by, logged, Submits, IsLogged}
 use Rattle.zh_ledger.proofs.StandsLemmas.{holds_kept}
@@ -103,7 +103,7 @@ pub broken_quiet : (honest : Type 0) → honest → (old : OnDisk) (command : Co
 broken_quiet honest sure old command outcome new broken by =
     let is : outcome ≡ Broken = subst (λ (b : Bool). MayResultWhere b old.ledger command old.failures new.failures outcome) broken by.results in
     record {
-      ledger = subst (λ (o : Outcome). new.ledger ≡ after_outcome old.ledger command o) is by.after;
+      ledger = subst (λ (o : Outcome). Becomes old.ledger command o new.ledger) is by.after;
       trail = subst (λ (o : Outcome). LeavesBy old.ledger command o old.trail new.trail) is (by.leaves sure);
       log = ap (logged command) is;
     }
@@ -127,15 +127,15 @@ quiet_logged : (old mid new : OnDisk) (log : Log) → mid.ledger ≡ old.ledger 
 quiet_logged old mid new log ledger trail logs = subst (λ (l : Log). IsLogged old l new) (sym (quiet_log log)) (same_start old mid log new ledger trail logs)
 
 -- what a command adds, whatever its outcome
-command_logged : (old mid new : OnDisk) (log : Log) (command : Command) (outcome : Outcome) → mid.ledger ≡ after_outcome old.ledger command outcome → LeavesBy old.ledger command outcome old.trail mid.trail
+command_logged : (old mid new : OnDisk) (log : Log) (command : Command) (outcome : Outcome) → Becomes old.ledger command outcome mid.ledger → LeavesBy old.ledger command outcome old.trail mid.trail
     → (mid.ledger.store.broken ≡ true → (new.ledger ≡ mid.ledger) × (new.trail ≡ mid.trail) × (log ≡ nothing))
     → IsLogged mid log new → IsLogged old (followed_by (logged command outcome) log) new
 command_logged old mid new log command (Stored accepted) ledger leaves then logs = stored_logged old mid new command log ledger leaves.0 leaves.1 logs
 command_logged old mid new log command Device ledger leaves then logs =
-    let still = then (ap (λ (s : Ledger). s.store.broken) ledger) in
+    let still = then ledger.broken in
     let same : Leaves (KeepsOrSteps old.ledger command) old.trail new.trail = subst (Leaves (KeepsOrSteps old.ledger command) old.trail) (sym still.1) leaves in
     subst (λ (l : Log). IsLogged old (followed_by (logged command Device) l) new) (sym still.2)
-    (device_logged old new command (ap (λ (s : Ledger). s.tally) (still.0 ∙ ledger)) same)
+    (device_logged old new command (ap (λ (s : Ledger). s.tally) still.0 ∙ ledger.tally) same)
 command_logged old mid new log command outcome ledger leaves then logs = quiet_logged old mid new log ledger leaves logs
 
 pub submits_logged : (old : OnDisk) (xs : List (Command × Outcome)) (log : Log) (new : OnDisk) → Submits old xs log new → IsLogged old log new

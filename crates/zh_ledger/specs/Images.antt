@@ -6,7 +6,7 @@ use Rattle.zh_returns.specs.Step.{step, after}
 use Rattle.zh_records.specs.declared.command.Command.{Command}
 use Rattle.zh_ledger.specs.declared.outcome.Outcome.{Outcome}
 use Rattle.zh_ledger.specs.declared.outcome.Outcome.TheVariants.{Stored, Device}
-use Rattle.zh_ledger.specs.Ledger.{Ledger, stored}
+use Rattle.zh_ledger.specs.Ledger.{Ledger, ready, stored}
 use Rattle.zh_ledger.specs.Stands.{Holds, IsKept}
 
 -- an image that the ledger knows comes to hold the count before, or the stepped one
@@ -16,6 +16,14 @@ KeepsOrSteps s command old new = IsKept s old → Holds s.tally new ⊎ Holds (s
 -- it becomes the one that the ledger knows once the command is stored
 abbrev pub Stores : Ledger → Command → List ℕ → List ℕ → Type 0
 Stores s command old new = IsKept s old → IsKept (stored s command) new
+
+-- an image that the ledger knows still holds its count
+abbrev pub Keeps : Ledger → List ℕ → List ℕ → Type 0
+Keeps s old new = IsKept s old → Holds s.tally new
+
+-- it becomes the one that the ledger knows once it is ready for the command
+abbrev pub Readies : Ledger → Command → List ℕ → List ℕ → Type 0
+Readies s command old new = IsKept s old → IsKept (ready s command) new
 
 -- At each moment the command is kept whole or not at all; after `Stored` it is kept; after every other outcome but
 -- `Device` no call of the disk wrote or synced.

@@ -1,5 +1,5 @@
 -- The count on a disk, and what becomes of a command that is submitted.
-use Rattle.std.specs.Prelude.{◌≡◌, ◌⊎◌, ℕ, ◌+◌, ◌-◌, ◌^◌, ◌==◌, nat_lt, Bool, true, false, length}
+use Rattle.std.specs.Prelude.{◌≡◌, ◌⊎◌, ℕ, ◌+◌, ◌-◌, ◌^◌, ◌==◌, ◌&&◌, ◌||◌, not, nat_le, if◌then◌else◌, Bool, true, false, length}
 use Rattle.zh_returns.specs.Tally.{Tally}
 use Rattle.zh_returns.specs.Judgement.{judge}
 use Rattle.zh_records.specs.Spelling.{command_spelling}
@@ -8,11 +8,11 @@ use Rattle.zh_records.specs.declared.command.Command.{Command}
 use Rattle.zh_returns.specs.declared.verdict.Verdict.{Verdict}
 use Rattle.zh_returns.specs.declared.verdict.Verdict.TheVariants as verdicts
 use Rattle.zh_journal.specs.Pages.{pages_of}
-use Rattle.zh_journal.specs.Place.{grown, pages_left}
+use Rattle.zh_journal.specs.Place.{pages_left}
 use Rattle.zh_journal.specs.Cause.{HasRisen}
 use Rattle.zh_snapshot.specs.Store as store
 use Rattle.zh_ledger.specs.declared.outcome.Outcome.{Outcome}
-use Rattle.zh_ledger.specs.declared.outcome.Outcome.TheVariants.{Stored, Same, Refused, Spent, Full, Device, Broken}
+use Rattle.zh_ledger.specs.declared.outcome.Outcome.TheVariants.{Stored, Same, Refused, Spent, Device, Broken}
 
 -- the count, and what is known of the disk that keeps it
 pub record Ledger : Type 0 where
@@ -23,16 +23,29 @@ pub record Ledger : Type 0 where
 abbrev pub pages_for : Command → ℕ
 pages_for command = pages_of (length (command_spelling command))
 
--- The outcomes for a command that is judged acceptable: spent where no number is left for it, full where too few pages
--- are left; else it is stored, or the device failed, and then the disk's failure count rose.
-abbrev pub MayStoreWhere : Bool → Bool → ℕ → ℕ → ℕ → Outcome → Type 0
-MayStoreWhere true full accepted failures failures' outcome = outcome ≡ Spent
-MayStoreWhere false true accepted failures failures' outcome = outcome ≡ Full
-MayStoreWhere false false accepted failures failures' outcome = (outcome ≡ Stored (accepted + 1)) ⊎ ((outcome ≡ Device) × HasRisen failures failures')
+-- the slot in use has that many pages left
+abbrev pub has_room : Ledger → Command → Bool
+has_room ledger command = nat_le (pages_for command) (pages_left ledger.store.area)
+
+-- too few pages are left, and the generation of the snapshot is the last one
+abbrev pub lacks_room : Ledger → Command → Bool
+lacks_room ledger command = not (has_room ledger command) && (ledger.store.generation == 2 ^ 64 - 1)
+
+-- no number is left for a command, or no room for this one
+abbrev pub is_spent : Ledger → Command → Bool
+is_spent ledger command = (ledger.tally.accepted == 2 ^ 64 - 1) || lacks_room ledger command
+
+-- it is stored as the next one, or the device failed, and then the disk's failure count rose
+abbrev pub StoredOrDevice : ℕ → ℕ → ℕ → Outcome → Type 0
+StoredOrDevice accepted failures failures' outcome = (outcome ≡ Stored (accepted + 1)) ⊎ ((outcome ≡ Device) × HasRisen failures failures')
+
+-- the outcomes for a command that is judged acceptable: spent exactly where it is, and else one of those two
+abbrev pub MayStoreWhere : Bool → ℕ → ℕ → ℕ → Outcome → Type 0
+MayStoreWhere true accepted failures failures' outcome = outcome ≡ Spent
+MayStoreWhere false accepted failures failures' outcome = StoredOrDevice accepted failures failures' outcome
 
 abbrev pub MayStore : Ledger → Command → ℕ → ℕ → Outcome → Type 0
-MayStore ledger command =
-    MayStoreWhere (ledger.tally.accepted == 2 ^ 64 - 1) (nat_lt (pages_left ledger.store.area) (pages_for command)) ledger.tally.accepted
+MayStore ledger command = MayStoreWhere (is_spent ledger command) ledger.tally.accepted
 
 -- the outcomes for a command with this verdict
 abbrev pub MayFollow : Verdict → Ledger → Command → ℕ → ℕ → Outcome → Type 0
@@ -49,32 +62,21 @@ MayResultWhere false ledger command failures failures' outcome = MayFollow (judg
 abbrev pub MayResult : Ledger → Command → ℕ → ℕ → Outcome → Type 0
 MayResult ledger = MayResultWhere ledger.store.broken ledger
 
+-- ready to store a command: where too few pages are left, the store has switched
+abbrev pub ready : Ledger → Command → Ledger
+ready ledger command = record { tally = ledger.tally; store = if has_room ledger command then ledger.store else store.switched ledger.store }
+
 -- with this command stored: the count is stepped, and the journal has its record
 abbrev pub stored : Ledger → Command → Ledger
-stored ledger command = record {
-  tally = step ledger.tally command;
-  store = record {
-    setup_length = ledger.store.setup_length;
-    generation = ledger.store.generation;
-    area = grown ledger.store.area (length (command_spelling command));
-    broken = ledger.store.broken;
-  };
-}
+stored ledger command = record { tally = step ledger.tally command; store = store.longer (ready ledger command).store (length (command_spelling command)) }
 
--- with a fault of the device met: nothing else is changed
-abbrev pub faulted : Ledger → Ledger
-faulted ledger = record {
-  tally = ledger.tally;
-  store = record {
-    setup_length = ledger.store.setup_length;
-    generation = ledger.store.generation;
-    area = ledger.store.area;
-    broken = true;
-  };
-}
+-- after a fault of the device: the count is as it was, and the store must be opened again
+pub record IsFaulted (old new : Ledger) : Type 0 where
+  pub tally : new.tally ≡ old.tally
+  pub broken : new.store.broken ≡ true
 
--- the ledger after a command with this outcome
-abbrev pub after_outcome : Ledger → Command → Outcome → Ledger
-after_outcome ledger command (Stored accepted) = stored ledger command
-after_outcome ledger command Device = faulted ledger
-after_outcome ledger command outcome = ledger
+-- what the ledger becomes by a command with this outcome
+abbrev pub Becomes : Ledger → Command → Outcome → Ledger → Type 0
+Becomes old command (Stored accepted) new = new ≡ stored old command
+Becomes old command Device new = IsFaulted old new
+Becomes old command outcome new = new ≡ old

@@ -26,7 +26,7 @@ pub record IsFound (bytes : List ℕ) (s : Ledger) : Type 0 where
   pub content : Content
   pub end : ℕ
   pub framed : IsFramed content end bytes
-  pub fits : Fits s.store content end
+  pub fits : Fits s.store content end bytes
   pub stands : StandsFor content s.tally
 
 -- a ledger of this set-up that holds what these bytes stand for

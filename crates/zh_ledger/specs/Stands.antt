@@ -47,5 +47,5 @@ pub record IsKept (s : Ledger) (c : List ℕ) : Type 0 where
   pub content : Content
   pub end : ℕ
   pub clean : IsClean content end c
-  pub fits : Fits s.store content end
+  pub fits : Fits s.store content end c
   pub stands : StandsFor content s.tally

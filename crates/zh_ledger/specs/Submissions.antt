@@ -5,7 +5,7 @@ use Rattle.zh_returns.specs.Step.{after}
 use Rattle.zh_records.specs.declared.command.Command.{Command}
 use Rattle.zh_ledger.specs.declared.outcome.Outcome.{Outcome}
 use Rattle.zh_ledger.specs.declared.outcome.Outcome.TheVariants.{Stored, Device}
-use Rattle.zh_ledger.specs.Ledger.{Ledger, MayResult, after_outcome}
+use Rattle.zh_ledger.specs.Ledger.{Ledger, MayResult, Becomes}
 use Rattle.zh_ledger.specs.Images.{LeavesBy, ComesToHave}
 
 -- a ledger and its disk: how often the disk has failed, what it holds and has held
@@ -20,7 +20,7 @@ on_disk ledger failures trail = record { ledger = ledger; failures = failures; t
 -- the command has this outcome, and then the ledger and its disk hold this; of the trail only while the disk is honest
 pub record Submission (honest : Type 0) (old : OnDisk) (command : Command) (outcome : Outcome) (new : OnDisk) : Type 0 where
   pub results : MayResult old.ledger command old.failures new.failures outcome
-  pub after : new.ledger ≡ after_outcome old.ledger command outcome
+  pub after : Becomes old.ledger command outcome new.ledger
   pub later : old.failures ≤ new.failures
   pub leaves : honest → LeavesBy old.ledger command outcome old.trail new.trail
 

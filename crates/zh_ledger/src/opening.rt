@@ -19,6 +19,7 @@ use zh_disk::Disk;
 use zh_districts::{Setup, setup_bytes};
 use zh_returns::{Count, PAYLOAD_LENGTH};
 use zh_snapshot::{FormatFault, Store};
+use zh_totals::RunningCount;
 
 /// Room for a snapshot or a record.
 fn buffer(alloc: Global) -> Result<Vec<u8>, AllocError>
@@ -76,16 +77,18 @@ impl<'s> Ledger<'s> {
         ensures cause { IsErrOf result OpenFault.Device → HasRisen (D.failures disk.old) (D.failures disk.new) }
     {
         let bytes = setup_bytes(alloc, setup)?;
-        let mut count = Count::new(alloc, setup)?;
+        let mut count = RunningCount::new(alloc, setup)?;
         let mut buffer = buffer(alloc)?;
-        let store = Store::open(alloc, disk)?;
+        let (store, mut reader) = Store::open(alloc, disk)?;
         if !store.setup_equals(disk, &bytes)? {
             return Err(OpenFault::SetupDiffers);
         }
         if !count.decode(store.snapshot(disk, &mut buffer)?) {
             return Err(OpenFault::Damaged);
         }
-        replay(&mut store.reader(), disk, &mut buffer, &mut count)?;
+        if !replay(&mut reader, &mut buffer, &mut count) {
+            return Err(OpenFault::Damaged);
+        }
         Ok(Ledger {
             count,
             store,

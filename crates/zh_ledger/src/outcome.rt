@@ -11,10 +11,9 @@ pub enum Outcome {
     Same,
     /// The count refuses it.
     Refused(Reason),
-    /// It is accepted, and 2^64 - 1 commands are accepted already.
+    /// It is accepted, and 2^64 - 1 commands are accepted already; or the journal has too few pages left for it, and the
+    /// generation of the snapshot is 2^64 - 1.
     Spent,
-    /// It is accepted, and the journal has too few pages left for it.
-    Full,
     /// It is accepted, and the device failed: the disk may hold it or not, and the count is without it.
     Device,
     /// The device failed before, and nothing is judged until the disk is opened again.

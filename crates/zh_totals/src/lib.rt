@@ -5,10 +5,10 @@ mod change;
 mod commands;
 mod entries;
 mod laws;
-#[cfg(test)]
-mod tests;
+mod running;
 mod totals;
 
 pub use change::Change;
 pub use laws::{changes_are_noted, totals_are_few};
+pub use running::RunningCount;
 pub use totals::Totals;

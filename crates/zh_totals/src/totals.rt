@@ -12,7 +12,7 @@ use std::marker::Model;
 use zh_districts::Setup;
 
 /// The votes of each group in each constituency, for one set-up. Constituencies and groups are numbered from 1. All
-/// votes together are at most 10^14. The memory is taken in `new`, and no call on made totals takes any.
+/// votes together are at most 10^14. The memory is taken in `new` and in `copy`; no other call takes any.
 #[derive(Debug, Drop)]
 pub struct Totals<'s> {
     setup: &'s Setup,
@@ -102,6 +102,17 @@ impl<'s> Totals<'s> {
         replace(&mut self.votes, place, change);
         let constituency = (change.constituency - 1) as usize;
         replace(&mut self.constituencies, constituency, change);
+    }
+
+    /// The same totals once more, for a reader that outlives these.
+    pub fn copy(&self, alloc: Global) -> Result<Totals<'s>, AllocError>
+        ensures { IfOk result (λ totals. totals ≡ self.now) }
+    {
+        Ok(Totals {
+            setup: self.setup,
+            votes: Vec::from_slice(alloc, &self.votes)?,
+            constituencies: Vec::from_slice(alloc, &self.constituencies)?,
+        })
     }
 
     /// The place of a sum in the table.

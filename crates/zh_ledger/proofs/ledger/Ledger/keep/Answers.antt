@@ -1,52 +1,45 @@
-use Rattle.std.proofs.Common.{◌≡◌, ◌<◌, ◌^◌, ◌-◌, List, ℕ, take, arith, subst, ap}
-use Rattle.zh_disk.specs.Disk.{Leaves, Moves}
+use Rattle.std.proofs.Common.{◌≡◌, sym, subst, true}
 use Rattle.zh_returns.specs.Limits.{IsTally}
-use Rattle.zh_records.specs.Spelling.{command_spelling}
-use Rattle.zh_returns.specs.Tally.{Tally}
 use Rattle.zh_returns.proofs.CallerLemmas.{speakable}
-use Rattle.zh_records.proofs.CallerLemmas.{short}
-use Rattle.zh_snapshot.specs.Store.{StoreAdds, StoreAddsOrNot}
-use Rattle.zh_ledger.specs.Ledger.{Ledger}
-use Rattle.zh_ledger.proofs.BufferLemmas.{front_of}
-use Rattle.zh_ledger.proofs.KeptLemmas.{each_moment, last_moment}
+use Rattle.zh_ledger.specs.Ledger.{Ledger, Becomes, has_room}
+use Rattle.zh_ledger.specs.Images.{LeavesBy}
+use Rattle.zh_ledger.proofs.RoomLemmas.{room_ready}
+use Rattle.zh_ledger.proofs.ReadyLemmas.{becomes_ready, while_made_ready, leaves_ready}
 use Rattle.zh_ledger.proofs.ledger.Ledger.keep.Goals as goal
 
-pub encode_command-len-requires-clause-room : goal.encode_command-len-requires-clause-room
-encode_command-len-requires-clause-room g c =
+pub make_room-requires-clause-speakable : goal.make_room-requires-clause-speakable
+make_room-requires-clause-speakable g c = speakable c.args.self.now.tally c.args.command.now (subst IsTally c.count.ensures c.accepted.ensures.limits) c.requires.numbers c.requires.accept
+
+pub append-requires-clause-speakable : goal.append-requires-clause-speakable
+append-requires-clause-speakable g c = speakable c.args.self.now.tally c.args.command.now (subst IsTally c.count.ensures c.accepted.ensures.limits) c.requires.numbers c.requires.accept
+
+pub append-requires-clause-room : goal.append-requires-clause-room
+append-requires-clause-room g c =
     let s = c.args.self.now in
     let x = c.args.command.now in
-    let is : c.self.inside.count ≡ s.tally = ap (λ (y : Ledger). y.tally) c.self.view_is in
-    let limits : IsTally s.tally = subst IsTally is c.accepted.ensures.limits in
-    omega (arith, short x (speakable s.tally x limits c.requires.numbers c.requires.accept), c.deref_mut.ensures.len, c.self.invariant)
+    let spoken = speakable s.tally x (subst IsTally c.count.ensures c.accepted.ensures.limits) c.requires.numbers c.requires.accept in
+    subst (λ (l : Ledger). has_room l x ≡ true) (sym c.in-Ok.ensures.ok) (room_ready s x spoken)
+
+pub returns-in-Ok-clause-after : goal.returns-in-Ok-clause-after
+returns-in-Ok-clause-after g c =
+    let s = c.args.self.now in
+    let x = c.args.command.now in
+    let spoken = speakable s.tally x (subst IsTally c.count.ensures c.accepted.ensures.limits) c.requires.numbers c.requires.accept in
+    becomes_ready s x _ _ _ c.append.result c.append.new.self spoken c.append.ensures.results
+    (subst (λ (l : Ledger). Becomes l x c.append.result c.append.new.self) c.in-Ok.ensures.ok c.append.ensures.after)
 
 pub returns-in-Ok-clause-leaves : goal.returns-in-Ok-clause-leaves
 returns-in-Ok-clause-leaves g c = λ honest.
     let s = c.args.self.now in
     let x = c.args.command.now in
-    let is : c.self.inside.count ≡ s.tally = ap (λ (y : Ledger). y.tally) c.self.view_is in
-    let end : c.self.inside.store.area.end ≡ s.store.area.end = ap (λ (y : Ledger). y.store.area.end) c.self.view_is in
     let t = g.D.Disk.trail c.args.disk.now in
-    let u = g.D.Disk.trail c.append.new.disk in
-    let limits : IsTally s.tally = subst IsTally is c.accepted.ensures.limits in
-    let room : s.tally.accepted < 2 ^ 64 - 1 = subst (λ (y : Tally). y.accepted < 2 ^ 64 - 1) is (omega (arith, c.if-accepted.false, c.accepted.ensures.accepted, c.accepted.ensures.limits.accepted)) in
-    let spoken = speakable s.tally x limits c.requires.numbers c.requires.accept in
-    let record_is : take c.encode_command-len.result c.deref.result.now ≡ command_spelling x =
-    front_of _ _ _ _ _ _ _ c.encode_command-len.ensures.spelling c.deref.ensures.value c.encode_command-len.ensures.length (omega (arith, c.encode_command-len.ensures.length, short x spoken, c.deref.ensures.len, c.self.invariant)) in (
-      each_moment s x spoken c.requires.accept room t u (subst (λ (n : ℕ). Leaves (StoreAddsOrNot n (command_spelling x)) t u) end (subst (λ (r : List ℕ). Leaves (StoreAddsOrNot c.self.inside.store.area.end r) t u) record_is (c.in-Ok.ensures.any_moment honest))),
-      last_moment s x spoken c.requires.accept room t u (subst (λ (n : ℕ). Moves (StoreAdds n (command_spelling x)) t.now u.now) end (subst (λ (r : List ℕ). Moves (StoreAdds c.self.inside.store.area.end r) t.now u.now) record_is (c.in-Ok.ensures.added honest))),
-    )
+    let u = g.D.Disk.trail c.make_room.new.disk in
+    let v = g.D.Disk.trail c.append.new.disk in
+    let spoken = speakable s.tally x (subst IsTally c.count.ensures c.accepted.ensures.limits) c.requires.numbers c.requires.accept in
+    let before = c.append.ensures.kept honest in
+    leaves_ready s x spoken t u v (c.make_room.ensures.any_moment before) (c.in-Ok.ensures.readied before) _ _ _ c.append.result c.append.ensures.results
+    (subst (λ (l : Ledger). LeavesBy l x c.append.result u v) c.in-Ok.ensures.ok (c.append.ensures.leaves honest))
 
 pub returns-in-Err-Device-clause-leaves : goal.returns-in-Err-Device-clause-leaves
 returns-in-Err-Device-clause-leaves g c = λ honest.
-    let s = c.args.self.now in
-    let x = c.args.command.now in
-    let is : c.self.inside.count ≡ s.tally = ap (λ (y : Ledger). y.tally) c.self.view_is in
-    let end : c.self.inside.store.area.end ≡ s.store.area.end = ap (λ (y : Ledger). y.store.area.end) c.self.view_is in
-    let t = g.D.Disk.trail c.args.disk.now in
-    let u = g.D.Disk.trail c.append.new.disk in
-    let limits : IsTally s.tally = subst IsTally is c.accepted.ensures.limits in
-    let room : s.tally.accepted < 2 ^ 64 - 1 = subst (λ (y : Tally). y.accepted < 2 ^ 64 - 1) is (omega (arith, c.if-accepted.false, c.accepted.ensures.accepted, c.accepted.ensures.limits.accepted)) in
-    let spoken = speakable s.tally x limits c.requires.numbers c.requires.accept in
-    let record_is : take c.encode_command-len.result c.deref.result.now ≡ command_spelling x =
-    front_of _ _ _ _ _ _ _ c.encode_command-len.ensures.spelling c.deref.ensures.value c.encode_command-len.ensures.length (omega (arith, c.encode_command-len.ensures.length, short x spoken, c.deref.ensures.len, c.self.invariant)) in
-    each_moment s x spoken c.requires.accept room t u (subst (λ (n : ℕ). Leaves (StoreAddsOrNot n (command_spelling x)) t u) end (subst (λ (r : List ℕ). Leaves (StoreAddsOrNot c.self.inside.store.area.end r) t u) record_is (c.append.ensures.any_moment honest)))
+    while_made_ready c.args.self.now c.args.command.now (g.D.Disk.trail c.args.disk.now) (g.D.Disk.trail c.make_room.new.disk) (c.make_room.ensures.any_moment honest)

@@ -2,10 +2,10 @@ use Rattle.std.proofs.Common.{◌≡◌, ◌∙◌, Err, refl, sym, ap, subst}
 use Rattle.zh_disk.specs.Disk.{Trail, Moment, Leaves}
 use Rattle.zh_returns.specs.Tally.{Tally}
 use Rattle.zh_snapshot.specs.Image.{IsFramed}
+use Rattle.zh_snapshot.specs.Slots.{IsInUse}
 use Rattle.zh_snapshot.specs.Store.{Settles}
 use Rattle.zh_snapshot.specs.declared.fault.OpenFault as store
-use Rattle.zh_ledger.specs.declared.fault.OpenFault.{OpenFault}
-use Rattle.zh_ledger.proofs.OpenedLemmas.{IsRead, err_of, store_damaged, no_blank, no_difference, damaged_all, damaged_snapshot, damaged_records, setup_told, setup_untold, found_stands, frames_read}
+use Rattle.zh_ledger.proofs.OpenedLemmas.{IsRead, err_of, store_damaged, damaged_all, damaged_snapshot, damaged_records, setup_told, setup_untold, found_stands}
 use Rattle.zh_ledger.proofs.ledger.Ledger.open.Given.{Over}
 use Rattle.zh_ledger.proofs.ledger.Ledger.open.Goals.{In_ok-snapshot}
 use Rattle.zh_ledger.proofs.ledger.Ledger.open.Goals as goal
@@ -37,25 +37,22 @@ returns-then-not-decode-clause-any_moment g c = λ h.
     let old = g.D.Disk.trail c.args.disk.now in
     subst (Leaves (Settles old.now.bytes) old) (sym (c.snapshot.ensures.same h ∙ c.setup_equals.ensures.same h1)) (c.open.ensures.any_moment (c.setup_equals.ensures.kept h1))
 
-pub returns-in_err-replay-clause-any_moment : goal.returns-in_err-replay-clause-any_moment
-returns-in_err-replay-clause-any_moment g c = λ h.
-    let h2 = c.replay.ensures.kept h in
-    let h1 = c.snapshot.ensures.kept h2 in
+pub returns-then-not-replay-clause-any_moment : goal.returns-then-not-replay-clause-any_moment
+returns-then-not-replay-clause-any_moment g c = λ h.
+    let h1 = c.snapshot.ensures.kept h in
     let old = g.D.Disk.trail c.args.disk.now in
-    subst (Leaves (Settles old.now.bytes) old) (sym (c.replay.ensures.same h ∙ c.snapshot.ensures.same h2 ∙ c.setup_equals.ensures.same h1)) (c.open.ensures.any_moment (c.setup_equals.ensures.kept h1))
+    subst (Leaves (Settles old.now.bytes) old) (sym (c.snapshot.ensures.same h ∙ c.setup_equals.ensures.same h1)) (c.open.ensures.any_moment (c.setup_equals.ensures.kept h1))
 
 pub returns-clause-any_moment : goal.returns-clause-any_moment
 returns-clause-any_moment g c = λ h.
-    let h2 = c.replay.ensures.kept h in
-    let h1 = c.snapshot.ensures.kept h2 in
+    let h1 = c.snapshot.ensures.kept h in
     let old = g.D.Disk.trail c.args.disk.now in
-    subst (Leaves (Settles old.now.bytes) old) (sym (c.replay.ensures.same h ∙ c.snapshot.ensures.same h2 ∙ c.setup_equals.ensures.same h1)) (c.open.ensures.any_moment (c.setup_equals.ensures.kept h1))
+    subst (Leaves (Settles old.now.bytes) old) (sym (c.snapshot.ensures.same h ∙ c.setup_equals.ensures.same h1)) (c.open.ensures.any_moment (c.setup_equals.ensures.kept h1))
 
 pub returns-clause-settled : goal.returns-clause-settled
 returns-clause-settled g c = λ h.
-    let h2 = c.replay.ensures.kept h in
-    let h1 = c.snapshot.ensures.kept h2 in
-    ap (λ (t : Trail). t.now) (c.replay.ensures.same h ∙ c.snapshot.ensures.same h2 ∙ c.setup_equals.ensures.same h1) ∙ c.in_ok-store.ensures.settled (c.setup_equals.ensures.kept h1)
+    let h1 = c.snapshot.ensures.kept h in
+    ap (λ (t : Trail). t.now) (c.snapshot.ensures.same h ∙ c.setup_equals.ensures.same h1) ∙ c.in_ok-store.ensures.settled (c.setup_equals.ensures.kept h1)
 
 pub returns-then-not-branch-clause-differs : goal.returns-then-not-branch-clause-differs
 returns-then-not-branch-clause-differs g c = λ h is.
@@ -78,6 +75,8 @@ read_all g c h =
     let here = subst (λ (m : Moment). IsFramed found.0 found.1 m.bytes) (sym (c.in_ok-store.ensures.settled h0)) found.2 in
     let told = c.in_ok-setup_equals.ensures.equal h1 found.0 found.1 here found.3.setup in
     let later = subst (λ (t : Trail). IsFramed found.0 found.1 t.now.bytes) (sym (c.setup_equals.ensures.same h1)) here in
+    let settled_use = subst (λ (m : Moment). IsInUse c.in_ok-store.store.slot m.bytes) (sym (c.in_ok-store.ensures.settled h0)) found.3.slot in
+    let used = subst (λ (t : Trail). IsInUse c.in_ok-store.store.slot t.now.bytes) (sym (c.setup_equals.ensures.same h1)) settled_use in
     record {
       content = found.0;
       end = found.1;
@@ -85,7 +84,7 @@ read_all g c h =
       framed = found.2;
       fits = found.3;
       own = setup_told c.in_ok-setup_equals.field-0 found.0.setup c.deref.result.now _ told (c.deref.ensures.value ∙ c.in_ok-bytes.ensures.spelling) c.if-not-branch.false;
-      snapshot = c.in_ok-snapshot.ensures.payload h found.0 found.1 later;
+      snapshot = c.in_ok-snapshot.ensures.payload h found.0 found.1 later used;
     }
 
 pub returns-then-not-decode-clause-damaged : goal.returns-then-not-decode-clause-damaged
@@ -93,36 +92,23 @@ returns-then-not-decode-clause-damaged g c = λ h is.
     let canton_is : c.in_ok-count.count.canton ≡ c.args.setup.now = ap (λ (t : Tally). t.canton) c.in_ok-count.ensures in
     damaged_snapshot c.args.setup.now _ _ c.in_ok-snapshot.field-0.now (read_all g (goal.at.returns-then-not-decode-clause-damaged g c).In_ok-snapshot h) (λ start same. c.if-not-decode.ensures.refused refl start (same ∙ sym canton_is))
 
-pub returns-in_err-replay-clause-blank : goal.returns-in_err-replay-clause-blank
-returns-in_err-replay-clause-blank g c = λ h is.
-    absurd (no_blank c.in_err-replay.field-0.0 c.in_err-replay.ensures.only (err_of _ _ _ c.from_residual-in_err-replay.ensures.1 is))
-
-pub returns-in_err-replay-clause-differs : goal.returns-in_err-replay-clause-differs
-returns-in_err-replay-clause-differs g c = λ h is.
-    absurd (no_difference c.in_err-replay.field-0.0 c.in_err-replay.ensures.only (err_of _ _ _ c.from_residual-in_err-replay.ensures.1 is))
-
-pub returns-in_err-replay-clause-damaged : goal.returns-in_err-replay-clause-damaged
-returns-in_err-replay-clause-damaged g c = λ h is.
-    let h2 = c.replay.ensures.kept h in
-    let h1 = c.snapshot.ensures.kept h2 in
+pub returns-then-not-replay-clause-damaged : goal.returns-then-not-replay-clause-damaged
+returns-then-not-replay-clause-damaged g c = λ h is.
+    let h0 = c.setup_equals.ensures.kept (c.snapshot.ensures.kept h) in
     let canton_is : c.in_ok-count.count.canton ≡ c.args.setup.now = ap (λ (t : Tally). t.canton) c.in_ok-count.ensures in
-    let read = read_all g (goal.at.returns-in_err-replay-clause-damaged g c).In_ok-snapshot h2 in
-    let still = ap (λ (t : Trail). t.now) (c.snapshot.ensures.same h2 ∙ c.setup_equals.ensures.same h1) ∙ c.in_ok-store.ensures.settled (c.setup_equals.ensures.kept h1) in
-    let framed = frames_read _ _ _ _ read c.reader.result (g.D.Disk.trail c.snapshot.new.disk).now still c.reader.ensures in
-    let fault = err_of _ _ _ c.from_residual-in_err-replay.ensures.1 is in
+    let read = read_all g (goal.at.returns-then-not-replay-clause-damaged g c).In_ok-snapshot h in
+    let framed = c.in_ok-store.ensures.left h0 read.content read.end read.framed in
     damaged_records c.args.setup.now _ _ c.in_ok-snapshot.field-0.now read c.decode.new.self (c.decode.ensures.canton ∙ canton_is) c.decode.ensures.limits (c.if-not-decode.ensures.read refl)
-    (c.in_err-replay.ensures.damaged h read.content.records framed (ap (λ (e : OpenFault). Err e) (sym fault)))
+    (c.if-not-replay.ensures.refused refl read.content.records framed)
 
 pub returns-clause-opened : goal.returns-clause-opened
 returns-clause-opened g c = λ h.
-    let h2 = c.replay.ensures.kept h in
-    let h1 = c.snapshot.ensures.kept h2 in
+    let h0 = c.setup_equals.ensures.kept (c.snapshot.ensures.kept h) in
     let canton_is : c.in_ok-count.count.canton ≡ c.args.setup.now = ap (λ (t : Tally). t.canton) c.in_ok-count.ensures in
     let start = c.decode.new.self in
-    let read = read_all g (goal.at.returns-clause-opened g c).In_ok-snapshot h2 in
-    let still = ap (λ (t : Trail). t.now) (c.snapshot.ensures.same h2 ∙ c.setup_equals.ensures.same h1) ∙ c.in_ok-store.ensures.settled (c.setup_equals.ensures.kept h1) in
-    let framed = frames_read _ _ _ _ read c.reader.result (g.D.Disk.trail c.snapshot.new.disk).now still c.reader.ensures in
-    let replays = c.in_ok-replay.ensures.replayed h read.content.records framed in
+    let read = read_all g (goal.at.returns-clause-opened g c).In_ok-snapshot h in
+    let framed = c.in_ok-store.ensures.left h0 read.content read.end read.framed in
+    let replays = c.if-not-replay.ensures.replayed refl read.content.records framed in
     record {
       ready = record { set_up = c.replay.ensures.canton ∙ c.decode.ensures.canton ∙ canton_is; whole = c.in_ok-store.ensures.whole };
       found = record { content = read.content; end = read.end; framed = read.framed; fits = read.fits; stands = found_stands c.args.setup.now _ _ c.in_ok-snapshot.field-0.now read start c.replay.new.count (c.decode.ensures.canton ∙ canton_is) c.replay.ensures.canton c.decode.ensures.limits (c.if-not-decode.ensures.read refl) replays };
@@ -140,8 +126,8 @@ returns-in_err-snapshot-clause-kept g c = λ h. c.open.ensures.kept (c.setup_equ
 pub returns-then-not-decode-clause-kept : goal.returns-then-not-decode-clause-kept
 returns-then-not-decode-clause-kept g c = λ h. c.open.ensures.kept (c.setup_equals.ensures.kept (c.snapshot.ensures.kept h))
 
-pub returns-in_err-replay-clause-kept : goal.returns-in_err-replay-clause-kept
-returns-in_err-replay-clause-kept g c = λ h. c.open.ensures.kept (c.setup_equals.ensures.kept (c.snapshot.ensures.kept (c.replay.ensures.kept h)))
+pub returns-then-not-replay-clause-kept : goal.returns-then-not-replay-clause-kept
+returns-then-not-replay-clause-kept g c = λ h. c.open.ensures.kept (c.setup_equals.ensures.kept (c.snapshot.ensures.kept h))
 
 pub returns-clause-kept : goal.returns-clause-kept
-returns-clause-kept g c = λ h. c.open.ensures.kept (c.setup_equals.ensures.kept (c.snapshot.ensures.kept (c.replay.ensures.kept h)))
+returns-clause-kept g c = λ h. c.open.ensures.kept (c.setup_equals.ensures.kept (c.snapshot.ensures.kept h))

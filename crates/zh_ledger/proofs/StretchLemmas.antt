@@ -1,0 +1,85 @@
+-- What holds between two events of a night.
+use Rattle.std.proofs.Common.{◌≡◌, ℕ, ◌+◌, ◌≤◌, List, [], ◌∷◌, ◌++◌, length, take, refl, sym, ◌∙◌, ap, subst, arith, append_assoc, length-append, true, false}
+use Rattle.std.proofs.lemmas.List.{append_cancel_right}
+use Rattle.std.proofs.Math.Seq.{take-append-add}
+use Rattle.zh_disk.specs.Disk.{Moment, Trail, IsImage, Leaves, AllMove, settled}
+use Rattle.zh_disk.proofs.Runs.{synced_image, leaves_now}
+use Rattle.zh_districts.specs.Canton.{Canton}
+use Rattle.zh_returns.specs.Step.{after}
+use Rattle.zh_returns.specs.Tally.{Tally, empty}
+use Rattle.zh_records.specs.declared.command.Command.{Command}
+use Rattle.zh_ledger.specs.Ledger.{Ledger, Becomes}
+use Rattle.zh_ledger.specs.Stands.{Holds, IsKept}
+use Rattle.zh_ledger.specs.Images.{LeavesBy, HasSome}
+use Rattle.zh_ledger.specs.Submissions.{OnDisk, Log, logged}
+use Rattle.zh_ledger.specs.Night.{Stretch, after_stop, IsLeft, IsSound}
+use Rattle.zh_ledger.specs.declared.outcome.Outcome.{Outcome}
+use Rattle.zh_ledger.specs.declared.outcome.Outcome.TheVariants.{Stored, Device}
+use Rattle.zh_ledger.proofs.StandsLemmas.{after-append}
+use Rattle.zh_ledger.proofs.JudgedLemmas.{AreJudged}
+
+-- Where a stop comes.
+
+pub all_after : (R : List ℕ → List ℕ → Type 0) (a : Moment) (xs ys : List Moment) → AllMove R a (xs ++ ys) → AllMove R a ys
+all_after R a [] ys each = each
+all_after R a (x ∷ xs) ys each = all_after R a xs ys each.1
+
+-- what a call leaves by R, it leaves by R where it is stopped
+pub left_by : (R : List ℕ → List ℕ → Type 0) (old new : Trail) (c : List ℕ) → ((x : List ℕ) → R x x) → Leaves R old new → IsLeft old new c → (d : List ℕ) × IsImage old.now d × R d c
+left_by R old new c same leaves left =
+    let run : left.due.0 ++ (left.begun.0 ++ old.now ∷ old.past) ≡ leaves.between ++ old.now ∷ old.past = ap (λ (l : List Moment). left.due.0 ++ l) (sym left.begun.1) ∙ sym left.due.1 ∙ leaves.run in
+    let parts : left.due.0 ++ left.begun.0 ≡ leaves.between = append_cancel_right (left.due.0 ++ left.begun.0) leaves.between (old.now ∷ old.past) (append_assoc left.due.0 left.begun.0 (old.now ∷ old.past) ∙ run) in
+    let each : AllMove R old.now (left.due.0 ++ left.begun.0) = subst (AllMove R old.now) (sym parts) leaves.each in
+    let begun : Leaves R old left.at = record { between = left.begun.0; run = left.begun.1; each = all_after R old.now left.due.0 left.begun.0 each } in
+    leaves_now R old left.at same begun c left.image
+
+-- a stop's bytes are the one image
+pub only_image : (c d : List ℕ) → IsImage (settled c) d → d ≡ c
+only_image c d image = synced_image (settled c) d image
+
+-- the count after these commands, in order, from a formatted disk's
+abbrev pub count_of : Canton → List Command → Tally
+count_of canton commands = after (empty canton) commands
+
+-- What holds between two events, and that each command kept or accepted was judged acceptable in turn.
+pub record IsSure (canton : Canton) (kept : List Command) (s : Stretch) : Type 0 where
+  pub sound : IsSound canton kept s
+  pub number : (count_of canton kept).accepted ≡ length kept
+  pub judged : AreJudged (count_of canton kept) s.log.accepted
+
+-- after a stop
+pub after_stop_sure : (canton : Canton) (kept : List Command) (s : Stretch) (c : List ℕ) (log : Log) → IsSure canton kept s → HasSome (count_of canton kept) log.accepted log.acknowledged c → length log.accepted ≤ log.acknowledged + 1 → AreJudged (count_of canton kept) log.accepted → IsSure canton kept (after_stop c log)
+after_stop_sure canton kept s c log sure has last judged = record {
+  sound = record {
+    each = λ d image. subst (HasSome (count_of canton kept) log.accepted log.acknowledged) (sym (only_image c d image)) has;
+    last = last;
+    ledger = tt;
+  };
+  number = sure.number;
+  judged = judged;
+}
+
+-- after commands that are all there, one that has some of the others has them too
+pub has_after : (t : Tally) (cs ds : List Command) (least : ℕ) (c : List ℕ) → HasSome (after t cs) ds least c → HasSome t (cs ++ ds) (length cs + least) c
+has_after t cs ds least c some = record {
+  number = length cs + some.number;
+  at_least = omega (arith, some.at_least);
+  within = omega (arith, some.within, length-append cs ds);
+  holds = subst (λ (u : Tally). Holds u c) (sym (ap (after t) (take-append-add cs ds some.number) ∙ after-append t cs (take some.number ds))) some.holds;
+}
+
+pub same_images : (old new : OnDisk) → new.ledger ≡ old.ledger → new.trail ≡ old.trail → (c : List ℕ) → IsImage new.trail.now c → (d : List ℕ) × IsImage old.trail.now d × (IsKept old.ledger d → IsKept new.ledger c)
+same_images old new ledger trail c image = (c, subst (λ (t : Trail). IsImage t.now c) trail image, λ kept. subst (λ (l : Ledger). IsKept l c) (sym ledger) kept)
+
+-- after a command a ledger that met no fault knows all images, and has acknowledged what it accepted
+pub still_whole : (command : Command) (outcome : Outcome) (old new : OnDisk) → Becomes old.ledger command outcome new.ledger → LeavesBy old.ledger command outcome old.trail new.trail → new.ledger.store.broken ≡ false
+    → ((logged command outcome).acknowledged ≡ length (logged command outcome).accepted) × ((c : List ℕ) → IsImage new.trail.now c → (d : List ℕ) × IsImage old.trail.now d × (IsKept old.ledger d → IsKept new.ledger c))
+still_whole c (Stored accepted) old new ledger leaves whole = (
+  refl,
+  λ f image.
+      let from = leaves.1 f image in (from.0, from.1, λ kept. subst (λ (l : Ledger). IsKept l f) (sym ledger) (from.2 kept)),
+)
+still_whole c Device old new ledger leaves whole =
+    let broken : new.ledger.store.broken ≡ true = ledger.broken in
+    absurd (cc)
+still_whole c outcome old new ledger leaves whole = (refl, same_images old new ledger leaves)

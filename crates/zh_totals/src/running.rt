@@ -1,0 +1,94 @@
+//! A count that keeps its totals.
+
+ghost use Rattle.std.specs.Prelude.{◌≡◌, ◌-◌, ◌<◌, ◌^◌, IfOk, true, false};
+ghost use Rattle.zh_returns.specs.declared.verdict.Verdict.TheVariants.{Accept};
+ghost use Rattle.zh_returns.specs.Judgement.{judge};
+ghost use Rattle.zh_returns.specs.Limits.{IsTally};
+ghost use Rattle.zh_returns.specs.Payload.{payload_spelling};
+ghost use Rattle.zh_returns.specs.Step.{step};
+ghost use Rattle.zh_returns.specs.Tally.{Tally, empty};
+ghost use Rattle.zh_totals.specs.Counting.{totals_of};
+
+use crate::totals::Totals;
+use std::alloc::{AllocError, Global};
+use std::marker::Model;
+use zh_districts::Setup;
+use zh_returns::{Command, Count};
+
+/// A count, and its totals, which each change of it brings up to date. The memory is taken in `new`, and no other call
+/// takes any.
+#[derive(Debug, Drop)]
+pub struct RunningCount<'s> {
+    count: Count<'s>,
+    totals: Totals<'s>,
+}
+
+impl<'s> Model for RunningCount<'s> {
+    ghost use Rattle.std.specs.Prelude.{◌≡◌};
+    ghost use Rattle.zh_returns.specs.Tally.{Tally};
+
+    ghost Value = { Tally };
+
+    ghost use Rattle.zh_returns.specs.Code.{tally_code};
+
+    ghost coded = { tally_code };
+
+    ghost view = { λ running. running.count };
+
+    ghost use Rattle.zh_totals.specs.Counting.{totals_of};
+
+    ghost invariant = { λ running. running.totals ≡ totals_of running.count };
+}
+
+impl<'s> RunningCount<'s> {
+    /// The count of an election before its first return.
+    pub fn new(alloc: Global, setup: &'s Setup) -> Result<RunningCount<'s>, AllocError>
+        ensures { IfOk result (λ running. running ≡ empty setup.now) }
+    {
+        Ok(RunningCount {
+            count: Count::new(alloc, setup)?,
+            totals: Totals::new(alloc, setup)?,
+        })
+    }
+
+    /// The count as it is now.
+    pub fn count(&self) -> &Count<'s>
+        ensures { result.now ≡ self.now }
+    {
+        &self.count
+    }
+
+    /// The totals of the count as it is now.
+    pub fn totals(&self) -> &Totals<'s>
+        ensures { result.now ≡ totals_of self.now }
+    {
+        &self.totals
+    }
+
+    /// Becomes the count for the set-up that has these bytes, as `Count::decode` does, from the count before the first
+    /// return.
+    pub fn decode(&mut self, bytes: &[u8]) -> bool
+        requires { self.old ≡ empty self.old.canton }
+        ensures canton { self.new.canton ≡ self.old.canton }
+        ensures limits { IsTally self.new }
+        ensures read { result ≡ true → payload_spelling self.new ≡ bytes.now }
+        ensures refused { result ≡ false → (tally : Tally) → tally.canton ≡ self.old.canton → IsTally tally → payload_spelling tally ≡ bytes.now → ⊥ }
+        ensures empty { result ≡ false → self.new ≡ empty self.old.canton }
+    {
+        let is_read = self.count.decode(bytes);
+        if is_read {
+            self.totals.note_count(&self.count);
+        }
+        is_read
+    }
+
+    /// Puts what a command says over the count, and counts it. It has been judged, and is accepted.
+    pub fn apply(&mut self, command: &Command<'_>)
+        requires accept { judge self.old command.now ≡ Accept }
+        requires room { self.old.accepted < 2 ^ 64 - 1 }
+        ensures { self.new ≡ step self.old command.now }
+    {
+        self.totals.note_command(&self.count, command);
+        self.count.apply(command);
+    }
+}
