@@ -41,6 +41,8 @@ length-word_of (requests.Row row) = (omega arith, omega arith)
 length-word_of requests.Commit = (omega arith, omega arith)
 length-word_of requests.Drop = (omega arith, omega arith)
 length-word_of (requests.Show m l) = (omega arith, omega arith)
+length-word_of requests.Sheet = (omega arith, omega arith)
+length-word_of requests.Final = (omega arith, omega arith)
 
 length-request_text : (request : Request) → IsRequest request → length (request_text request) ≤ 54
 length-request_text request is =

@@ -42,6 +42,11 @@ spaced_injective (v ∷ vs) (w ∷ ws) one two e =
 -- the words of a refusal's name, and of a reply after its desk
 abbrev pub name_words : Refusal → List (List ℕ)
 name_words (refusals.NotClosed municipality) = codes "notclosed" ∷ decimal municipality ∷ []
+name_words refusals.TiedSeats = codes "tied" ∷ codes "seats" ∷ []
+name_words (refusals.NoSeat constituency) = codes "noseat" ∷ decimal constituency ∷ []
+name_words refusals.TiedUpper = codes "tied" ∷ codes "upper" ∷ []
+name_words (refusals.NoVotes constituency) = codes "novotes" ∷ decimal constituency ∷ []
+name_words (refusals.TiedLower constituency group) = codes "tied" ∷ codes "lower" ∷ decimal constituency ∷ decimal group ∷ []
 name_words refusal = name refusal ∷ []
 
 abbrev pub answer_words : Reply → List (List ℕ)
@@ -63,14 +68,26 @@ number_of-decimal n small = (decimal_is_IsNumeral n small).1
 
 -- the refusals whose names are one word
 abbrev plain : List Refusal
-plain = refusals.Syntax ∷ refusals.Desk ∷ refusals.Municipality ∷ refusals.List ∷ refusals.Votes ∷ refusals.Closed ∷ refusals.Stale ∷ refusals.Gap ∷ refusals.Conflict ∷ refusals.Twice ∷ refusals.NoBatch ∷ refusals.BatchFull ∷ refusals.Memory ∷ refusals.Device ∷ refusals.ReopenDisk ∷ refusals.Spent ∷ refusals.BatchOpen ∷ refusals.Full ∷ []
+plain = refusals.Syntax ∷ refusals.Desk ∷ refusals.Municipality ∷ refusals.List ∷ refusals.Votes ∷ refusals.Closed ∷ refusals.Stale ∷ refusals.Gap ∷ refusals.Conflict ∷ refusals.Twice ∷ refusals.NoBatch ∷ refusals.BatchFull ∷ refusals.Memory ∷ refusals.Device ∷ refusals.ReopenDisk ∷ refusals.Spent ∷ refusals.BatchOpen ∷ refusals.Csv ∷ refusals.NoGroup ∷ refusals.NoVoters ∷ refusals.Exhausted ∷ []
+
+-- the tie of the words after the first
+abbrev tie_from : List (List ℕ) → Refusal
+tie_from words =
+    let word = get_or words 1 [] in
+    cond (bytes_eq word (codes "seats")) refusals.TiedSeats
+    (cond (bytes_eq word (codes "upper")) refusals.TiedUpper
+    (refusals.TiedLower (number_of (get_or words 2 [])) (number_of (get_or words 3 []))))
 
 -- the refusal of these words
 abbrev refusal_from : List (List ℕ) → Refusal
 refusal_from words =
     let word = get_or words 0 [] in
-    cond (bytes_eq word (codes "notclosed")) (refusals.NotClosed (number_of (get_or words 1 [])))
-    (get_or plain (position_or_len (λ refusal. bytes_eq (name refusal) word) plain) refusals.Full)
+    let number = number_of (get_or words 1 []) in
+    cond (bytes_eq word (codes "notclosed")) (refusals.NotClosed number)
+    (cond (bytes_eq word (codes "noseat")) (refusals.NoSeat number)
+    (cond (bytes_eq word (codes "novotes")) (refusals.NoVotes number)
+    (cond (bytes_eq word (codes "tied")) (tie_from words)
+    (get_or plain (position_or_len (λ refusal. bytes_eq (name refusal) word) plain) refusals.Exhausted))))
 
 -- the reply of these words: a word that is no numeral begins with a letter, above 57
 abbrev reply_from : List (List ℕ) → Reply
@@ -115,7 +132,27 @@ named refusals.Device is = record { spelled = refl; words = (refl, tt); back = r
 named refusals.ReopenDisk is = record { spelled = refl; words = (refl, tt); back = refl }
 named refusals.Spent is = record { spelled = refl; words = (refl, tt); back = refl }
 named refusals.BatchOpen is = record { spelled = refl; words = (refl, tt); back = refl }
-named refusals.Full is = record { spelled = refl; words = (refl, tt); back = refl }
+named refusals.Csv is = record { spelled = refl; words = (refl, tt); back = refl }
+named refusals.TiedSeats is = record { spelled = refl; words = (refl, (refl, tt)); back = refl }
+named (refusals.NoSeat d) is = record {
+  spelled = simp append-nil;
+  words = (refl, (IsWord-decimal d (omega (arith, is)), tt));
+  back = ap refusals.NoSeat (number_of-decimal d (omega (arith, is)));
+}
+named refusals.NoGroup is = record { spelled = refl; words = (refl, tt); back = refl }
+named refusals.NoVoters is = record { spelled = refl; words = (refl, tt); back = refl }
+named refusals.TiedUpper is = record { spelled = refl; words = (refl, (refl, tt)); back = refl }
+named (refusals.NoVotes d) is = record {
+  spelled = simp append-nil;
+  words = (refl, (IsWord-decimal d (omega (arith, is)), tt));
+  back = ap refusals.NoVotes (number_of-decimal d (omega (arith, is)));
+}
+named (refusals.TiedLower d g) is = record {
+  spelled = simp (append_assoc, append-nil);
+  words = (refl, (refl, (IsWord-decimal d (omega (arith, is.0)), (IsWord-decimal g (omega (arith, is.1)), tt))));
+  back = rw (number_of-decimal d (omega (arith, is.0)), number_of-decimal g (omega (arith, is.1))) refl;
+}
+named refusals.Exhausted is = record { spelled = refl; words = (refl, tt); back = refl }
 
 -- a numeral begins with a digit
 first_digit : (n : ℕ) → n < 2 ^ 64 → ltb 57 (get_or (decimal n) 0 0) ≡ false

@@ -57,6 +57,8 @@ word_of (requests.Row row) = codes "row"
 word_of requests.Commit = codes "commit"
 word_of requests.Drop = codes "drop"
 word_of (requests.Show municipality list) = codes "show"
+word_of requests.Sheet = codes "sheet"
+word_of requests.Final = codes "final"
 
 abbrev pub numbers_of : Request → List ℕ
 numbers_of (requests.Return row) = row_numbers row
@@ -68,6 +70,8 @@ numbers_of (requests.Row row) = row_numbers row
 numbers_of requests.Commit = []
 numbers_of requests.Drop = []
 numbers_of (requests.Show municipality list) = municipality ∷ list ∷ []
+numbers_of requests.Sheet = []
+numbers_of requests.Final = []
 
 pub AreNumerals-numbers_of : (request : Request) → IsRequest request → AreNumerals (numbers_of request)
 AreNumerals-numbers_of (requests.Return row) is = AreNumerals-row row is
@@ -79,6 +83,8 @@ AreNumerals-numbers_of (requests.Row row) is = AreNumerals-row row is
 AreNumerals-numbers_of requests.Commit is = AreNumerals-none
 AreNumerals-numbers_of requests.Drop is = AreNumerals-none
 AreNumerals-numbers_of (requests.Show m l) is = AreNumerals-pair m l is.0 is.1
+AreNumerals-numbers_of requests.Sheet is = AreNumerals-none
+AreNumerals-numbers_of requests.Final is = AreNumerals-none
 
 -- the row of these numbers
 abbrev pub row_from : List ℕ → Row
@@ -95,7 +101,9 @@ request_from word ns =
     (cond (bytes_eq word (codes "row")) (requests.Row (row_from ns))
     (cond (bytes_eq word (codes "commit")) requests.Commit
     (cond (bytes_eq word (codes "drop")) requests.Drop
-    (requests.Show (get_or ns 0 0) (get_or ns 1 0)))))))))
+    (cond (bytes_eq word (codes "sheet")) requests.Sheet
+    (cond (bytes_eq word (codes "final")) requests.Final
+    (requests.Show (get_or ns 0 0) (get_or ns 1 0)))))))))))
 
 -- what a request's word and numbers are
 record IsWorded (request : Request) : Type 0 where
@@ -115,6 +123,8 @@ worded (requests.Row row) = record { one_word = refl; spelled = simp (append_ass
 worded requests.Commit = record { one_word = refl; spelled = refl; text = (codes "commit", (refl, refl)); back = refl }
 worded requests.Drop = record { one_word = refl; spelled = refl; text = (codes "drop", (refl, refl)); back = refl }
 worded (requests.Show m l) = record { one_word = refl; spelled = simp (append_assoc, append-nil); text = (codes "show", (refl, refl)); back = refl }
+worded requests.Sheet = record { one_word = refl; spelled = refl; text = (codes "sheet", (refl, refl)); back = refl }
+worded requests.Final = record { one_word = refl; spelled = refl; text = (codes "final", (refl, refl)); back = refl }
 
 -- a request is its word, and its numerals
 pub request_text-parts : (request : Request) → request_text request ≡ word_of request ++ numerals (numbers_of request)

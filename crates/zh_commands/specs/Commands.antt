@@ -16,3 +16,5 @@ own_command (requests.Row row) = None
 own_command requests.Commit = None
 own_command requests.Drop = None
 own_command (requests.Show municipality list) = None
+own_command requests.Sheet = None
+own_command requests.Final = None

@@ -19,6 +19,8 @@ request_text (requests.Row row) = codes "row " ++ decimal row.municipality ++ 32
 request_text requests.Commit = codes "commit"
 request_text requests.Drop = codes "drop"
 request_text (requests.Show municipality list) = codes "show " ++ decimal municipality ++ 32 ∷ decimal list
+request_text requests.Sheet = codes "sheet"
+request_text requests.Final = codes "final"
 
 -- the one spelling of a line: its desk, a space, the request
 abbrev pub spelling : Line → List ℕ
@@ -47,6 +49,8 @@ IsRequest (requests.Row row) = IsRow row
 IsRequest requests.Commit = Unit {0}
 IsRequest requests.Drop = Unit {0}
 IsRequest (requests.Show municipality list) = (municipality < 2 ^ 32) × (list < 2 ^ 32)
+IsRequest requests.Sheet = Unit {0}
+IsRequest requests.Final = Unit {0}
 
 -- the line can be said: a desk that there is, and a request
 abbrev pub IsLine : Line → Type 0

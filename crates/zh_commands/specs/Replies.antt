@@ -25,7 +25,15 @@ name refusals.Device = codes "device"
 name refusals.ReopenDisk = codes "reopen-disk"
 name refusals.Spent = codes "spent"
 name refusals.BatchOpen = codes "batchopen"
-name refusals.Full = codes "full"
+name refusals.Csv = codes "csv"
+name refusals.TiedSeats = codes "tied seats"
+name (refusals.NoSeat constituency) = codes "noseat " ++ decimal constituency
+name refusals.NoGroup = codes "nogroup"
+name refusals.NoVoters = codes "novoters"
+name refusals.TiedUpper = codes "tied upper"
+name (refusals.NoVotes constituency) = codes "novotes " ++ decimal constituency
+name (refusals.TiedLower constituency group) = codes "tied lower " ++ decimal constituency ++ 32 ∷ decimal group
+name refusals.Exhausted = codes "exhausted"
 
 -- what a reply says after the desk
 abbrev pub answer : Reply → List ℕ
@@ -45,6 +53,9 @@ reply_text desk reply = decimal desk ++ 32 ∷ answer reply ++ 10 ∷ []
 -- the numbers of a refusal and of a reply fit their types
 abbrev pub IsRefusal : Refusal → Type 0
 IsRefusal (refusals.NotClosed municipality) = municipality < 2 ^ 32
+IsRefusal (refusals.NoSeat constituency) = constituency < 2 ^ 32
+IsRefusal (refusals.NoVotes constituency) = constituency < 2 ^ 32
+IsRefusal (refusals.TiedLower constituency group) = (constituency < 2 ^ 32) × (group < 2 ^ 32)
 IsRefusal refusal = Unit {0}
 
 abbrev pub IsReply : Reply → Type 0

@@ -16,6 +16,4 @@ pub use output::{WriteFault, put};
 pub use parser::{desk_of, parse_line};
 pub use replies::{Refusal, Reply};
 pub use reply_writer::write_reply;
-
-#[cfg(test)]
-mod tests;
+pub use words::numeral;

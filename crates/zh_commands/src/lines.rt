@@ -47,6 +47,10 @@ pub enum Request {
         municipality: u32,
         list: u32,
     },
+    /// `sheet`: the seats by what is held.
+    Sheet,
+    /// `final`: the same, where every municipality is closed.
+    Final,
 }
 
 impl Request {
@@ -73,7 +77,9 @@ impl Request {
             | Request::Row(_)
             | Request::Commit
             | Request::Drop
-            | Request::Show { .. } => None,
+            | Request::Show { .. }
+            | Request::Sheet
+            | Request::Final => None,
         }
     }
 }

@@ -79,6 +79,8 @@ fn request_of(text: &[u8]) -> Option<Request>
             let [municipality, list] = numbers::<2>(rest)?;
             Some(Request::Show { municipality, list })
         }
+        "sheet" => alone(Request::Sheet, rest),
+        "final" => alone(Request::Final, rest),
         _ => None,
     }
 }

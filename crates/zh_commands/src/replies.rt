@@ -41,5 +41,22 @@ pub enum Refusal {
     ReopenDisk,
     Spent,
     BatchOpen,
-    Full,
+    /// The text that was to be loaded has not the form of docs/FORMATS.md.
+    Csv,
+    /// The seats of the constituencies are tied.
+    TiedSeats,
+    /// This constituency has no seat.
+    NoSeat(u32),
+    /// No group takes part.
+    NoGroup,
+    /// Every group that takes part has the voter sum 0.
+    NoVoters,
+    /// The seats of the groups are tied.
+    TiedUpper,
+    /// The groups with seats have no votes in this constituency.
+    NoVotes(u32),
+    /// The seats of the lists are tied: the constituency and the group of the first quotient on a half.
+    TiedLower(u32, u32),
+    /// The search for divisors ended without any.
+    Exhausted,
 }

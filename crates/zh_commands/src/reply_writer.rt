@@ -31,24 +31,15 @@ fn push_answer(text: &mut Text, reply: &Reply)
             text.push_number(*accepted);
         }
         Reply::Same => text.push(b"same"),
-        Reply::Held(rows) => {
-            text.push(b"held ");
-            text.push_number(u64::from(*rows));
-        }
-        Reply::Dropped(rows) => {
-            text.push(b"dropped ");
-            text.push_number(u64::from(*rows));
-        }
+        Reply::Held(rows) => text.push_numbered(b"held ", *rows),
+        Reply::Dropped(rows) => text.push_numbered(b"dropped ", *rows),
         Reply::Nothing => text.push(b"none"),
         Reply::Shows(number, votes) => {
-            text.push(b"shows ");
-            text.push_number(u64::from(*number));
-            text.push(b" ");
-            text.push_number(u64::from(*votes));
+            text.push_numbered(b"shows ", *number);
+            text.push_numbered(b" ", *votes);
         }
         Reply::ShowsWithdrawn(number) => {
-            text.push(b"shows ");
-            text.push_number(u64::from(*number));
+            text.push_numbered(b"shows ", *number);
             text.push(b" withdrawn");
         }
         Reply::Refused(refusal) => {
@@ -77,15 +68,23 @@ fn push_name(text: &mut Text, refusal: &Refusal)
         Refusal::Twice => text.push(b"twice"),
         Refusal::NoBatch => text.push(b"nobatch"),
         Refusal::BatchFull => text.push(b"batchfull"),
-        Refusal::NotClosed(municipality) => {
-            text.push(b"notclosed ");
-            text.push_number(u64::from(*municipality));
-        }
+        Refusal::NotClosed(municipality) => text.push_numbered(b"notclosed ", *municipality),
         Refusal::Memory => text.push(b"memory"),
         Refusal::Device => text.push(b"device"),
         Refusal::ReopenDisk => text.push(b"reopen-disk"),
         Refusal::Spent => text.push(b"spent"),
         Refusal::BatchOpen => text.push(b"batchopen"),
-        Refusal::Full => text.push(b"full"),
+        Refusal::Csv => text.push(b"csv"),
+        Refusal::TiedSeats => text.push(b"tied seats"),
+        Refusal::NoSeat(constituency) => text.push_numbered(b"noseat ", *constituency),
+        Refusal::NoGroup => text.push(b"nogroup"),
+        Refusal::NoVoters => text.push(b"novoters"),
+        Refusal::TiedUpper => text.push(b"tied upper"),
+        Refusal::NoVotes(constituency) => text.push_numbered(b"novotes ", *constituency),
+        Refusal::TiedLower(constituency, group) => {
+            text.push_numbered(b"tied lower ", *constituency);
+            text.push_numbered(b" ", *group);
+        }
+        Refusal::Exhausted => text.push(b"exhausted"),
     }
 }

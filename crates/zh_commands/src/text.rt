@@ -54,6 +54,16 @@ impl Text {
         self.push(Buffer::new().format(number).as_bytes());
     }
 
+    // Writes a word and then a numeral at the end, which has at most 10 digits.
+    pub(crate) fn push_numbered(&mut self, word: &[u8], number: u32)
+        requires { length self.old + length word.now + 20 ≤ ROOM }
+        ensures text { self.new ≡ self.old ++ word.now ++ decimal number }
+        ensures short { length self.new ≤ length self.old + length word.now + 10 }
+    {
+        self.push(word);
+        self.push_number(u64::from(number));
+    }
+
     // Copies the text to the front of `out`, and gives its length.
     pub(crate) fn copy_to(&self, out: &mut [u8; 64]) -> usize
         ensures text { take result out.new ≡ self.now }

@@ -26,8 +26,8 @@ fn is_plain(word: &[u8]) -> bool
     word.len() <= 1 || matches!(word[0], b'1'..=b'9')
 }
 
-// The number with this numeral, which has no sign and no zero in front.
-pub(crate) fn numeral(word: &[u8]) -> Option<u32>
+/// The number of 32 bits with this numeral, which has no sign and no zero in front.
+pub fn numeral(word: &[u8]) -> Option<u32>
     ensures { MatchOption result ((n : ℕ) → n < 2 ^ 32 → word.now ≢ decimal n)
         (λ n. (n < 2 ^ 32) × (word.now ≡ decimal n)) }
 {

@@ -1,0 +1,8 @@
+pub mod SeatedLemmas
+pub mod TargetLemmas
+pub mod RefusalLemmas
+pub mod AskedLemmas
+pub mod MakingLemmas
+pub mod SheetLemmas
+pub mod PageLemmas
+pub mod PrintingLemmas

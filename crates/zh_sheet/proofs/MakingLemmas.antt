@@ -1,0 +1,233 @@
+-- Which answer each part below leads to.
+use Rattle.std.proofs.Common.{◌≡◌, ℕ, ◌+◌, ◌-◌, ◌<◌, ◌≤◌, ◌↔◌, Bool, true, false, All, List, length, get_or, Result, Ok, Err, IfOk, refl, inl, inr, ap, sym, ◌∙◌, subst, arith}
+use Rattle.std.specs.Prelude.{IsErrOf}
+use Rattle.std.proofs.lemmas.List.{get_or_default}
+use Rattle.zh_districts.specs.Seats.{AreSeats, IsFirstWithout, persons}
+use Rattle.zh_districts.specs.declared.shares.SeatFault.{SeatFault}
+use Rattle.zh_districts.specs.declared.shares.SeatFault.TheVariants as seat_faults
+use Rattle.zh_divisors.specs.Fit as fits
+use Rattle.zh_divisors.specs.Shares.{Apportionment}
+use Rattle.zh_lower.specs.Divisors.{AreWithinLimits, millionths}
+use Rattle.zh_lower.specs.Outcomes.{IsTied, NoneBefore}
+use Rattle.zh_lower.specs.Question.{IsFirstWithoutVotes, Question}
+use Rattle.zh_lower.specs.SeatMatrix.{IsStrict, SeatMatrix}
+use Rattle.zh_lower.specs.declared.fault.LowerFault.{LowerFault}
+use Rattle.zh_lower.specs.declared.fault.LowerFault.TheVariants as lower_faults
+use Rattle.zh_lower.proofs.OneAnswerLemmas.{no_seats}
+use Rattle.zh_quorum.specs.Quorum.{AreParticipating, TakesPart}
+use Rattle.zh_totals.specs.Totals.{VoteTotals}
+use Rattle.zh_upper.specs.UpperSeats.{AreTied, AreUpperSeats, HasNoGroup, HasNoVoters, IsReportedWhere, of_participants}
+use Rattle.zh_upper.specs.VoterNumbers.{AreVoterSums, voter_sum}
+use Rattle.zh_upper.specs.declared.fault.UpperFault.{UpperFault}
+use Rattle.zh_upper.specs.declared.fault.UpperFault.TheVariants as upper_faults
+use Rattle.zh_sheet.specs.Distribution.{HaveSeats, Targets, lower_question, seated_groups}
+use Rattle.zh_sheet.specs.Refusals.{HaveNoVoters, IsAnswer, NoneOf, NoneTakesPart}
+use Rattle.zh_sheet.specs.Stages.{HasColumn, LowerOutcome, group_at, of_lower, of_seats, of_upper}
+use Rattle.zh_sheet.specs.declared.fault.SheetFault.TheVariants as faults
+use Rattle.zh_sheet.proofs.AskedLemmas.{All-participants, participant_at}
+use Rattle.zh_sheet.proofs.RefusalLemmas.{given_answer, memory_answer, none_1, none_2, none_3, none_4, none_5, none_6, none_yet, refused_answer}
+use Rattle.zh_sheet.proofs.TargetLemmas.{none_without, not_tied, not_tied_above, same_question, same_seats}
+
+-- the seats of the constituencies are refused
+pub seats_refused : {Sheet : Type 0} (t : VoteTotals) (e : SeatFault) →
+    (IsErrOf {T = Apportionment} (Err e) seat_faults.Tied → fits.IsTied (persons t.canton) t.canton.house) →
+    ((d : ℕ) → IsErrOf {T = Apportionment} (Err e) (seat_faults.NoSeat d) → (seats : List ℕ) × AreSeats t.canton seats × IsFirstWithout seats d) →
+    IsAnswer {Sheet = Sheet} t (Err (of_seats e))
+seats_refused t seat_faults.Memory tied none = memory_answer t
+seats_refused t seat_faults.Tied tied none =
+    refused_answer t faults.TiedSeats (omega arith) (record { holds = tied refl; first = none_yet t }) (λ d g e. absurd (cc))
+seats_refused t (seat_faults.NoSeat d) tied none =
+    let found = none d refl in
+    refused_answer t (faults.NoSeat d) (omega arith)
+    (record { holds = record { seats = found.0; in_proportion = found.1; first = found.2 }; first = none_1 t (not_tied t found.0 found.1) })
+    (λ d g e. absurd (cc))
+
+-- the seats of the constituencies, who takes part, and the voter sums
+pub record IsBasis (t : VoteTotals) (seats : List ℕ) (taking : List Bool) (voters : List ℕ) : Type 0 where
+  pub constituencies : HaveSeats t seats
+  pub participation : AreParticipating t taking
+  pub sums : AreVoterSums t seats voters
+
+long : (t : VoteTotals) (seats : List ℕ) (taking : List Bool) (voters : List ℕ) → IsBasis t seats taking voters → length voters ≡ length taking
+long t seats taking voters is = is.sums.one_each ∙ sym is.participation.one_each
+
+-- a group that takes part, and its place
+takes_at : (t : VoteTotals) (seats : List ℕ) (taking : List Bool) (voters : List ℕ) → IsBasis t seats taking voters → (k : ℕ) → k < length taking →
+    get_or taking k false ≡ true → TakesPart t (k + 1)
+takes_at t seats taking voters is k lt takes =
+    let place : k + 1 - 1 ≡ k = omega arith in
+    let same : get_or taking (k + 1 - 1) false ≡ true = ap (λ (p : ℕ). get_or taking p false) place ∙ takes in
+    (is.participation.each (k + 1) (omega arith) (omega (arith, lt, is.participation.one_each))).0 same
+
+at_takes : (t : VoteTotals) (seats : List ℕ) (taking : List Bool) (voters : List ℕ) → IsBasis t seats taking voters → (g : ℕ) → 1 ≤ g → g ≤ length t.canton.groups →
+    TakesPart t g → get_or taking (g - 1) false ≡ true
+at_takes t seats taking voters is g low high takes = (is.participation.each g low high).1 takes
+
+no_group-none : (t : VoteTotals) (seats : List ℕ) (taking : List Bool) (voters : List ℕ) → IsBasis t seats taking voters → HasNoGroup taking → NoneTakesPart t
+no_group-none t seats taking voters is without g low high takes =
+    let lt : g - 1 < length taking = omega (arith, low, high, is.participation.one_each) in
+    without (g - 1, lt, get_or_default taking (g - 1) true false lt ∙ at_takes t seats taking voters is g low high takes)
+
+none-no_group : (t : VoteTotals) (seats : List ℕ) (taking : List Bool) (voters : List ℕ) → IsBasis t seats taking voters → NoneTakesPart t → HasNoGroup taking
+none-no_group t seats taking voters is none there =
+    let takes : get_or taking there.0 false ≡ true = get_or_default taking there.0 false true there.1 ∙ there.2 in
+    none (there.0 + 1) (omega arith) (omega (arith, there.1, is.participation.one_each)) (takes_at t seats taking voters is there.0 there.1 takes)
+
+no_voters-none : (t : VoteTotals) (seats : List ℕ) (taking : List Bool) (voters : List ℕ) → IsBasis t seats taking voters → HasNoVoters voters taking → HaveNoVoters t
+no_voters-none t seats taking voters is without = record {
+  seats = seats;
+  constituencies = is.constituencies;
+  none = λ g low high takes.
+      sym (is.sums.each g low high)
+      ∙ participant_at (λ v. v ≡ 0) voters taking (g - 1) (long t seats taking voters is) without.without_voters (omega (arith, low, high, is.sums.one_each)) (at_takes t seats taking voters is g low high takes);
+}
+
+none-no_voters : (t : VoteTotals) (seats : List ℕ) (taking : List Bool) (voters : List ℕ) → IsBasis t seats taking voters → HaveNoVoters t → All (λ v. v ≡ 0) (of_participants voters taking)
+none-no_voters t seats taking voters is none =
+    let same : none.seats ≡ seats = same_seats t seats none.seats is.constituencies.in_proportion none.constituencies.in_proportion in
+    All-participants (λ v. v ≡ 0) voters taking (long t seats taking voters is) (λ k lt takes.
+    let place : k + 1 - 1 ≡ k = omega arith in
+    let high : k + 1 ≤ length t.canton.groups = omega (arith, lt, is.sums.one_each) in
+    let in_taking : k < length taking = omega (arith, lt, long t seats taking voters is) in
+    ap (λ (p : ℕ). get_or voters p 0) (sym place) ∙ (is.sums.each (k + 1) (omega arith) high
+    ∙ (ap (λ s. voter_sum t s (k + 1)) (sym same) ∙ none.none (k + 1) (omega arith) high (takes_at t seats taking voters is k in_taking takes)))
+    )
+
+-- the first cases do not hold
+pub none_of_seats : (t : VoteTotals) (seats : List ℕ) → HaveSeats t seats → NoneOf 2 t
+none_of_seats t seats have = none_2 t (none_1 t (not_tied t seats have.in_proportion)) (none_without t seats have)
+
+none_of_groups : (t : VoteTotals) (seats : List ℕ) (taking : List Bool) (voters : List ℕ) → IsBasis t seats taking voters → ¬ HasNoGroup taking → NoneOf 3 t
+none_of_groups t seats taking voters is some = none_3 t (none_of_seats t seats is.constituencies) (λ none. some (none-no_group t seats taking voters is none))
+
+none_of_voters : (t : VoteTotals) (seats : List ℕ) (taking : List Bool) (voters : List ℕ) → IsBasis t seats taking voters → ¬ HasNoGroup taking → ¬ HasNoVoters voters taking → NoneOf 4 t
+none_of_voters t seats taking voters is some more =
+    none_4 t (none_of_groups t seats taking voters is some)
+    (λ none. some (λ there. more (record { some_takes_part = there; without_voters = none-no_voters t seats taking voters is none })))
+
+-- another answer than this fault and memory
+not_reported : {Seats : Type 0} (result : Result Seats UpperFault) (fault : UpperFault) (reason : Type 0) → IsReportedWhere result fault reason →
+    ¬ IsErrOf result fault → ¬ IsErrOf result upper_faults.Memory → ¬ reason
+not_reported result fault reason when other no_memory because = elim (when.always because) [ inl is ↦ other is | inr is ↦ no_memory is ]
+
+-- the seats of the groups are refused
+pub upper_refused : {Sheet : Type 0} (t : VoteTotals) (seats : List ℕ) (taking : List Bool) (voters : List ℕ) → IsBasis t seats taking voters → (e : UpperFault) →
+    IsReportedWhere {Seats = Apportionment} (Err e) upper_faults.NoGroup (HasNoGroup taking) →
+    IsReportedWhere {Seats = Apportionment} (Err e) upper_faults.NoVoters (HasNoVoters voters taking) →
+    IsReportedWhere {Seats = Apportionment} (Err e) upper_faults.Tied (AreTied voters taking t.canton.house) →
+    IsAnswer {Sheet = Sheet} t (Err (of_upper e))
+upper_refused t seats taking voters is upper_faults.Memory no_group no_voters tied = memory_answer t
+upper_refused t seats taking voters is upper_faults.NoGroup no_group no_voters tied =
+    refused_answer t faults.NoGroup (omega arith)
+    (record { holds = no_group-none t seats taking voters is (no_group.only refl); first = none_of_seats t seats is.constituencies })
+    (λ d g e. absurd (cc))
+upper_refused t seats taking voters is upper_faults.NoVoters no_group no_voters tied =
+    let some = not_reported {Seats = Apportionment} (Err upper_faults.NoVoters) upper_faults.NoGroup (HasNoGroup taking) no_group (λ e. cc) (λ e. cc) in
+    refused_answer t faults.NoVoters (omega arith)
+    (record { holds = no_voters-none t seats taking voters is (no_voters.only refl); first = none_of_groups t seats taking voters is some })
+    (λ d g e. absurd (cc))
+upper_refused t seats taking voters is upper_faults.Tied no_group no_voters tied =
+    let some = not_reported {Seats = Apportionment} (Err upper_faults.Tied) upper_faults.NoGroup (HasNoGroup taking) no_group (λ e. cc) (λ e. cc) in
+    let more = not_reported {Seats = Apportionment} (Err upper_faults.Tied) upper_faults.NoVoters (HasNoVoters voters taking) no_voters (λ e. cc) (λ e. cc) in
+    refused_answer t faults.TiedUpper (omega arith)
+    (record {
+      holds = record { seats = seats; constituencies = is.constituencies; taking = taking; participation = is.participation; voters = voters; sums = is.sums; tied = (tied.only refl).tied };
+      first = none_of_voters t seats taking voters is some more;
+    })
+    (λ d g e. absurd (cc))
+
+-- the seats of the groups are there
+pub upper_given : (t : VoteTotals) (seats : List ℕ) (taking : List Bool) (voters : List ℕ) → IsBasis t seats taking voters → (u : Apportionment) →
+    IsReportedWhere (Ok u) upper_faults.NoGroup (HasNoGroup taking) → IsReportedWhere (Ok u) upper_faults.NoVoters (HasNoVoters voters taking) →
+    NoneOf 4 t
+upper_given t seats taking voters is u no_group no_voters =
+    none_of_voters t seats taking voters is
+    (not_reported (Ok u) upper_faults.NoGroup (HasNoGroup taking) no_group (λ e. cc) (λ e. cc))
+    (not_reported (Ok u) upper_faults.NoVoters (HasNoVoters voters taking) no_voters (λ e. cc) (λ e. cc))
+
+abbrev pub targets_of : (t : VoteTotals) (seats : List ℕ) (taking : List Bool) (voters upper : List ℕ) → IsBasis t seats taking voters →
+    AreUpperSeats voters taking t.canton.house upper → Targets t
+targets_of t seats taking voters upper is groups = record {
+  seats = seats;
+  taking = taking;
+  voters = voters;
+  upper = upper;
+  constituencies = is.constituencies;
+  participation = is.participation;
+  sums = is.sums;
+  groups = groups;
+}
+
+-- each constituency has votes
+none_of_rows : (t : VoteTotals) (a : Targets t) → NoneOf 4 t → ((d : ℕ) → ¬ IsFirstWithoutVotes (lower_question t a.seats a.upper) d) → NoneOf 6 t
+none_of_rows t a before rows =
+    none_6 t (none_5 t before (not_tied_above t a)) (λ d without. rows d (subst (λ q. IsFirstWithoutVotes q d) (same_question t a without.targets) without.first))
+
+-- the seats of the lists are refused
+pub lower_refused : {Sheet : Type 0} (t : VoteTotals) (a : Targets t) → NoneOf 4 t → (e : LowerFault) →
+    LowerOutcome (lower_question t a.seats a.upper) (Err e) → IsAnswer {Sheet = Sheet} t (Err (of_lower e (seated_groups a.upper)))
+lower_refused t a before lower_faults.Memory found = memory_answer t
+lower_refused t a before (lower_faults.NoVotes d) found =
+    refused_answer t (faults.NoVotes d) (omega arith)
+    (record { holds = record { targets = a; first = found.no_votes d refl }; first = none_5 t before (not_tied_above t a) })
+    (λ d g e. absurd (cc))
+lower_refused t a before (lower_faults.Tied d column) found =
+    let tied = found.tied d column refl in
+    let rows = none_of_rows t a before (λ c first. elim (found.always c first) [ inl e ↦ absurd (cc) | inr e ↦ absurd (cc) ]) in
+    refused_answer t (faults.TiedLower d (group_at (seated_groups a.upper) column)) (omega arith)
+    (record {
+      holds = record { targets = a; column = column; column_from_one = tied.first.column_from_1; column_there = tied.first.column; of_group = refl; tied = tied };
+      first = rows;
+    })
+    (λ d g e b divisors seats strict.
+    no_seats (lower_question t a.seats a.upper) tied.divisors tied.seats tied.others tied.ways.one_way tied.ways.other_way tied.ways.differ divisors seats
+    (subst (λ q. IsStrict q divisors seats) (same_question t a b) strict))
+lower_refused t a before lower_faults.Exhausted found =
+    let rows = none_of_rows t a before (λ c first. elim (found.always c first) [ inl e ↦ absurd (cc) | inr e ↦ absurd (cc) ]) in
+    refused_answer t faults.Exhausted (omega arith)
+    (record { holds = record { targets = a; none = found.exhausted refl }; first = rows })
+    (λ d g e. absurd (cc))
+
+-- the seats of the lists are there
+pub lower_given : {Sheet : Type 0} (t : VoteTotals) (a : Targets t) → NoneOf 4 t → (lower : SeatMatrix) (sheet : Sheet) →
+    LowerOutcome (lower_question t a.seats a.upper) (Ok lower) → IsAnswer t (Ok sheet)
+lower_given t a before lower sheet found =
+    given_answer t sheet (none_of_rows t a before (λ c first. elim (found.always c first) [ inl e ↦ absurd (cc) | inr e ↦ absurd (cc) ]))
+
+-- a tie is found in one of the columns
+pub column_there : (t : VoteTotals) (a : Targets t) → (e : LowerFault) → LowerOutcome (lower_question t a.seats a.upper) (Err e) → HasColumn e (seated_groups a.upper)
+column_there t a lower_faults.Memory found = tt
+column_there t a (lower_faults.NoVotes d) found = tt
+column_there t a (lower_faults.Tied d column) found = let tied = found.tied d column refl in (tied.first.column_from_1, tied.first.column)
+column_there t a lower_faults.Exhausted found = tt
+
+-- memory is refused below
+pub memory_outcome : (q : Question) → LowerOutcome q (Err lower_faults.Memory)
+memory_outcome q = record {
+  no_votes = λ d e. absurd (cc);
+  always = λ d first. inr refl;
+  strict = tt;
+  in_millionths = tt;
+  limits = tt;
+  tied = λ d column e. absurd (cc);
+  exhausted = λ e. absurd (cc);
+}
+
+-- what `find` ensures of a question, of an equal one
+pub find_outcome : (asked q : Question) → asked ≡ q → (r : Result SeatMatrix LowerFault) →
+    ((d : ℕ) → IsErrOf r (lower_faults.NoVotes d) ↔ IsFirstWithoutVotes asked d) →
+    IfOk r (λ lower. IsStrict asked lower.divisors lower.seats) →
+    IfOk r (λ lower. lower.divisors ≡ millionths lower.divisors.of_rows lower.divisors.of_columns) →
+    IfOk r (λ lower. AreWithinLimits asked lower.divisors.of_rows lower.divisors.of_columns) →
+    ((d g : ℕ) → IsErrOf r (lower_faults.Tied d g) → IsTied asked d g) →
+    (IsErrOf r lower_faults.Exhausted → NoneBefore asked 2001) → LowerOutcome q r
+find_outcome asked q same r no_votes strict in_millionths limits tied exhausted =
+    rw (← same) (record {
+      no_votes = λ d. (no_votes d).0;
+      always = λ d first. inl ((no_votes d).1 first);
+      strict = strict;
+      in_millionths = in_millionths;
+      limits = limits;
+      tied = tied;
+      exhausted = exhausted;
+    })

@@ -1,0 +1,63 @@
+-- What stands between the steps to a sheet.
+use Rattle.std.specs.Prelude.{◌≡◌, ℕ, ◌≤◌, List, Result, IfOk, IsErrOf, ◌⊎◌, length, slice_index, ◌-◌}
+use Rattle.zh_districts.specs.declared.shares.SeatFault.{SeatFault}
+use Rattle.zh_districts.specs.declared.shares.SeatFault.TheVariants as seat_faults
+use Rattle.zh_lower.specs.Divisors.{AreWithinLimits, millionths}
+use Rattle.zh_lower.specs.Outcomes.{IsTied, NoneBefore}
+use Rattle.zh_lower.specs.Question.{AreTotals, EachColumnHasVotes, IsFirstWithoutVotes, Question}
+use Rattle.zh_lower.specs.SeatMatrix.{IsStrict, SeatMatrix}
+use Rattle.zh_lower.specs.declared.fault.LowerFault.{LowerFault}
+use Rattle.zh_lower.specs.declared.fault.LowerFault.TheVariants as lower_faults
+use Rattle.zh_upper.specs.declared.fault.UpperFault.{UpperFault}
+use Rattle.zh_upper.specs.declared.fault.UpperFault.TheVariants as upper_faults
+use Rattle.zh_sheet.specs.declared.fault.SheetFault.{SheetFault}
+use Rattle.zh_sheet.specs.declared.fault.SheetFault.TheVariants as faults
+
+-- the refusals of a sheet for those of the parts below
+abbrev pub of_seats : SeatFault → SheetFault
+of_seats seat_faults.Memory = faults.Memory
+of_seats seat_faults.Tied = faults.TiedSeats
+of_seats (seat_faults.NoSeat d) = faults.NoSeat d
+
+abbrev pub of_upper : UpperFault → SheetFault
+of_upper upper_faults.Memory = faults.Memory
+of_upper upper_faults.NoGroup = faults.NoGroup
+of_upper upper_faults.NoVoters = faults.NoVoters
+of_upper upper_faults.Tied = faults.TiedUpper
+
+-- what a lower apportionment may be asked: 1 to 32 lines, each with a total of 1 to 400 seats, and votes in each column
+pub record CanBeAsked (q : Question) : Type 0 where
+  pub some_row : 1 ≤ q.rows
+  pub few_rows : q.rows ≤ 32
+  pub some_column : 1 ≤ q.columns
+  pub few_columns : q.columns ≤ 32
+  pub row_totals : AreTotals q.rows q.row_totals
+  pub column_totals : AreTotals q.columns q.column_totals
+  pub votes : EachColumnHasVotes q
+
+-- what a lower apportionment gives, with the groups as columns
+pub record LowerOutcome (q : Question) (result : Result SeatMatrix LowerFault) : Type 0 where
+  pub no_votes : (d : ℕ) → IsErrOf result (lower_faults.NoVotes d) → IsFirstWithoutVotes q d
+  pub always : (d : ℕ) → IsFirstWithoutVotes q d → IsErrOf result (lower_faults.NoVotes d) ⊎ IsErrOf result lower_faults.Memory
+  pub strict : IfOk result (λ lower. IsStrict q lower.divisors lower.seats)
+  pub in_millionths : IfOk result (λ lower. lower.divisors ≡ millionths lower.divisors.of_rows lower.divisors.of_columns)
+  pub limits : IfOk result (λ lower. AreWithinLimits q lower.divisors.of_rows lower.divisors.of_columns)
+  pub tied : (d column : ℕ) → IsErrOf result (lower_faults.Tied d column) → IsTied q d column
+  pub exhausted : IsErrOf result lower_faults.Exhausted → NoneBefore q 2001
+
+-- the group of a column, from 1, among the seated groups
+abbrev pub group_at : List ℕ → ℕ → ℕ
+group_at seated column = slice_index seated (column - 1)
+
+abbrev pub of_lower : LowerFault → List ℕ → SheetFault
+of_lower lower_faults.Memory seated = faults.Memory
+of_lower (lower_faults.NoVotes d) seated = faults.NoVotes d
+of_lower (lower_faults.Tied d column) seated = faults.TiedLower d (group_at seated column)
+of_lower lower_faults.Exhausted seated = faults.Exhausted
+
+-- a tie stands in one of the columns
+abbrev pub HasColumn : LowerFault → List ℕ → Type 0
+HasColumn lower_faults.Memory seated = Unit {0}
+HasColumn (lower_faults.NoVotes d) seated = Unit {0}
+HasColumn (lower_faults.Tied d column) seated = (1 ≤ column) × (column ≤ length seated)
+HasColumn lower_faults.Exhausted seated = Unit {0}

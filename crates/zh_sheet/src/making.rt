@@ -1,0 +1,66 @@
+ghost use Rattle.std.specs.Prelude.{◌≡◌, ℕ, IfOk, List, length, slice_index, ◌-◌};
+ghost use Rattle.zh_lower.specs.Divisors.{Divisors};
+ghost use Rattle.zh_lower.specs.SeatMatrix.{IsWeak};
+ghost use Rattle.zh_sheet.specs.Distribution.{IsDistribution, question_of};
+ghost use Rattle.zh_sheet.specs.Refusals.{IsAnswer};
+ghost use Rattle.zh_sheet.specs.Stages.{HasColumn, of_lower};
+
+use crate::fault::SheetFault;
+use crate::lower::seats_of_lists;
+use crate::seated::seated_groups;
+use crate::sheet::Sheet;
+use std::alloc::Global;
+use zh_districts::seats;
+use zh_lower::LowerFault;
+use zh_quorum::participating;
+use zh_totals::Totals;
+use zh_upper::{upper, voters};
+
+/// The refusal of a sheet for one of the lower apportionment, whose columns are the seated groups.
+fn fault_of(fault: LowerFault, seated: &[u32]) -> SheetFault
+    requires { HasColumn fault seated.now }
+    ensures { result ≡ of_lower fault seated.now }
+{
+    match fault {
+        LowerFault::Memory => SheetFault::Memory,
+        LowerFault::NoVotes(constituency) => SheetFault::NoVotes(constituency),
+        LowerFault::Tied(constituency, column) => {
+            SheetFault::TiedLower(constituency, seated[(column - 1) as usize])
+        }
+        LowerFault::Exhausted => SheetFault::Exhausted,
+    }
+}
+
+/// The sheet of these totals, or why there is none: the first case that holds decides, in the order of `SheetFault`.
+///
+/// No other seats follow from any divisors, of any scale; where the seats of the lists are tied, no divisors give seats
+/// without a quotient on a half. `Memory` can come in place of every answer, and `Exhausted` where the search
+/// (docs/DEFINITIONS.md) finds no divisors.
+pub fn make<'s>(alloc: Global, totals: &Totals<'s>) -> Result<Sheet<'s>, SheetFault>
+    ensures totals { IfOk result (λ sheet. sheet.totals ≡ totals.now) }
+    ensures meets { IfOk result (λ sheet. IsDistribution sheet) }
+    ensures one_answer { IfOk result (λ sheet. (divisors : Divisors) (seats : List ℕ) →
+        IsWeak (question_of sheet) divisors seats → seats ≡ sheet.lower.seats) }
+    ensures answer { IsAnswer totals.now result }
+{
+    let setup = totals.setup();
+    let seats = seats(alloc, setup)?;
+    let taking = participating(alloc, totals)?;
+    let voters = voters(alloc, totals, seats.seats())?;
+    let upper = upper(alloc, &voters, &taking, setup.house())?;
+    let seated = seated_groups(alloc, &upper, setup.groups())?;
+    let totals = totals.copy(alloc)?;
+    let lower = match seats_of_lists(alloc, &totals, seats.seats(), &upper, &seated) {
+        Ok(lower) => lower,
+        Err(fault) => return Err(fault_of(fault, &seated)),
+    };
+    Ok(Sheet {
+        totals,
+        seats,
+        taking,
+        voters,
+        upper,
+        seated,
+        lower,
+    })
+}

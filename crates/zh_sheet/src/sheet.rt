@@ -1,0 +1,160 @@
+ghost use Rattle.std.specs.Prelude.{◌≡◌, ◌-◌, ◌<◌, ◌≤◌, IfSome, length, slice_index};
+
+use crate::seated::column_of;
+use std::marker::Model;
+use zh_districts::Setup;
+use zh_divisors::Shares;
+use zh_lower::Lower;
+use zh_totals::Totals;
+use zh_upper::{Upper, voter_number};
+
+/// The distribution of the seats of an election, with all that it follows from (GPR sections 88 and 102 to 104): the
+/// votes, the seats of the constituencies and of the groups with their divisors, and the seats of each list.
+///
+/// Each sheet meets the definitions: `setup` says so.
+#[derive(Debug, Drop)]
+pub struct Sheet<'s> {
+    pub(crate) totals: Totals<'s>,
+    pub(crate) seats: Shares,
+    pub(crate) taking: Vec<bool>,
+    pub(crate) voters: Vec<u64>,
+    pub(crate) upper: Upper,
+    pub(crate) seated: Vec<u32>,
+    pub(crate) lower: Lower,
+}
+
+impl<'s> Model for Sheet<'s> {
+    ghost use Rattle.zh_sheet.specs.Distribution.{Distribution};
+    ghost use Rattle.zh_sheet.specs.Inside.{IsInside, distribution_in};
+
+    ghost Value = { Distribution };
+
+    ghost view = { distribution_in };
+
+    ghost invariant = { IsInside };
+}
+
+impl<'s> Sheet<'s> {
+    ghost use Rattle.zh_sheet.specs.Distribution.{IsDistribution};
+    ghost use Rattle.zh_sheet.specs.SheetText.{column_of, constituency_name, group_divisor, group_name, list_seats, list_voters, takes_part, voters_of};
+
+    /// The set-up of the election. The sheet meets the definitions.
+    pub fn setup(&self) -> &'s Setup
+        ensures setup { result.now ≡ self.now.totals.canton }
+        ensures meets { IsDistribution self.now }
+    {
+        self.totals.setup()
+    }
+
+    /// The seats of a constituency, at least one.
+    pub(crate) fn constituency_seats(&self, constituency: u32) -> u32
+        requires from_one { 1 ≤ constituency }
+        requires there { constituency ≤ length self.now.totals.canton.constituencies }
+        ensures seats { result ≡ slice_index self.now.seats.seats (constituency - 1) }
+        ensures seated { 1 ≤ result }
+    {
+        self.seats.seats()[(constituency - 1) as usize]
+    }
+
+    /// The divisor of a constituency in millionths.
+    pub(crate) fn constituency_divisor(&self, constituency: u32) -> u64
+        requires from_one { 1 ≤ constituency }
+        requires there { constituency ≤ length self.now.totals.canton.constituencies }
+        ensures { result ≡ slice_index self.now.lower.divisors.of_rows (constituency - 1) }
+    {
+        self.lower.row_divisor(constituency)
+    }
+
+    pub(crate) fn constituency_name(&self, constituency: u32) -> &str
+        requires from_one { 1 ≤ constituency }
+        requires there { constituency ≤ length self.now.totals.canton.constituencies }
+        ensures name { result.now ≡ constituency_name self.now constituency }
+        ensures short { length result.now ≤ 40 }
+    {
+        self.setup().constituency_name(constituency)
+    }
+
+    pub(crate) fn takes_part(&self, group: u32) -> bool
+        requires from_one { 1 ≤ group }
+        requires there { group ≤ length self.now.totals.canton.groups }
+        ensures { result ≡ takes_part self.now group }
+    {
+        self.taking[(group - 1) as usize]
+    }
+
+    /// The voter sum of a group, where it takes part.
+    pub(crate) fn voters(&self, group: u32) -> Option<u64>
+        requires from_one { 1 ≤ group }
+        requires there { group ≤ length self.now.totals.canton.groups }
+        ensures { result ≡ voters_of self.now group }
+    {
+        if self.takes_part(group) {
+            Some(self.voters[(group - 1) as usize])
+        } else {
+            None
+        }
+    }
+
+    /// The seats of a group in the whole canton.
+    pub(crate) fn group_seats(&self, group: u32) -> u32
+        requires from_one { 1 ≤ group }
+        requires there { group ≤ length self.now.totals.canton.groups }
+        ensures { result ≡ slice_index self.now.upper.seats (group - 1) }
+    {
+        self.upper.seats(group)
+    }
+
+    /// The place of a group among the seated groups, from 0.
+    fn column(&self, group: u32) -> Option<usize>
+        ensures place { result ≡ column_of self.now group }
+        ensures there { IfSome result (λ column. column < length self.now.lower.divisors.of_columns) }
+        ensures few { IfSome result (λ column. column < 32) }
+    {
+        column_of(&self.seated, group)
+    }
+
+    /// The divisor of a group in millionths, where it has seats.
+    pub(crate) fn group_divisor(&self, group: u32) -> Option<u64>
+        ensures { result ≡ group_divisor self.now group }
+    {
+        let column = self.column(group)?;
+        Some(self.lower.column_divisor(column as u32 + 1))
+    }
+
+    pub(crate) fn group_name(&self, group: u32) -> &str
+        requires from_one { 1 ≤ group }
+        requires there { group ≤ length self.now.totals.canton.groups }
+        ensures name { result.now ≡ group_name self.now group }
+        ensures short { length result.now ≤ 40 }
+    {
+        self.setup().group_name(group)
+    }
+
+    /// The voter number of a list, where its group takes part.
+    pub(crate) fn list_voters(&self, constituency: u32, group: u32) -> Option<u64>
+        requires from_one { 1 ≤ constituency }
+        requires there { constituency ≤ length self.now.totals.canton.constituencies }
+        requires group_from_one { 1 ≤ group }
+        requires group_there { group ≤ length self.now.totals.canton.groups }
+        ensures { result ≡ list_voters self.now constituency group }
+    {
+        if self.takes_part(group) {
+            let votes = self.totals.votes(constituency, group);
+            Some(voter_number(votes, self.constituency_seats(constituency)))
+        } else {
+            None
+        }
+    }
+
+    /// The seats of a list.
+    pub(crate) fn list_seats(&self, constituency: u32, group: u32) -> u32
+        requires from_one { 1 ≤ constituency }
+        requires there { constituency ≤ length self.now.totals.canton.constituencies }
+        ensures { result ≡ list_seats self.now constituency group }
+    {
+        match self.column(group) {
+            Some(column) => self.lower.seats(constituency, column as u32 + 1),
+            None => 0,
+        }
+    }
+}
