@@ -1,0 +1,4 @@
+mod ReadLemmas
+mod FieldLemmas
+mod LoadLemmas
+mod ExportLemmas

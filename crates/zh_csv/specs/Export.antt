@@ -1,0 +1,55 @@
+-- The text of a count. 44 is the comma, 10 the end of a line.
+use Rattle.std.specs.Prelude.{◌≡◌, ◌≤◌, All, ℕ, List, [], ◌∷◌, ◌++◌, length, Option, Some, None, codes, decimal, false}
+use Rattle.std.specs.List.{flat_map}
+use Rattle.csv.specs.Writing.{default_writer, needs_quotes, writer_setup, fields_written, has_written}
+use Rattle.csv.specs.declared.writer.Writer.{Writer}
+use Rattle.zh_returns.specs.declared.entry.Entry.{Entry}
+use Rattle.zh_returns.specs.Payload.{numbers}
+use Rattle.zh_returns.specs.Tally.{Tally, held}
+use Rattle.zh_csv.specs.Records.{Record}
+use Rattle.zh_csv.specs.Load.{names}
+
+-- the fields after the first, a comma before each, and the end of the line
+abbrev pub following : Record → List ℕ
+following [] = 10 ∷ []
+following (field ∷ fields) = 44 ∷ (field ++ following fields)
+
+-- the line of a record
+abbrev pub line : Record → List ℕ
+line [] = 10 ∷ []
+line (field ∷ fields) = field ++ following fields
+
+-- votes, or that the list is withdrawn
+abbrev pub votes_field : Option ℕ → List ℕ
+votes_field (Some votes) = decimal votes
+votes_field None = codes "withdrawn"
+
+-- the record of what is held under a key
+abbrev pub record_of : ℕ → ℕ → Entry → Record
+record_of municipality list entry = decimal municipality ∷ decimal list ∷ decimal entry.number ∷ votes_field entry.votes ∷ []
+
+-- its line, if anything is held there
+abbrev pub entry_text : ℕ → ℕ → Option Entry → List ℕ
+entry_text municipality list None = []
+entry_text municipality list (Some entry) = line (record_of municipality list entry)
+
+abbrev pub list_text : Tally → ℕ → ℕ → List ℕ
+list_text tally municipality list = entry_text municipality list (held tally municipality list)
+
+-- the lines of a municipality, list by list
+abbrev pub municipality_text : Tally → ℕ → List ℕ
+municipality_text tally municipality = flat_map (list_text tally municipality) (numbers 1 (length tally.canton.groups))
+
+-- the line of the names, and then those of what is held, municipality by municipality
+abbrev pub export_text : Tally → List ℕ
+export_text tally = line names ++ flat_map (municipality_text tally) (numbers 1 (length tally.canton.municipalities))
+
+-- a writer with the defaults of `csv`, between two records
+pub record IsBetween {W : Type 0} (writer : Writer W) : Type 0 where
+  pub setup : writer_setup writer ≡ default_writer
+  pub fields : fields_written writer ≡ 0
+  pub wrote : has_written writer ≡ false
+
+-- fields, two at least, none of which calls for quotes
+abbrev pub ArePlain : Record → Type 0
+ArePlain fields = (2 ≤ length fields) × All (λ field. needs_quotes default_writer field ≡ false) fields

@@ -1,0 +1,3 @@
+pub mod Records
+pub mod Load
+pub mod Export

@@ -1,0 +1,96 @@
+//! A batch read from a text.
+
+ghost use Rattle.std.specs.Prelude.{◌≡◌, ◌≢◌, List, ◌++◌, ◌∷◌, [], ℕ, Some, IfOk, IfErr, OnOk, OnErr};
+ghost use Rattle.zh_records.specs.declared.row.Row.{Row};
+ghost use Rattle.zh_desks.specs.declared.fault.RowFault.{RowFault};
+ghost use Rattle.zh_csv.specs.declared.fault.LoadFault.{LoadFault};
+ghost use Rattle.zh_csv.specs.Load.{place_fault, batch_fault, fault_after, names, Loads, AreLoaded, IsReadable};
+ghost use Rattle.zh_csv.specs.Records.{HasRead};
+
+use crate::fault::LoadFault;
+use crate::fields::{is_names, row_of};
+use crate::records::{next_record, reader_of};
+use csv::{ByteRecord, Reader};
+use std::alloc::Global;
+use std::io::Read;
+use zh_desks::{Batch, RowFault};
+use zh_districts::{Misplaced, Setup};
+use zh_records::{MOST_ROWS, Row};
+use zh_returns::MOST_VOTES;
+
+/// The fault of a list that has no place.
+fn place_fault(place: Misplaced) -> LoadFault
+    ensures { (rows : List Row) (row : Row) → place_fault (Some place) rows row ≡ Some result }
+{
+    match place {
+        Misplaced::Municipality => LoadFault::Municipality,
+        Misplaced::List => LoadFault::List,
+    }
+}
+
+/// The fault of a row that a batch does not hold.
+fn batch_fault(fault: RowFault) -> LoadFault
+    ensures batch { fault ≢ RowFault.Memory → fault ≢ RowFault.NoBatch → batch_fault (Some fault) ≡ Some result }
+    ensures memory { fault ≡ RowFault.Memory → result ≡ LoadFault.Memory }
+{
+    match fault {
+        RowFault::Twice => LoadFault::Twice,
+        RowFault::BatchFull => LoadFault::BatchFull,
+        RowFault::NoBatch | RowFault::Memory => LoadFault::Memory,
+    }
+}
+
+/// Puts a row after those of a batch.
+fn hold(setup: &Setup, batch: &mut Batch, row: Row) -> Result<(), LoadFault>
+    requires { IsReadable row }
+    ensures held { OnOk result (batch.new ≡ batch.old ++ row ∷ []) }
+    ensures loaded { AreLoaded setup.now batch.old → OnOk result (AreLoaded setup.now batch.new) }
+    ensures refused { IfErr result (λ fault. fault ≢ LoadFault.Memory → fault_after setup.now batch.old row ≡ Some fault) }
+{
+    if let Some(place) = setup.misplaced(row.municipality, row.list) {
+        return Err(place_fault(place));
+    }
+    if row.votes > MOST_VOTES {
+        return Err(LoadFault::Votes);
+    }
+    // So the row has room in its bytes.
+    let is_small = setup.municipalities() <= 512 && setup.groups() <= 32;
+    prove!(is_small);
+    match batch.hold(row) {
+        Ok(_) => Ok(()),
+        Err(fault) => Err(batch_fault(fault)),
+    }
+}
+
+/// Reads the rows that follow the names of the columns, 1,000 at most.
+fn read_rows<R: Read>(
+    alloc: Global,
+    setup: &Setup,
+    reader: &mut Reader<R>,
+    record: &mut ByteRecord,
+) -> Result<Batch, LoadFault>
+    ensures loads { (text : List ℕ) → HasRead R.remaining text (names ∷ []) reader.old → Loads setup.now text result }
+    ensures loaded { IfOk result (AreLoaded setup.now) }
+{
+    let mut batch = Batch::new(alloc);
+    for _ in 0..=MOST_ROWS {
+        if !next_record(reader, record)? {
+            return Ok(batch);
+        }
+        hold(setup, &mut batch, row_of(record)?)?;
+    }
+    unreachable!()
+}
+
+/// Reads the batch of a text: the names of the columns, and then a record for each row. At most 1,002 records are read.
+pub fn read_batch<R: Read + Drop>(alloc: Global, setup: &Setup, text: R) -> Result<Batch, LoadFault>
+    ensures loads { (bytes : List ℕ) → R.remaining text ≡ Some bytes → Loads setup.now bytes result }
+    ensures loaded { IfOk result (AreLoaded setup.now) }
+{
+    let mut reader = reader_of(alloc, text);
+    let mut record = ByteRecord::new(alloc);
+    if !next_record(&mut reader, &mut record)? || !is_names(&record) {
+        return Err(LoadFault::Csv);
+    }
+    read_rows(alloc, setup, &mut reader, &mut record)
+}
