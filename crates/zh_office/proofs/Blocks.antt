@@ -5,7 +5,7 @@ use Rattle.std.specs.Io.KnownBytes.{Appends, Consumes}
 use Rattle.zh_ledger.specs.Submissions.{Log, nothing, followed_by}
 use Rattle.zh_office.specs.Office.{command_read}
 use Rattle.zh_office.specs.Runs.{OnDisk, Runs, Turn, logged, text_after}
-use Rattle.zh_office.specs.declared.answer.Answer.{Answer}
+use Rattle.zh_answers.specs.declared.answer.Answer.{Answer}
 use Rattle.zh_office.specs.Text.{HasNoEnd, unfinished, heard, ended_lines, last_line}
 use Rattle.zh_office.specs.Served.{BreaksOff, TakesBlock, Writes}
 use Rattle.zh_commands.specs.declared.output.WriteFault.{WriteFault}

@@ -1,7 +1,6 @@
 -- What lines do to the ledger: each submits one command, or leaves it as it is.
 use Rattle.std.proofs.Common.{◌≡◌, ℕ, List, [], ◌∷◌, ◌++◌, refl, sym, ap, ◌∙◌, subst, Option, Some, None}
 use Rattle.zh_records.specs.declared.command.Command.{Command}
-use Rattle.zh_commands.specs.declared.replies.Reply.{Reply}
 use Rattle.zh_ledger.specs.Submissions as ledger
 use Rattle.zh_ledger.specs.Submissions.{Submission, Log, nothing, followed_by, Submits, IsLogged}
 use Rattle.zh_ledger.specs.declared.outcome.Outcome.{Outcome}
@@ -9,11 +8,13 @@ use Rattle.zh_ledger.specs.declared.outcome.Outcome.TheVariants as outcomes
 use Rattle.zh_ledger.proofs.SubmissionLemmas.{submits_logged}
 use Rattle.zh_returns.specs.declared.verdict.Reason.{Reason}
 use Rattle.zh_returns.specs.declared.verdict.Reason.TheVariants as reasons
-use Rattle.zh_office.specs.Office.{MayReply, command_read, reply_to, refusal_of}
+use Rattle.zh_answers.specs.Answers.{refusal_of}
+use Rattle.zh_requests.specs.Requests.{reply_to, Acts}
+use Rattle.zh_office.specs.Office.{MayAnswer, command_read}
 use Rattle.zh_commands.specs.declared.replies.Reply.TheVariants.{Refused}
-use Rattle.zh_office.specs.Runs.{OnDisk, Acts, Turn, Runs, ledger_of, logged}
-use Rattle.zh_office.specs.declared.answer.Answer.{Answer}
-use Rattle.zh_office.specs.declared.answer.Answer.TheVariants as answers
+use Rattle.zh_office.specs.Runs.{OnDisk, Turn, Runs, ledger_of, logged}
+use Rattle.zh_answers.specs.declared.answer.Answer.{Answer}
+use Rattle.zh_answers.specs.declared.answer.Answer.TheVariants as answers
 use Rattle.zh_office.proofs.Running.{followed_by-assoc, nothing-followed_by, followed_by-nothing}
 
 refused_logs : (command : Command) (reason : Reason) → logged (Some command) (answers.Reply (Refused (refusal_of reason))) ≡ nothing
@@ -41,10 +42,10 @@ submits-append old mid new (x ∷ xs) ys log log' (next, others, by, is, run) re
     (next, followed_by others log', by, ap (λ (l : Log). followed_by l log') is ∙ followed_by-assoc (ledger.logged x.0 x.1) others log', submits-append next mid new xs ys others log' run rest)
 
 -- one line
-acts_lifted : (honest : Type 0) → honest → (old : ledger.OnDisk) (command : Option Command) (May : Reply → Type 0) (answer : Answer) (new : ledger.OnDisk) → Acts honest old command May answer new → Lifted old (logged command answer) new
-acts_lifted honest sure old None May (answers.Reply reply) new acts = record { commands = []; submits = (refl, acts.1) }
-acts_lifted honest sure old (Some command) May (answers.Reply reply) new (outcome, by, is) =
-    let log : logged (Some command) (answers.Reply reply) ≡ ledger.logged command outcome = ap (λ (r : Reply). logged (Some command) (answers.Reply r)) is ∙ logged_alike command outcome in
+acts_lifted : (honest : Type 0) → honest → (old : ledger.OnDisk) (command : Option Command) (May : Answer → Type 0) (answer : Answer) (new : ledger.OnDisk) → Acts honest old command May answer new → Lifted old (logged command answer) new
+acts_lifted honest sure old None May answer new acts = record { commands = []; submits = (refl, acts.1) }
+acts_lifted honest sure old (Some command) May answer new (outcome, by, is) =
+    let log : logged (Some command) answer ≡ ledger.logged command outcome = ap (logged (Some command)) is ∙ logged_alike command outcome in
     record {
       commands = (command, outcome) ∷ [];
       submits = (
@@ -58,7 +59,7 @@ acts_lifted honest sure old (Some command) May (answers.Reply reply) new (outcom
 
 pub turn_lifted : (honest : Type 0) → honest → (old : OnDisk) (line : List ℕ) (answer : Answer) (new : OnDisk) (turn : Turn honest old line answer new) → Lifted (ledger_of old) (logged (command_read old.office turn.reading) answer) (ledger_of new)
 turn_lifted honest sure old line answer new turn =
-    acts_lifted honest sure (ledger_of old) (command_read old.office turn.reading) (MayReply old.office turn.reading) answer (ledger_of new) turn.acts
+    acts_lifted honest sure (ledger_of old) (command_read old.office turn.reading) (MayAnswer old.office turn.reading) answer (ledger_of new) turn.acts
 
 -- line after line
 run_lifted : (honest : Type 0) → honest → (old : OnDisk) (lines : List (List ℕ)) (out : List ℕ) (log : Log) (new : OnDisk) → Runs honest old lines out log new → Lifted (ledger_of old) log (ledger_of new)

@@ -1,56 +1,56 @@
 -- A night of an office, as one of its ledger.
-use Rattle.std.proofs.Common.{◌≡◌, ℕ, ◌+◌, ◌≤◌, List, [], ◌∷◌, length, refl, sym, ap, ◌∙◌, subst, Option, Some, None}
+use Rattle.std.proofs.Common.{◌≡◌, ℕ, List, [], ◌∷◌, refl, sym, ap, ◌∙◌, subst, Option, Some, None}
 use Rattle.std.specs.Prelude.{option_map}
-use Rattle.zh_disk.specs.Disk.{Trail, Moment, IsImage, Leaves}
+use Rattle.zh_disk.specs.Disk.{Moment, IsImage}
 use Rattle.zh_disk.proofs.Runs.{leaves_none}
 use Rattle.zh_districts.specs.Canton.{Canton}
 use Rattle.zh_records.specs.declared.command.Command.{Command}
-use Rattle.zh_commands.specs.declared.replies.Reply.{Reply}
-use Rattle.zh_ledger.specs.Ledger.{Ledger}
 use Rattle.zh_ledger.specs.Night as ledger
 use Rattle.zh_ledger.specs.Night.{IsLeft, unacknowledged}
 use Rattle.zh_ledger.specs.Night.Event.{submitted as ledger_submitted, stopped_within as ledger_stopped_within, stopped as ledger_stopped, opened as ledger_opened, refused as ledger_refused, stopped_opening as ledger_stopped_opening}
 use Rattle.zh_ledger.specs.Submissions as submissions
 use Rattle.zh_ledger.specs.Submissions.{Log, nothing, followed_by}
-use Rattle.zh_ledger.specs.declared.outcome.Outcome.{Outcome}
-use Rattle.zh_ledger.proofs.NightLemmas.{IsSure, one_event, fresh_sure, left_by}
-use Rattle.zh_office.specs.Office.{State, MayReply, command_read, reply_to}
+use Rattle.zh_ledger.proofs.StretchLemmas.{IsSure, left_by}
+use Rattle.zh_ledger.proofs.NightLemmas.{one_event, fresh_sure}
+use Rattle.zh_office.specs.Office.{State, MayAnswer, command_read}
 use Rattle.zh_office.specs.Runs as runs
-use Rattle.zh_office.specs.Runs.{OnDisk, Acts, Turn, logged}
-use Rattle.zh_office.specs.Night.{Event, Stretch, ledger_of, after_stop, Begins, Allows, IsNight, Says, IsKeptAllNight, Law}
-use Rattle.zh_office.specs.Night.Event.{answered, stopped_within, stopped, opened, refused, stopped_opening}
-use Rattle.zh_office.specs.declared.answer.Answer.{Answer}
-use Rattle.zh_office.specs.declared.answer.Answer.TheVariants as answers
+use Rattle.zh_requests.specs.Requests.{Acts}
+use Rattle.zh_office.specs.Runs.{OnDisk, Turn, logged}
+use Rattle.zh_office.specs.Night.{Event, Stretch, ledger_of, Begins, Allows, IsNight, Says, IsKeptAllNight, Law}
+use Rattle.zh_office.specs.Load.{load_command, load_reply}
+use Rattle.zh_office.specs.Night.Event.{answered, stopped_within, loaded, stopped_within_load, stopped, opened, refused, stopped_opening}
+use Rattle.zh_answers.specs.declared.answer.Answer.{Answer}
+use Rattle.zh_answers.specs.declared.answer.Answer.TheVariants as answers
 use Rattle.zh_office.proofs.Running.{followed_by-nothing}
 use Rattle.zh_office.proofs.Lifting.{logged_alike}
 
 -- a line of an open office, as what it does to the ledger: what is sure before it is sure after it, and where it is stopped
 module _ (canton : Canton) (kept : List Command) (s : ledger.Stretch) (sure : IsSure canton kept s) (old new : submissions.OnDisk) (begins : ledger.Begins s old) where
-  answered_sure : (command : Option Command) (May : Reply → Type 0) (answer : Answer) → Acts (Unit {0}) old command May answer new → IsSure canton kept (record { now = new.trail.now; ledger = Some new.ledger; log = followed_by s.log (logged command answer) })
-  answered_sure None May (answers.Reply reply) (may, same) =
+  answered_sure : (command : Option Command) (May : Answer → Type 0) (answer : Answer) → Acts (Unit {0}) old command May answer new → IsSure canton kept (record { now = new.trail.now; ledger = Some new.ledger; log = followed_by s.log (logged command answer) })
+  answered_sure None May answer (may, same) =
       let is : s ≡ record { now = new.trail.now; ledger = Some new.ledger; log = followed_by s.log nothing } = λ i. record {
         now = (begins.1 ∙ ap (λ (o : submissions.OnDisk). o.trail.now) (sym same)) i;
         ledger = (begins.0 ∙ ap (λ (o : submissions.OnDisk). Some o.ledger) (sym same)) i;
         log = sym (followed_by-nothing s.log) i;
       } in
       subst (IsSure canton kept) is sure
-  answered_sure (Some command) May (answers.Reply reply) (outcome, by, is) =
-      let log : logged (Some command) (answers.Reply reply) ≡ submissions.logged command outcome = ap (λ (r : Reply). logged (Some command) (answers.Reply r)) is ∙ logged_alike command outcome in
-      let t : ledger.Stretch = record { now = new.trail.now; ledger = Some new.ledger; log = followed_by s.log (logged (Some command) (answers.Reply reply)) } in
+  answered_sure (Some command) May answer (outcome, by, is) =
+      let log : logged (Some command) answer ≡ submissions.logged command outcome = ap (logged (Some command)) is ∙ logged_alike command outcome in
+      let t : ledger.Stretch = record { now = new.trail.now; ledger = Some new.ledger; log = followed_by s.log (logged (Some command) answer) } in
       one_event canton kept s t (ledger_submitted command outcome) (λ more. IsSure canton more t)
       (old, new, begins, by, λ i. record { now = new.trail.now; ledger = Some new.ledger; log = followed_by s.log (log i) }) sure (λ more then. then)
 
-  left_sure : (c : List ℕ) → IsLeft old.trail new.trail c → (command : Option Command) (May : Reply → Type 0) (answer : Answer) → Acts (Unit {0}) old command May answer new
+  left_sure : (c : List ℕ) → IsLeft old.trail new.trail c → (command : Option Command) (May : Answer → Type 0) (answer : Answer) → Acts (Unit {0}) old command May answer new
       → IsSure canton kept (ledger.after_stop c (followed_by s.log (unacknowledged (logged command answer))))
-  left_sure c left None May (answers.Reply reply) (may, same) =
+  left_sure c left None May answer (may, same) =
       let from = left_by (λ x f. f ≡ x) old.trail new.trail c (λ x. refl) (leaves_none (λ x f. f ≡ x) old.trail new.trail (ap (λ (o : submissions.OnDisk). o.trail) same)) left in
       let image : IsImage s.now c = subst (λ (m : Moment). IsImage m c) (sym begins.1) (subst (IsImage old.trail.now) (sym from.2) from.1) in
       let t : ledger.Stretch = ledger.after_stop c (followed_by s.log nothing) in
       one_event canton kept s t ledger_stopped (λ more. IsSure canton more t)
       (c, image, λ i. ledger.after_stop c (followed_by-nothing s.log i)) sure (λ more then. then)
-  left_sure c left (Some command) May (answers.Reply reply) (outcome, by, is) =
-      let log : logged (Some command) (answers.Reply reply) ≡ submissions.logged command outcome = ap (λ (r : Reply). logged (Some command) (answers.Reply r)) is ∙ logged_alike command outcome in
-      let t : ledger.Stretch = ledger.after_stop c (followed_by s.log (unacknowledged (logged (Some command) (answers.Reply reply)))) in
+  left_sure c left (Some command) May answer (outcome, by, is) =
+      let log : logged (Some command) answer ≡ submissions.logged command outcome = ap (logged (Some command)) is ∙ logged_alike command outcome in
+      let t : ledger.Stretch = ledger.after_stop c (followed_by s.log (unacknowledged (logged (Some command) answer))) in
       one_event canton kept s t (ledger_stopped_within command) (λ more. IsSure canton more t)
       (old, new, outcome, c, begins, by, left, λ i. ledger.after_stop c (followed_by s.log (unacknowledged (log i)))) sure (λ more then. then)
 
@@ -61,10 +61,16 @@ begins_below s old begins = (ap (option_map (λ (o : State). o.ledger)) begins.0
 one_line : (canton : Canton) (kept : List Command) (s t : Stretch) (e : Event) (Then : List Command → Type 0) → Allows canton s e t → IsSure canton kept (ledger_of s) → ((more : List Command) → IsSure canton more (ledger_of t) → Then more) → Says canton kept s e Then
 one_line canton kept s t (answered line answer) Then (old, new, begins, turn, is) sure go =
     go kept (subst (λ (x : Stretch). IsSure canton kept (ledger_of x)) (sym is)
-    (answered_sure canton kept (ledger_of s) sure (runs.ledger_of old) (runs.ledger_of new) (begins_below s old begins) (command_read old.office turn.reading) (MayReply old.office turn.reading) answer turn.acts))
+    (answered_sure canton kept (ledger_of s) sure (runs.ledger_of old) (runs.ledger_of new) (begins_below s old begins) (command_read old.office turn.reading) (MayAnswer old.office turn.reading) answer turn.acts))
 one_line canton kept s t (stopped_within line) Then (old, new, answer, c, begins, turn, left, is) sure go =
     go kept (subst (λ (x : Stretch). IsSure canton kept (ledger_of x)) (sym is)
-    (left_sure canton kept (ledger_of s) sure (runs.ledger_of old) (runs.ledger_of new) (begins_below s old begins) c left (command_read old.office turn.reading) (MayReply old.office turn.reading) answer turn.acts))
+    (left_sure canton kept (ledger_of s) sure (runs.ledger_of old) (runs.ledger_of new) (begins_below s old begins) c left (command_read old.office turn.reading) (MayAnswer old.office turn.reading) answer turn.acts))
+one_line canton kept s t (loaded text reply) Then (old, new, begins, turn, is) sure go =
+    go kept (subst (λ (x : Stretch). IsSure canton kept (ledger_of x)) (sym is)
+    (answered_sure canton kept (ledger_of s) sure (runs.ledger_of old) (runs.ledger_of new) (begins_below s old begins) (load_command old.office.ledger.store.broken turn.loaded) (λ a. a ≡ answers.Reply (load_reply old.office.ledger.store.broken turn.loaded)) (answers.Reply reply) turn.acts))
+one_line canton kept s t (stopped_within_load text) Then (old, new, reply, c, begins, turn, left, is) sure go =
+    go kept (subst (λ (x : Stretch). IsSure canton kept (ledger_of x)) (sym is)
+    (left_sure canton kept (ledger_of s) sure (runs.ledger_of old) (runs.ledger_of new) (begins_below s old begins) c left (load_command old.office.ledger.store.broken turn.loaded) (λ a. a ≡ answers.Reply (load_reply old.office.ledger.store.broken turn.loaded)) (answers.Reply reply) turn.acts))
 one_line canton kept s t stopped Then (c, image, is) sure go =
     one_event canton kept (ledger_of s) (ledger_of t) ledger_stopped Then (c, image, ap ledger_of is) sure go
 one_line canton kept s t (opened office) Then (found, is) sure go =

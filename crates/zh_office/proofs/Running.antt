@@ -3,13 +3,12 @@ use Rattle.std.proofs.Common.{◌≡◌, ℕ, List, [], ◌∷◌, ◌++◌, ref
 use Rattle.std.proofs.lemmas.List.{append-nil}
 use Rattle.std.proofs.Common.{Option, Some, None}
 use Rattle.zh_records.specs.declared.command.Command.{Command}
-use Rattle.zh_commands.specs.declared.replies.Reply.{Reply}
 use Rattle.zh_ledger.specs.Submissions as ledger
 use Rattle.zh_ledger.specs.Submissions.{Log, nothing, followed_by, Submission}
-use Rattle.zh_office.specs.Office.{MayReply, command_read}
-use Rattle.zh_office.specs.Runs.{OnDisk, Acts, Runs, Turn, ledger_of, logged, text_after}
-use Rattle.zh_office.specs.declared.answer.Answer.{Answer}
-use Rattle.zh_office.specs.declared.answer.Answer.TheVariants as answers
+use Rattle.zh_office.specs.Office.{MayAnswer, command_read}
+use Rattle.zh_requests.specs.Requests.{Acts}
+use Rattle.zh_office.specs.Runs.{OnDisk, Runs, Turn, ledger_of, logged, text_after}
+use Rattle.zh_answers.specs.declared.answer.Answer.{Answer}
 
 -- logs of the same commands and number
 Log_is : (a b : Log) → a.accepted ≡ b.accepted → a.acknowledged ≡ b.acknowledged → a ≡ b
@@ -59,15 +58,15 @@ Runs-one honest old new line answer turn = (
 )
 
 -- what is done under a hypothesis, under a stronger one
-pub Acts-map : (P Q : Type 0) → (Q → P) → (old : ledger.OnDisk) (command : Option Command) (May : Reply → Type 0) (answer : Answer) (new : ledger.OnDisk) → Acts P old command May answer new → Acts Q old command May answer new
-Acts-map P Q weaker old None May (answers.Reply reply) new acts = acts
-Acts-map P Q weaker old (Some command) May (answers.Reply reply) new (outcome, by, is) =
+pub Acts-map : (P Q : Type 0) → (Q → P) → (old : ledger.OnDisk) (command : Option Command) (May : Answer → Type 0) (answer : Answer) (new : ledger.OnDisk) → Acts P old command May answer new → Acts Q old command May answer new
+Acts-map P Q weaker old None May answer new acts = acts
+Acts-map P Q weaker old (Some command) May answer new (outcome, by, is) =
     (outcome, record { results = by.results; after = by.after; later = by.later; leaves = λ q. by.leaves (weaker q) }, is)
 
 -- so a turn
 abbrev pub Turn-map : (P Q : Type 0) → (Q → P) → (old : OnDisk) (line : List ℕ) (answer : Answer) (new : OnDisk) → Turn P old line answer new → Turn Q old line answer new
 Turn-map P Q weaker old line answer new t =
-    record { reading = t.reading; reads = t.reads; acts = Acts-map P Q weaker (ledger_of old) (command_read old.office t.reading) (MayReply old.office t.reading) answer (ledger_of new) t.acts; held = t.held }
+    record { reading = t.reading; reads = t.reads; acts = Acts-map P Q weaker (ledger_of old) (command_read old.office t.reading) (MayAnswer old.office t.reading) answer (ledger_of new) t.acts; held = t.held }
 
 -- so a run
 pub Runs-map : (P Q : Type 0) → (Q → P) → (old : OnDisk) (lines : List (List ℕ)) (out : List ℕ) (log : Log) (new : OnDisk) → Runs P old lines out log new → Runs Q old lines out log new

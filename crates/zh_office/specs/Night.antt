@@ -1,4 +1,4 @@
--- A night of an office: lines, stops and openings on an honest disk that was formatted for it.
+-- A night of an office: lines, loaded texts, stops and openings on an honest disk that was formatted for it.
 use Rattle.std.specs.Prelude.{◌≡◌, ℕ, List, ◌∷◌, [], Option, Some, None, option_map}
 use Rattle.zh_disk.specs.Disk.{Moment, Trail, IsImage, Leaves, settled}
 use Rattle.zh_districts.specs.Canton.{Canton}
@@ -10,15 +10,21 @@ use Rattle.zh_ledger.specs.Night.Event.{opened as ledger_opened, refused as ledg
 use Rattle.zh_ledger.specs.Submissions.{Log, nothing, followed_by}
 use Rattle.zh_ledger.specs.declared.fault.OpenFault.{OpenFault}
 use Rattle.zh_office.specs.Office.{State, command_read}
+use Rattle.zh_commands.specs.declared.replies.Reply.{Reply}
+use Rattle.zh_office.specs.Load.{LoadTurn, load_logged}
 use Rattle.zh_office.specs.Opened.{IsOpened}
 use Rattle.zh_office.specs.Runs.{OnDisk, Turn, logged}
-use Rattle.zh_office.specs.declared.answer.Answer.{Answer}
+use Rattle.zh_answers.specs.declared.answer.Answer.{Answer}
 
 pub data Event : Type 0 where
   -- the office that is open answers a line
   answered : List ℕ → Answer → Event
   -- a stop comes within the work on a line, at any moment of it, before it is answered
   stopped_within : List ℕ → Event
+  -- the office that is open answers to a text that is loaded, whose bytes may be unknown
+  loaded : Option (List ℕ) → Reply → Event
+  -- a stop comes within the loading of a text, at any moment of it, before it is answered
+  stopped_within_load : Option (List ℕ) → Event
   -- a stop comes between two calls
   stopped : Event
   -- an opening gives this office
@@ -54,6 +60,12 @@ Allows canton s (answered line answer) t =
 Allows canton s (stopped_within line) t =
     (old : OnDisk) × (new : OnDisk) × (answer : Answer) × (c : List ℕ) × Begins s old × (turn : Turn (Unit {0}) old line answer new)
     × IsLeft old.trail new.trail c × (t ≡ after_stop c (followed_by s.log (unacknowledged (logged (command_read old.office turn.reading) answer))))
+Allows canton s (loaded text reply) t =
+    (old : OnDisk) × (new : OnDisk) × Begins s old × (turn : LoadTurn (Unit {0}) old text reply new)
+    × (t ≡ record { now = new.trail.now; office = Some new.office; log = followed_by s.log (load_logged old turn.loaded reply) })
+Allows canton s (stopped_within_load text) t =
+    (old : OnDisk) × (new : OnDisk) × (reply : Reply) × (c : List ℕ) × Begins s old × (turn : LoadTurn (Unit {0}) old text reply new)
+    × IsLeft old.trail new.trail c × (t ≡ after_stop c (followed_by s.log (unacknowledged (load_logged old turn.loaded reply))))
 Allows canton s stopped t = (c : List ℕ) × IsImage s.now c × (t ≡ after_stop c s.log)
 Allows canton s (opened office) t =
     IsOpened canton s.now.bytes office × (t ≡ record { now = settled s.now.bytes; office = Some office; log = nothing })

@@ -1,169 +1,36 @@
 -- What an office answers to a line, and what it holds after it.
-use Rattle.std.specs.Prelude.{◌≡◌, ◌⊎◌, ℕ, ◌+◌, nat_lt, Bool, true, false, if◌then◌else◌, List, [], ◌∷◌, ◌++◌, length, Option, Some, None, Result, Ok, Err}
-use Rattle.zh_districts.specs.Misplaced.{misplaced}
-use Rattle.zh_districts.specs.declared.misplaced.Misplaced.{Misplaced}
-use Rattle.zh_districts.specs.declared.misplaced.Misplaced.TheVariants as places
-use Rattle.zh_returns.specs.Tally.{Tally, held}
-use Rattle.zh_returns.specs.Limits.{most_votes}
-use Rattle.zh_records.specs.declared.row.Row.{Row}
-use Rattle.zh_returns.specs.declared.entry.Entry.{Entry}
+use Rattle.std.specs.Prelude.{◌≡◌, Option, None, Result, Ok, Err}
 use Rattle.zh_records.specs.declared.command.Command.{Command}
-use Rattle.zh_records.specs.declared.command.Command.TheVariants as commands
-use Rattle.zh_returns.specs.declared.verdict.Reason.{Reason}
-use Rattle.zh_returns.specs.declared.verdict.Reason.TheVariants as reasons
 use Rattle.zh_desks.specs.Batches as desks
-use Rattle.zh_desks.specs.Batches.{rows_of, with_batch}
-use Rattle.zh_desks.specs.RowFaults.{fault_in}
-use Rattle.zh_desks.specs.declared.fault.RowFault.{RowFault}
-use Rattle.zh_desks.specs.declared.fault.RowFault.TheVariants as row_faults
-use Rattle.zh_commands.specs.Commands.{own_command}
+use Rattle.zh_desks.specs.Batches.{rows_of}
 use Rattle.zh_ledger.specs.Ledger.{Ledger}
-use Rattle.zh_ledger.specs.declared.outcome.Outcome.{Outcome}
-use Rattle.zh_ledger.specs.declared.outcome.Outcome.TheVariants as outcomes
 use Rattle.zh_commands.specs.declared.lines.Line.{Line}
 use Rattle.zh_commands.specs.declared.lines.LineFault.{LineFault}
 use Rattle.zh_commands.specs.declared.lines.LineFault.TheVariants as faults
-use Rattle.zh_commands.specs.declared.lines.Request.{Request}
-use Rattle.zh_commands.specs.declared.lines.Request.TheVariants as requests
-use Rattle.zh_commands.specs.declared.replies.Reply.{Reply}
-use Rattle.zh_commands.specs.declared.replies.Reply.TheVariants.{Stored, Same, Held, Dropped, Nothing, Shows, ShowsWithdrawn, Refused}
-use Rattle.zh_commands.specs.declared.replies.Refusal.{Refusal}
+use Rattle.zh_commands.specs.declared.replies.Reply.TheVariants.{Refused}
 use Rattle.zh_commands.specs.declared.replies.Refusal.TheVariants as refusals
+use Rattle.zh_answers.specs.Answers.{command_of, held_after}
+use Rattle.zh_requests.specs.Requests.{MayAnswerWhere}
+use Rattle.zh_answers.specs.declared.answer.Answer.{Answer}
+use Rattle.zh_answers.specs.declared.answer.Answer.TheVariants as answers
 
 -- the count on its disk, and the batches of the desks, which live in memory alone
 pub record State : Type 0 where
   pub ledger : Ledger
   pub held : desks.Held
 
--- the name under which a judgement is refused
-abbrev pub refusal_of : Reason → Refusal
-refusal_of reasons.Municipality = refusals.Municipality
-refusal_of reasons.List = refusals.List
-refusal_of reasons.Votes = refusals.Votes
-refusal_of reasons.Closed = refusals.Closed
-refusal_of reasons.Stale = refusals.Stale
-refusal_of reasons.Gap = refusals.Gap
-refusal_of reasons.Conflict = refusals.Conflict
-refusal_of (reasons.NotClosed municipality) = refusals.NotClosed municipality
-
--- the reply that reports the outcome of a command
-abbrev pub reply_to : Outcome → Reply
-reply_to (outcomes.Stored accepted) = Stored accepted
-reply_to outcomes.Same = Same
-reply_to (outcomes.Refused reason) = Refused (refusal_of reason)
-reply_to outcomes.Spent = Refused refusals.Spent
-reply_to outcomes.Full = Refused refusals.Full
-reply_to outcomes.Device = Refused refusals.Device
-reply_to outcomes.Broken = Refused refusals.ReopenDisk
-
--- what is shown of an entry
-abbrev pub shown_content : ℕ → Option ℕ → Reply
-shown_content number None = ShowsWithdrawn number
-shown_content number (Some votes) = Shows number votes
-
-abbrev pub shown : Option Entry → Reply
-shown None = Nothing
-shown (Some entry) = shown_content entry.number entry.votes
-
--- the name under which a list that has no place is refused
-abbrev pub place_refusal : Misplaced → Refusal
-place_refusal places.Municipality = refusals.Municipality
-place_refusal places.List = refusals.List
-
--- that refusal, or else this reply
-abbrev pub unless_misplaced : Option Misplaced → Reply → Reply
-unless_misplaced (Some place) reply = Refused (place_refusal place)
-unless_misplaced None reply = reply
-
-abbrev pub answer_to_show : Tally → ℕ → ℕ → Reply
-answer_to_show tally municipality list = unless_misplaced (misplaced tally.canton municipality list) (shown (held tally municipality list))
-
--- the answer to the opening of a batch
-abbrev pub answer_to_open : Option (List Row) → Reply
-answer_to_open None = Held 0
-answer_to_open (Some rows) = Refused refusals.BatchOpen
-
--- the answer to the giving up of one
-abbrev pub answer_to_drop : Option (List Row) → Reply
-answer_to_drop None = Refused refusals.NoBatch
-answer_to_drop (Some rows) = Dropped (length rows)
-
--- why a row is refused whatever the batch holds: the first that applies
-abbrev pub row_refusal : Option Misplaced → Row → Option Refusal
-row_refusal (Some place) row = Some (place_refusal place)
-row_refusal None row = if nat_lt most_votes row.votes then Some refusals.Votes else None
-
--- the name under which a batch refuses a row
-abbrev pub refusal_by : RowFault → Refusal
-refusal_by row_faults.NoBatch = refusals.NoBatch
-refusal_by row_faults.Twice = refusals.Twice
-refusal_by row_faults.BatchFull = refusals.BatchFull
-refusal_by row_faults.Memory = refusals.Memory
-
--- the answers by whether a batch of so many rows refuses the row: else it is held, or memory is refused
-abbrev pub MayHold : Option RowFault → ℕ → Reply → Type 0
-MayHold (Some fault) count reply = reply ≡ Refused (refusal_by fault)
-MayHold None count reply = (reply ≡ Held (count + 1)) ⊎ (reply ≡ Refused refusals.Memory)
-
-abbrev pub MayAdd : Option Refusal → List Row → Row → Reply → Type 0
-MayAdd (Some refusal) rows row reply = reply ≡ Refused refusal
-MayAdd None rows row reply = MayHold (fault_in rows row) (length rows) reply
-
-abbrev pub MayAnswerRow : Tally → Option (List Row) → Row → Reply → Type 0
-MayAnswerRow tally None row reply = reply ≡ Refused refusals.NoBatch
-MayAnswerRow tally (Some rows) row reply = MayAdd (row_refusal (misplaced tally.canton row.municipality row.list) row) rows row reply
-
--- the answer to a commit that gives no command: there is no batch, or it has no rows
-abbrev pub answer_to_commit : Option (List Row) → Reply
-answer_to_commit None = Refused refusals.NoBatch
-answer_to_commit (Some rows) = Same
-
--- the replies that a line of this desk may get that gives no command, of an office that met no fault of the device
-abbrev pub MayReplyTo : State → ℕ → Request → Reply → Type 0
-MayReplyTo state desk requests.Open reply = reply ≡ answer_to_open (rows_of state.held desk)
-MayReplyTo state desk (requests.Row row) reply = MayAnswerRow state.ledger.tally (rows_of state.held desk) row reply
-MayReplyTo state desk requests.Commit reply = reply ≡ answer_to_commit (rows_of state.held desk)
-MayReplyTo state desk requests.Drop reply = reply ≡ answer_to_drop (rows_of state.held desk)
-MayReplyTo state desk (requests.Show municipality list) reply = reply ≡ answer_to_show state.ledger.tally municipality list
-MayReplyTo state desk request reply = ⊥
-
--- after a fault of the device the disk must be opened again
-abbrev pub MayReplyWhere : Bool → State → Line → Reply → Type 0
-MayReplyWhere true state line reply = reply ≡ Refused refusals.ReopenDisk
-MayReplyWhere false state line reply = MayReplyTo state line.desk line.request reply
-
--- the replies that bytes may get that give no command, by how they are read
-abbrev pub MayReply : State → Result Line LineFault → Reply → Type 0
-MayReply state (Err faults.Syntax) reply = reply ≡ Refused refusals.Syntax
-MayReply state (Err faults.Desk) reply = reply ≡ Refused refusals.Desk
-MayReply state (Ok line) reply = MayReplyWhere state.ledger.store.broken state line reply
-
--- the command that a commit gives
-abbrev pub batch_of : Option (List Row) → Option Command
-batch_of None = None
-batch_of (Some []) = None
-batch_of (Some (row ∷ rows)) = Some (commands.Batch (row ∷ rows))
-
--- the command that a line of a desk that holds these rows gives
-abbrev pub command_of : Option (List Row) → Request → Option Command
-command_of rows requests.Commit = batch_of rows
-command_of rows request = own_command request
+-- the answers that bytes may get that give no command, by how they are read
+abbrev pub MayAnswer : State → Result Line LineFault → Answer → Type 0
+MayAnswer state (Err faults.Syntax) answer = answer ≡ answers.Reply (Refused refusals.Syntax)
+MayAnswer state (Err faults.Desk) answer = answer ≡ answers.Reply (Refused refusals.Desk)
+MayAnswer state (Ok line) answer = MayAnswerWhere state.ledger.store.broken state.ledger.tally state.held line answer
 
 -- the command that these bytes give, if they are a line that gives one
 abbrev pub command_read : State → Result Line LineFault → Option Command
 command_read state (Err fault) = None
 command_read state (Ok line) = command_of (rows_of state.held line.desk) line.request
 
--- the batch of a desk after a line of it that was answered so
-abbrev pub batch_after : Option (List Row) → Request → Reply → Option (List Row)
-batch_after rows requests.Open (Held count) = Some []
-batch_after (Some rows) (requests.Row row) (Held count) = Some (rows ++ row ∷ [])
-batch_after rows requests.Commit (Stored accepted) = None
-batch_after rows requests.Commit Same = None
-batch_after rows requests.Drop (Dropped count) = None
-batch_after rows request reply = rows
-
--- the batches after bytes that were read so and answered so: only that of the desk whose line it is can be another
-abbrev pub held_after : desks.Held → Result Line LineFault → Reply → desks.Held
-held_after held (Err fault) reply = held
-held_after held (Ok line) reply = with_batch held line.desk (batch_after (rows_of held line.desk) line.request reply)
+-- the batches after bytes that were read so and answered so
+abbrev pub batches_after : desks.Held → Result Line LineFault → Answer → desks.Held
+batches_after held (Err fault) answer = held
+batches_after held (Ok line) answer = held_after held line answer

@@ -1,21 +1,20 @@
 -- A run of an office over lines.
-use Rattle.std.specs.Prelude.{◌≡◌, ℕ, List, [], ◌∷◌, ◌++◌, Option, Some, None, Result}
+use Rattle.std.specs.Prelude.{◌≡◌, ℕ, List, [], ◌∷◌, ◌++◌, Option, Some, Result}
 use Rattle.zh_disk.specs.Disk.{Trail}
 use Rattle.zh_records.specs.declared.command.Command.{Command}
 use Rattle.zh_commands.specs.Lines.{ParsesAs, desk_of}
 use Rattle.zh_commands.specs.Replies.{reply_text}
 use Rattle.zh_commands.specs.declared.lines.Line.{Line}
 use Rattle.zh_commands.specs.declared.lines.LineFault.{LineFault}
-use Rattle.zh_commands.specs.declared.replies.Reply.{Reply}
 use Rattle.zh_commands.specs.declared.replies.Reply.TheVariants.{Stored, Refused}
 use Rattle.zh_commands.specs.declared.replies.Refusal.TheVariants as refusals
-use Rattle.zh_desks.specs.Batches as desks
 use Rattle.zh_ledger.specs.Submissions as ledger
 use Rattle.zh_ledger.specs.Submissions.{Submission, Log, nothing, followed_by}
-use Rattle.zh_ledger.specs.declared.outcome.Outcome.{Outcome}
-use Rattle.zh_office.specs.Office.{State, MayReply, command_read, reply_to, held_after}
-use Rattle.zh_office.specs.declared.answer.Answer.{Answer}
-use Rattle.zh_office.specs.declared.answer.Answer.TheVariants as answers
+use Rattle.zh_sheet.specs.SheetText.{sheet_text}
+use Rattle.zh_requests.specs.Requests.{Acts}
+use Rattle.zh_office.specs.Office.{State, MayAnswer, command_read, batches_after}
+use Rattle.zh_answers.specs.declared.answer.Answer.{Answer}
+use Rattle.zh_answers.specs.declared.answer.Answer.TheVariants as answers
 
 -- an office and its disk: what the office holds, how often the disk has failed, what it holds and has held
 pub record OnDisk : Type 0 where
@@ -30,22 +29,12 @@ on_disk office failures trail = record { office = office; failures = failures; t
 abbrev pub ledger_of : OnDisk → ledger.OnDisk
 ledger_of o = ledger.on_disk o.office.ledger o.failures o.trail
 
--- An answer that may be given, and what ledger and disk hold after it: without a command nothing changes; a command is
--- submitted, and its outcome reported.
-abbrev pub Acts : Type 0 → ledger.OnDisk → Option Command → (Reply → Type 0) → Answer → ledger.OnDisk → Type 0
-Acts honest old None May (answers.Reply reply) new = May reply × (new ≡ old)
-Acts honest old (Some command) May (answers.Reply reply) new = (outcome : Outcome) × Submission honest old command outcome new × (reply ≡ reply_to outcome)
-
--- the batches of the desks after an answer to bytes that were read so
-abbrev pub batches_after : desks.Held → Result Line LineFault → Answer → desks.Held
-batches_after held reading (answers.Reply reply) = held_after held reading reply
-
 -- the office may answer these bytes of a line so, and then it and its disk hold this; of the trail of a disk that is not
 -- honest nothing is said
 pub record Turn (honest : Type 0) (old : OnDisk) (bytes : List ℕ) (answer : Answer) (new : OnDisk) : Type 0 where
   pub reading : Result Line LineFault
   pub reads : ParsesAs bytes reading
-  pub acts : Acts honest (ledger_of old) (command_read old.office reading) (MayReply old.office reading) answer (ledger_of new)
+  pub acts : Acts honest (ledger_of old) (command_read old.office reading) (MayAnswer old.office reading) answer (ledger_of new)
   pub held : new.office.held ≡ batches_after old.office.held reading answer
 
 -- what a line adds that gave this command, or none, and was answered so: `stored` acknowledges the command, and after
@@ -55,15 +44,10 @@ logged (Some command) (answers.Reply (Stored accepted)) = record { accepted = co
 logged (Some command) (answers.Reply (Refused refusals.Device)) = record { accepted = command ∷ []; acknowledged = 0 }
 logged command answer = nothing
 
--- the disk is as it was, unless the answer is `stored` or `device`
-abbrev pub UnlessStored : {D : Type 0} → Answer → D → D → Type 0
-UnlessStored (answers.Reply (Stored accepted)) old new = Unit {0}
-UnlessStored (answers.Reply (Refused refusals.Device)) old new = Unit {0}
-UnlessStored answer old new = new ≡ old
-
 -- the text of an answer under a desk, where so many commands are accepted
 abbrev pub answer_text : ℕ → ℕ → Answer → List ℕ
 answer_text desk accepted (answers.Reply reply) = reply_text desk reply
+answer_text desk accepted (answers.Sheet sheet closing) = sheet_text sheet desk closing accepted
 
 -- the text of the answer to a line by an office that holds this after it
 abbrev pub text_after : List ℕ → Answer → OnDisk → List ℕ

@@ -6,7 +6,7 @@ use Rattle.zh_ledger.specs.Submissions.{Log, followed_by, IsLogged}
 use Rattle.zh_office.specs.Text.{lines_of, ended_lines, heard, unfinished}
 use Rattle.zh_office.specs.Office.{command_read}
 use Rattle.zh_office.specs.Runs.{OnDisk, Runs, Turn, ledger_of, logged, text_after}
-use Rattle.zh_office.specs.declared.answer.Answer.{Answer}
+use Rattle.zh_answers.specs.declared.answer.Answer.{Answer}
 
 -- the input was read to its end, all its lines are answered, and this is their number, which stops at the greatest u64
 pub record ServesAll (honest : Type 0) (reader reader' writer writer' : Option (List ℕ)) (old new : OnDisk) (count : ℕ) : Type 0 where
@@ -66,7 +66,7 @@ pub record Writes (honest : Type 0) (writer writer' : Option (List ℕ)) (old : 
   pub ok : OnOk result (Appends writer writer' (text_after bytes answer new))
   pub err : OnErr result ((front : ℕ) × (front < length (text_after bytes answer new)) × Appends writer writer' (take front (text_after bytes answer new)))
 
--- the block of bytes behind these of a line gave so many lines; they are answered, and these bytes of a line are left
+-- the block of bytes after these of a line gave so many lines; they are answered, and these bytes of a line are left
 pub record TakesBlock (honest : Type 0) (writer writer' : Option (List ℕ)) (old : OnDisk) (line block : List ℕ) (new : OnDisk) (line' : List ℕ) (count : ℕ) : Type 0 where
   pub out : List ℕ
   pub log : Log

@@ -16,7 +16,7 @@ abbrev pub ended : List ℕ → List (List ℕ)
 ended [] = []
 ended (byte ∷ text) = if byte == 10 then [] ∷ ended text else onto_first byte (ended text)
 
--- what stands behind the last LF
+-- what stands after the last LF
 abbrev pub unfinished : List ℕ → List ℕ
 unfinished [] = []
 unfinished (byte ∷ text) = if list_any (λ b. b == 10) (byte ∷ text) then unfinished text else byte ∷ text

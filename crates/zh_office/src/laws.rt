@@ -10,7 +10,7 @@ pub fn stretches()
     ensures { (old : OnDisk) (lines : List (List ℕ)) (out : List ℕ) (log : Log) (new : OnDisk) → Runs (Unit {0}) old lines out log new → IsLogged (ledger_of old) log (ledger_of new) }
 {}
 
-/// A night of lines, stops and openings on an honest disk that was formatted for the office, event by event.
+/// A night of lines, loaded texts, stops and openings on an honest disk that was formatted for the office, event by event.
 ///
 /// Each image of the disk stands for the count after all commands that were accepted since the last opening, or after
 /// all but the last, which then nobody acknowledged. So each opening finds, stretch by stretch, the first of the

@@ -1,16 +1,17 @@
 //! The count office: it answers the lines of the desks.
 #![tactic(auto)]
 
-mod answer;
+mod export;
 mod laws;
+mod load;
 mod office;
 mod opening;
 mod partial_line;
-mod requests;
 mod serving;
 
-pub use answer::Answer;
 pub use laws::{nights, stretches};
 pub use office::Office;
 pub use serving::ServeFault;
+pub use zh_answers::Answer;
+pub use zh_csv::ExportFault;
 pub use zh_ledger::{FormatFault, OpenFault};

@@ -3,15 +3,17 @@
 ghost use Rattle.std.specs.Prelude.{◌≡◌, ◌≢◌, ◌≤◌, ℕ};
 ghost use Rattle.zh_commands.specs.Lines.{desk_of};
 ghost use Rattle.zh_desks.specs.Batches.{rows_of};
-ghost use Rattle.zh_office.specs.Runs.{Turn, UnlessStored, on_disk};
+ghost use Rattle.zh_requests.specs.Requests.{UnlessStored};
+ghost use Rattle.zh_office.specs.Runs.{Turn, on_disk};
 
-use crate::answer::Answer;
 use std::alloc::Global;
 use std::marker::Model;
+use zh_answers::Answer;
 use zh_commands::{LineFault, Refusal, Reply, parse_line};
 use zh_desks::Desks;
 use zh_disk::Disk;
 use zh_ledger::Ledger;
+use zh_requests::answer_to;
 use zh_returns::Count;
 
 /// The count of an election, kept on a disk, and the desks that change it.
@@ -57,11 +59,11 @@ impl<'s> Office<'s> {
         self.ledger.is_broken()
     }
 
-    /// Answers a line, given without its LF. Of all lines a row alone may take memory.
+    /// Answers a line, given without its LF. Only the lines `row`, `sheet` and `final` may take memory.
     ///
     /// An accepted command is on the disk before it is answered `stored`. After `device` the disk may hold it or not,
     /// and the count is without it.
-    pub fn line<D: Disk>(&mut self, disk: &mut D, bytes: &[u8]) -> Answer
+    pub fn line<D: Disk>(&mut self, disk: &mut D, bytes: &[u8]) -> Answer<'s>
         ensures kept { D.honest disk.new → D.honest disk.old }
 
         // While the disk is honest the turn also says what each image holds at each moment since the call began.
@@ -70,11 +72,17 @@ impl<'s> Office<'s> {
         ensures others { (desk : ℕ) → 1 ≤ desk → desk ≢ desk_of bytes.now → rows_of self.new.held desk ≡ rows_of self.old.held desk }
         ensures untouched { UnlessStored result disk.old disk.new }
     {
-        let reply = match parse_line(bytes) {
-            Err(LineFault::Syntax) => Reply::Refused(Refusal::Syntax),
-            Err(LineFault::Desk) => Reply::Refused(Refusal::Desk),
-            Ok(line) => self.answer_to(disk, line),
-        };
-        Answer::Reply(reply)
+        match parse_line(bytes) {
+            Err(LineFault::Syntax) => Answer::Reply(Reply::Refused(Refusal::Syntax)),
+            Err(LineFault::Desk) => Answer::Reply(Reply::Refused(Refusal::Desk)),
+            Ok(line) => answer_to(
+                self.alloc,
+                &mut self.ledger,
+                &mut self.desks,
+                &mut self.rows,
+                disk,
+                line,
+            ),
+        }
     }
 }

@@ -6,7 +6,7 @@ ghost use Rattle.zh_office.specs.Text.{heard, HasNoEnd};
 use arrayvec::ArrayVec;
 use memchr::memchr;
 
-/// How many bytes of a line count: one more than a line may have, so that a longer one is told.
+/// How many bytes of a line count: one more than a line may have, so that a longer one is noticed.
 pub(crate) const HEARD: usize = 121;
 
 /// The bytes that count of a line that isn't ended yet.
@@ -20,7 +20,7 @@ pub(crate) fn hear(line: &mut Line, more: &[u8])
     line.try_extend_from_slice(&more[..count]).unwrap();
 }
 
-/// The bytes before the first LF, and those behind it.
+/// The bytes before the first LF, and those after it.
 pub(crate) fn split_line(bytes: &[u8]) -> Option<(&[u8], &[u8])>
     ensures { MatchOption result (HasNoEnd bytes.now)
         (λ parts. HasNoEnd parts.0.now × (bytes.now ≡ parts.0.now ++ 10 ∷ parts.1.now)) }

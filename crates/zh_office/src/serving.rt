@@ -7,13 +7,14 @@ ghost use Rattle.zh_ledger.specs.Submissions.{Log};
 ghost use Rattle.zh_office.specs.Runs.{Runs, on_disk};
 ghost use Rattle.zh_office.specs.Served.{TakesBlock, BreaksOff, ServesAll, ServesEnded, ServesFront, Writes};
 
-use crate::answer::Answer;
 use crate::office::Office;
 use crate::partial_line::{Line, hear, split_line};
 use std::io::{Read, Write};
 use thiserror::Error;
+use zh_answers::Answer;
 use zh_commands::{WriteFault, desk_of, put, write_reply};
 use zh_disk::Disk;
+use zh_sheet::write_sheet;
 
 /// How many bytes a read asks for at most.
 const BLOCK: usize = 8192;
@@ -54,13 +55,19 @@ impl<'s> Office<'s> {
         ensures written { Writes (D.honest disk.new) (W.contents writer.old) (W.contents writer.new) (on_disk self.old (D.failures disk.old) (D.trail disk.old)) bytes.now result (on_disk self.new (D.failures disk.new) (D.trail disk.new)) }
     {
         let desk = desk_of(bytes);
-        let Answer::Reply(reply) = self.line(disk, bytes);
-        let mut text = [0; 64];
-        let len = write_reply(desk, &reply, &mut text);
-        put(writer, &text[..len])
+        match self.line(disk, bytes) {
+            Answer::Reply(reply) => {
+                let mut text = [0; 64];
+                let len = write_reply(desk, &reply, &mut text);
+                put(writer, &text[..len])
+            }
+            Answer::Sheet(sheet, closing) => {
+                write_sheet(&sheet, desk, closing, self.count().accepted(), writer)
+            }
+        }
     }
 
-    /// Answers the lines that end in a block of bytes behind those of `line`, and keeps the bytes of the line behind them.
+    /// Answers the lines that end in a block of bytes after those of `line`, and keeps the bytes of the line after them.
     fn take_block<W: Write, D: Disk>(
         &mut self,
         line: &mut Line,

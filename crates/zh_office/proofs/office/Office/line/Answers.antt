@@ -1,5 +1,10 @@
-use Rattle.zh_office.proofs.Others.{others_held}
+use Rattle.std.proofs.Common.{◌∙◌, ap}
+use Rattle.zh_answers.specs.Answers.{held_after}
+use Rattle.zh_office.specs.Office.{State}
+use Rattle.zh_office.proofs.Others.{others_after}
 use Rattle.zh_office.proofs.office.Office.line.Goals as goal
 
 pub returns-in-Ok-clause-others : goal.returns-in-Ok-clause-others
-returns-in-Ok-clause-others g c = others_held c.args.bytes.now c.in-Ok.line c.args.self.now.held c.answer_to-reply.new.self.held _ c.in-Ok.ensures.reads c.answer_to-reply.ensures.held
+returns-in-Ok-clause-others g c =
+    let held = c.answer_to.ensures.held ∙ ap (λ (s : State). held_after s.held c.in-Ok.line c.answer_to.result) c.self.view_is in
+    others_after c.args.bytes.now c.in-Ok.line c.args.self.now.held c.answer_to.new.desks c.answer_to.result c.in-Ok.ensures.reads held

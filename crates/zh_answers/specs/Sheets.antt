@@ -1,0 +1,69 @@
+-- What is answered to the lines of sheets.
+use Rattle.std.specs.Prelude.{◌≡◌, ◌⊎◌, ℕ, ◌<◌, ◌≤◌, Bool, true, false, List, length, Result, Ok, Err, IfOk}
+use Rattle.std.specs.FinSet as set
+use Rattle.zh_lower.specs.Divisors.{Divisors}
+use Rattle.zh_lower.specs.SeatMatrix.{IsWeak}
+use Rattle.zh_returns.specs.Tally.{Tally}
+use Rattle.zh_totals.specs.Counting.{totals_of}
+use Rattle.zh_totals.specs.Totals.{VoteTotals}
+use Rattle.zh_sheet.specs.Distribution.{Distribution, IsDistribution, question_of}
+use Rattle.zh_sheet.specs.Refusals.{IsAnswer}
+use Rattle.zh_sheet.specs.declared.fault.SheetFault.{SheetFault}
+use Rattle.zh_sheet.specs.declared.fault.SheetFault.TheVariants as faults
+use Rattle.zh_commands.specs.declared.replies.Reply.TheVariants.{Refused}
+use Rattle.zh_commands.specs.declared.replies.Refusal.{Refusal}
+use Rattle.zh_commands.specs.declared.replies.Refusal.TheVariants as refusals
+use Rattle.zh_answers.specs.declared.answer.Answer.{Answer}
+use Rattle.zh_answers.specs.declared.answer.Answer.TheVariants as answers
+
+-- the name under which a sheet is refused
+abbrev pub sheet_refusal : SheetFault → Refusal
+sheet_refusal faults.Memory = refusals.Memory
+sheet_refusal faults.TiedSeats = refusals.TiedSeats
+sheet_refusal (faults.NoSeat constituency) = refusals.NoSeat constituency
+sheet_refusal faults.NoGroup = refusals.NoGroup
+sheet_refusal faults.NoVoters = refusals.NoVoters
+sheet_refusal faults.TiedUpper = refusals.TiedUpper
+sheet_refusal (faults.NoVotes constituency) = refusals.NoVotes constituency
+sheet_refusal (faults.TiedLower constituency group) = refusals.TiedLower constituency group
+sheet_refusal faults.Exhausted = refusals.Exhausted
+
+-- the distribution of the seats by these totals: each part follows from those before it, and no divisors lead to other seats
+pub record IsSheetOf (totals : VoteTotals) (sheet : Distribution) : Type 0 where
+  pub votes : sheet.totals ≡ totals
+  pub meets : IsDistribution sheet
+  pub one_answer : (divisors : Divisors) (seats : List ℕ) → IsWeak (question_of sheet) divisors seats → seats ≡ sheet.lower.seats
+
+-- a sheet of these totals, or the first reason why there is none
+pub record IsMade (totals : VoteTotals) (made : Result Distribution SheetFault) : Type 0 where
+  pub sheet : IfOk made (IsSheetOf totals)
+  pub refused : IsAnswer totals made
+
+-- the answer with this sheet, or with why there is none
+abbrev pub answer_with : Bool → Result Distribution SheetFault → Answer
+answer_with closing (Ok sheet) = answers.Sheet sheet closing
+answer_with closing (Err fault) = answers.Reply (Refused (sheet_refusal fault))
+
+-- totals are answered with their sheet
+abbrev pub MayGiveFor : VoteTotals → Bool → Answer → Type 0
+MayGiveFor totals closing answer = (made : Result Distribution SheetFault) × IsMade totals made × (answer ≡ answer_with closing made)
+
+-- and a count with that of its totals
+abbrev pub MayGive : Tally → Bool → Answer → Type 0
+MayGive tally closing answer = MayGiveFor (totals_of tally) closing answer
+
+-- each municipality is closed
+abbrev pub AreClosed : Tally → Type 0
+AreClosed tally = (m : ℕ) → 1 ≤ m → m ≤ length tally.canton.municipalities → set.contains tally.closed m ≡ true
+
+-- this municipality is open, the lowest such
+pub record IsFirstOpen (tally : Tally) (m : ℕ) : Type 0 where
+  pub from_one : 1 ≤ m
+  pub there : m ≤ length tally.canton.municipalities
+  pub not_closed : set.contains tally.closed m ≡ false
+  pub before : (k : ℕ) → 1 ≤ k → k < m → set.contains tally.closed k ≡ true
+
+-- the lowest open municipality is reported; if none is open, the final sheet is given
+abbrev pub MayAnswerFinal : Tally → Answer → Type 0
+MayAnswerFinal tally answer =
+    ((m : ℕ) × IsFirstOpen tally m × (answer ≡ answers.Reply (Refused (refusals.NotClosed m)))) ⊎ (AreClosed tally × MayGive tally true answer)

@@ -1,0 +1,25 @@
+use Rattle.std.specs.Prelude.{OnOk, OnErr}
+use Rattle.std.proofs.Common.{◌≡◌, ◌<◌, ◌∙◌, ℕ, List, length, take, ap, subst}
+use Rattle.std.specs.Io.KnownBytes.{Appends}
+use Rattle.zh_returns.specs.Tally.{Tally}
+use Rattle.zh_sheet.specs.SheetText.{sheet_text}
+use Rattle.zh_office.specs.Runs.{on_disk, text_after}
+use Rattle.zh_answers.specs.declared.answer.Answer.TheVariants as answers
+use Rattle.zh_office.proofs.office.Office.answer.Goals as goal
+
+-- the sheet's text is written under the desk of the line, with the commands accepted after it
+pub returns-in-Sheet-clause-written : goal.returns-in-Sheet-clause-written
+returns-in-Sheet-clause-written g c =
+    let sheet = c.in-Sheet.sheet in
+    let closing = c.in-Sheet.closing in
+    let old = g.W.Write.contents c.args.writer.now in
+    let new = g.W.Write.contents c.write_sheet.new.out in
+    let accepted = c.accepted.ensures.accepted ∙ ap (λ (tally : Tally). tally.accepted) c.count.ensures in
+    let text : sheet_text sheet c.desk_of-desk.result closing c.accepted.result ≡ text_after c.args.bytes.now (answers.Sheet sheet closing) (on_disk c.line.new.self (g.D.Disk.failures c.line.new.disk) (g.D.Disk.trail c.line.new.disk)) =
+    λ i. sheet_text sheet (c.desk_of-desk.ensures i) closing (accepted i) in
+    record {
+      answer = answers.Sheet sheet closing;
+      turn = c.in-Sheet.ensures.turn;
+      ok = subst (λ (written : List ℕ). OnOk c.write_sheet.result (Appends old new written)) text c.write_sheet.ensures.all;
+      err = subst (λ (written : List ℕ). OnErr c.write_sheet.result ((n : ℕ) × (n < length written) × Appends old new (take n written))) text c.write_sheet.ensures.front;
+    }

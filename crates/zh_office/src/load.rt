@@ -1,0 +1,57 @@
+//! Loading a text as one batch.
+
+ghost use Rattle.std.specs.Prelude.{◌≡◌, true};
+ghost use Rattle.zh_office.specs.Load.{LoadTurn, load_refusal};
+ghost use Rattle.zh_requests.specs.Requests.{UnlessStored};
+ghost use Rattle.zh_office.specs.Runs.{on_disk};
+ghost use Rattle.zh_answers.specs.declared.answer.Answer.TheVariants as answers;
+
+use crate::office::Office;
+use std::io::Read;
+use zh_commands::{Refusal, Reply};
+use zh_csv::{LoadFault, read_batch};
+use zh_disk::Disk;
+use zh_requests::submit_batch;
+
+/// The name under which a text is refused.
+fn load_refusal(fault: LoadFault) -> Refusal
+    ensures { result ≡ load_refusal fault }
+{
+    match fault {
+        LoadFault::Csv | LoadFault::Read => Refusal::Csv,
+        LoadFault::Syntax => Refusal::Syntax,
+        LoadFault::Municipality => Refusal::Municipality,
+        LoadFault::List => Refusal::List,
+        LoadFault::Votes => Refusal::Votes,
+        LoadFault::Twice => Refusal::Twice,
+        LoadFault::BatchFull => Refusal::BatchFull,
+        LoadFault::Memory => Refusal::Memory,
+    }
+}
+
+impl<'s> Office<'s> {
+    /// Loads the returns of a comma-separated text as one batch, under no desk: it is stored whole, or not at all.
+    ///
+    /// After a fault of the device nothing is read.
+    pub fn load<R: Read, D: Disk>(&mut self, disk: &mut D, reader: &mut R) -> Reply
+        ensures kept { D.honest disk.new → D.honest disk.old }
+
+        // While the disk is honest the turn also says what each image holds at each moment since the call began.
+        ensures turn { LoadTurn (D.honest disk.new) (on_disk self.old (D.failures disk.old) (D.trail disk.old)) (R.remaining reader.old) result (on_disk self.new (D.failures disk.new) (D.trail disk.new)) }
+
+        ensures untouched { UnlessStored (answers.Reply result) disk.old disk.new }
+        ensures unread { self.old.ledger.store.broken ≡ true → reader.new ≡ reader.old }
+    {
+        if self.faulted() {
+            return Reply::Refused(Refusal::ReopenDisk);
+        }
+        let batch = match read_batch(self.alloc, self.ledger.count().setup(), reader) {
+            Ok(batch) => batch,
+            Err(fault) => return Reply::Refused(load_refusal(fault)),
+        };
+        if batch.len() == 0 {
+            return Reply::Same;
+        }
+        submit_batch(&mut self.ledger, disk, &batch, &mut self.rows)
+    }
+}

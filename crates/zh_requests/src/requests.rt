@@ -1,0 +1,117 @@
+//! What a desk asks for, and what it is answered.
+
+ghost use Rattle.std.specs.Prelude.{◌≡◌, ◌≤◌, length};
+ghost use Rattle.zh_records.specs.Rows.{rows_length};
+ghost use Rattle.zh_records.specs.declared.command.Command.TheVariants as commands;
+ghost use Rattle.zh_records.specs.Spelling.{HasNumbers};
+ghost use Rattle.zh_answers.specs.Answers.{MayAnswerTo, batch_of, batch_after, command_of, held_after};
+ghost use Rattle.zh_answers.specs.declared.answer.Answer.TheVariants as answers;
+ghost use Rattle.zh_commands.specs.Lines.{IsLine};
+ghost use Rattle.zh_desks.specs.Batches.{rows_of, with_batch};
+ghost use Rattle.zh_ledger.specs.Submissions.{Submission, on_disk};
+ghost use Rattle.zh_ledger.specs.declared.outcome.Outcome.{Outcome};
+ghost use Rattle.zh_requests.specs.Requests.{Acts, MayAnswerWhere, UnlessStored, reply_to};
+ghost use Rattle.zh_commands.specs.declared.lines.Request.TheVariants as requests;
+
+use crate::answer::reply_to;
+use std::alloc::Global;
+use zh_answers::{Answer, answer_without_command};
+use zh_commands::{Line, Refusal, Reply, Request};
+use zh_desks::{Batch, Desks};
+use zh_disk::Disk;
+use zh_ledger::Ledger;
+use zh_returns::Command;
+
+/// Submits a command, and reports its outcome.
+fn submit<D: Disk>(ledger: &mut Ledger<'_>, disk: &mut D, command: &Command<'_>) -> Reply
+    requires { HasNumbers command.now }
+    ensures kept { D.honest disk.new → D.honest disk.old }
+
+    ensures reported { (outcome : Outcome) × Submission (D.honest disk.new) (on_disk ledger.old (D.failures disk.old) (D.trail disk.old)) command.now outcome (on_disk ledger.new (D.failures disk.new) (D.trail disk.new)) × (result ≡ reply_to outcome) }
+
+    ensures untouched { UnlessStored (answers.Reply result) disk.old disk.new }
+{
+    reply_to(ledger.submit(disk, command))
+}
+
+/// Submits the rows of a batch, of which there is one at least, as one command, and reports its outcome.
+pub fn submit_batch<D: Disk>(
+    ledger: &mut Ledger<'_>,
+    disk: &mut D,
+    batch: &Batch,
+    bytes: &mut [u8],
+) -> Reply
+    requires some { 1 ≤ length batch.now }
+    requires room { rows_length ≤ length bytes.old }
+    ensures kept { D.honest disk.new → D.honest disk.old }
+
+    ensures reported { (outcome : Outcome) × Submission (D.honest disk.new) (on_disk ledger.old (D.failures disk.old) (D.trail disk.old)) (commands.Batch batch.now) outcome (on_disk ledger.new (D.failures disk.new) (D.trail disk.new)) × (result ≡ reply_to outcome) }
+
+    ensures untouched { UnlessStored (answers.Reply result) disk.old disk.new }
+{
+    let rows = batch.write(bytes);
+    submit(ledger, disk, &Command::Batch(rows))
+}
+
+/// Answers what a desk asks for: a command is submitted, and every other line answered from memory. In `rows` there is
+/// room for the bytes of a batch.
+pub fn answer_to<'s, D: Disk>(
+    alloc: Global,
+    ledger: &mut Ledger<'s>,
+    desks: &mut Desks,
+    rows: &mut [u8],
+    disk: &mut D,
+    line: Line,
+) -> Answer<'s>
+    requires line { IsLine line }
+    requires room { rows_length ≤ length rows.old }
+    ensures kept { D.honest disk.new → D.honest disk.old }
+
+    ensures acts { Acts (D.honest disk.new) (on_disk ledger.old (D.failures disk.old) (D.trail disk.old)) (command_of (rows_of desks.old line.desk) line.request) (MayAnswerWhere ledger.old.store.broken ledger.old.tally desks.old line) result (on_disk ledger.new (D.failures disk.new) (D.trail disk.new)) }
+
+    ensures held { desks.new ≡ held_after desks.old line result }
+    ensures untouched { UnlessStored result disk.old disk.new }
+{
+    if ledger.is_broken() {
+        return Answer::Reply(Reply::Refused(Refusal::ReopenDisk));
+    }
+    if let Some(command) = line.request.command() {
+        return Answer::Reply(submit(ledger, disk, &command));
+    }
+    match line.request {
+        Request::Commit => Answer::Reply(commit(ledger, desks, rows, disk, line.desk)),
+        _ => answer_without_command(alloc, ledger.count(), ledger.totals(), desks, line),
+    }
+}
+
+/// Submits a desk's batch as one command. It ends where it is stored, or held already.
+fn commit<D: Disk>(
+    ledger: &mut Ledger<'_>,
+    desks: &mut Desks,
+    rows: &mut [u8],
+    disk: &mut D,
+    desk: u8,
+) -> Reply
+    requires from_one { 1 ≤ desk }
+    requires there { desk ≤ 8 }
+    requires room { rows_length ≤ length rows.old }
+    ensures kept { D.honest disk.new → D.honest disk.old }
+
+    ensures acts { Acts (D.honest disk.new) (on_disk ledger.old (D.failures disk.old) (D.trail disk.old)) (batch_of (rows_of desks.old desk)) (MayAnswerTo ledger.old.tally desks.old desk requests.Commit) (answers.Reply result) (on_disk ledger.new (D.failures disk.new) (D.trail disk.new)) }
+
+    ensures held { desks.new ≡ with_batch desks.old desk (batch_after (rows_of desks.old desk) requests.Commit result) }
+    ensures untouched { UnlessStored (answers.Reply result) disk.old disk.new }
+{
+    let Some(batch) = desks.batch(desk) else {
+        return Reply::Refused(Refusal::NoBatch);
+    };
+    let reply = if batch.len() == 0 {
+        Reply::Same
+    } else {
+        submit_batch(ledger, disk, batch, rows)
+    };
+    if matches!(reply, Reply::Stored(_) | Reply::Same) {
+        desks.close(desk);
+    }
+    reply
+}
