@@ -1,4 +1,4 @@
--- What clap read, as what the words ask for.
+-- What clap read, as what the arguments ask for.
 use Rattle.std.proofs.Common.{◌≡◌, ◌∙◌, subst, ℕ, List, [], Option, Some, None, Bor, true, refl, sym, ap, option_map, unwrap_or}
 use Rattle.clap.specs.Words.{App, Row, Text, HasMatchesOf, first_of, found_of, rows_of, first_value, is_simple, subcommand_name_of, subcommand_rows_of, subcommand_of}
 use Rattle.clap.specs.Faults.{fault_of, is_simple_and_free}
@@ -34,18 +34,18 @@ parts f g None (Some q) one two = absurd (cc)
 parts f g (Some x) None one two = absurd (cc)
 parts f g (Some x) (Some q) one two = let first : f x ≡ q.0 = cc in let second : g x ≡ q.1 = cc in λ i. Some (first i, second i)
 
--- an error of clap is what it refuses the words for, or memory
-pub refused : (a : App) (words : List Text) (e : Error) → a ≡ zhcount → (is_simple_and_free a ≡ true → HasKind (fault_of a words) e) → HasKind (refusals words) e
+-- an error of clap is what it refuses the arguments for, or memory
+pub refused : (a : App) (arguments : List Text) (e : Error) → a ≡ zhcount → (is_simple_and_free a ≡ true → HasKind (fault_of a arguments) e) → HasKind (refusals arguments) e
 unfolding refusals
-refused a words e is kinds = subst (λ (app : App). HasKind (fault_of app words) e) is (kinds (ap is_simple_and_free is ∙ zhcount_is_free))
+refused a arguments e is kinds = subst (λ (app : App). HasKind (fault_of app arguments) e) is (kinds (ap is_simple_and_free is ∙ zhcount_is_free))
 
-pub taken : (a : App) (words : List Text) → a ≡ zhcount → (is_simple_and_free a ≡ true → fault_of a words ≡ []) → refusals words ≡ []
+pub taken : (a : App) (arguments : List Text) → a ≡ zhcount → (is_simple_and_free a ≡ true → fault_of a arguments ≡ []) → refusals arguments ≡ []
 unfolding refusals
-taken a words is kinds = ap (λ (app : App). fault_of app words) (sym is) ∙ kinds (ap is_simple_and_free is ∙ zhcount_is_free)
+taken a arguments is kinds = ap (λ (app : App). fault_of app arguments) (sym is) ∙ kinds (ap is_simple_and_free is ∙ zhcount_is_free)
 
-pub command_read : (a : App) (words : List Text) (m : ArgMatches) → a ≡ zhcount → HasMatchesOf a words m → subcommand_rows_of m ≡ command_in words
+pub command_read : (a : App) (arguments : List Text) (m : ArgMatches) → a ≡ zhcount → HasMatchesOf a arguments m → subcommand_rows_of m ≡ command_in arguments
 unfolding command_in
-command_read a words m is has = (has (ap is_simple is ∙ zhcount_is_simple)).1 ∙ ap (λ (app : App). subcommand_of app words) is
+command_read a arguments m is has = (has (ap is_simple is ∙ zhcount_is_simple)).1 ∙ ap (λ (app : App). subcommand_of app arguments) is
 
 mapped : {X A B : Type 0} (f : X → A) (g : X → B) (o : Option X) → option_map f o ≡ option_map (λ (p : A × B). p.0) (option_map (λ x. (f x, g x)) o)
 mapped f g None = refl

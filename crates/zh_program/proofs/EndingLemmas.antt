@@ -1,67 +1,95 @@
--- What a work has done, by how it ended.
-use Rattle.std.proofs.Common.{◌≡◌, ◌∙◌, ℕ, List, Option, Some, Result, Ok, Err, inr, refl, MatchResult, sym, ap, subst, IsErrOf}
-use Rattle.zh_districts.specs.Canton.{Canton}
+-- What a task has done, by how it ended.
+use Rattle.std.proofs.Common.{◌≡◌, ◌∙◌, ℕ, List, [], Option, Result, Ok, Err, refl, MatchResult, sym, ap, subst, IsErrOf, OnOk}
+use Rattle.zh_districts.specs.Canton.{Canton, IsCanton}
 use Rattle.zh_districts.specs.Rehearsal.{rehearsal}
-use Rattle.zh_disk.specs.Disk.{Moment, Trail, IsImage}
+use Rattle.zh_disk.specs.Disk.{Moment, Trail, IsImage, fresh_trail}
+use Rattle.zh_file.specs.Held.{BeginsOrFills}
 use Rattle.zh_returns.specs.Tally.{empty}
-use Rattle.zh_snapshot.specs.Image.{Content}
+use Rattle.zh_snapshot.specs.Image.{Content, IsBlank}
+use Rattle.zh_snapshot.proofs.Contents.{framed_alike}
 use Rattle.zh_office.specs.Office.{State}
-use Rattle.zh_ledger.specs.Opened.{IsNew}
+use Rattle.zh_ledger.specs.Opened.{Differs, IsDamaged, IsNew}
 use Rattle.zh_ledger.specs.Stands.{StandsFor}
-use Rattle.zh_ledger.proofs.StandsLemmas.{framed_alike, stands_alike}
+use Rattle.zh_ledger.proofs.StandsLemmas.{stands_alike}
+use Rattle.zh_ledger.specs.declared.fault.OpenFault.{OpenFault}
+use Rattle.zh_ledger.specs.declared.fault.OpenFault.TheVariants as opening
 use Rattle.zh_office.specs.Opened.{IsOpened}
 use Rattle.zh_office.specs.Runs.{OnDisk}
 use Rattle.zh_office.specs.Served.{ServesEnded, ServesFront}
-use Rattle.zh_program.specs.Program.{Does, Formatted, FormatsFile, IsEarly, IsFrom, IsRehearsal, IsStart, Serves}
+use Rattle.zh_program.specs.Program.{Does, FormatsBlank, FormatsFile, IsFrom, IsOnFile, IsRefused, IsRefusedFile, IsRehearsal, IsStart, Refuses, Serves, UnlessRehearsal}
 use Rattle.zh_office.specs.declared.serving.ServeFault.{ServeFault}
 use Rattle.zh_office.specs.declared.serving.ServeFault.TheVariants as serving
-use Rattle.zh_program.specs.declared.arguments.Work.{Work}
+use Rattle.zh_program.specs.declared.arguments.Task.{Task}
+use Rattle.zh_program.specs.declared.arguments.Task.TheVariants.{Rehearse, Format, Run, Load, Export}
+use Rattle.zh_program.specs.declared.csv_fault.LoadFault.TheVariants as loading
+use Rattle.zh_program.specs.declared.fault.FormatFault.{FormatFault}
+use Rattle.zh_program.specs.declared.fault.FormatFault.TheVariants as formatting
+use Rattle.zh_program.specs.declared.fault.RunFault.{RunFault}
+use Rattle.zh_program.specs.declared.fault.RunFault.TheVariants as runs
 use Rattle.zh_program.specs.declared.fault.ProgramFault.{ProgramFault}
 use Rattle.zh_program.specs.declared.fault.ProgramFault.TheVariants as faults
 
--- where the fault comes before anything is served, nothing is done
-pub early : (honest nothing : Type 0) (r r' w w' : Option (List ℕ)) (Spans : OnDisk → OnDisk → Type 0) (fault : ProgramFault) → IsEarly fault → nothing → Serves honest nothing r r' w w' Spans (Err fault)
-early honest nothing r r' w w' Spans faults.Memory is done = done
-early honest nothing r r' w w' Spans faults.File is done = done
-early honest nothing r r' w w' Spans (faults.Setup fault) is done = done
-early honest nothing r r' w w' Spans faults.Device is done = done
-early honest nothing r r' w w' Spans faults.Size is done = done
-early honest nothing r r' w w' Spans faults.Busy is done = done
-early honest nothing r r' w w' Spans faults.InUse is done = done
-early honest nothing r r' w w' Spans (faults.Open fault) is done = done
-early honest nothing r r' w w' Spans (faults.Serve fault) is done = absurd is
-early honest nothing r r' w w' Spans faults.Faulted is done = absurd is
-
 -- a fault of serving
-pub broke_off : (honest nothing : Type 0) (r r' w w' : Option (List ℕ)) (Spans : OnDisk → OnDisk → Type 0) (start end : OnDisk) (result : Result ℕ ServeFault) (fault : ServeFault) → Spans start end → result ≡ Err fault
+pub broke_off : (honest : Type 0) (Refused : OpenFault → Type 0) (r r' w w' : Option (List ℕ)) (Spans : OnDisk → OnDisk → Type 0) (start end : OnDisk) (result : Result ℕ ServeFault) (fault : ServeFault) → Spans start end → result ≡ Err fault
     → (IsErrOf result serving.Read → ServesEnded honest r r' w w' start end)
     → (IsErrOf result serving.Write → ServesFront honest r r' w w' start end)
     → (IsErrOf result serving.Turns → ServesEnded honest r r' w w' start end)
-    → Serves honest nothing r r' w w' Spans (Err (faults.Serve fault))
-broke_off honest nothing r r' w w' Spans start end result serving.Read begins is read write turns = record { start = start; end = end; spans = begins; ended = read is }
-broke_off honest nothing r r' w w' Spans start end result serving.Write begins is read write turns = record { start = start; end = end; spans = begins; front = write is }
-broke_off honest nothing r r' w w' Spans start end result serving.Turns begins is read write turns = record { start = start; end = end; spans = begins; ended = turns is }
+    → Serves honest Refused r r' w w' Spans (Err (runs.Serve fault))
+broke_off honest Refused r r' w w' Spans start end result serving.Read begins is read write turns = record { start = start; end = end; spans = begins; ended = read is }
+broke_off honest Refused r r' w w' Spans start end result serving.Write begins is read write turns = record { start = start; end = end; spans = begins; front = write is }
+broke_off honest Refused r r' w w' Spans start end result serving.Turns begins is read write turns = record { start = start; end = end; spans = begins; ended = turns is }
 
--- the same of an office that began in another way too
-pub begun_as : (honest nothing : Type 0) (r r' w w' : Option (List ℕ)) (Spans Spans' : OnDisk → OnDisk → Type 0) (result : Result (Unit {0}) ProgramFault)
-    → ((start end : OnDisk) → Spans start end → Spans' start end) → Serves honest nothing r r' w w' Spans result → Serves honest nothing r r' w w' Spans' result
-begun_as honest nothing r r' w w' Spans Spans' (Ok done) turn serves = record { start = serves.start; end = serves.end; count = serves.count; spans = turn serves.start serves.end serves.spans; all = serves.all; device = serves.device }
-begun_as honest nothing r r' w w' Spans Spans' (Err faults.Memory) turn serves = serves
-begun_as honest nothing r r' w w' Spans Spans' (Err faults.File) turn serves = serves
-begun_as honest nothing r r' w w' Spans Spans' (Err (faults.Setup fault)) turn serves = serves
-begun_as honest nothing r r' w w' Spans Spans' (Err faults.Device) turn serves = serves
-begun_as honest nothing r r' w w' Spans Spans' (Err faults.Size) turn serves = serves
-begun_as honest nothing r r' w w' Spans Spans' (Err faults.Busy) turn serves = serves
-begun_as honest nothing r r' w w' Spans Spans' (Err faults.InUse) turn serves = serves
-begun_as honest nothing r r' w w' Spans Spans' (Err (faults.Open fault)) turn serves = serves
-begun_as honest nothing r r' w w' Spans Spans' (Err (faults.Serve serving.Read)) turn serves = record { start = serves.start; end = serves.end; spans = turn serves.start serves.end serves.spans; ended = serves.ended }
-begun_as honest nothing r r' w w' Spans Spans' (Err (faults.Serve serving.Write)) turn serves = record { start = serves.start; end = serves.end; spans = turn serves.start serves.end serves.spans; front = serves.front }
-begun_as honest nothing r r' w w' Spans Spans' (Err (faults.Serve serving.Turns)) turn serves = record { start = serves.start; end = serves.end; spans = turn serves.start serves.end serves.spans; ended = serves.ended }
-begun_as honest nothing r r' w w' Spans Spans' (Err faults.Faulted) turn serves = record { start = serves.start; end = serves.end; count = serves.count; spans = turn serves.start serves.end serves.spans; all = serves.all; device = serves.device }
+-- the same of an office that began in another way too, or was refused
+pub begun_as : (honest : Type 0) (Refused Refused' : OpenFault → Type 0) (r r' w w' : Option (List ℕ)) (Spans Spans' : OnDisk → OnDisk → Type 0) (result : Result (Unit {0}) RunFault)
+    → ((fault : OpenFault) → Refused fault → Refused' fault) → ((start end : OnDisk) → Spans start end → Spans' start end)
+    → Serves honest Refused r r' w w' Spans result → Serves honest Refused' r r' w w' Spans' result
+begun_as honest Refused Refused' r r' w w' Spans Spans' (Ok done) refused turn serves = record { start = serves.start; end = serves.end; count = serves.count; spans = turn serves.start serves.end serves.spans; all = serves.all; device = serves.device }
+begun_as honest Refused Refused' r r' w w' Spans Spans' (Err (runs.Open fault)) refused turn serves = refused fault serves
+begun_as honest Refused Refused' r r' w w' Spans Spans' (Err (runs.Serve serving.Read)) refused turn serves = record { start = serves.start; end = serves.end; spans = turn serves.start serves.end serves.spans; ended = serves.ended }
+begun_as honest Refused Refused' r r' w w' Spans Spans' (Err (runs.Serve serving.Write)) refused turn serves = record { start = serves.start; end = serves.end; spans = turn serves.start serves.end serves.spans; front = serves.front }
+begun_as honest Refused Refused' r r' w w' Spans Spans' (Err (runs.Serve serving.Turns)) refused turn serves = record { start = serves.start; end = serves.end; spans = turn serves.start serves.end serves.spans; ended = serves.ended }
+begun_as honest Refused Refused' r r' w w' Spans Spans' (Err runs.Faulted) refused turn serves = record { start = serves.start; end = serves.end; count = serves.count; spans = turn serves.start serves.end serves.spans; all = serves.all; device = serves.device }
 
 -- an office that began on a disk of this trail
 pub begun_on : (honest : Type 0) (canton : Canton) (first first' last : Trail) (start end : OnDisk) → first ≡ first' → IsFrom honest canton first last start end → IsFrom honest canton first' last start end
 begun_on honest canton first first' last start end is from = subst (λ (t : Trail). IsFrom honest canton t last start end) is from
+
+-- why an office was not opened
+pub refused : {T : Type 0} (canton : Canton) (bytes : List ℕ) (result : Result T OpenFault) (fault : OpenFault) → result ≡ Err fault
+    → (IsErrOf result opening.Blank → IsBlank bytes) → (IsErrOf result opening.SetupDiffers → Differs canton bytes) → (IsErrOf result opening.Damaged → IsDamaged canton bytes)
+    → Refuses canton bytes fault
+refused canton bytes result opening.Memory is blank differs damaged = tt
+refused canton bytes result opening.Device is blank differs damaged = tt
+refused canton bytes result opening.Blank is blank differs damaged = blank is
+refused canton bytes result opening.Damaged is blank differs damaged = damaged is
+refused canton bytes result opening.SetupDiffers is blank differs damaged = differs is
+
+-- a run on a disk that began as a file did
+pub runs_on_file : (h nothing : Type 0) (r r' w w' : Option (List ℕ)) (canton : Canton) (bytes : List ℕ) (first last : Trail) (result ended : Result (Unit {0}) RunFault) → IsCanton canton → first ≡ fresh_trail bytes → result ≡ ended
+    → Serves h (λ fault. nothing × (h → IsRefused canton first last fault)) r r' w w' (IsFrom h canton first last) result
+    → Serves h (λ fault. nothing × (h → IsRefusedFile bytes last fault)) r r' w w' (IsOnFile h bytes last) ended
+runs_on_file h nothing r r' w w' canton bytes first last result ended limits begins is serves =
+    let Refused' : OpenFault → Type 0 = λ fault. nothing × (h → IsRefusedFile bytes last fault) in
+    subst (λ (x : Result (Unit {0}) RunFault). Serves h Refused' r r' w w' (IsOnFile h bytes last) x) is
+    (begun_as h (λ fault. nothing × (h → IsRefused canton first last fault)) Refused' r r' w w' (IsFrom h canton first last) (IsOnFile h bytes last) result
+    (λ fault refused. (refused.0, λ honest. (canton, limits, subst (λ (t : Trail). IsRefused canton t last fault) begins (refused.1 honest))))
+    (λ start end from. (canton, limits, begun_on h canton first (fresh_trail bytes) last start end begins from)) serves)
+
+-- a formatting of a disk that began as a file did
+pub formats_file : (canton : Canton) (bytes : List ℕ) (first last : Trail) (result ended : Result (Unit {0}) FormatFault) → IsCanton canton → BeginsOrFills bytes first → result ≡ ended
+    → FormatsBlank canton first last → OnOk result ((c : List ℕ) → IsImage last.now c → IsNew canton c) → OnOk result (last.now.pending ≡ []) → (IsErrOf result formatting.InUse → IsBlank first.now.bytes → ⊥)
+    → FormatsFile bytes last ended
+formats_file canton bytes first last result ended limits begins is moments formatted settled in_use =
+    subst (λ (x : Result (Unit {0}) FormatFault). FormatsFile bytes last x) is (record {
+      canton = canton;
+      limits = limits;
+      first = first;
+      begins = begins;
+      moments = moments;
+      formatted = formatted;
+      settled = settled;
+      in_use = in_use;
+    })
 
 -- an office that is opened on a new disk has an empty count
 pub opened_empty : (canton : Canton) (m : Moment) (s : State) → ((c : List ℕ) → IsImage m c → IsNew canton c) → IsOpened canton m.bytes s → s.ledger.tally ≡ empty canton
@@ -79,15 +107,38 @@ rehearses canton honest trail start is h formatted begins = record {
   whole = begins.ready.ledger.whole;
 }
 
-module _ {D : Type 0} where
-  -- a formatting that came to use a disk
-  pub formats : (honest : D → Type 0) (trail : D → Trail) (bytes : List ℕ) (old new : Option D) (d : D) (result : Result (Unit {0}) ProgramFault) → new ≡ Some d → (honest d → FormatsFile bytes (trail d) result) → Formatted honest trail bytes old new result
-  formats honest trail bytes old new d (Ok done) is leaves = (d, is, leaves)
-  formats honest trail bytes old new d (Err fault) is leaves = inr (d, is, leaves)
+-- lines that were served on the disk of the rehearsal
+pub rehearsed : (nothing : Type 0) (r r' w w' : Option (List ℕ)) (canton : Canton) (first last : Trail) (result ended : Result (Unit {0}) RunFault) → canton ≡ rehearsal → result ≡ ended
+    → ((c : List ℕ) → IsImage first.now c → IsNew canton c)
+    → Serves (Unit {0}) (λ fault. nothing × (Unit {0} → IsRefused canton first last fault)) r r' w w' (IsFrom (Unit {0}) canton first last) result
+    → Serves (Unit {0}) (λ fault. nothing) r r' w w' (λ start end. IsRehearsal start) ended
+rehearsed nothing r r' w w' canton first last result ended rehearses_it is formatted serves =
+    subst (λ (x : Result (Unit {0}) RunFault). Serves (Unit {0}) (λ fault. nothing) r r' w w' (λ start end. IsRehearsal start) x) is
+    (begun_as (Unit {0}) (λ fault. nothing × (Unit {0} → IsRefused canton first last fault)) (λ fault. nothing) r r' w w' (IsFrom (Unit {0}) canton first last) (λ start end. IsRehearsal start) result
+    (λ fault refused. refused.0)
+    (λ start end from. rehearses canton (Unit {0}) first start rehearses_it tt formatted from.0) serves)
 
-  -- a work that ended with status 1 met a fault
-  pub met_fault : (honest : D → Type 0) (trail : D → Trail) (bytes : List ℕ) (old new : Option D) (nothing same : Type 0) (r r' w w' : Option (List ℕ)) (work : Work) (result : Result (Unit {0}) ProgramFault) (status : ℕ)
-      → Does honest trail bytes old new nothing r r' w w' work result → MatchResult result (λ _. (status ≡ 0) × same) (λ _. status ≡ 1) → status ≡ 1
-      → (fault : ProgramFault) × Does honest trail bytes old new nothing r r' w w' work (Err fault)
-  met_fault honest trail bytes old new nothing same r r' w w' work (Ok done) status does ended one = absurd (cc)
-  met_fault honest trail bytes old new nothing same r r' w w' work (Err fault) status does ended one = (fault, does)
+-- what follows unless the task is a rehearsal
+pub unless_rehearsal : {P Q : Type 0} (task : Task) → (P → Q) → UnlessRehearsal task P → UnlessRehearsal task Q
+unless_rehearsal Rehearse follows p = tt
+unless_rehearsal (Format paths) follows p = follows p
+unless_rehearsal (Run paths) follows p = follows p
+unless_rehearsal (Load paths csv) follows p = follows p
+unless_rehearsal (Export paths) follows p = follows p
+
+module _ {D F : Type 0} where
+  -- A task that ended with status 0 was done, and nothing is reported of it; `announced` are the faults after it was
+  -- announced.
+  pub was_done : (honest : D → Type 0) (trail : D → Trail) (bytes : List ℕ) (old new : Option D) (unread unwritten : Type 0) (r r' w w' : Option (List ℕ)) (first announced last : F) (task : Task) (result : Result (Unit {0}) ProgramFault) (status : ℕ)
+      → Does honest trail bytes old new unread unwritten r r' w w' task result → UnlessRehearsal task (announced ≡ first) → MatchResult result (λ _. (status ≡ 0) × (last ≡ announced)) (λ _. status ≡ 1) → status ≡ 0
+      → Does honest trail bytes old new unread unwritten r r' w w' task (Ok tt) × UnlessRehearsal task (last ≡ first)
+  was_done honest trail bytes old new unread unwritten r r' w w' first announced last task (Ok done) status does same ended zero = (does, unless_rehearsal task (λ is. ended.1 ∙ is) same)
+  was_done honest trail bytes old new unread unwritten r r' w w' first announced last task (Err fault) status does same ended zero = absurd (cc)
+
+  -- a task that ended with status 1 met a fault; of a load that was refused nothing is reported
+  pub met_fault : (honest : D → Type 0) (trail : D → Trail) (bytes : List ℕ) (old new : Option D) (unread unwritten : Type 0) (r r' w w' : Option (List ℕ)) (first announced last : F) (task : Task) (result : Result (Unit {0}) ProgramFault) (status : ℕ)
+      → Does honest trail bytes old new unread unwritten r r' w w' task result → UnlessRehearsal task (announced ≡ first) → MatchResult result (λ _. (status ≡ 0) × (last ≡ announced)) (λ _. status ≡ 1) → (result ≡ Err (faults.Load loading.Refused) → last ≡ announced) → status ≡ 1
+      → (fault : ProgramFault) × Does honest trail bytes old new unread unwritten r r' w w' task (Err fault) × UnlessRehearsal task (fault ≡ faults.Load loading.Refused → last ≡ first)
+  met_fault honest trail bytes old new unread unwritten r r' w w' first announced last task (Ok done) status does same ended refused one = absurd (cc)
+  met_fault honest trail bytes old new unread unwritten r r' w w' first announced last task (Err fault) status does same ended refused one =
+      (fault, does, unless_rehearsal task (λ is refusal. refused (ap Err refusal) ∙ is) same)

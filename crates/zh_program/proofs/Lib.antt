@@ -1,2 +1,3 @@
 pub mod ArgumentLemmas
+pub mod CsvLemmas
 pub mod EndingLemmas

@@ -2,8 +2,10 @@
 use Rattle.std.specs.Prelude.{◌≡◌}
 use Rattle.zh_file.specs.declared.fault.OpenFault as file
 use Rattle.zh_file.specs.declared.fault.OpenFault.TheVariants as of_file
-use Rattle.zh_snapshot.specs.declared.fault.FormatFault as format
-use Rattle.zh_snapshot.specs.declared.fault.FormatFault.TheVariants as of_format
+use Rattle.zh_snapshot.specs.declared.fault.FormatFault as store
+use Rattle.zh_snapshot.specs.declared.fault.FormatFault.TheVariants as of_store
+use Rattle.zh_program.specs.declared.fault.FormatFault.{FormatFault}
+use Rattle.zh_program.specs.declared.fault.FormatFault.TheVariants as formatting
 use Rattle.zh_program.specs.declared.fault.ProgramFault.{ProgramFault}
 use Rattle.zh_program.specs.declared.fault.ProgramFault.TheVariants as faults
 
@@ -14,6 +16,6 @@ FoundAs of_file.Size e = e ≡ faults.Size
 FoundAs of_file.Busy e = e ≡ faults.Busy
 
 -- the fault of a formatting
-abbrev pub FormattedAs : format.FormatFault → ProgramFault → Type 0
-FormattedAs of_format.Memory e = e ≡ faults.Memory
-FormattedAs of_format.Device e = e ≡ faults.Device
+abbrev pub FormattedAs : store.FormatFault → FormatFault → Type 0
+FormattedAs of_store.Memory e = e ≡ formatting.Memory
+FormattedAs of_store.Device e = e ≡ formatting.Device

@@ -1,3 +1,4 @@
 pub mod Arguments
+pub mod Csv
 pub mod Faults
 pub mod Program

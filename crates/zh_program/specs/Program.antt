@@ -1,5 +1,5 @@
--- What the program leaves of its streams.
-use Rattle.std.specs.Prelude.{◌≡◌, ◌⊎◌, ℕ, Bool, true, false, List, Option, Some, None, Result, Ok, Err, OnOk}
+-- What the program leaves of its streams and its disk.
+use Rattle.std.specs.Prelude.{◌≡◌, ◌⊎◌, ℕ, Bool, [], true, false, List, Option, Some, Result, Ok, Err, IsErrOf, OnOk}
 use Rattle.zh_districts.specs.Canton.{Canton, IsCanton}
 use Rattle.zh_districts.specs.Spelling.{setup_spelling}
 use Rattle.zh_districts.specs.Rehearsal.{rehearsal}
@@ -11,13 +11,22 @@ use Rattle.zh_snapshot.specs.Image.{IsBlank}
 use Rattle.zh_snapshot.specs.Store.{Settles}
 use Rattle.zh_snapshot.specs.Format.{Formats}
 use Rattle.zh_desks.specs.Batches.{no_batches}
-use Rattle.zh_ledger.specs.Opened.{IsNew}
+use Rattle.zh_ledger.specs.Opened.{Differs, IsDamaged, IsNew}
+use Rattle.zh_ledger.specs.declared.fault.OpenFault.{OpenFault}
+use Rattle.zh_ledger.specs.declared.fault.OpenFault.TheVariants as opening
 use Rattle.zh_office.specs.Opened.{IsOpened, IsReady}
 use Rattle.zh_office.specs.Runs.{OnDisk}
 use Rattle.zh_office.specs.Served.{ServesAll, ServesEnded, ServesFront}
 use Rattle.zh_office.specs.declared.serving.ServeFault.TheVariants as serving
-use Rattle.zh_program.specs.declared.arguments.Work.{Work}
-use Rattle.zh_program.specs.declared.arguments.Work.TheVariants.{Rehearse, Format, Run}
+use Rattle.zh_program.specs.Csv.{Exports, Loads}
+use Rattle.zh_program.specs.declared.arguments.Task.{Task}
+use Rattle.zh_program.specs.declared.arguments.Task.TheVariants.{Rehearse, Format, Run, Load, Export}
+use Rattle.zh_program.specs.declared.csv_fault.ExportFault.{ExportFault}
+use Rattle.zh_program.specs.declared.csv_fault.LoadFault.{LoadFault}
+use Rattle.zh_program.specs.declared.fault.FormatFault.{FormatFault}
+use Rattle.zh_program.specs.declared.fault.FormatFault.TheVariants as formatting
+use Rattle.zh_program.specs.declared.fault.RunFault.{RunFault}
+use Rattle.zh_program.specs.declared.fault.RunFault.TheVariants as runs
 use Rattle.zh_program.specs.declared.fault.ProgramFault.{ProgramFault}
 use Rattle.zh_program.specs.declared.fault.ProgramFault.TheVariants as faults
 
@@ -61,34 +70,43 @@ pub record ServedFront (honest : Type 0) (reader reader' writer writer' : Option
   pub spans : Spans start end
   pub front : ServesFront honest reader reader' writer writer' start end
 
--- What a serving with this result has done, and that it has done nothing where the fault came before it.
-abbrev pub Serves : Type 0 → Type 0 → Option (List ℕ) → Option (List ℕ) → Option (List ℕ) → Option (List ℕ) → (OnDisk → OnDisk → Type 0) → Result (Unit {0}) ProgramFault → Type 0
-Serves honest nothing reader reader' writer writer' Spans (Ok done) = Served honest reader reader' writer writer' Spans false
-Serves honest nothing reader reader' writer writer' Spans (Err faults.Faulted) = Served honest reader reader' writer writer' Spans true
-Serves honest nothing reader reader' writer writer' Spans (Err (faults.Serve serving.Read)) = ServedEnded honest reader reader' writer writer' Spans
-Serves honest nothing reader reader' writer writer' Spans (Err (faults.Serve serving.Turns)) = ServedEnded honest reader reader' writer writer' Spans
-Serves honest nothing reader reader' writer writer' Spans (Err (faults.Serve serving.Write)) = ServedFront honest reader reader' writer writer' Spans
-Serves honest nothing reader reader' writer writer' Spans (Err fault) = nothing
+-- What serving with this result has done. Where no office was opened nothing is served.
+abbrev pub Serves : Type 0 → (OpenFault → Type 0) → Option (List ℕ) → Option (List ℕ) → Option (List ℕ) → Option (List ℕ) → (OnDisk → OnDisk → Type 0) → Result (Unit {0}) RunFault → Type 0
+Serves honest Refused reader reader' writer writer' Spans (Ok done) = Served honest reader reader' writer writer' Spans false
+Serves honest Refused reader reader' writer writer' Spans (Err runs.Faulted) = Served honest reader reader' writer writer' Spans true
+Serves honest Refused reader reader' writer writer' Spans (Err (runs.Serve serving.Read)) = ServedEnded honest reader reader' writer writer' Spans
+Serves honest Refused reader reader' writer writer' Spans (Err (runs.Serve serving.Turns)) = ServedEnded honest reader reader' writer writer' Spans
+Serves honest Refused reader reader' writer writer' Spans (Err (runs.Serve serving.Write)) = ServedFront honest reader reader' writer writer' Spans
+Serves honest Refused reader reader' writer writer' Spans (Err (runs.Open fault)) = Refused fault
 
--- the fault comes before anything is served
+-- why no office is opened on a disk that held these bytes; memory and the device say nothing of them
+abbrev pub Refuses : Canton → List ℕ → OpenFault → Type 0
+Refuses canton bytes opening.Blank = IsBlank bytes
+Refuses canton bytes opening.Damaged = IsDamaged canton bytes
+Refuses canton bytes opening.SetupDiffers = Differs canton bytes
+Refuses canton bytes fault = Unit {0}
+
+-- No office was opened on this disk. It is as it was: at each moment a stop leaves an image from the start, and once it
+-- is synced what a read gave there.
+pub record IsRefused (canton : Canton) (first last : Trail) (fault : OpenFault) : Type 0 where
+  pub moments : Leaves (Settles first.now.bytes) first last
+  pub cause : Refuses canton first.now.bytes fault
+
+-- the fault comes before the task has a disk
 abbrev pub IsEarly : ProgramFault → Type 0
-IsEarly faults.Faulted = ⊥
-IsEarly (faults.Serve fault) = ⊥
+IsEarly (faults.Format fault) = ⊥
+IsEarly (faults.Run fault) = ⊥
+IsEarly (faults.Load fault) = ⊥
+IsEarly (faults.Export fault) = ⊥
 IsEarly fault = Unit {0}
 
--- no answer of the disk that was used was wrong, where there was one
-abbrev pub WasHonest : {D : Type 0} → (D → Type 0) → Option D → Type 0
-WasHonest honest None = Unit {0}
-WasHonest honest (Some d) = honest d
+-- the office that stood on a file which held these bytes as it was opened, and has the last trail in the end
+abbrev pub IsOnFile : Type 0 → List ℕ → Trail → OnDisk → OnDisk → Type 0
+IsOnFile honest bytes last start end = (canton : Canton) × IsCanton canton × IsFrom honest canton (fresh_trail bytes) last start end
 
--- what that disk held and has held in the end, where there was one
-abbrev pub last_trail : {D : Type 0} → (D → Trail) → Trail → Option D → Trail
-last_trail trail first None = first
-last_trail trail first (Some d) = trail d
-
--- the office that stood on a file which had the first trail as it was opened, and has the last in the end
-abbrev pub IsOnFile : Type 0 → Trail → Trail → OnDisk → OnDisk → Type 0
-IsOnFile honest first last start end = (canton : Canton) × IsCanton canton × IsFrom honest canton first last start end
+-- no office was opened on such a file
+abbrev pub IsRefusedFile : List ℕ → Trail → OpenFault → Type 0
+IsRefusedFile bytes last fault = (canton : Canton) × IsCanton canton × IsRefused canton (fresh_trail bytes) last fault
 
 -- What a formatting leaves of a disk, moment by moment: it is opened, and formatted only where it is blank.
 pub record FormatsBlank (canton : Canton) (old new : Trail) : Type 0 where
@@ -96,24 +114,82 @@ pub record FormatsBlank (canton : Canton) (old new : Trail) : Type 0 where
   pub opening : Leaves (Settles old.now.bytes) old opened
   pub after : (new ≡ opened) ⊎ (IsBlank old.now.bytes × Formats (setup_spelling canton) (payload_spelling (empty canton)) opened new)
 
--- What a formatting leaves. The disk began with these bytes, or where there were none with those that the new file was
--- filled with. It was opened, and formatted only where it was blank.
-pub record FormatsFile (bytes : List ℕ) (last : Trail) (result : Result (Unit {0}) ProgramFault) : Type 0 where
+-- What a formatting leaves of a file, also where it failed. The disk began with these bytes, or where there were none
+-- with those that the new file was filled with. It was opened, and formatted only where it was blank.
+pub record FormatsFile (bytes : List ℕ) (last : Trail) (result : Result (Unit {0}) FormatFault) : Type 0 where
   pub canton : Canton
   pub limits : IsCanton canton
   pub first : Trail
   pub begins : BeginsOrFills bytes first
   pub moments : FormatsBlank canton first last
   pub formatted : OnOk result ((c : List ℕ) → IsImage last.now c → IsNew canton c)
+  pub settled : OnOk result (last.now.pending ≡ [])
+  pub in_use : IsErrOf result formatting.InUse → IsBlank first.now.bytes → ⊥
 
 module _ {D : Type 0} where
-  -- a formatting used a disk, or a fault came before
-  abbrev pub Formatted : (D → Type 0) → (D → Trail) → List ℕ → Option D → Option D → Result (Unit {0}) ProgramFault → Type 0
-  Formatted honest trail bytes old new (Ok done) = (d : D) × (new ≡ Some d) × (honest d → FormatsFile bytes (trail d) (Ok done))
-  Formatted honest trail bytes old new (Err fault) = (new ≡ old) ⊎ ((d : D) × (new ≡ Some d) × (honest d → FormatsFile bytes (trail d) (Err fault)))
+  -- A formatting used this disk and handed it over, and ended so; or the fault came before it had one.
+  abbrev pub Formatted : Type 0 → Option D → (D → Result (Unit {0}) FormatFault → Type 0) → Result (Unit {0}) ProgramFault → Type 0
+  Formatted before new Uses (Ok done) = (d : D) × (new ≡ Some d) × Uses d (Ok done)
+  Formatted before new Uses (Err (faults.Format fault)) = (d : D) × (new ≡ Some d) × Uses d (Err fault)
+  Formatted before new Uses (Err fault) = before
 
--- what a work with this result has done
-abbrev pub Does : {D : Type 0} → (D → Type 0) → (D → Trail) → List ℕ → Option D → Option D → Type 0 → Option (List ℕ) → Option (List ℕ) → Option (List ℕ) → Option (List ℕ) → Work → Result (Unit {0}) ProgramFault → Type 0
-Does honest trail bytes old new nothing reader reader' writer writer' Rehearse result = Serves (Unit {0}) nothing reader reader' writer writer' (λ start end. IsRehearsal start) result
-Does honest trail bytes old new nothing reader reader' writer writer' (Format paths) result = nothing × Formatted honest trail bytes old new result
-Does honest trail bytes old new nothing reader reader' writer writer' (Run paths) result = Serves (WasHonest honest new) nothing reader reader' writer writer' (IsOnFile (WasHonest honest new) (fresh_trail bytes) (last_trail trail (fresh_trail bytes) new)) result
+  -- the same of a run
+  abbrev pub Ran : Type 0 → Option D → (D → Result (Unit {0}) RunFault → Type 0) → Result (Unit {0}) ProgramFault → Type 0
+  Ran before new Uses (Ok done) = (d : D) × (new ≡ Some d) × Uses d (Ok done)
+  Ran before new Uses (Err (faults.Run fault)) = (d : D) × (new ≡ Some d) × Uses d (Err fault)
+  Ran before new Uses (Err fault) = before
+
+  -- the same of the loading of a CSV file
+  abbrev pub HasLoaded : Type 0 → Option D → (D → Result (Unit {0}) LoadFault → Type 0) → Result (Unit {0}) ProgramFault → Type 0
+  HasLoaded before new Uses (Ok done) = (d : D) × (new ≡ Some d) × Uses d (Ok done)
+  HasLoaded before new Uses (Err (faults.Load fault)) = (d : D) × (new ≡ Some d) × Uses d (Err fault)
+  HasLoaded before new Uses (Err fault) = before
+
+  -- the same of an export
+  abbrev pub HasExported : Type 0 → Option D → (D → Result (Unit {0}) ExportFault → Type 0) → Result (Unit {0}) ProgramFault → Type 0
+  HasExported before new Uses (Ok done) = (d : D) × (new ≡ Some d) × Uses d (Ok done)
+  HasExported before new Uses (Err (faults.Export fault)) = (d : D) × (new ≡ Some d) × Uses d (Err fault)
+  HasExported before new Uses (Err fault) = before
+
+  -- a formatting of a file that held these bytes
+  abbrev pub FormatsOnFile : (D → Type 0) → (D → Trail) → List ℕ → D → Result (Unit {0}) FormatFault → Type 0
+  FormatsOnFile honest trail bytes d result = honest d → FormatsFile bytes (trail d) result
+
+  -- a run on a file that held these bytes
+  abbrev pub RunsOnFile : (D → Type 0) → (D → Trail) → List ℕ → Type 0 → Option (List ℕ) → Option (List ℕ) → Option (List ℕ) → Option (List ℕ) → D → Result (Unit {0}) RunFault → Type 0
+  RunsOnFile honest trail bytes nothing reader reader' writer writer' d result =
+      Serves (honest d) (λ fault. nothing × (honest d → IsRefusedFile bytes (trail d) fault)) reader reader' writer writer' (IsOnFile (honest d) bytes (trail d)) result
+
+  -- the loading of a CSV file on such a file
+  abbrev pub LoadsOnFile : (D → Type 0) → (D → Trail) → List ℕ → Type 0 → Option (List ℕ) → Option (List ℕ) → D → Result (Unit {0}) LoadFault → Type 0
+  LoadsOnFile honest trail bytes nothing writer writer' d result =
+      Loads (honest d) (λ fault. nothing × (honest d → IsRefusedFile bytes (trail d) fault)) nothing writer writer' (IsOnFile (honest d) bytes (trail d)) result
+
+  -- an export from such a file
+  abbrev pub ExportsFromFile : (D → Type 0) → (D → Trail) → List ℕ → Type 0 → Option (List ℕ) → Option (List ℕ) → D → Result (Unit {0}) ExportFault → Type 0
+  ExportsFromFile honest trail bytes nothing writer writer' d result =
+      Exports (λ fault. nothing × (honest d → IsRefusedFile bytes (trail d) fault)) nothing writer writer' (IsOnFile (honest d) bytes (trail d)) result
+
+-- this holds, unless the task is a rehearsal
+abbrev pub UnlessRehearsal : Task → Type 0 → Type 0
+UnlessRehearsal Rehearse P = Unit {0}
+UnlessRehearsal task P = P
+
+-- a rehearsal served, or the fault came before
+abbrev pub Rehearsed : Type 0 → (Result (Unit {0}) RunFault → Type 0) → Result (Unit {0}) ProgramFault → Type 0
+Rehearsed before Serves (Ok done) = Serves (Ok done)
+Rehearsed before Serves (Err (faults.Run fault)) = Serves (Err fault)
+Rehearsed before Serves (Err fault) = before
+
+-- what a rehearsal has done; its disk is in memory
+abbrev pub Rehearses : Type 0 → Option (List ℕ) → Option (List ℕ) → Option (List ℕ) → Option (List ℕ) → Result (Unit {0}) ProgramFault → Type 0
+Rehearses nothing reader reader' writer writer' = Rehearsed nothing (Serves (Unit {0}) (λ fault. nothing) reader reader' writer writer' (λ start end. IsRehearsal start))
+
+-- What a task with this result has done, where the file of its disk held these bytes: `old` is what was handed over
+-- before, `unread` and `unwritten` say that nothing was read from the input, and nothing written.
+abbrev pub Does : {D : Type 0} → (D → Type 0) → (D → Trail) → List ℕ → Option D → Option D → Type 0 → Type 0 → Option (List ℕ) → Option (List ℕ) → Option (List ℕ) → Option (List ℕ) → Task → Result (Unit {0}) ProgramFault → Type 0
+Does honest trail bytes old new unread unwritten reader reader' writer writer' Rehearse result = (new ≡ old) × Rehearses (unread × unwritten) reader reader' writer writer' result
+Does honest trail bytes old new unread unwritten reader reader' writer writer' (Format paths) result = unread × unwritten × Formatted (new ≡ old) new (FormatsOnFile honest trail bytes) result
+Does honest trail bytes old new unread unwritten reader reader' writer writer' (Run paths) result = Ran ((unread × unwritten) × (new ≡ old)) new (RunsOnFile honest trail bytes (unread × unwritten) reader reader' writer writer') result
+Does honest trail bytes old new unread unwritten reader reader' writer writer' (Load paths csv) result = unread × HasLoaded (unwritten × (new ≡ old)) new (LoadsOnFile honest trail bytes unwritten writer writer') result
+Does honest trail bytes old new unread unwritten reader reader' writer writer' (Export paths) result = unread × HasExported (unwritten × (new ≡ old)) new (ExportsFromFile honest trail bytes unwritten writer writer') result

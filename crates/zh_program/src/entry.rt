@@ -4,11 +4,12 @@ ghost use Rattle.std.specs.Prelude.{◌≡◌, ◌≢◌, ◌≤◌, ◌⊎◌, 
 ghost use Rattle.std.specs.String.{string_bytes};
 ghost use Rattle.clap.specs.Words.{kind_of};
 ghost use Rattle.zh_program.specs.Arguments.{Asks, refusals};
-ghost use Rattle.zh_program.specs.Program.{Does};
+ghost use Rattle.zh_program.specs.Program.{Does, UnlessRehearsal};
 ghost use Rattle.zh_program.specs.declared.fault.ProgramFault.{ProgramFault as Fault};
-ghost use Rattle.zh_program.specs.declared.arguments.Work.{Work};
+ghost use Rattle.zh_program.specs.declared.arguments.Task.{Task};
 
-use crate::arguments::{Work, read_words};
+use crate::arguments::{Task, read_arguments};
+use crate::csv_fault::LoadFault;
 use crate::fault::ProgramFault;
 use crate::tasks::carry_out;
 use clap::Error;
@@ -18,12 +19,14 @@ use std::io::{Read, Write};
 use zh_disk::Disk;
 use zh_file::{FileDisk, Start};
 
-/// The status of a work that ended so. A fault is told.
+/// The status of a task that ended so. A fault is reported, but of a file that was refused the reply says enough.
 fn end<F: Write>(ended: Result<(), ProgramFault>, faults: &mut F) -> u8
-    ensures { MatchResult ended (λ _. (result ≡ 0) × (faults.new ≡ faults.old)) (λ _. result ≡ 1) }
+    ensures status { MatchResult ended (λ _. (result ≡ 0) × (faults.new ≡ faults.old)) (λ _. result ≡ 1) }
+    ensures refused { ended ≡ Err (ProgramFault.Load LoadFault.Refused) → faults.new ≡ faults.old }
 {
     match ended {
         Ok(()) => 0,
+        Err(ProgramFault::Load(LoadFault::Refused)) => 1,
         Err(fault) => {
             let _ = writeln!(faults, "zhcount: {fault}");
             1
@@ -31,7 +34,7 @@ fn end<F: Write>(ended: Result<(), ProgramFault>, faults: &mut F) -> u8
     }
 }
 
-/// The status of words that ask for nothing. What is wrong with them is told.
+/// The status of arguments that are refused. The reason is reported.
 fn refuse<F: Write>(refusal: &Error, faults: &mut F) -> u8
     ensures memory { kind_of refusal.now ≡ ErrorKind.OutOfMemory → result ≡ 1 }
     ensures refused { kind_of refusal.now ≢ ErrorKind.OutOfMemory → result ≡ 2 }
@@ -44,24 +47,26 @@ fn refuse<F: Write>(refusal: &Error, faults: &mut F) -> u8
 }
 
 /// Says of a rehearsal that nothing is kept.
-fn announce<F: Write>(work: Work<'_>, faults: &mut F) {
-    if let Work::Rehearse = work {
+fn announce<F: Write>(task: Task<'_>, faults: &mut F)
+    ensures { UnlessRehearsal task.entry (faults.new ≡ faults.old) }
+{
+    if let Task::Rehearse = task {
         let _ = writeln!(faults, "zhcount: rehearsal, nothing is kept");
     }
 }
 
-/// What the program does with its words, which stand behind its name, on its standard streams. It gives the status:
-/// 0 where the work was done; 1 after a fault, whose name is written to `faults`; 2 where the words ask for no work,
-/// `--help` among them, and then `faults` is told why.
+/// The program on its arguments, without its name, and its standard streams. It returns the status: 0 if the task was
+/// done; 1 after a fault, whose name is written to `faults`; 2 if the arguments ask for no task, `--help` among them,
+/// with the reason on `faults`.
 ///
-/// A file that it worked on is handed over to `used`, with the record of its calls; `S` stands for what it held
-/// as it was opened.
+/// The disk of a file that it worked on is handed over to `used`, with the record of its calls, whatever the status;
+/// `S` stands for what the file held when it was opened.
 ///
-/// No words at all ask for a rehearsal. docs/MANUAL.md has the others.
+/// Without arguments it is a rehearsal. docs/MANUAL.md has the others.
 pub fn program<I: Read, O: Write, F: Write, S: Start>(
     rt: &HostRuntime,
     alloc: Global,
-    words: &[String],
+    arguments: &[String],
     input: &mut I,
     out: &mut O,
     faults: &mut F,
@@ -69,18 +74,23 @@ pub fn program<I: Read, O: Write, F: Write, S: Start>(
     used: &mut Option<FileDisk<S>>,
 ) -> u8
     ensures status { result ≤ 2 }
-    ensures done { result ≡ 0 → (work : Work) × Asks (map string_bytes words.now) work
-        × Does ⟦<FileDisk<S> as Disk>⟧.honest ⟦<FileDisk<S> as Disk>⟧.trail S.Start.db used.old used.new ((input.new ≡ input.old) × (out.new ≡ out.old)) (I.remaining input.old) (I.remaining input.new) (O.contents out.old) (O.contents out.new) work (Ok tt) }
-    // Memory may be refused before the words are read, and then nothing is done.
-    ensures fault { result ≡ 1 → ((input.new ≡ input.old) × (out.new ≡ out.old)) ⊎ ((work : Work) × (fault : Fault) × Asks (map string_bytes words.now) work
-        × Does ⟦<FileDisk<S> as Disk>⟧.honest ⟦<FileDisk<S> as Disk>⟧.trail S.Start.db used.old used.new ((input.new ≡ input.old) × (out.new ≡ out.old)) (I.remaining input.old) (I.remaining input.new) (O.contents out.old) (O.contents out.new) work (Err fault)) }
-    ensures refused { result ≡ 2 → (refusals (map string_bytes words.now) ≢ []) × ((input.new ≡ input.old) × (out.new ≡ out.old)) }
+    ensures done { result ≡ 0 → (task : Task) × Asks (map string_bytes arguments.now) task
+        × Does ⟦<FileDisk<S> as Disk>⟧.honest ⟦<FileDisk<S> as Disk>⟧.trail S.Start.db used.old used.new (input.new ≡ input.old) (out.new ≡ out.old) (I.remaining input.old) (I.remaining input.new) (O.contents out.old) (O.contents out.new) task (Ok tt)
+        × UnlessRehearsal task (faults.new ≡ faults.old) }
+    // Memory may be refused before the arguments are read, and then nothing is done.
+    ensures fault { result ≡ 1 → ((input.new ≡ input.old) × (out.new ≡ out.old) × (used.new ≡ used.old)) ⊎ ((task : Task) × (fault : Fault) × Asks (map string_bytes arguments.now) task
+        × Does ⟦<FileDisk<S> as Disk>⟧.honest ⟦<FileDisk<S> as Disk>⟧.trail S.Start.db used.old used.new (input.new ≡ input.old) (out.new ≡ out.old) (I.remaining input.old) (I.remaining input.new) (O.contents out.old) (O.contents out.new) task (Err fault)
+        × UnlessRehearsal task (fault ≡ ProgramFault.Load LoadFault.Refused → faults.new ≡ faults.old)) }
+    ensures refused { result ≡ 2 → (refusals (map string_bytes arguments.now) ≢ []) × ((input.new ≡ input.old) × (out.new ≡ out.old) × (used.new ≡ used.old)) }
 {
-    match read_words(alloc, words) {
-        Ok(work) => {
-            announce(work, faults);
-            end(carry_out(rt, alloc, work, input, out, start, used), faults)
+    match read_arguments(alloc, arguments) {
+        Ok(task) => {
+            announce(task, faults);
+            end(carry_out(rt, alloc, task, input, out, start, used), faults)
         }
         Err(refusal) => refuse(&refusal, faults),
     }
 }
+
+#[cfg(test)]
+mod tests;

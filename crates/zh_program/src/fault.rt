@@ -1,12 +1,36 @@
-//! Why the program did not do its work.
+//! Why the program did not do its task.
 
+use crate::csv_fault::{ExportFault, LoadFault};
 use std::alloc::AllocError;
 use thiserror::Error;
 use zh_districts::SetupFault;
 use zh_office::{OpenFault, ServeFault};
-use zh_snapshot::FormatFault;
 
-/// The fault of a work. Its text is what the program reports after its name.
+/// Why a disk was not formatted.
+#[derive(Clone, Copy, Debug, PartialEq, Eq, Error)]
+pub(crate) enum FormatFault {
+    #[error("memory")]
+    Memory,
+    #[error("disk device")]
+    Device,
+    /// The disk is not blank.
+    #[error("disk inuse")]
+    InUse,
+}
+
+/// Why a run on a disk did not end well.
+#[derive(Clone, Copy, Debug, PartialEq, Eq, Error)]
+pub(crate) enum RunFault {
+    #[error("{0}")]
+    Open(OpenFault),
+    #[error("{0}")]
+    Serve(ServeFault),
+    /// All lines are answered, and the device failed under one of them.
+    #[error("disk device")]
+    Faulted,
+}
+
+/// The fault of a task. Its text is what the program reports after its name.
 #[derive(Clone, Copy, Debug, PartialEq, Eq, Error)]
 pub(crate) enum ProgramFault {
     #[error("memory")]
@@ -16,6 +40,7 @@ pub(crate) enum ProgramFault {
     File,
     #[error("{0}")]
     Setup(SetupFault),
+    /// The disk's file could not be opened or made.
     #[error("disk device")]
     Device,
     /// The disk's file does not have the length of a disk.
@@ -24,16 +49,14 @@ pub(crate) enum ProgramFault {
     /// Another program has the disk's file open.
     #[error("disk busy")]
     Busy,
-    /// The disk that is to be formatted is not blank.
-    #[error("disk inuse")]
-    InUse,
     #[error("{0}")]
-    Open(OpenFault),
+    Format(FormatFault),
     #[error("{0}")]
-    Serve(ServeFault),
-    /// All lines are answered, and the device failed under one of them.
-    #[error("disk device")]
-    Faulted,
+    Run(RunFault),
+    #[error("{0}")]
+    Load(LoadFault),
+    #[error("{0}")]
+    Export(ExportFault),
 }
 
 impl From<AllocError> for ProgramFault {
@@ -73,36 +96,80 @@ impl From<zh_file::OpenFault> for ProgramFault {
 }
 
 impl From<FormatFault> for ProgramFault {
+    ghost use Rattle.std.specs.Prelude.{◌≡◌};
+    ghost use Rattle.zh_program.specs.declared.fault.ProgramFault.TheVariants as faults;
+
+    ghost from_gives = { λ fault e. e ≡ faults.Format fault };
+
+    fn from(fault: FormatFault) -> Self {
+        ProgramFault::Format(fault)
+    }
+}
+
+impl From<RunFault> for ProgramFault {
+    ghost use Rattle.std.specs.Prelude.{◌≡◌};
+    ghost use Rattle.zh_program.specs.declared.fault.ProgramFault.TheVariants as faults;
+
+    ghost from_gives = { λ fault e. e ≡ faults.Run fault };
+
+    fn from(fault: RunFault) -> Self {
+        ProgramFault::Run(fault)
+    }
+}
+
+impl From<LoadFault> for ProgramFault {
+    ghost use Rattle.std.specs.Prelude.{◌≡◌};
+    ghost use Rattle.zh_program.specs.declared.fault.ProgramFault.TheVariants as faults;
+
+    ghost from_gives = { λ fault e. e ≡ faults.Load fault };
+
+    fn from(fault: LoadFault) -> Self {
+        ProgramFault::Load(fault)
+    }
+}
+
+impl From<ExportFault> for ProgramFault {
+    ghost use Rattle.std.specs.Prelude.{◌≡◌};
+    ghost use Rattle.zh_program.specs.declared.fault.ProgramFault.TheVariants as faults;
+
+    ghost from_gives = { λ fault e. e ≡ faults.Export fault };
+
+    fn from(fault: ExportFault) -> Self {
+        ProgramFault::Export(fault)
+    }
+}
+
+impl From<zh_snapshot::FormatFault> for FormatFault {
     ghost use Rattle.zh_program.specs.Faults.{FormattedAs};
 
     ghost from_gives = { FormattedAs };
 
-    fn from(fault: FormatFault) -> Self {
+    fn from(fault: zh_snapshot::FormatFault) -> Self {
         match fault {
-            FormatFault::Memory => ProgramFault::Memory,
-            FormatFault::Device => ProgramFault::Device,
+            zh_snapshot::FormatFault::Memory => FormatFault::Memory,
+            zh_snapshot::FormatFault::Device => FormatFault::Device,
         }
     }
 }
 
-impl From<OpenFault> for ProgramFault {
+impl From<OpenFault> for RunFault {
     ghost use Rattle.std.specs.Prelude.{◌≡◌};
-    ghost use Rattle.zh_program.specs.declared.fault.ProgramFault.TheVariants as faults;
+    ghost use Rattle.zh_program.specs.declared.fault.RunFault.TheVariants as faults;
 
     ghost from_gives = { λ fault e. e ≡ faults.Open fault };
 
     fn from(fault: OpenFault) -> Self {
-        ProgramFault::Open(fault)
+        RunFault::Open(fault)
     }
 }
 
-impl From<ServeFault> for ProgramFault {
+impl From<ServeFault> for RunFault {
     ghost use Rattle.std.specs.Prelude.{◌≡◌};
-    ghost use Rattle.zh_program.specs.declared.fault.ProgramFault.TheVariants as faults;
+    ghost use Rattle.zh_program.specs.declared.fault.RunFault.TheVariants as faults;
 
     ghost from_gives = { λ fault e. e ≡ faults.Serve fault };
 
     fn from(fault: ServeFault) -> Self {
-        ProgramFault::Serve(fault)
+        RunFault::Serve(fault)
     }
 }

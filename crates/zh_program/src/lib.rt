@@ -2,6 +2,8 @@
 #![tactic(auto)]
 
 mod arguments;
+mod csv_fault;
+mod csv_tasks;
 mod entry;
 mod fault;
 mod tasks;

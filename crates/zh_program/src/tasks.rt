@@ -1,15 +1,16 @@
-//! What the program does when it is asked to.
+//! The tasks of the program.
 
-ghost use Rattle.std.specs.Prelude.{◌≡◌, ◌≤◌, ◌⊎◌, List, ℕ, [], Err, IfErr, IfOk, IsErrOf, OnErr, OnOk};
-ghost use Rattle.zh_disk.specs.Disk.{IsImage, fresh_trail};
+ghost use Rattle.std.specs.Prelude.{◌≡◌, ◌≤◌, ◌^◌, List, ℕ, [], IfErr, IfOk, IsErrOf, OnOk};
+ghost use Rattle.zh_disk.specs.Disk.{IsImage};
 ghost use Rattle.zh_districts.specs.Canton.{IsCanton};
 ghost use Rattle.zh_journal.specs.Cause.{HasRisen};
 ghost use Rattle.zh_snapshot.specs.Image.{IsBlank};
 ghost use Rattle.zh_ledger.specs.Opened.{IsNew};
-ghost use Rattle.zh_program.specs.Program.{Does, Formatted, FormatsBlank, IsEarly, IsFrom, IsOnFile, IsRehearsal, Serves, WasHonest, last_trail};
+ghost use Rattle.zh_program.specs.Program.{Does, Formatted, FormatsBlank, FormatsOnFile, IsEarly, IsFrom, IsRefused, Ran, Rehearses, RunsOnFile, Serves};
 
-use crate::arguments::{Paths, Work};
-use crate::fault::ProgramFault;
+use crate::arguments::{Paths, Task};
+use crate::csv_tasks::{export, load};
+use crate::fault::{FormatFault, ProgramFault, RunFault};
 use std::alloc::Global;
 use std::fs::File;
 use std::io::{ErrorKind, Read, Write};
@@ -19,11 +20,15 @@ use zh_file::{FileDisk, Start, open, open_or_make};
 use zh_office::Office;
 use zh_snapshot::Store;
 
-/// How many reads the program makes at most.
-const TURNS: u64 = 1 << 32;
-
-/// How many bytes of a set-up's file are read at most: one more than a set-up may have, so that a longer one is told.
+/// How many bytes of a set-up's file are read at most: one more than a set-up may have, so that a longer one is noticed.
 const LONGEST_READ: u64 = 1_048_577;
+
+/// How many reads of the input a run makes at most.
+fn most_reads() -> u64
+    ensures { result ≡ 2 ^ 32 }
+{
+    1 << 32
+}
 
 /// The front of the file at this path.
 fn front_of_file(rt: &HostRuntime, alloc: Global, path: &str) -> Result<Vec<u8>, ProgramFault>
@@ -41,7 +46,7 @@ fn front_of_file(rt: &HostRuntime, alloc: Global, path: &str) -> Result<Vec<u8>,
 }
 
 /// The set-up whose text stands in the file at this path.
-fn setup_at(rt: &HostRuntime, alloc: Global, path: &str) -> Result<Setup, ProgramFault>
+pub(crate) fn setup_at(rt: &HostRuntime, alloc: Global, path: &str) -> Result<Setup, ProgramFault>
     ensures limits { IfOk result IsCanton }
     ensures early { IfErr result IsEarly }
 {
@@ -50,7 +55,7 @@ fn setup_at(rt: &HostRuntime, alloc: Global, path: &str) -> Result<Setup, Progra
 }
 
 /// Formats a disk that is blank.
-fn format_blank<D: Disk>(alloc: Global, setup: &Setup, disk: &mut D) -> Result<(), ProgramFault>
+fn format_blank<D: Disk>(alloc: Global, setup: &Setup, disk: &mut D) -> Result<(), FormatFault>
     ensures kept { D.honest disk.new → D.honest disk.old }
     // It is opened, and formatted only where it is blank: specs/Program.antt has the moments.
     ensures any_moment { D.honest disk.new → FormatsBlank setup.now (D.trail disk.old) (D.trail disk.new) }
@@ -59,16 +64,15 @@ fn format_blank<D: Disk>(alloc: Global, setup: &Setup, disk: &mut D) -> Result<(
     ensures formatted { D.honest disk.new → OnOk result ((c : List ℕ) → IsImage (D.trail disk.new).now c → IsNew setup.now c) }
 
     ensures settled { D.honest disk.new → OnOk result ((D.trail disk.new).now.pending ≡ []) }
-    ensures in_use { D.honest disk.new → IsErrOf result ProgramFault.InUse → IsBlank (D.trail disk.old).now.bytes → ⊥ }
-    ensures only { OnErr result ((result ≡ Err ProgramFault.InUse) ⊎ ((result ≡ Err ProgramFault.Memory) ⊎ (result ≡ Err ProgramFault.Device))) }
+    ensures in_use { D.honest disk.new → IsErrOf result FormatFault.InUse → IsBlank (D.trail disk.old).now.bytes → ⊥ }
     ensures later { D.failures disk.old ≤ D.failures disk.new }
-    ensures cause { IsErrOf result ProgramFault.Device → HasRisen (D.failures disk.old) (D.failures disk.new) }
+    ensures cause { IsErrOf result FormatFault.Device → HasRisen (D.failures disk.old) (D.failures disk.new) }
 {
     match Store::open(alloc, disk) {
         Err(zh_snapshot::OpenFault::Blank) => Ok(Office::format(alloc, setup, disk)?),
-        Err(zh_snapshot::OpenFault::Device) => Err(ProgramFault::Device),
-        Err(zh_snapshot::OpenFault::Memory) => Err(ProgramFault::Memory),
-        Err(zh_snapshot::OpenFault::Damaged) | Ok(_) => Err(ProgramFault::InUse),
+        Err(zh_snapshot::OpenFault::Device) => Err(FormatFault::Device),
+        Err(zh_snapshot::OpenFault::Memory) => Err(FormatFault::Memory),
+        Err(zh_snapshot::OpenFault::Damaged) | Ok(_) => Err(FormatFault::InUse),
     }
 }
 
@@ -79,14 +83,14 @@ fn serve_on<I: Read, O: Write, D: Disk>(
     disk: &mut D,
     input: &mut I,
     out: &mut O,
-) -> Result<(), ProgramFault>
+) -> Result<(), RunFault>
     ensures kept { D.honest disk.new → D.honest disk.old }
-    ensures served { Serves (D.honest disk.new) ((input.new ≡ input.old) × (out.new ≡ out.old)) (I.remaining input.old) (I.remaining input.new) (O.contents out.old) (O.contents out.new) (IsFrom (D.honest disk.new) setup.now (D.trail disk.old) (D.trail disk.new)) result }
+    ensures served { Serves (D.honest disk.new) (λ fault. ((input.new ≡ input.old) × (out.new ≡ out.old)) × (D.honest disk.new → IsRefused setup.now (D.trail disk.old) (D.trail disk.new) fault)) (I.remaining input.old) (I.remaining input.new) (O.contents out.old) (O.contents out.new) (IsFrom (D.honest disk.new) setup.now (D.trail disk.old) (D.trail disk.new)) result }
 {
     let mut office = Office::open(alloc, setup, disk)?;
-    office.serve(input, out, disk, TURNS)?;
+    office.serve(input, out, disk, most_reads())?;
     if office.faulted() {
-        return Err(ProgramFault::Faulted);
+        return Err(RunFault::Faulted);
     }
     Ok(())
 }
@@ -97,12 +101,12 @@ fn rehearse<I: Read, O: Write>(
     input: &mut I,
     out: &mut O,
 ) -> Result<(), ProgramFault>
-    ensures { Serves (Unit {0}) ((input.new ≡ input.old) × (out.new ≡ out.old)) (I.remaining input.old) (I.remaining input.new) (O.contents out.old) (O.contents out.new) (λ start end. IsRehearsal start) result }
+    ensures { Rehearses ((input.new ≡ input.old) × (out.new ≡ out.old)) (I.remaining input.old) (I.remaining input.new) (O.contents out.old) (O.contents out.new) result }
 {
     let setup = rehearsal(alloc)?;
     let mut disk = MemoryDisk::blank(alloc)?;
-    Office::format(alloc, &setup, &mut disk)?;
-    serve_on(alloc, &setup, &mut disk, input, out)
+    format_blank(alloc, &setup, &mut disk)?;
+    Ok(serve_on(alloc, &setup, &mut disk, input, out)?)
 }
 
 /// Formats the disk in a file, and hands the disk over to `used`.
@@ -113,13 +117,13 @@ fn format<S: Start>(
     start: S,
     used: &mut Option<FileDisk<S>>,
 ) -> Result<(), ProgramFault>
-    ensures { Formatted ⟦<FileDisk<S> as Disk>⟧.honest ⟦<FileDisk<S> as Disk>⟧.trail S.Start.db used.old used.new result }
+    ensures { Formatted (used.new ≡ used.old) used.new (FormatsOnFile ⟦<FileDisk<S> as Disk>⟧.honest ⟦<FileDisk<S> as Disk>⟧.trail S.Start.db) result }
 {
     let setup = setup_at(rt, alloc, paths.setup)?;
     let mut disk = open_or_make(rt, paths.disk, start)?;
     let done = format_blank(alloc, &setup, &mut disk);
     *used = Some(disk);
-    done
+    Ok(done?)
 }
 
 /// Serves on the disk in a file, and hands the disk over to `used`.
@@ -132,30 +136,32 @@ fn run<I: Read, O: Write, S: Start>(
     start: S,
     used: &mut Option<FileDisk<S>>,
 ) -> Result<(), ProgramFault>
-    ensures { Serves (WasHonest ⟦<FileDisk<S> as Disk>⟧.honest used.new) ((input.new ≡ input.old) × (out.new ≡ out.old)) (I.remaining input.old) (I.remaining input.new) (O.contents out.old) (O.contents out.new) (IsOnFile (WasHonest ⟦<FileDisk<S> as Disk>⟧.honest used.new) (fresh_trail S.Start.db) (last_trail ⟦<FileDisk<S> as Disk>⟧.trail (fresh_trail S.Start.db) used.new)) result }
+    ensures { Ran (((input.new ≡ input.old) × (out.new ≡ out.old)) × (used.new ≡ used.old)) used.new (RunsOnFile ⟦<FileDisk<S> as Disk>⟧.honest ⟦<FileDisk<S> as Disk>⟧.trail S.Start.db ((input.new ≡ input.old) × (out.new ≡ out.old)) (I.remaining input.old) (I.remaining input.new) (O.contents out.old) (O.contents out.new)) result }
 {
     let setup = setup_at(rt, alloc, paths.setup)?;
     let mut disk = open(rt, paths.disk, start)?;
     let done = serve_on(alloc, &setup, &mut disk, input, out);
     *used = Some(disk);
-    done
+    Ok(done?)
 }
 
 /// Does what is asked for.
 pub(crate) fn carry_out<I: Read, O: Write, S: Start>(
     rt: &HostRuntime,
     alloc: Global,
-    work: Work<'_>,
+    task: Task<'_>,
     input: &mut I,
     out: &mut O,
     start: S,
     used: &mut Option<FileDisk<S>>,
 ) -> Result<(), ProgramFault>
-    ensures { Does ⟦<FileDisk<S> as Disk>⟧.honest ⟦<FileDisk<S> as Disk>⟧.trail S.Start.db used.old used.new ((input.new ≡ input.old) × (out.new ≡ out.old)) (I.remaining input.old) (I.remaining input.new) (O.contents out.old) (O.contents out.new) work.entry result }
+    ensures { Does ⟦<FileDisk<S> as Disk>⟧.honest ⟦<FileDisk<S> as Disk>⟧.trail S.Start.db used.old used.new (input.new ≡ input.old) (out.new ≡ out.old) (I.remaining input.old) (I.remaining input.new) (O.contents out.old) (O.contents out.new) task.entry result }
 {
-    match work {
-        Work::Rehearse => rehearse(alloc, input, out),
-        Work::Format(paths) => format(rt, alloc, paths, start, used),
-        Work::Run(paths) => run(rt, alloc, paths, input, out, start, used),
+    match task {
+        Task::Rehearse => rehearse(alloc, input, out),
+        Task::Format(paths) => format(rt, alloc, paths, start, used),
+        Task::Run(paths) => run(rt, alloc, paths, input, out, start, used),
+        Task::Load { paths, csv } => load(rt, alloc, paths, csv, out, start, used),
+        Task::Export(paths) => export(rt, alloc, paths, out, start, used),
     }
 }

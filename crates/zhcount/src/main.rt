@@ -9,11 +9,11 @@ use zh_program::program;
 
 /// Hands the files, the arguments and the standard streams to the program, and returns its status.
 fn main(rt: HostRuntime) -> ExitCode {
-    match words(&rt) {
-        Ok(words) => ExitCode::from(program(
+    match arguments(&rt) {
+        Ok(arguments) => ExitCode::from(program(
             &rt,
             rt.alloc(),
-            &words,
+            &arguments,
             &mut rt.stdin(),
             &mut rt.stdout(),
             &mut rt.stderr(),
@@ -21,7 +21,7 @@ fn main(rt: HostRuntime) -> ExitCode {
             &mut None,
         )),
         Err(error) if error.kind() == ErrorKind::InvalidData => {
-            let _ = eprintln!(rt; "error: a word is not in UTF-8");
+            let _ = eprintln!(rt; "error: an argument is not UTF-8");
             ExitCode::from(2)
         }
         Err(_) => {
@@ -31,6 +31,7 @@ fn main(rt: HostRuntime) -> ExitCode {
     }
 }
 
-fn words(rt: &HostRuntime) -> io::Result<Vec<String>> {
+/// The arguments after the program's name.
+fn arguments(rt: &HostRuntime) -> io::Result<Vec<String>> {
     Ok(env::args(rt)?.skip(1).collect(rt.alloc())?)
 }

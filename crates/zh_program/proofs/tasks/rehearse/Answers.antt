@@ -1,8 +1,16 @@
-use Rattle.std.proofs.Common.{◌≡◌}
+use Rattle.std.proofs.Common.{rules, ◌≡◌, Ok, Err}
 use Rattle.zh_disk.specs.Memory.{memory_trail}
-use Rattle.zh_program.proofs.EndingLemmas.{begun_as, rehearses}
+use Rattle.zh_program.specs.declared.fault.ProgramFault.TheVariants as faults
+use Rattle.zh_program.proofs.EndingLemmas.{rehearsed}
 use Rattle.zh_program.proofs.tasks.rehearse.Goals as goal
 
+pub returns-in_err-serve_on : goal.returns-in_err-serve_on
+returns-in_err-serve_on g c =
+    let is : c.from_residual-in_err-serve_on.result ≡ Err (faults.Run c.in_err-serve_on.field-0.0) = search rules in
+    let ended : c.serve_on.result ≡ Err c.in_err-serve_on.field-0.0 = search rules in
+    rw is (rehearsed _ _ _ _ _ c.in_ok-setup.setup (memory_trail c.format_blank.new.disk) _ _ _ c.in_ok-setup.ensures ended (c.in_ok-format_blank.ensures.formatted tt) c.serve_on.ensures.served)
+
 pub returns : goal.returns
-returns g c = begun_as _ (c.serve_on.new.input ≡ c.args.input.now × c.serve_on.new.out ≡ c.args.out.now) _ _ _ _ _ _ c.serve_on.result
-    (λ start end from. rehearses c.in_ok-setup.setup (Unit {0}) (memory_trail c.format.new.disk) start c.in_ok-setup.ensures tt (c.in_ok-format.ensures.formatted tt) from.0) c.serve_on.ensures.served
+returns g c =
+    let ended : c.serve_on.result ≡ Ok tt = search rules in
+    rehearsed _ _ _ _ _ c.in_ok-setup.setup (memory_trail c.format_blank.new.disk) _ _ _ c.in_ok-setup.ensures ended (c.in_ok-format_blank.ensures.formatted tt) c.serve_on.ensures.served

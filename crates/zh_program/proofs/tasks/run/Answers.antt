@@ -1,12 +1,22 @@
-use Rattle.zh_program.proofs.EndingLemmas.{begun_as, begun_on}
-use Rattle.std.proofs.Common.{◌≡◌}
+use Rattle.std.proofs.Common.{rules, refl, ◌≡◌, Ok, Err}
+use Rattle.zh_program.specs.declared.fault.ProgramFault.TheVariants as faults
+use Rattle.zh_program.proofs.EndingLemmas.{runs_on_file}
 use Rattle.zh_program.proofs.tasks.run.Goals as goal
+
+pub returns-in_err-done : goal.returns-in_err-done
+returns-in_err-done g c =
+    let is : c.from_residual-in_err-done.result ≡ Err (faults.Run c.in_err-done.field-0.0) = search rules in
+    let ended : c.serve_on-done.result ≡ Err c.in_err-done.field-0.0 = search rules in
+    rw is (
+      c.serve_on-done.new.disk,
+      refl,
+      runs_on_file _ _ _ _ _ _ c.in_ok-setup.setup _ _ _ _ _ c.in_ok-setup.ensures.limits c.in_ok-disk.ensures.begins ended c.serve_on-done.ensures.served,
+    )
 
 pub returns : goal.returns
 returns g c =
-    begun_as _ (c.serve_on-done.new.input ≡ c.args.input.now × c.serve_on-done.new.out ≡ c.args.out.now) _ _ _ _ _ _ c.serve_on-done.result
-    (λ start end from. (
-      c.in_ok-setup.setup,
-      c.in_ok-setup.ensures.limits,
-      begun_on _ _ _ _ _ start end c.in_ok-disk.ensures.begins from,
-    )) c.serve_on-done.ensures.served
+    let ended : c.serve_on-done.result ≡ Ok tt = search rules in (
+      c.serve_on-done.new.disk,
+      refl,
+      runs_on_file _ _ _ _ _ _ c.in_ok-setup.setup _ _ _ _ _ c.in_ok-setup.ensures.limits c.in_ok-disk.ensures.begins ended c.serve_on-done.ensures.served,
+    )
