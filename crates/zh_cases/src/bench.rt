@@ -1,21 +1,20 @@
 //! What a case works on: a set-up, a disk, and the office that is open there.
 
-use crate::device::{Device, device};
+use crate::device::{Device, NO_FUSE, device};
 use crate::fault::Fault;
+use crate::image::{disk_of, image_of, put};
 use crate::program::push_lines;
 use crate::setups::Named;
 use crate::words::read_place;
 use hex::encode;
 use std::alloc::Global;
-use zh_disk::{DISK_LENGTH, Disk, MemoryDisk, Stop};
+use zh_commands::write_reply;
+use zh_disk::{DISK_LENGTH, Stop};
 use zh_districts::Setup;
 use zh_office::{FormatFault, Office, OpenFault};
 
 /// How many reads an office may make of a text.
 const TURNS: u64 = 1_000;
-
-/// So many calls are never made.
-pub(crate) const NO_FUSE: u64 = u64::MAX;
 
 const NO_CASE: Fault = Fault::Text("no case has begun");
 
@@ -30,32 +29,6 @@ pub(crate) struct Bench<'s> {
     marked: Vec<u8>,
     /// The place of a sweep's table, after the word `at`.
     pub(crate) place: String,
-}
-
-/// A disk of these bytes.
-fn disk_of(alloc: Global, image: &[u8]) -> Result<Device, Fault> {
-    if image.len() as u64 != DISK_LENGTH {
-        return Err(Fault::Text("a disk has another length"));
-    }
-    Ok(device(MemoryDisk::new(alloc, image)?, NO_FUSE))
-}
-
-/// The bytes of a disk.
-fn image_of(alloc: Global, disk: &mut Device) -> Result<Vec<u8>, Fault> {
-    let mut image = vec![in alloc; 0; DISK_LENGTH as usize]?;
-    disk.inner.read_at(0, &mut image)?;
-    Ok(image)
-}
-
-/// The image with these bytes from a place on.
-fn put(image: &mut [u8], place: usize, bytes: &[u8]) -> Result<(), Fault> {
-    match image.get_mut(place..place.saturating_add(bytes.len())) {
-        Some(range) => {
-            range.copy_from_slice(bytes);
-            Ok(())
-        }
-        None => Err(Fault::Text("the disk has no such place")),
-    }
 }
 
 /// Opens the office on a disk, and says how it went.
@@ -150,6 +123,20 @@ impl<'s> Bench<'s> {
         }
         let mut answer = String::new(self.alloc);
         push_lines(&mut answer, "; ", &out)?;
+        Ok(answer)
+    }
+
+    /// What the office answers to a text that is loaded. There is no desk in it.
+    pub(crate) fn load(&mut self, text: &[u8]) -> Result<String, Fault> {
+        let (Some(office), Some(disk)) = (&mut self.office, &mut self.disk) else {
+            return Ok(String::from_str(self.alloc, "closed")?);
+        };
+        let mut reader = text;
+        let reply = office.load(disk, &mut reader);
+        let mut line = [0; 64];
+        let length = write_reply(0, &reply, &mut line);
+        let mut answer = String::new(self.alloc);
+        push_lines(&mut answer, "; ", line.get(2..length).unwrap_or(&[]))?;
         Ok(answer)
     }
 

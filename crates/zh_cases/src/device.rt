@@ -5,6 +5,9 @@ use zh_disk::{Disk, DiskFault, FuseDisk, MemoryDisk};
 /// The disk of a case, with the fuse that lets it fail.
 pub(crate) type Device = CountingDisk<FuseDisk<MemoryDisk>>;
 
+/// So many calls are never made.
+pub(crate) const NO_FUSE: u64 = u64::MAX;
+
 /// Hands each call on to the disk inside, and counts the calls of each kind.
 #[derive(Drop)]
 pub(crate) struct CountingDisk<D: Disk + Drop> {

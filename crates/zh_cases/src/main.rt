@@ -5,6 +5,7 @@ mod bench;
 mod device;
 mod fault;
 mod files;
+mod image;
 mod lines;
 mod program;
 mod repeat;

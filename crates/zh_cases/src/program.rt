@@ -23,14 +23,14 @@ pub(crate) fn push_lines(answer: &mut String, separator: &str, text: &[u8]) -> R
 /// and those of its standard error.
 pub(crate) fn run_program(rt: &HostRuntime, text: &str) -> Result<String, Fault> {
     let alloc = rt.alloc();
-    let (words, name) = text.split_once('<').unwrap_or((text, ""));
+    let (given, name) = text.split_once('<').unwrap_or((text, ""));
     let mut input = Vec::new(alloc);
     if !name.is_empty() {
         input = fs::read(rt, name.trim())?;
     }
     let mut arguments = Vec::new(alloc);
-    for word in words.split_whitespace() {
-        arguments.push(String::from_str(alloc, word)?)?;
+    for argument in given.split_whitespace() {
+        arguments.push(String::from_str(alloc, argument)?)?;
     }
     let mut reader = input.as_slice();
     let (mut out, mut faults) = (Vec::new(alloc), Vec::new(alloc));

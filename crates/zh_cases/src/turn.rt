@@ -1,6 +1,7 @@
 //! A turn: what is done, and the answer that is expected.
 
-use crate::bench::{Bench, NO_FUSE};
+use crate::bench::Bench;
+use crate::device::NO_FUSE;
 use crate::fault::Fault;
 use crate::files::act_on_files;
 use crate::lines::Line;
@@ -26,6 +27,7 @@ fn act(rt: &HostRuntime, bench: &mut Bench<'_>, text: &str) -> Result<String, Fa
         "hex" => bench.send(&read_bytes(rt.alloc(), rest)?),
         "holds" => bench.holds(rest),
         "calls" => bench.calls(),
+        "csv" => bench.load(&fs::read(rt, rest)?),
         "zhcount" => run_program(rt, rest),
         _ => Ok(String::from_str(rt.alloc(), act_on_disk(rt, bench, word, rest)?)?),
     }

@@ -1,5 +1,5 @@
 //! Allocations that are refused, one in each run: tests/refused_allocations.sh runs these tests once for each that is
-//! made, by `rt try --test --fail-alloc N`. They pass whichever it is, and where none is.
+//! made. They pass whichever it is, and where none is.
 
 use super::fakes::run_rehearsal;
 use std::alloc::Global;
@@ -10,10 +10,9 @@ use zh_disk::MemoryDisk;
 use zh_districts::{Setup, rehearsal};
 use zh_office::{Answer, FormatFault, Office, OpenFault};
 
-/// A reply, made without memory.
-const MEMORY: Answer = Answer::Reply(Reply::Refused(Refusal::Memory));
+const MEMORY: Option<Reply> = Some(Reply::Refused(Refusal::Memory));
 
-const DEVICE: Answer = Answer::Reply(Reply::Refused(Refusal::Device));
+const DEVICE: Option<Reply> = Some(Reply::Refused(Refusal::Device));
 
 /// A disk on which nothing has been returned. What was refused memory is done again.
 fn formatted(alloc: Global, setup: &Setup) -> Result<MemoryDisk, Fail> {
@@ -35,31 +34,39 @@ fn opened<'s>(alloc: Global, setup: &'s Setup, disk: &mut MemoryDisk) -> Result<
     }
 }
 
-/// What an office answers to a line that is sent again where memory was refused to it.
-fn answer(office: &mut Office<'_>, disk: &mut MemoryDisk, line: &[u8]) -> Answer {
+/// The reply to a line, none where it is answered with a sheet.
+fn reply(office: &mut Office<'_>, disk: &mut MemoryDisk, line: &[u8]) -> Option<Reply> {
     match office.line(disk, line) {
-        MEMORY => office.line(disk, line),
-        answer => answer,
+        Answer::Reply(reply) => Some(reply),
+        Answer::Sheet(..) => None,
     }
 }
 
-/// Sees that the return is stored, whatever the office answered to it, and was answered rightly.
+/// What an office replies to a line that is sent again where memory was refused to it.
+fn reply_at_last(office: &mut Office<'_>, disk: &mut MemoryDisk, line: &[u8]) -> Option<Reply> {
+    match reply(office, disk, line) {
+        MEMORY => reply(office, disk, line),
+        reply => reply,
+    }
+}
+
+/// Sees that the return is stored as the command of this number, whatever the office answered to it, and was answered
+/// rightly.
 fn see_return(
     rt: &impl Abort,
     alloc: Global,
     setup: &Setup,
     disk: &mut MemoryDisk,
+    number: u64,
 ) -> Result<(), Fail> {
     let mut office = opened(alloc, setup, disk)?;
-    let first = office.line(disk, b"1 return 1 1 1 525");
+    let first = reply(&mut office, disk, b"1 return 1 1 1 525");
     assert_eq!(rt; office.faulted(), first == DEVICE);
-    assert!(rt; first == DEVICE || first == Answer::Reply(Reply::Stored(1)));
+    assert!(rt; first == DEVICE || first == Some(Reply::Stored(number)));
     let mut office = opened(alloc, setup, disk)?;
-    let again = office.line(disk, b"1 return 1 1 1 525");
-    assert!(rt;
-        again == Answer::Reply(Reply::Same)
-            || (first == DEVICE && again == Answer::Reply(Reply::Stored(1)))
-    );
+    let again = reply(&mut office, disk, b"1 return 1 1 1 525");
+    let stored = Some(Reply::Stored(number));
+    assert!(rt; again == Some(Reply::Same) || (first == DEVICE && again == stored));
     Ok(())
 }
 
@@ -68,7 +75,25 @@ fn a_return_is_stored_once(rt: HostRuntime) -> Result<(), Fail> {
     let alloc = rt.alloc();
     let setup = rehearsal(alloc).or_else(|_| rehearsal(alloc))?;
     let mut disk = formatted(alloc, &setup)?;
-    see_return(&rt, alloc, &setup, &mut disk)
+    see_return(&rt, alloc, &setup, &mut disk, 1)
+}
+
+#[test]
+fn a_return_that_needs_a_switch_is_stored_once(rt: HostRuntime) -> Result<(), Fail> {
+    let alloc = rt.alloc();
+    let setup = rehearsal(alloc).or_else(|_| rehearsal(alloc))?;
+    let mut disk = formatted(alloc, &setup)?;
+    let mut office = opened(alloc, &setup, &mut disk)?;
+    // each command takes one of the 1,024 pages
+    for _ in 0..512 {
+        office.line(&mut disk, b"1 close 1");
+        office.line(&mut disk, b"1 reopen 1");
+    }
+    if office.faulted() {
+        // memory that is refused to a disk is a fault of the device
+        return Ok(());
+    }
+    see_return(&rt, alloc, &setup, &mut disk, 1_025)
 }
 
 #[test]
@@ -86,19 +111,78 @@ fn a_row_without_memory_leaves_the_batch_as_it_was(rt: HostRuntime) -> Result<()
     ];
     office.line(&mut disk, b"1 open");
     for (row, held) in rows {
-        let reply = answer(&mut office, &mut disk, row);
-        assert_eq!(rt; reply, Answer::Reply(Reply::Held(held)));
-        let reply = office.line(&mut disk, row);
-        assert_eq!(rt; reply, Answer::Reply(Reply::Refused(Refusal::Twice)));
+        let first = reply_at_last(&mut office, &mut disk, row);
+        assert_eq!(rt; first, Some(Reply::Held(held)));
+        let again = reply(&mut office, &mut disk, row);
+        assert_eq!(rt; again, Some(Reply::Refused(Refusal::Twice)));
     }
-    let reply = office.line(&mut disk, b"1 commit");
-    assert!(rt; reply == DEVICE || reply == Answer::Reply(Reply::Stored(1)));
+    let stored = reply(&mut office, &mut disk, b"1 commit");
+    assert!(rt; stored == DEVICE || stored == Some(Reply::Stored(1)));
+    Ok(())
+}
+
+#[test]
+fn a_sheet_without_memory_changes_nothing(rt: HostRuntime) -> Result<(), Fail> {
+    let alloc = rt.alloc();
+    let setup = rehearsal(alloc).or_else(|_| rehearsal(alloc))?;
+    let mut disk = formatted(alloc, &setup)?;
+    let mut office = opened(alloc, &setup, &mut disk)?;
+    let returns: [&[u8]; 3] = [
+        b"1 return 1 1 1 525",
+        b"1 return 2 1 1 240",
+        b"1 return 3 1 1 90",
+    ];
+    for line in returns {
+        if reply(&mut office, &mut disk, line) == DEVICE {
+            // memory that is refused to a disk is a fault of the device
+            return Ok(());
+        }
+    }
+    let sheet = reply_at_last(&mut office, &mut disk, b"1 sheet");
+    assert_eq!(rt; sheet, None);
+    assert_eq!(rt; office.count().accepted(), 3);
     Ok(())
 }
 
 /// A buffer with room, so that what is written to it takes no memory.
 fn buffer(alloc: Global) -> Result<Vec<u8>, Fail> {
     Ok(Vec::with_capacity(alloc, 1_000).or_else(|_| Vec::with_capacity(alloc, 1_000))?)
+}
+
+/// What an office answers to a text that is loaded again where memory was refused to it.
+fn load(office: &mut Office<'_>, disk: &mut MemoryDisk, text: &[u8]) -> Reply {
+    let mut reader = text;
+    match office.load(disk, &mut reader) {
+        Reply::Refused(Refusal::Memory) => {
+            let mut reader = text;
+            office.load(disk, &mut reader)
+        }
+        reply => reply,
+    }
+}
+
+/// What is exported, once more where memory was refused.
+fn exported(office: &Office<'_>, alloc: Global) -> Result<Vec<u8>, Fail> {
+    match office.export(buffer(alloc)?) {
+        Ok(text) => Ok(text),
+        Err(_) => Ok(office.export(buffer(alloc)?)?),
+    }
+}
+
+#[test]
+fn a_text_without_memory_leaves_the_count_as_it_was(rt: HostRuntime) -> Result<(), Fail> {
+    let alloc = rt.alloc();
+    let setup = rehearsal(alloc).or_else(|_| rehearsal(alloc))?;
+    let mut disk = formatted(alloc, &setup)?;
+    let mut office = opened(alloc, &setup, &mut disk)?;
+    let text = b"municipality,list,number,votes\n1,1,1,525\n2,1,1,240\n".as_slice();
+    let reply = load(&mut office, &mut disk, text);
+    assert!(rt; reply == Reply::Refused(Refusal::Device) || reply == Reply::Stored(1));
+    let exported = exported(&office, alloc)?;
+    if reply == Reply::Stored(1) {
+        assert_eq!(rt; exported.as_slice(), text);
+    }
+    Ok(())
 }
 
 #[test]
