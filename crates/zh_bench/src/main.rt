@@ -1,6 +1,6 @@
 //! Lower apportionments of made-up elections, to be measured by `make bench`.
 //!
-//! It takes four words: the rows, the columns, the seats of the house, and the number of elections. It
+//! It takes four arguments: the rows, the columns, the seats of the house, and the number of elections. It
 //! prints how many had seats, were tied and were exhausted, and a number that all divisors and seats go
 //! into; `bench/search_bench.c` prints the same, of a search that was written apart from this one.
 #![tactic(auto)]
@@ -18,12 +18,12 @@ use std::process::ExitCode;
 use std::{env, io};
 use tally::Tally;
 
-/// Prints what becomes of the elections that its words ask for.
+/// Prints what becomes of the elections that its arguments ask for.
 fn main(rt: HostRuntime) -> ExitCode {
-    let Ok(words) = words(&rt) else {
+    let Ok(arguments) = arguments(&rt) else {
         return ExitCode::FAILURE;
     };
-    let Some(shape) = Shape::of(&words) else {
+    let Some(shape) = Shape::of(&arguments) else {
         return ExitCode::from(2);
     };
     match tally_of(rt.alloc(), &shape) {
@@ -35,7 +35,7 @@ fn main(rt: HostRuntime) -> ExitCode {
     }
 }
 
-fn words(rt: &HostRuntime) -> io::Result<Vec<String>> {
+fn arguments(rt: &HostRuntime) -> io::Result<Vec<String>> {
     Ok(env::args(rt)?.skip(1).collect(rt.alloc())?)
 }
 

@@ -16,12 +16,12 @@ pub(crate) struct Shape {
 }
 
 impl Shape {
-    /// The shape that four words give: rows, columns, seats of the house, elections.
-    pub(crate) fn of(words: &[String]) -> Option<Self> {
-        let rows = words.first()?.parse().ok()?;
-        let columns = words.get(1)?.parse().ok()?;
-        let house = words.get(2)?.parse().ok()?;
-        let elections = words.get(3)?.parse().ok()?;
+    /// The shape that four arguments ask for: rows, columns, seats of the house, elections.
+    pub(crate) fn of(arguments: &[String]) -> Option<Self> {
+        let rows = arguments.first()?.parse().ok()?;
+        let columns = arguments.get(1)?.parse().ok()?;
+        let house = arguments.get(2)?.parse().ok()?;
+        let elections = arguments.get(3)?.parse().ok()?;
         if !(1..=32).contains(&rows)
             || !(1..=32).contains(&columns)
             || !(1..=400).contains(&house)

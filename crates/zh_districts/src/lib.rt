@@ -14,8 +14,6 @@ mod parts;
 mod setup;
 mod shares;
 mod table;
-#[cfg(test)]
-mod tests;
 mod text;
 
 pub use example::rehearsal;

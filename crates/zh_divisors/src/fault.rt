@@ -4,7 +4,7 @@ ghost use Rattle.zh_divisors.specs.declared.fault.ShareFault.TheVariants.{Memory
 use std::alloc::AllocError;
 use thiserror::Error;
 
-/// Why an apportionment gives no seats: a growth was refused, or a seat is worth as much to two weights,
+/// Why an apportionment gives no seats: an allocation was refused, or a seat is worth as much to two weights,
 /// so that no divisor rounds without a half.
 #[derive(Clone, Copy, Debug, PartialEq, Eq, Error)]
 pub enum ShareFault {

@@ -22,7 +22,5 @@ mod lines;
 mod seats;
 mod shares;
 mod single;
-#[cfg(test)]
-mod tests;
 mod weights;
 mod worth;

@@ -1,7 +1,7 @@
 mod CellLemmas
 mod FilledLemmas
 mod LineLemmas
-mod OneAnswerLemmas
+pub mod OneAnswerLemmas
 mod PlaceLemmas
 mod StateLemmas
 mod SumLemmas

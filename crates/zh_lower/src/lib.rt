@@ -27,8 +27,6 @@ mod question;
 mod quotient;
 mod rounding;
 mod search;
-#[cfg(test)]
-mod tests;
 mod totals;
 mod two_ways;
 mod votes;

@@ -4,5 +4,3 @@
 pub use quorum::participating;
 
 mod quorum;
-#[cfg(test)]
-mod tests;

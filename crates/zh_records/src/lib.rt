@@ -11,8 +11,6 @@ mod row;
 mod row_bytes;
 mod row_checks;
 mod rows;
-#[cfg(test)]
-mod tests;
 
 pub use batch_writer::BatchWriter;
 pub use command::Command;

@@ -11,8 +11,6 @@ mod payload;
 mod places;
 mod step;
 mod table_bytes;
-#[cfg(test)]
-mod tests;
 mod verdict;
 
 pub use count::{Count, MOST_VOTES};

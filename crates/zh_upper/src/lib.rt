@@ -19,5 +19,3 @@ mod number;
 mod participants;
 mod seats;
 mod sums;
-#[cfg(test)]
-mod tests;

@@ -1,13 +1,12 @@
-//! Worked apportionments: which divisors the search shows, and that each answer is given.
-ghost use Rattle.std.specs.Prelude.{◌≡◌, ◌<◌, ◌≤◌, IfOk, IsTrue, length};
-ghost use Rattle.zh_lower.specs.Asked.{asked};
-ghost use Rattle.zh_lower.specs.Question.{AreTotals, EachColumnHasVotes, HasVotes, column_votes};
+//! Apportionments that no election has, by more votes than there may be or by groups of equal votes, and refused memory.
+//! The others are cases of `zh_cases`.
+ghost use Rattle.std.specs.Prelude.{◌≡◌, ◌≤◌, ◌*◌, ◌^◌, ℕ, List, All, IfOk, IsTrue, length};
+ghost use Rattle.zh_lower.specs.Question.{AreTotals, EachColumnHasVotes, question};
 
-use crate::question::Question;
-use crate::{Lower, LowerFault, Matrix, find, is_strict, is_weak};
-use std::alloc::Global;
+use std::alloc::{AllocError, Global};
 use std::process::Abort;
 use std::test::Fail;
+use zh_lower::{Lower, LowerFault, Matrix, find, is_strict, is_weak};
 
 const ONE: u64 = 1_000_000;
 
@@ -15,33 +14,30 @@ const MOST_VOTES: u64 = 100_000_000_000_000;
 
 const MOST_OF_ROW: u64 = 1_000_000_000_000_000_000;
 
-fn column_has_votes(question: &Question<'_>, column: usize) -> bool
-    requires { column < question.now.columns }
-    ensures { IsTrue result → HasVotes question.now.rows (column_votes (asked question.now) column) }
-{
-    for row in 0..question.rows {
-        if question.votes[row * question.columns + column] > 0 {
-            return true;
-        }
-    }
-    false
-}
-
-fn each_column_has_votes(question: &Question<'_>) -> bool
-    ensures { IsTrue result → EachColumnHasVotes (asked question.now) }
-{
-    for column in 0..question.columns {
-        if !column_has_votes(question, column) {
-            return false;
-        }
-    }
-    true
-}
-
 fn are_totals(lines: usize, totals: &[u32]) -> bool
     ensures { IsTrue result → AreTotals lines totals.now }
 {
     totals.len() == lines && totals.iter().all(|t| (1..=400).contains(t))
+}
+
+/// A matrix of votes, at least one in each cell.
+fn matrix_of(
+    alloc: Global,
+    rows: usize,
+    columns: usize,
+    votes: &[u64],
+) -> Result<Matrix, AllocError>
+    requires some_row { 1 ≤ rows }
+    requires few_rows { rows ≤ 32 }
+    requires some_column { 1 ≤ columns }
+    requires few_columns { columns ≤ 32 }
+    requires each_cell { length votes.now ≡ rows * columns }
+    requires most { All (λ v. v ≤ 10 ^ 14) votes.now }
+    requires least { All (λ v. 1 ≤ v) votes.now }
+    ensures lines { IfOk result (λ matrix. (matrix.rows ≡ rows) × (matrix.columns ≡ columns)) }
+    ensures votes { IfOk result (λ matrix. (of_rows of_columns : List ℕ) → EachColumnHasVotes (question matrix of_rows of_columns)) }
+{
+    Matrix::new(alloc, rows, columns, votes)
 }
 
 /// The answer to votes and totals that are within the limits.
@@ -62,10 +58,8 @@ fn answer(
     assert!(rt; votes.iter().all(|v| *v <= MOST_VOTES));
     assert!(rt; are_totals(rows, row_totals));
     assert!(rt; are_totals(columns, column_totals));
-    let matrix = Matrix::new(alloc, rows, columns, votes)?;
-    if !each_column_has_votes(&matrix.question(row_totals, column_totals)) {
-        return Err(LowerFault::NoVotes(0));
-    }
+    assert!(rt; votes.iter().all(|v| *v >= 1));
+    let matrix = matrix_of(alloc, rows, columns, votes)?;
     find(alloc, &matrix, row_totals, column_totals)
 }
 
@@ -108,35 +102,7 @@ fn has_divisors(lower: &Lower, row_divisors: &[u64], column_divisors: &[u64]) ->
 #[test]
 fn gives_seats_with_their_divisors(rt: HostRuntime) -> Result<(), Fail> {
     // votes, totals of rows and of columns, seats, and the divisors of rows and of columns in millionths
-    let rows: [(&[u64], &[u32], &[u32], &[u32], &[u64], &[u64]); 6] = [
-        // right at the start
-        (
-            &[525, 300, 175, 240, 330, 30, 90, 60, 50],
-            &[5, 3, 2],
-            &[5, 4, 1],
-            &[3, 1, 1, 1, 2, 0, 1, 1, 0],
-            &[205 * ONE, 190 * ONE, 110 * ONE],
-            &[ONE, ONE, ONE],
-        ),
-        (&[300], &[3], &[3], &[3], &[102_857_142], &[ONE]),
-        // the rows are right at the start, the columns after a half-step
-        (
-            &[60, 50, 70, 40],
-            &[1, 1],
-            &[1, 1],
-            &[0, 1, 1, 0],
-            &[110 * ONE, 110 * ONE],
-            &[1_181_818, 818_181],
-        ),
-        // two halves that can be rounded in one way only; both columns have their totals and hold a half
-        (
-            &[100, 100, 300, 100],
-            &[1, 1],
-            &[1, 1],
-            &[0, 1, 1, 0],
-            &[200 * ONE, 400 * ONE],
-            &[1_250_000, 750_000],
-        ),
+    let rows: [(&[u64], &[u32], &[u32], &[u32], &[u64], &[u64]); 2] = [
         // a row's divisor is held at the most, and its quotient at the start is 100
         (
             &[MOST_VOTES],
@@ -174,13 +140,7 @@ fn gives_seats_with_their_divisors(rt: HostRuntime) -> Result<(), Fail> {
 
 #[test]
 fn gives_no_seats(rt: HostRuntime) {
-    let rows: [(&[u64], &[u32], &[u32], LowerFault); 7] = [
-        (
-            &[100, 100, 100, 100],
-            &[1, 1],
-            &[1, 1],
-            LowerFault::Tied(1, 1),
-        ),
+    let rows: [(&[u64], &[u32], &[u32], LowerFault); 2] = [
         // the first half is named, which is 1 in both matrices
         (
             &[1, 1, 1, 1, 1, 1],
@@ -188,23 +148,8 @@ fn gives_no_seats(rt: HostRuntime) {
             &[2, 1, 1],
             LowerFault::Tied(1, 1),
         ),
-        (
-            &[3, 7, 4, 4, 9, 9],
-            &[3, 1, 1],
-            &[2, 3],
-            LowerFault::Tied(2, 1),
-        ),
-        (
-            &[4, 8, 3, 7, 8, 8, 4, 1, 1],
-            &[1, 1, 3],
-            &[2, 2, 1],
-            LowerFault::Tied(2, 2),
-        ),
-        // each row has votes in one column alone, and the totals are the other way round
-        (&[100, 0, 0, 100], &[2, 1], &[1, 2], LowerFault::Exhausted),
         // the mean for the second column is 0, and held at 1
         (&[MOST_VOTES, 1], &[2], &[1, 1], LowerFault::Exhausted),
-        (&[0, 100], &[1, 1], &[2], LowerFault::NoVotes(1)),
     ];
     for (votes, row_totals, column_totals, fault) in rows {
         let lower = answer(&rt, rt.alloc(), votes, row_totals, column_totals);
@@ -225,7 +170,7 @@ fn halves_stand_in_weak_matrices_alone(rt: HostRuntime) -> Result<(), Fail> {
     Ok(())
 }
 
-// It passes whichever allocation is refused: `rt try --test --fail-alloc N`.
+// It passes whichever allocation is refused: tests/refused_allocations.sh.
 #[test]
 fn a_refused_allocation_leaves_the_next_call(rt: HostRuntime) -> Result<(), Fail> {
     let lower = match answer(&rt, rt.alloc(), &[300], &[3], &[3]) {

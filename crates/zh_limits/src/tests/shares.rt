@@ -1,7 +1,9 @@
-use crate::{ShareFault, Shares, Weights, apportion, line};
+//! The largest weights, and lines. Worked seats with their keys are cases of `zh_cases`: they stand on each sheet.
+
 use std::alloc::Global;
 use std::process::Abort;
 use std::test::Fail;
+use zh_divisors::{ShareFault, Shares, Weights, apportion, line};
 
 /// The shares of weights that are within the limits.
 fn shares_of(
@@ -18,30 +20,21 @@ fn shares_of(
 }
 
 #[test]
-fn gives_seats_with_their_divisor(rt: HostRuntime) -> Result<(), Fail> {
-    let rows: [(&[u64], u32, &[u32], u64, u32); 7] = [
-        (&[3000, 1000], 4, &[3, 1], 6000, 6),
-        (&[5000, 3000, 2000], 10, &[5, 3, 2], 10000, 10),
-        (&[230, 200, 70], 10, &[5, 4, 1], 300, 6),
-        (&[1000, 1000], 2, &[1, 1], 2000, 2),
-        (&[130, 90], 2, &[1, 1], 220, 2),
-        (&[900], 3, &[3], 1800, 6),
-        (&[100], 3, &[3], 200, 6),
+fn the_largest_weights_are_apportioned(rt: HostRuntime) -> Result<(), Fail> {
+    let mut numbers = [100_000_000_000_000u64; 32];
+    let shares = shares_of(&rt, rt.alloc(), &numbers, 400);
+    assert_eq!(rt; shares.err(), Some(ShareFault::Tied));
+    for (place, number) in numbers.iter_mut().enumerate() {
+        *number = number.saturating_sub(place as u64);
+    }
+    let shares = shares_of(&rt, rt.alloc(), &numbers, 400)?;
+    let seats: [u32; 32] = [
+        13, 13, 13, 13, 13, 13, 13, 13, 13, 13, 13, 13, 13, 13, 13, 13, 12, 12, 12, 12, 12, 12, 12,
+        12, 12, 12, 12, 12, 12, 12, 12, 12,
     ];
-    for (numbers, house, seats, num, den) in rows {
-        let shares = shares_of(&rt, rt.alloc(), numbers, house)?;
-        assert_eq!(rt; shares.seats(), seats, "of {numbers:?}");
-        assert_eq!(rt; (shares.num(), shares.den()), (num, den), "of {numbers:?}");
-    }
+    assert_eq!(rt; shares.seats(), seats.as_slice());
+    assert_eq!(rt; (shares.num(), shares.den()), (199_999_999_999_969, 25));
     Ok(())
-}
-
-#[test]
-fn ties_give_no_seats(rt: HostRuntime) {
-    for (numbers, house) in [(&[3000u64, 1000][..], 2), (&[225, 200, 75], 10)] {
-        let shares = shares_of(&rt, rt.alloc(), numbers, house);
-        assert_eq!(rt; shares.err(), Some(ShareFault::Tied), "of {numbers:?}");
-    }
 }
 
 const ONE: u64 = 1_000_000;

@@ -1,0 +1,62 @@
+//! Elections for the tests.
+use std::alloc::Global;
+use std::process::Abort;
+use std::test::Fail;
+use zh_districts::{Setup, read_setup};
+use zh_returns::{Command, Count, Row, Verdict};
+use zh_totals::Totals;
+
+/// A set-up in which each constituency has one municipality, and all groups stand everywhere.
+pub(crate) fn setup_of(
+    alloc: Global,
+    house: u32,
+    persons: &[u32],
+    groups: u32,
+) -> Result<Setup, Fail> {
+    let mut text = format!(in alloc; "version = 1\nhouse = {house}\n")?;
+    let mut stands = String::new(alloc);
+    let mut number = 0u32;
+    for count in persons {
+        number = number.saturating_add(1);
+        text.push_str(format!(in alloc;
+            "[[constituency]]\nname = \"{number}\"\npersons = {count}\n\
+             [[municipality]]\nname = \"{number}\"\nconstituency = {number}\n"
+        )?
+        .as_str())?;
+        stands.push_str(format!(in alloc; "{number},")?.as_str())?;
+    }
+    for group in 0..groups {
+        text.push_str(format!(in alloc;
+            "[[group]]\nname = \"{group}\"\nstands = [{stands}]\n"
+        )?.as_str())?;
+    }
+    Ok(read_setup(alloc, text.as_bytes())?)
+}
+
+/// The totals after one return for each list, constituency by constituency.
+pub(crate) fn totals_of<'s>(
+    rt: &impl Abort,
+    alloc: Global,
+    setup: &'s Setup,
+    votes: &[&[u32]],
+) -> Result<Totals<'s>, Fail> {
+    let mut count = Count::new(alloc, setup)?;
+    let mut municipality = 0u32;
+    for lists in votes {
+        municipality = municipality.saturating_add(1);
+        let mut list = 0u32;
+        for votes in *lists {
+            list = list.saturating_add(1);
+            let command = Command::Return(Row {
+                municipality,
+                list,
+                number: 1,
+                votes: *votes,
+            });
+            assert!(rt; count.accepted() < 2000);
+            assert_eq!(rt; count.judge(&command), Verdict::Accept);
+            count.apply(&command);
+        }
+    }
+    Ok(Totals::of(alloc, &count)?)
+}
