@@ -1,11 +1,16 @@
 # Thin names for the commands of the README.
-.PHONY: run test cases refused bench fmt
+.PHONY: run example test cases refused bench fmt
 
 run:
 	@cd crates/zhcount && rt run
 
+example:
+	@cd crates/zhcount && rt run < /dev/null > /dev/null
+	@examples/zurich2006/run
+
 test:
 	rt ci
+	@tests/refused_allocations.sh
 	@tests/real_file.sh
 
 cases:

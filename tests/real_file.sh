@@ -1,6 +1,6 @@
 #!/usr/bin/env bash
-# Tests of the program on real files: closed streams, two programs on a disk, a full volume, kill -9,
-# and files that are no disks. No proof speaks of these, since they are the operating system's part.
+# Tests of the program on real files: its arguments, closed streams, two programs on a disk, a full volume,
+# kill -9, and files that are no disks. No proof speaks of these, since they are the operating system's part.
 #
 # ZHCOUNT is the program's path; if it is not set, crates/zhcount/out/zhcount, which is built if it is not
 # there. SEED gives the random moments. None of this cuts the power: a sync that does nothing passes here.
@@ -23,6 +23,7 @@ fi
 RANDOM=${SEED:=20270404}
 echo "program $program, seed $SEED"
 rehearsal=$(realpath crates/zh_districts/data/rehearsal.toml)
+election=$(realpath examples/zurich2006)
 setup=$rehearsal
 folder=$(mktemp -d) || exit 1
 trap 'rm -rf "$folder"' EXIT
@@ -139,6 +140,17 @@ a_night() {
     same "the folder" d "$(ls night)"
 }
 
+# The election of examples/zurich2006, and its sheet.
+known_election() {
+    local setup=$election/setup.toml
+    new_disk election
+    run election < "$election/lines" > replies 2> faults
+    same "the status of run" 0 $?
+    same "the faults of run" "" "$(cat faults)"
+    sed -n '/ sheet /,$p' replies > found
+    same_bytes "$election/sheet" found
+}
+
 in_use() {
     new_disk d
     cp d before
@@ -170,6 +182,23 @@ blank_and_damaged() {
     cp d before
     ends 1 "disk damaged" "" run d < /dev/null
     same_bytes d before
+}
+
+# ---- arguments ----
+
+no_arguments() {
+    echo "1 show 1 1" > lines
+    ends 0 "rehearsal, nothing is kept" "1 none" timeout 20 "$program" < lines
+}
+
+refused_arguments() {
+    timeout 20 "$program" run --setup "$setup" > replies 2> faults < /dev/null
+    same "the status without a disk" 2 $?
+    same "the replies" "" "$(cat replies)"
+    same "the fault" "error: the following required arguments were not provided:" "$(head -n 1 faults)"
+    timeout 20 "$program" run --setup "$setup" --disk $'\xff' > replies 2> faults < /dev/null
+    same "the status of an argument that is not UTF-8" 2 $?
+    same "the fault" "error: an argument is not UTF-8" "$(cat faults)"
 }
 
 # ---- closed streams ----
@@ -288,7 +317,7 @@ second_program() {
     rm -f d link
 }
 
-# One of two programs: 20 returns of a municipality, from the number behind the held one on.
+# One of two programs: 20 returns of a municipality, from the number after the held one on.
 one_of_two() {
     returns "$1" $(($2 + 1)) $(($2 + 20)) > "lines.$1"
     run d < "lines.$1" > "replies.$1" 2> "faults.$1" 9<&-
@@ -324,7 +353,7 @@ two_at_once() {
 
 # ---- a full volume ----
 
-# limited KIBIBYTES COMMAND..: no file grows behind so many, and a write there fails.
+# limited KIBIBYTES COMMAND..: no file grows beyond so many, and a write there fails.
 limited() {
     (
         trap '' XFSZ
@@ -345,6 +374,23 @@ full_run() {
     note="$pages returns stored, the next refused"
 }
 
+# The disk fails under a return, and later the output, where its file may not grow either: `write` is reported.
+full_disk_and_output() {
+    local pages=$(((340 * 1024 - JOURNAL) / PAGE))
+    new_disk d
+    {
+        returns 1 1 $((pages + 1))
+        yes "1 show 1 1" | head -n 20000
+    } > lines
+    limited 340 run d < lines > replies 2> faults
+    same "the status" 1 $?
+    same "the fault" "zhcount: write" "$(cat faults)"
+    same "the length of the replies" $((340 * 1024)) "$(stat -c %s replies)"
+    same "the replies at the fault of the disk" $'1 refused device\n1 refused reopen-disk' \
+        "$(sed -n "$((pages + 1)),$((pages + 2))p" replies)"
+    serves d "1 show 1 1" "$(shows $pages)"
+}
+
 full_format() {
     rm -f d
     ends 1 "disk device" "" limited 500 format d
@@ -362,6 +408,35 @@ full_format() {
 new_disk_over() {
     ends 0 "" "" format "$1"
     serves "$1" $'1 show 1 1\n1 return 1 1 1 7' $'1 none\n1 stored 1'
+}
+
+# ---- little memory ----
+
+# In as much memory as the program can be loaded in, but not run, the fault is memory, and the disk is as it was.
+little_memory() {
+    local kibibytes status fault refused=0
+    new_disk d
+    cp d before
+    echo "1 show 1 1" > lines
+    for ((kibibytes = 1000; kibibytes < 20000; kibibytes += 100)); do
+        (
+            ulimit -v $kibibytes
+            exec "$program" run --setup "$setup" --disk d
+        ) < lines > replies 2> faults
+        status=$?
+        case $status in
+            0) break ;;
+            1) refused=$((refused + 1)) fault=$(cat faults) ;;
+            127) continue ;; # it could not be loaded
+            *) fault="status $status" ;;
+        esac
+        same "the fault in $kibibytes KiB" "zhcount: memory" "$fault"
+        same "the replies" "" "$(cat replies)"
+    done
+    same "the reply" "1 none" "$(cat replies)"
+    that "runs without memory" "refused > 0"
+    same_bytes d before
+    note="$refused runs were refused memory"
 }
 
 # ---- kill -9 ----
@@ -431,6 +506,39 @@ killed_runs() {
     done
     that "kills between two answers" "between >= 5"
     note="$between of them between two answers, $all returns acknowledged, moments below $span us"
+}
+
+# A journal has 1,024 pages, and a return takes one: after 1,024 of them the next goes into the other slot.
+many_returns() {
+    new_disk d
+    returns 1 1 3000 > lines
+    ends 0 "" "$(seq -f '1 stored %.0f' 3000)" run d < lines
+    serves d $'1 show 1 1\n1 return 1 1 3001 5' "$(shows 3000)"$'\n1 stored 3001'
+    same "the length of the disk" $DISK "$(stat -c %s d)"
+}
+
+# Most of the time to the next answers is that of the switch.
+killed_switches() {
+    local kill begin span answered within=0
+    new_disk d
+    returns 1 1 1024 > lines
+    run d < lines > replies
+    cp d used
+    returns 1 1025 1030 > lines
+    begin=$(now)
+    run d < lines > replies
+    span=$(($(now) - begin))
+    for ((kill = 0; kill < 40; kill++)); do
+        cp used d
+        returns 1 1025 1030 > lines
+        killed start "$span" run_to_kill
+        answered=$(grep -c stored replies)
+        same "the replies" "$(seq -f '1 stored %.0f' 1025 $((1024 + answered)))" "$(cat replies)"
+        [ "$answered" -gt 0 ] || within=$((within + 1))
+        held_one_of $((1024 + answered)) $((1025 + answered))
+    done
+    that "kills before the first answer" "within >= 5"
+    note="$within of them before the first answer, moments below $span us"
 }
 
 # Batches of a return for each list in 10 municipalities, with these replacement numbers.
@@ -589,6 +697,20 @@ beside() {
     serves kinds/d "1 show 1 1" "$(shows 1)"
 }
 
+# Beside a name there has to be one with -journal.
+long_name() {
+    local name
+    rm -rf kinds
+    mkdir kinds
+    name=$(printf 'x%.0s' {1..247})
+    new_disk "kinds/$name"
+    serves "kinds/$name" "$(returns 1 1 1)" "1 stored 1"
+    ends 1 "disk device" "" format "kinds/x$name"
+    same "the length of what format left" 0 "$(stat -c %s "kinds/x$name")"
+    truncate -s $DISK "kinds/x$name"
+    refused "disk device" "kinds/x$name"
+}
+
 missing_file() {
     rm -rf kinds
     mkdir kinds
@@ -599,9 +721,12 @@ missing_file() {
 # ---- all ----
 
 check "format and run make a disk, and nothing beside it" a_night
+check "the sheet of an election whose seats are known" known_election
 check "format leaves a disk that is in use" in_use
 check "a disk of another set-up is refused" another_setup
 check "a blank disk and a damaged one are refused" blank_and_damaged
+check "without arguments: a rehearsal" no_arguments
+check "arguments that ask for nothing: status 2" refused_arguments
 check "standard output closed: the fault is write, and the disk is whole" closed_output
 check "standard output full: the fault is write, and the disk is whole" full_output
 check "standard input closed: the fault is read, and the disk is untouched" closed_input
@@ -611,8 +736,12 @@ check "format makes a disk with streams closed" closed_format
 check "a second program ends with disk busy, and the first goes on" second_program
 check "two programs at once, 20 times" two_at_once
 check "run on a full volume keeps what it acknowledged" full_run
+check "the disk full, then the output: the fault is write" full_disk_and_output
 check "format on a full volume can be done again" full_format
+check "too little memory: the fault is memory, and the disk is untouched" little_memory
 check "kill -9 of run, 50 times" killed_runs
+check "3,000 returns on one disk" many_returns
+check "kill -9 around a switch, 40 times" killed_switches
 check "kill -9 within batches, 10 times" killed_batches
 check "kill -9 of format, 20 times" killed_formats
 for kind in folder FIFO device 'link to nothing' 'file in no folder'; do
@@ -624,6 +753,7 @@ check "refused: a file of another length" another_length
 check "an empty file: format takes it, run does not" empty_file
 check "a missing file: run makes none" missing_file
 check "files beside the disk" beside
+check "a name of 247 bytes is a disk, a longer one is not" long_name
 
 echo "$passed passed, $failed failed"
 [ "$failed" -eq 0 ]

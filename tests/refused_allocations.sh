@@ -1,44 +1,61 @@
-#!/bin/sh
-# Refuses each allocation of the tests in crates/zh_rows/src/tests/refused_allocations.rt in turn, and sees that these
-# tests pass all the same. Its last line is 'N passed, M failed', with as many as there are allocations.
+#!/usr/bin/env bash
+# Refuses each allocation of the tests below in turn, and sees that they pass all the same: memory is reported as refused,
+# nothing has changed, and the next call works. It runs the tests that rt ci (or rt test) has built, and takes seconds.
 #
-# Each run builds the crates anew, which takes one to two minutes, and there are some 170 allocations: it takes hours.
-# JOBS=4 makes four runs side by side; FIRST=30 begins at the 30th allocation.
-cd "$(dirname "$0")/../crates/zh_rows" || exit 2
-jobs=${JOBS:-1}
-number=${FIRST:-1}
-logs=$(mktemp -d) || exit 2
-trap 'rm -rf "$logs"' EXIT
-passed=0
-failed=0
-reached=yes
+# In some tests the set-up, which comes first, does not stand a refusal: the first runs may fail, until one passes.
+# The last line is 'N passed, M failed', with as many as there are allocations after the set-up.
+set -u
+cd "$(dirname "$0")/.." || exit 2
 
-# The tests that stand where memory is refused.
-tolerant() {
-    grep '^test tests::refused_allocations::' "$1"
-}
+tests="
+zh_disk tests::a_refused_allocation_changes_nothing
+zh_limits tests::refused_memory::a_set_up_is_read
+zh_limits tests::refused_memory::totals_are_made
+zh_limits tests::refused_memory::groups_take_part
+zh_limits tests::refused_memory::voters_are_counted
+zh_limits tests::refused_memory::groups_get_seats
+zh_limits tests::matrices::a_refused_allocation_leaves_the_next_call
+zh_rows tests::refused_allocations::a_row_without_memory_leaves_the_batch_as_it_was
+zh_rows tests::refused_allocations::a_sheet_without_memory_changes_nothing
+zh_rows tests::refused_allocations::a_return_is_stored_once
+zh_rows tests::refused_allocations::a_return_that_needs_a_switch_is_stored_once
+zh_rows tests::refused_allocations::a_text_without_memory_leaves_the_count_as_it_was
+zh_rows tests::refused_allocations::a_rehearsal_without_memory_says_so
+"
 
-while [ "$reached" = yes ]; do
-    last=$((number + jobs - 1))
-    for it in $(seq "$number" "$last"); do
-        rt try --test --fail-alloc "$it" > "$logs/$it" 2>&1 &
-    done
-    wait
-    for it in $(seq "$number" "$last"); do
-        # The other tests fail wherever an allocation is refused to them. Where all pass, there is no such allocation.
-        if grep -q '^test result: ok' "$logs/$it"; then
-            reached=no
-            break
-        fi
-        if [ "$(tolerant "$logs/$it" | grep -c ' ok$')" -eq 3 ] && ! tolerant "$logs/$it" | grep -q FAILED; then
-            passed=$((passed + 1))
+folder=$(mktemp -d) || exit 2
+trap 'rm -rf "$folder"' EXIT
+cc -shared -fPIC -O1 -o "$folder/refuse.so" tests/refuse.c -ldl || exit 2
+passed=0 failed=0
+
+# refuse CRATE TEST: runs the test once for each allocation that it makes.
+refuse() {
+    local program=crates/$1/out/$1_tests number=0 set_up=0 held=0
+    [ -x "$program" ] || (cd "crates/$1" && rt test > /dev/null)
+    while number=$((number + 1)); do
+        REFUSE=$number LD_PRELOAD=$folder/refuse.so "$program" "$2" > "$folder/out" 2>&1 3> "$folder/reached"
+        status=$?
+        [ -s "$folder/reached" ] || break
+        if [ "$status" -eq 0 ]; then
+            held=$((held + 1))
+        elif [ "$held" -eq 0 ]; then
+            set_up=$number
         else
             failed=$((failed + 1))
-            echo "allocation $it:"
-            cat "$logs/$it"
+            echo "FAIL  $1 $2, allocation $number: $(tail -1 "$folder/out")"
         fi
     done
-    number=$((last + 1))
-done
+    # without a refusal the test has to pass, and one at least has to be held
+    if [ "$status" -ne 0 ] || [ "$held" -eq 0 ]; then
+        failed=$((failed + 1))
+        echo "FAIL  $1 $2: status $status, $held allocations held"
+    fi
+    passed=$((passed + held))
+    echo "$1 $2: $held allocations, after $set_up of its set-up"
+}
+
+while read -r crate test; do
+    [ -z "$crate" ] || refuse "$crate" "$test"
+done <<< "$tests"
 echo "$passed passed, $failed failed"
 [ "$failed" -eq 0 ]
