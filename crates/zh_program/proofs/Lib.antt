@@ -1,3 +1,1 @@
-pub mod ArgumentLemmas
-pub mod CsvLemmas
 pub mod EndingLemmas

@@ -1,4 +1,1 @@
-pub mod Arguments
-pub mod Csv
-pub mod Faults
 pub mod Program

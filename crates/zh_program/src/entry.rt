@@ -3,21 +3,20 @@
 ghost use Rattle.std.specs.Prelude.{◌≡◌, ◌≢◌, ◌≤◌, ◌⊎◌, [], Err, MatchResult, Ok, map};
 ghost use Rattle.std.specs.String.{string_bytes};
 ghost use Rattle.clap.specs.Words.{kind_of};
-ghost use Rattle.zh_program.specs.Arguments.{Asks, refusals};
-ghost use Rattle.zh_program.specs.Program.{Does, UnlessRehearsal};
-ghost use Rattle.zh_program.specs.declared.fault.ProgramFault.{ProgramFault as Fault};
-ghost use Rattle.zh_program.specs.declared.arguments.Task.{Task};
+ghost use Rattle.zh_arguments.specs.Arguments.{Asks, refusals};
+ghost use Rattle.zh_tasks.specs.Tasks.{Does};
+ghost use Rattle.zh_program.specs.Program.{UnlessRehearsal};
+ghost use Rattle.zh_tasks.specs.declared.fault.ProgramFault.{ProgramFault as Fault};
+ghost use Rattle.zh_arguments.specs.declared.arguments.Task.{Task};
 
-use crate::arguments::{Task, read_arguments};
-use crate::csv_fault::LoadFault;
-use crate::fault::ProgramFault;
-use crate::tasks::carry_out;
 use clap::Error;
 use clap::error::ErrorKind;
 use std::alloc::Global;
 use std::io::{Read, Write};
+use zh_arguments::{Task, read_arguments};
 use zh_disk::Disk;
 use zh_file::{FileDisk, Start};
+use zh_tasks::{LoadFault, ProgramFault, carry_out};
 
 /// The status of a task that ended so. A fault is reported, but of a file that was refused the reply says enough.
 fn end<F: Write>(ended: Result<(), ProgramFault>, faults: &mut F) -> u8
@@ -91,6 +90,3 @@ pub fn program<I: Read, O: Write, F: Write, S: Start>(
         Err(refusal) => refuse(&refusal, faults),
     }
 }
-
-#[cfg(test)]
-mod tests;

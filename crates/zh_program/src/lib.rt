@@ -1,11 +1,6 @@
-//! The program `zhcount`: its arguments, its tasks, and how they end.
+//! The program `zhcount`: it reads its arguments, carries out its task, and says how it ended.
 #![tactic(auto)]
 
-mod arguments;
-mod csv_fault;
-mod csv_tasks;
 mod entry;
-mod fault;
-mod tasks;
 
 pub use entry::program;

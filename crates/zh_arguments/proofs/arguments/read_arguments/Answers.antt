@@ -1,0 +1,21 @@
+use Rattle.std.proofs.Common.{rules, map, List, Option, subst, ◌∙◌}
+use Rattle.std.specs.String.{string_bytes}
+use Rattle.clap.specs.Words.{app_of, found_of, rows_of, subcommand_rows_of, Row, Text}
+use Rattle.zh_arguments.specs.Arguments.{Names}
+use Rattle.zh_arguments.proofs.ArgumentLemmas.{refused, taken, command_read, named, parts}
+use Rattle.zh_arguments.proofs.arguments.read_arguments.Goals as goal
+
+pub returns-in_err-matches : goal.returns-in_err-matches
+returns-in_err-matches c =
+    let has = refused (app_of c.in_ok-zhcount.field-0) (map string_bytes c.args.arguments.now) c.in_err-matches.field-0.0 c.in_ok-zhcount.ensures c.in_err-matches.ensures.kinds in
+    search rules
+
+pub returns : goal.returns
+returns c =
+    let arguments = map string_bytes c.args.arguments.now in
+    let app = app_of c.in_ok-zhcount.field-0 in
+    let read = command_read app arguments c.in_ok-matches.matches c.in_ok-zhcount.ensures c.in_ok-matches.ensures.matches in
+    let given = parts (λ p. p.0.now) (λ p. rows_of (found_of p.1.now)) c.subcommand.result (subcommand_rows_of c.in_ok-matches.matches) (c.subcommand.ensures.name ∙ named c.in_ok-matches.matches) c.subcommand.ensures.rows in (
+      taken app arguments c.in_ok-zhcount.ensures c.in_ok-matches.ensures.kinds,
+      subst (λ (o : Option (Text × List Row)). Names o c.task_for.result) (given ∙ read) c.task_for.ensures,
+    )

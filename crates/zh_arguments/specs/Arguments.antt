@@ -1,0 +1,62 @@
+-- The arguments of the program, and what they ask for. The program's name is not among them.
+use Rattle.std.specs.Prelude.{◌≡◌, ◌≢◌, List, [], Option, Some, None, Result, MatchResult, true, unwrap_or, codes}
+use Rattle.clap.specs.Words.{App, Rule, Row, Text, first_of, new_app, new_rule, subcommand_of, with_rule, with_subcommand}
+use Rattle.clap.specs.Kinds.{Kinds, HasKind}
+use Rattle.clap.specs.Faults.{fault_of}
+use Rattle.clap.specs.declared.error.Error.{Error}
+use Rattle.zh_arguments.specs.declared.arguments.Paths.{Paths}
+use Rattle.zh_arguments.specs.declared.arguments.Task.{Task}
+use Rattle.zh_arguments.specs.declared.arguments.Task.TheVariants.{Rehearse, Format, Run, Load, Export}
+
+-- a path that has to be given after `--name`
+abbrev pub path_rule : Text → Rule
+path_rule name = record (new_rule name) { long = Some name; required = true; value_names = 1 }
+
+-- a command that needs a set-up and a disk
+abbrev pub command_for : Text → App
+command_for name = with_rule (with_rule (new_app name) (path_rule (codes "setup"))) (path_rule (codes "disk"))
+
+-- the command that needs a CSV file too
+abbrev pub load_command : App
+load_command = with_rule (command_for (codes "load")) (path_rule (codes "csv"))
+
+-- the program with the commands that make a disk and serve on it
+abbrev pub with_lines : App
+with_lines = with_subcommand (with_subcommand (record { top = record (new_app (codes "zhcount")).top { no_binary_name = true }; subs = [] })
+    (command_for (codes "format")).top) (command_for (codes "run")).top
+
+-- the arguments that the program takes: a command or none; the program's name is not among them
+abbrev pub zhcount : App
+zhcount = with_subcommand (with_subcommand with_lines load_command.top) (command_for (codes "export")).top
+
+-- what clap refuses these arguments for, a call for help among it; nothing where it takes them
+unfoldable pub refusals : List Text → Kinds
+refusals arguments = fault_of zhcount arguments
+
+-- the command that clap reads in these arguments, with what was given to it
+unfoldable pub command_in : List Text → Option (Text × List Row)
+command_in arguments = subcommand_of zhcount arguments
+
+-- the path that was given after `--name`; clap sees to it that there is one
+abbrev pub path_in : Text → List Row → Text
+path_in name rows = unwrap_or (first_of name rows) []
+
+abbrev pub ArePaths : List Row → Paths → Type 0
+ArePaths rows paths = (paths.setup.now ≡ path_in (codes "setup") rows) × (paths.disk.now ≡ path_in (codes "disk") rows)
+
+-- the task that a command asks for, or no command
+abbrev pub Names : Option (Text × List Row) → Task → Type 0
+Names None task = task ≡ Rehearse
+Names (Some given) Rehearse = (given.0 ≢ codes "format") × (given.0 ≢ codes "run") × (given.0 ≢ codes "load") × (given.0 ≢ codes "export")
+Names (Some given) (Format paths) = (given.0 ≡ codes "format") × ArePaths given.1 paths
+Names (Some given) (Run paths) = (given.0 ≡ codes "run") × ArePaths given.1 paths
+Names (Some given) (Load paths csv) = (given.0 ≡ codes "load") × ArePaths given.1 paths × (csv.now ≡ path_in (codes "csv") given.1)
+Names (Some given) (Export paths) = (given.0 ≡ codes "export") × ArePaths given.1 paths
+
+-- clap takes the arguments, and they ask for this task
+abbrev pub Asks : List Text → Task → Type 0
+Asks arguments task = (refusals arguments ≡ []) × Names (command_in arguments) task
+
+-- the task for which clap takes the arguments; an error is refused memory, or what clap refuses them for
+abbrev pub ReadsArguments : List Text → Result Task Error → Type 0
+ReadsArguments arguments result = MatchResult result (Asks arguments) (HasKind (refusals arguments))

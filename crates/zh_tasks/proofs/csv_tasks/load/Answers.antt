@@ -1,0 +1,22 @@
+use Rattle.std.proofs.Common.{rules, ◌≡◌, Ok, Err}
+use Rattle.zh_tasks.specs.declared.fault.ProgramFault.TheVariants as faults
+use Rattle.zh_tasks.proofs.CsvLemmas.{loads_on_file}
+use Rattle.zh_tasks.proofs.csv_tasks.load.Goals as goal
+
+pub returns-in_err-done : goal.returns-in_err-done
+returns-in_err-done g c =
+    let is : c.from_residual-in_err-done.result ≡ Err (faults.Load c.in_err-done.field-0.0) = search rules in
+    let ended : c.load_on-done.result ≡ Err c.in_err-done.field-0.0 = search rules in
+    rw is (
+      c.load_on-done.new.disk,
+      c.hand_over.ensures,
+      loads_on_file _ _ _ _ c.in_ok-setup.setup _ _ _ _ _ c.in_ok-setup.ensures.limits c.in_ok-disk.ensures.begins ended c.load_on-done.ensures.loaded,
+    )
+
+pub returns : goal.returns
+returns g c =
+    let ended : c.load_on-done.result ≡ Ok tt = search rules in (
+      c.load_on-done.new.disk,
+      c.hand_over.ensures,
+      loads_on_file _ _ _ _ c.in_ok-setup.setup _ _ _ _ _ c.in_ok-setup.ensures.limits c.in_ok-disk.ensures.begins ended c.load_on-done.ensures.loaded,
+    )

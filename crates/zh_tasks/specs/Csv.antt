@@ -1,0 +1,70 @@
+-- What the loading of a CSV file and the writing of one leave.
+use Rattle.std.specs.Prelude.{◌≡◌, ◌≢◌, ◌<◌, ℕ, Bool, true, false, List, [], ◌∷◌, ◌++◌, length, take, Option, Some, Result, Ok, Err}
+use Rattle.std.specs.Io.KnownBytes.{Appends}
+use Rattle.zh_commands.specs.Replies.{answer}
+use Rattle.zh_commands.specs.declared.replies.Reply.{Reply}
+use Rattle.zh_commands.specs.declared.replies.Reply.TheVariants as replies
+use Rattle.zh_commands.specs.declared.replies.Refusal.{Refusal}
+use Rattle.zh_csv.specs.Export.{export_text}
+use Rattle.zh_disk.specs.Disk.{Trail}
+use Rattle.zh_ledger.specs.declared.fault.OpenFault.{OpenFault}
+use Rattle.zh_office.specs.Load.{LoadTurn}
+use Rattle.zh_office.specs.Runs.{OnDisk}
+use Rattle.zh_tasks.specs.declared.csv_fault.ExportFault.{ExportFault}
+use Rattle.zh_tasks.specs.declared.csv_fault.ExportFault.TheVariants as exporting
+use Rattle.zh_tasks.specs.declared.csv_fault.LoadFault.{LoadFault}
+use Rattle.zh_tasks.specs.declared.csv_fault.LoadFault.TheVariants as loading
+
+-- a reply as it is printed: without a desk, and ended by LF, which is 10
+abbrev pub printed : Reply → List ℕ
+printed reply = answer reply ++ 10 ∷ []
+
+-- the office that was this one at the start, and has this trail in the end
+abbrev pub IsThis : OnDisk → Trail → OnDisk → OnDisk → Type 0
+IsThis first last start end = (start ≡ first) × (end.trail ≡ last)
+
+-- an office that began so was given a text, and replied so
+pub record Replied (honest : Type 0) (Spans : OnDisk → OnDisk → Type 0) (reply : Reply) : Type 0 where
+  pub start : OnDisk
+  pub end : OnDisk
+  pub text : List ℕ
+  pub spans : Spans start end
+  pub turn : LoadTurn honest start (Some text) reply end
+
+-- the reply is written, and the device failed under it or not
+pub record Loaded (honest : Type 0) (writer writer' : Option (List ℕ)) (Spans : OnDisk → OnDisk → Type 0) (reply : Reply) (faulted : Bool) : Type 0 where
+  pub replied : Replied honest Spans reply
+  pub written : Appends writer writer' (printed reply)
+  pub device : replied.end.office.ledger.store.broken ≡ faulted
+
+-- a front of a text is written, and not all of it
+pub record WritesFront (writer writer' : Option (List ℕ)) (text : List ℕ) : Type 0 where
+  pub front : ℕ
+  pub part : front < length text
+  pub written : Appends writer writer' (take front text)
+
+-- an office was opened, and nothing else was done to its disk
+abbrev pub IsOnlyOpened : (OnDisk → OnDisk → Type 0) → Type 0
+IsOnlyOpened Spans = (start : OnDisk) × Spans start start
+
+-- the file gives no text
+abbrev pub IsUnreadable : LoadFault → Type 0
+IsUnreadable loading.File = Unit {0}
+IsUnreadable loading.Memory = Unit {0}
+IsUnreadable fault = ⊥
+
+-- What the loading of a CSV file with this result has done. The file is looked for once an office is opened.
+abbrev pub Loads : Type 0 → (OpenFault → Type 0) → Type 0 → Option (List ℕ) → Option (List ℕ) → (OnDisk → OnDisk → Type 0) → Result (Unit {0}) LoadFault → Type 0
+Loads honest Refused unwritten writer writer' Spans (Ok done) = (reply : Reply) × ((refusal : Refusal) → reply ≢ replies.Refused refusal) × Loaded honest writer writer' Spans reply false
+Loads honest Refused unwritten writer writer' Spans (Err loading.Refused) = (refusal : Refusal) × Loaded honest writer writer' Spans (replies.Refused refusal) false
+Loads honest Refused unwritten writer writer' Spans (Err loading.Faulted) = (reply : Reply) × Loaded honest writer writer' Spans reply true
+Loads honest Refused unwritten writer writer' Spans (Err loading.Write) = (reply : Reply) × Replied honest Spans reply × WritesFront writer writer' (printed reply)
+Loads honest Refused unwritten writer writer' Spans (Err (loading.Open fault)) = Refused fault
+Loads honest Refused unwritten writer writer' Spans (Err fault) = unwritten × IsOnlyOpened Spans
+
+-- what the writing of a count with this result has done; an office was opened for it, and nothing else was done to the disk
+abbrev pub Exports : (OpenFault → Type 0) → Type 0 → Option (List ℕ) → Option (List ℕ) → (OnDisk → OnDisk → Type 0) → Result (Unit {0}) ExportFault → Type 0
+Exports Refused unwritten writer writer' Spans (Ok done) = (start : OnDisk) × Spans start start × Appends writer writer' (export_text start.office.ledger.tally)
+Exports Refused unwritten writer writer' Spans (Err exporting.Write) = (start : OnDisk) × Spans start start × WritesFront writer writer' (export_text start.office.ledger.tally)
+Exports Refused unwritten writer writer' Spans (Err exporting.Memory) = unwritten × IsOnlyOpened Spans
+Exports Refused unwritten writer writer' Spans (Err (exporting.Open fault)) = Refused fault

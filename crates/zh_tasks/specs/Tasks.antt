@@ -1,0 +1,190 @@
+-- What a task leaves of the streams and of its disk.
+use Rattle.std.specs.Prelude.{◌≡◌, ◌⊎◌, ℕ, Bool, [], true, false, List, Option, Some, Result, Ok, Err, IsErrOf, OnOk}
+use Rattle.zh_districts.specs.Canton.{Canton, IsCanton}
+use Rattle.zh_districts.specs.Spelling.{setup_spelling}
+use Rattle.zh_districts.specs.Rehearsal.{rehearsal}
+use Rattle.zh_returns.specs.Tally.{empty}
+use Rattle.zh_returns.specs.Payload.{payload_spelling}
+use Rattle.zh_disk.specs.Disk.{Trail, IsImage, Leaves, fresh_trail, settled}
+use Rattle.zh_file.specs.Held.{BeginsOrFills}
+use Rattle.zh_snapshot.specs.Image.{IsBlank}
+use Rattle.zh_snapshot.specs.Store.{Settles}
+use Rattle.zh_snapshot.specs.Format.{Formats}
+use Rattle.zh_desks.specs.Batches.{no_batches}
+use Rattle.zh_ledger.specs.Opened.{Differs, IsDamaged, IsNew}
+use Rattle.zh_ledger.specs.declared.fault.OpenFault.{OpenFault}
+use Rattle.zh_ledger.specs.declared.fault.OpenFault.TheVariants as opening
+use Rattle.zh_office.specs.Opened.{IsOpened, IsReady}
+use Rattle.zh_office.specs.Runs.{OnDisk}
+use Rattle.zh_office.specs.Served.{ServesAll, ServesEnded, ServesFront}
+use Rattle.zh_office.specs.declared.serving.ServeFault.TheVariants as serving
+use Rattle.zh_tasks.specs.Csv.{Exports, Loads}
+use Rattle.zh_arguments.specs.declared.arguments.Task.{Task}
+use Rattle.zh_arguments.specs.declared.arguments.Task.TheVariants.{Rehearse, Format, Run, Load, Export}
+use Rattle.zh_tasks.specs.declared.csv_fault.ExportFault.{ExportFault}
+use Rattle.zh_tasks.specs.declared.csv_fault.LoadFault.{LoadFault}
+use Rattle.zh_tasks.specs.declared.fault.FormatFault.{FormatFault}
+use Rattle.zh_tasks.specs.declared.fault.FormatFault.TheVariants as formatting
+use Rattle.zh_tasks.specs.declared.fault.RunFault.{RunFault}
+use Rattle.zh_tasks.specs.declared.fault.RunFault.TheVariants as runs
+use Rattle.zh_tasks.specs.declared.fault.ProgramFault.{ProgramFault}
+use Rattle.zh_tasks.specs.declared.fault.ProgramFault.TheVariants as faults
+
+-- the office that stood on the disk of this trail, once it is opened there
+pub record IsStart (honest : Type 0) (canton : Canton) (trail : Trail) (start : OnDisk) : Type 0 where
+  pub ready : IsReady canton start.office
+  pub opening : honest → Leaves (Settles trail.now.bytes) trail start.trail
+  pub opened : honest → IsOpened canton trail.now.bytes start.office
+  pub settled : honest → start.trail.now ≡ settled trail.now.bytes
+
+-- it began there, and its disk has this trail at the end
+abbrev pub IsFrom : Type 0 → Canton → Trail → Trail → OnDisk → OnDisk → Type 0
+IsFrom honest canton first last start end = IsStart honest canton first start × (end.trail ≡ last)
+
+-- the office of a rehearsal as it begins: nothing was returned yet
+pub record IsRehearsal (start : OnDisk) : Type 0 where
+  pub count : start.office.ledger.tally ≡ empty rehearsal
+  pub held : start.office.held ≡ no_batches
+  pub whole : start.office.ledger.store.broken ≡ false
+
+-- all lines of the input were answered by an office that began so, and the device failed under it or not
+pub record Served (honest : Type 0) (reader reader' writer writer' : Option (List ℕ)) (Spans : OnDisk → OnDisk → Type 0) (faulted : Bool) : Type 0 where
+  pub start : OnDisk
+  pub end : OnDisk
+  pub count : ℕ
+  pub spans : Spans start end
+  pub all : ServesAll honest reader reader' writer writer' start end count
+  pub device : end.office.ledger.store.broken ≡ faulted
+
+-- the input was not read to its end, and the lines that were ended are answered
+pub record ServedEnded (honest : Type 0) (reader reader' writer writer' : Option (List ℕ)) (Spans : OnDisk → OnDisk → Type 0) : Type 0 where
+  pub start : OnDisk
+  pub end : OnDisk
+  pub spans : Spans start end
+  pub ended : ServesEnded honest reader reader' writer writer' start end
+
+-- the writer failed, and a front of the answers is written
+pub record ServedFront (honest : Type 0) (reader reader' writer writer' : Option (List ℕ)) (Spans : OnDisk → OnDisk → Type 0) : Type 0 where
+  pub start : OnDisk
+  pub end : OnDisk
+  pub spans : Spans start end
+  pub front : ServesFront honest reader reader' writer writer' start end
+
+-- What serving with this result has done. Where no office was opened nothing is served.
+abbrev pub Serves : Type 0 → (OpenFault → Type 0) → Option (List ℕ) → Option (List ℕ) → Option (List ℕ) → Option (List ℕ) → (OnDisk → OnDisk → Type 0) → Result (Unit {0}) RunFault → Type 0
+Serves honest Refused reader reader' writer writer' Spans (Ok done) = Served honest reader reader' writer writer' Spans false
+Serves honest Refused reader reader' writer writer' Spans (Err runs.Faulted) = Served honest reader reader' writer writer' Spans true
+Serves honest Refused reader reader' writer writer' Spans (Err (runs.Serve serving.Read)) = ServedEnded honest reader reader' writer writer' Spans
+Serves honest Refused reader reader' writer writer' Spans (Err (runs.Serve serving.Turns)) = ServedEnded honest reader reader' writer writer' Spans
+Serves honest Refused reader reader' writer writer' Spans (Err (runs.Serve serving.Write)) = ServedFront honest reader reader' writer writer' Spans
+Serves honest Refused reader reader' writer writer' Spans (Err (runs.Open fault)) = Refused fault
+
+-- why no office is opened on a disk that held these bytes; memory and the device say nothing of them
+abbrev pub Refuses : Canton → List ℕ → OpenFault → Type 0
+Refuses canton bytes opening.Blank = IsBlank bytes
+Refuses canton bytes opening.Damaged = IsDamaged canton bytes
+Refuses canton bytes opening.SetupDiffers = Differs canton bytes
+Refuses canton bytes fault = Unit {0}
+
+-- No office was opened on this disk. It is as it was: at each moment a stop leaves an image from the start, and once it
+-- is synced what a read gave there.
+pub record IsRefused (canton : Canton) (first last : Trail) (fault : OpenFault) : Type 0 where
+  pub moments : Leaves (Settles first.now.bytes) first last
+  pub cause : Refuses canton first.now.bytes fault
+
+-- the fault comes before the task has a disk
+abbrev pub IsEarly : ProgramFault → Type 0
+IsEarly (faults.Format fault) = ⊥
+IsEarly (faults.Run fault) = ⊥
+IsEarly (faults.Load fault) = ⊥
+IsEarly (faults.Export fault) = ⊥
+IsEarly fault = Unit {0}
+
+-- the office that stood on a file which held these bytes as it was opened, and has the last trail in the end
+abbrev pub IsOnFile : Type 0 → List ℕ → Trail → OnDisk → OnDisk → Type 0
+IsOnFile honest bytes last start end = (canton : Canton) × IsCanton canton × IsFrom honest canton (fresh_trail bytes) last start end
+
+-- no office was opened on such a file
+abbrev pub IsRefusedFile : List ℕ → Trail → OpenFault → Type 0
+IsRefusedFile bytes last fault = (canton : Canton) × IsCanton canton × IsRefused canton (fresh_trail bytes) last fault
+
+-- What a formatting leaves of a disk, moment by moment: it is opened, and formatted only where it is blank.
+pub record FormatsBlank (canton : Canton) (old new : Trail) : Type 0 where
+  pub opened : Trail
+  pub opening : Leaves (Settles old.now.bytes) old opened
+  pub after : (new ≡ opened) ⊎ (IsBlank old.now.bytes × Formats (setup_spelling canton) (payload_spelling (empty canton)) opened new)
+
+-- What a formatting leaves of a file, also where it failed. The disk began with these bytes, or where there were none
+-- with those that the new file was filled with. It was opened, and formatted only where it was blank.
+pub record FormatsFile (bytes : List ℕ) (last : Trail) (result : Result (Unit {0}) FormatFault) : Type 0 where
+  pub canton : Canton
+  pub limits : IsCanton canton
+  pub first : Trail
+  pub begins : BeginsOrFills bytes first
+  pub moments : FormatsBlank canton first last
+  pub formatted : OnOk result ((c : List ℕ) → IsImage last.now c → IsNew canton c)
+  pub settled : OnOk result (last.now.pending ≡ [])
+  pub in_use : IsErrOf result formatting.InUse → IsBlank first.now.bytes → ⊥
+
+module _ {D : Type 0} where
+  -- A formatting used this disk and handed it over, and ended so; or the fault came before it had one.
+  abbrev pub Formatted : Type 0 → Option D → (D → Result (Unit {0}) FormatFault → Type 0) → Result (Unit {0}) ProgramFault → Type 0
+  Formatted before new Uses (Ok done) = (d : D) × (new ≡ Some d) × Uses d (Ok done)
+  Formatted before new Uses (Err (faults.Format fault)) = (d : D) × (new ≡ Some d) × Uses d (Err fault)
+  Formatted before new Uses (Err fault) = before
+
+  -- the same of a run
+  abbrev pub Ran : Type 0 → Option D → (D → Result (Unit {0}) RunFault → Type 0) → Result (Unit {0}) ProgramFault → Type 0
+  Ran before new Uses (Ok done) = (d : D) × (new ≡ Some d) × Uses d (Ok done)
+  Ran before new Uses (Err (faults.Run fault)) = (d : D) × (new ≡ Some d) × Uses d (Err fault)
+  Ran before new Uses (Err fault) = before
+
+  -- the same of the loading of a CSV file
+  abbrev pub HasLoaded : Type 0 → Option D → (D → Result (Unit {0}) LoadFault → Type 0) → Result (Unit {0}) ProgramFault → Type 0
+  HasLoaded before new Uses (Ok done) = (d : D) × (new ≡ Some d) × Uses d (Ok done)
+  HasLoaded before new Uses (Err (faults.Load fault)) = (d : D) × (new ≡ Some d) × Uses d (Err fault)
+  HasLoaded before new Uses (Err fault) = before
+
+  -- the same of an export
+  abbrev pub HasExported : Type 0 → Option D → (D → Result (Unit {0}) ExportFault → Type 0) → Result (Unit {0}) ProgramFault → Type 0
+  HasExported before new Uses (Ok done) = (d : D) × (new ≡ Some d) × Uses d (Ok done)
+  HasExported before new Uses (Err (faults.Export fault)) = (d : D) × (new ≡ Some d) × Uses d (Err fault)
+  HasExported before new Uses (Err fault) = before
+
+  -- a formatting of a file that held these bytes
+  abbrev pub FormatsOnFile : (D → Type 0) → (D → Trail) → List ℕ → D → Result (Unit {0}) FormatFault → Type 0
+  FormatsOnFile honest trail bytes d result = honest d → FormatsFile bytes (trail d) result
+
+  -- a run on a file that held these bytes
+  abbrev pub RunsOnFile : (D → Type 0) → (D → Trail) → List ℕ → Type 0 → Option (List ℕ) → Option (List ℕ) → Option (List ℕ) → Option (List ℕ) → D → Result (Unit {0}) RunFault → Type 0
+  RunsOnFile honest trail bytes nothing reader reader' writer writer' d result =
+      Serves (honest d) (λ fault. nothing × (honest d → IsRefusedFile bytes (trail d) fault)) reader reader' writer writer' (IsOnFile (honest d) bytes (trail d)) result
+
+  -- the loading of a CSV file on such a file
+  abbrev pub LoadsOnFile : (D → Type 0) → (D → Trail) → List ℕ → Type 0 → Option (List ℕ) → Option (List ℕ) → D → Result (Unit {0}) LoadFault → Type 0
+  LoadsOnFile honest trail bytes nothing writer writer' d result =
+      Loads (honest d) (λ fault. nothing × (honest d → IsRefusedFile bytes (trail d) fault)) nothing writer writer' (IsOnFile (honest d) bytes (trail d)) result
+
+  -- an export from such a file
+  abbrev pub ExportsFromFile : (D → Type 0) → (D → Trail) → List ℕ → Type 0 → Option (List ℕ) → Option (List ℕ) → D → Result (Unit {0}) ExportFault → Type 0
+  ExportsFromFile honest trail bytes nothing writer writer' d result =
+      Exports (λ fault. nothing × (honest d → IsRefusedFile bytes (trail d) fault)) nothing writer writer' (IsOnFile (honest d) bytes (trail d)) result
+
+-- a rehearsal served, or the fault came before
+abbrev pub Rehearsed : Type 0 → (Result (Unit {0}) RunFault → Type 0) → Result (Unit {0}) ProgramFault → Type 0
+Rehearsed before Serves (Ok done) = Serves (Ok done)
+Rehearsed before Serves (Err (faults.Run fault)) = Serves (Err fault)
+Rehearsed before Serves (Err fault) = before
+
+-- what a rehearsal has done; its disk is in memory
+abbrev pub Rehearses : Type 0 → Option (List ℕ) → Option (List ℕ) → Option (List ℕ) → Option (List ℕ) → Result (Unit {0}) ProgramFault → Type 0
+Rehearses nothing reader reader' writer writer' = Rehearsed nothing (Serves (Unit {0}) (λ fault. nothing) reader reader' writer writer' (λ start end. IsRehearsal start))
+
+-- What a task with this result has done, where the file of its disk held these bytes: `old` is what was handed over
+-- before, `unread` and `unwritten` say that nothing was read from the input, and nothing written.
+abbrev pub Does : {D : Type 0} → (D → Type 0) → (D → Trail) → List ℕ → Option D → Option D → Type 0 → Type 0 → Option (List ℕ) → Option (List ℕ) → Option (List ℕ) → Option (List ℕ) → Task → Result (Unit {0}) ProgramFault → Type 0
+Does honest trail bytes old new unread unwritten reader reader' writer writer' Rehearse result = (new ≡ old) × Rehearses (unread × unwritten) reader reader' writer writer' result
+Does honest trail bytes old new unread unwritten reader reader' writer writer' (Format paths) result = unread × unwritten × Formatted (new ≡ old) new (FormatsOnFile honest trail bytes) result
+Does honest trail bytes old new unread unwritten reader reader' writer writer' (Run paths) result = Ran ((unread × unwritten) × (new ≡ old)) new (RunsOnFile honest trail bytes (unread × unwritten) reader reader' writer writer') result
+Does honest trail bytes old new unread unwritten reader reader' writer writer' (Load paths csv) result = unread × HasLoaded (unwritten × (new ≡ old)) new (LoadsOnFile honest trail bytes unwritten writer writer') result
+Does honest trail bytes old new unread unwritten reader reader' writer writer' (Export paths) result = unread × HasExported (unwritten × (new ≡ old)) new (ExportsFromFile honest trail bytes unwritten writer writer') result

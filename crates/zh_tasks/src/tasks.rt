@@ -1,0 +1,174 @@
+//! The tasks of the program.
+
+ghost use Rattle.std.specs.Prelude.{◌≡◌, ◌≤◌, ◌^◌, List, ℕ, [], IfErr, IfOk, IsErrOf, OnOk, Some};
+ghost use Rattle.zh_disk.specs.Disk.{IsImage};
+ghost use Rattle.zh_districts.specs.Canton.{IsCanton};
+ghost use Rattle.zh_journal.specs.Cause.{HasRisen};
+ghost use Rattle.zh_snapshot.specs.Image.{IsBlank};
+ghost use Rattle.zh_ledger.specs.Opened.{IsNew};
+ghost use Rattle.zh_tasks.specs.Tasks.{Does, Formatted, FormatsBlank, FormatsOnFile, IsEarly, IsFrom, IsRefused, Ran, Rehearses, RunsOnFile, Serves};
+
+use crate::csv_tasks::{export, load};
+use crate::fault::{FormatFault, ProgramFault, RunFault};
+use std::alloc::Global;
+use std::fs::File;
+use std::io::{ErrorKind, Read, Write};
+use zh_arguments::{Paths, Task};
+use zh_disk::{Disk, MemoryDisk};
+use zh_districts::{Setup, read_setup, rehearsal};
+use zh_file::{FileDisk, Start, open, open_or_make};
+use zh_office::Office;
+use zh_snapshot::Store;
+
+/// How many bytes of a set-up's file are read at most: one more than a set-up may have, so that a longer one is noticed.
+const LONGEST_READ: u64 = 1_048_577;
+
+/// How many reads of the input a run makes at most.
+fn most_reads() -> u64
+    ensures { result ≡ 2 ^ 32 }
+{
+    1 << 32
+}
+
+/// The front of the file at this path.
+fn front_of_file(rt: &HostRuntime, alloc: Global, path: &str) -> Result<Vec<u8>, ProgramFault>
+    ensures { IfErr result IsEarly }
+{
+    let Ok(file) = File::open(rt, path) else {
+        return Err(ProgramFault::File);
+    };
+    let mut text = Vec::new(alloc);
+    match file.take(LONGEST_READ).read_to_end(&mut text) {
+        Ok(_) => Ok(text),
+        Err(error) if error.kind() == ErrorKind::OutOfMemory => Err(ProgramFault::Memory),
+        Err(_) => Err(ProgramFault::File),
+    }
+}
+
+/// The set-up whose text stands in the file at this path.
+pub(crate) fn setup_at(rt: &HostRuntime, alloc: Global, path: &str) -> Result<Setup, ProgramFault>
+    ensures limits { IfOk result IsCanton }
+    ensures early { IfErr result IsEarly }
+{
+    let text = front_of_file(rt, alloc, path)?;
+    Ok(read_setup(alloc, &text)?)
+}
+
+/// Formats a disk that is blank.
+fn format_blank<D: Disk>(alloc: Global, setup: &Setup, disk: &mut D) -> Result<(), FormatFault>
+    ensures kept { D.honest disk.new → D.honest disk.old }
+    // It is opened, and formatted only where it is blank: specs/Program.antt has the moments.
+    ensures any_moment { D.honest disk.new → FormatsBlank setup.now (D.trail disk.old) (D.trail disk.new) }
+
+    ensures blank { D.honest disk.new → OnOk result (IsBlank (D.trail disk.old).now.bytes) }
+    ensures formatted { D.honest disk.new → OnOk result ((c : List ℕ) → IsImage (D.trail disk.new).now c → IsNew setup.now c) }
+
+    ensures settled { D.honest disk.new → OnOk result ((D.trail disk.new).now.pending ≡ []) }
+    ensures in_use { D.honest disk.new → IsErrOf result FormatFault.InUse → IsBlank (D.trail disk.old).now.bytes → ⊥ }
+    ensures later { D.failures disk.old ≤ D.failures disk.new }
+    ensures cause { IsErrOf result FormatFault.Device → HasRisen (D.failures disk.old) (D.failures disk.new) }
+{
+    match Store::open(alloc, disk) {
+        Err(zh_snapshot::OpenFault::Blank) => Ok(Office::format(alloc, setup, disk)?),
+        Err(zh_snapshot::OpenFault::Device) => Err(FormatFault::Device),
+        Err(zh_snapshot::OpenFault::Memory) => Err(FormatFault::Memory),
+        Err(zh_snapshot::OpenFault::Damaged) | Ok(_) => Err(FormatFault::InUse),
+    }
+}
+
+/// Opens the office that stands on a disk, and serves the lines of the input.
+fn serve_on<I: Read, O: Write, D: Disk>(
+    alloc: Global,
+    setup: &Setup,
+    disk: &mut D,
+    input: &mut I,
+    out: &mut O,
+) -> Result<(), RunFault>
+    ensures kept { D.honest disk.new → D.honest disk.old }
+    ensures served { Serves (D.honest disk.new) (λ fault. ((input.new ≡ input.old) × (out.new ≡ out.old)) × (D.honest disk.new → IsRefused setup.now (D.trail disk.old) (D.trail disk.new) fault)) (I.remaining input.old) (I.remaining input.new) (O.contents out.old) (O.contents out.new) (IsFrom (D.honest disk.new) setup.now (D.trail disk.old) (D.trail disk.new)) result }
+{
+    let mut office = Office::open(alloc, setup, disk)?;
+    office.serve(input, out, disk, most_reads())?;
+    if office.faulted() {
+        return Err(RunFault::Faulted);
+    }
+    Ok(())
+}
+
+/// Serves the lines of the input on the set-up of the rehearsal, and keeps nothing.
+fn rehearse<I: Read, O: Write>(
+    alloc: Global,
+    input: &mut I,
+    out: &mut O,
+) -> Result<(), ProgramFault>
+    ensures { Rehearses ((input.new ≡ input.old) × (out.new ≡ out.old)) (I.remaining input.old) (I.remaining input.new) (O.contents out.old) (O.contents out.new) result }
+{
+    let setup = rehearsal(alloc)?;
+    let mut disk = MemoryDisk::blank(alloc)?;
+    format_blank(alloc, &setup, &mut disk)?;
+    Ok(serve_on(alloc, &setup, &mut disk, input, out)?)
+}
+
+/// Hands over the disk that a task has used.
+pub(crate) fn hand_over<S: Start>(disk: FileDisk<S>, used: &mut Option<FileDisk<S>>)
+    ensures { used.new ≡ Some disk }
+{
+    *used = Some(disk);
+}
+
+/// Formats the disk in a file, and hands the disk over to `used`.
+fn format<S: Start>(
+    rt: &HostRuntime,
+    alloc: Global,
+    paths: Paths<'_>,
+    start: S,
+    used: &mut Option<FileDisk<S>>,
+) -> Result<(), ProgramFault>
+    ensures { Formatted (used.new ≡ used.old) used.new (FormatsOnFile ⟦<FileDisk<S> as Disk>⟧.honest ⟦<FileDisk<S> as Disk>⟧.trail S.Start.db) result }
+{
+    let setup = setup_at(rt, alloc, paths.setup)?;
+    let mut disk = open_or_make(rt, paths.disk, start)?;
+    let done = format_blank(alloc, &setup, &mut disk);
+    hand_over(disk, used);
+    Ok(done?)
+}
+
+/// Serves on the disk in a file, and hands the disk over to `used`.
+fn run<I: Read, O: Write, S: Start>(
+    rt: &HostRuntime,
+    alloc: Global,
+    paths: Paths<'_>,
+    input: &mut I,
+    out: &mut O,
+    start: S,
+    used: &mut Option<FileDisk<S>>,
+) -> Result<(), ProgramFault>
+    ensures { Ran (((input.new ≡ input.old) × (out.new ≡ out.old)) × (used.new ≡ used.old)) used.new (RunsOnFile ⟦<FileDisk<S> as Disk>⟧.honest ⟦<FileDisk<S> as Disk>⟧.trail S.Start.db ((input.new ≡ input.old) × (out.new ≡ out.old)) (I.remaining input.old) (I.remaining input.new) (O.contents out.old) (O.contents out.new)) result }
+{
+    let setup = setup_at(rt, alloc, paths.setup)?;
+    let mut disk = open(rt, paths.disk, start)?;
+    let done = serve_on(alloc, &setup, &mut disk, input, out);
+    hand_over(disk, used);
+    Ok(done?)
+}
+
+/// Does what is asked for.
+pub fn carry_out<I: Read, O: Write, S: Start>(
+    rt: &HostRuntime,
+    alloc: Global,
+    task: Task<'_>,
+    input: &mut I,
+    out: &mut O,
+    start: S,
+    used: &mut Option<FileDisk<S>>,
+) -> Result<(), ProgramFault>
+    ensures { Does ⟦<FileDisk<S> as Disk>⟧.honest ⟦<FileDisk<S> as Disk>⟧.trail S.Start.db used.old used.new (input.new ≡ input.old) (out.new ≡ out.old) (I.remaining input.old) (I.remaining input.new) (O.contents out.old) (O.contents out.new) task.entry result }
+{
+    match task {
+        Task::Rehearse => rehearse(alloc, input, out),
+        Task::Format(paths) => format(rt, alloc, paths, start, used),
+        Task::Run(paths) => run(rt, alloc, paths, input, out, start, used),
+        Task::Load { paths, csv } => load(rt, alloc, paths, csv, out, start, used),
+        Task::Export(paths) => export(rt, alloc, paths, out, start, used),
+    }
+}
