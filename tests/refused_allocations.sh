@@ -8,7 +8,7 @@ set -u
 cd "$(dirname "$0")/.." || exit 2
 
 tests="
-zh_disk tests::a_refused_allocation_changes_nothing
+zh_limits tests::refused_memory::a_disk_is_written
 zh_limits tests::refused_memory::a_set_up_is_read
 zh_limits tests::refused_memory::totals_are_made
 zh_limits tests::refused_memory::groups_take_part

@@ -179,11 +179,17 @@ impl<'s> Bench<'s> {
         self.take_disk(&image)
     }
 
-    /// How a copy of the disk is opened that has these bytes from a place on; or `changed`, where that changes it.
-    pub(crate) fn damage(&mut self, text: &str) -> Result<&'static str, Fault> {
+    /// A copy of the disk's bytes that has these from a place on.
+    fn damaged(&mut self, text: &str) -> Result<Vec<u8>, Fault> {
         let (place, bytes) = read_place(self.alloc, text)?;
         let mut image = self.image()?;
         put(&mut image, place, &bytes)?;
+        Ok(image)
+    }
+
+    /// How a copy of the disk is opened that has these bytes from a place on; or `changed`, where that changes it.
+    pub(crate) fn damage(&mut self, text: &str) -> Result<&'static str, Fault> {
+        let image = self.damaged(text)?;
         let mut disk = disk_of(self.alloc, &image)?;
         let (_, answer) = open_on(self.alloc, self.setup, &mut disk);
         if image_of(self.alloc, &mut disk)? == image {

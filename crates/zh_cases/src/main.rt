@@ -16,7 +16,7 @@ mod words;
 
 use bench::Bench;
 use fault::Fault;
-use lines::lines_of;
+use lines::{Line, lines_of};
 use setups::setups_of;
 use std::process::ExitCode;
 use std::{env, fs};
@@ -31,18 +31,29 @@ struct Progress {
     turns: u64,
 }
 
+/// Runs a turn, and counts it.
+fn run_line(
+    rt: &HostRuntime,
+    bench: &mut Bench<'_>,
+    line: &Line,
+    progress: &mut Progress,
+) -> Result<(), Fault> {
+    progress.line = line.number;
+    run_turn(rt, bench, line)?;
+    progress.turns = progress.turns.saturating_add(1);
+    if line.text.as_str().starts_with("case ") {
+        progress.cases = progress.cases.saturating_add(1);
+    }
+    Ok(())
+}
+
 /// Runs the cases of a text.
 fn run_text(rt: &HostRuntime, text: &str, progress: &mut Progress) -> Result<(), Fault> {
     let lines = lines_of(rt.alloc(), text, &mut progress.line)?;
     let setups = setups_of(rt, &lines, &mut progress.line)?;
     let mut bench = Bench::new(rt.alloc(), &setups)?;
     for line in &lines {
-        progress.line = line.number;
-        run_turn(rt, &mut bench, line)?;
-        progress.turns = progress.turns.saturating_add(1);
-        if line.text.as_str().starts_with("case ") {
-            progress.cases = progress.cases.saturating_add(1);
-        }
+        run_line(rt, &mut bench, line, progress)?;
     }
     Ok(())
 }

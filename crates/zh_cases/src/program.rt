@@ -1,6 +1,7 @@
 //! Runs of the program on the files of the folder.
 
 use crate::fault::Fault;
+use std::alloc::Global;
 use std::fs;
 use zh_file::Unknown;
 use zh_program::program;
@@ -19,19 +20,29 @@ pub(crate) fn push_lines(answer: &mut String, separator: &str, text: &[u8]) -> R
     Ok(())
 }
 
+/// What stands in a file, nothing where none is named.
+fn input_in(rt: &HostRuntime, name: &str) -> Result<Vec<u8>, Fault> {
+    if name.is_empty() {
+        return Ok(Vec::new(rt.alloc()));
+    }
+    Ok(fs::read(rt, name)?)
+}
+
+fn arguments_in(alloc: Global, text: &str) -> Result<Vec<String>, Fault> {
+    let mut arguments = Vec::new(alloc);
+    for argument in text.split_whitespace() {
+        arguments.push(String::from_str(alloc, argument)?)?;
+    }
+    Ok(arguments)
+}
+
 /// Runs the program on `ARGUMENTS < INPUT`, where INPUT is a file. The answer is its status, the lines of its output
 /// and those of its standard error.
 pub(crate) fn run_program(rt: &HostRuntime, text: &str) -> Result<String, Fault> {
     let alloc = rt.alloc();
     let (given, name) = text.split_once('<').unwrap_or((text, ""));
-    let mut input = Vec::new(alloc);
-    if !name.is_empty() {
-        input = fs::read(rt, name.trim())?;
-    }
-    let mut arguments = Vec::new(alloc);
-    for argument in given.split_whitespace() {
-        arguments.push(String::from_str(alloc, argument)?)?;
-    }
+    let input = input_in(rt, name.trim())?;
+    let arguments = arguments_in(alloc, given)?;
     let mut reader = input.as_slice();
     let (mut out, mut faults) = (Vec::new(alloc), Vec::new(alloc));
     let status = program(

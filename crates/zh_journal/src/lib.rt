@@ -13,8 +13,6 @@ mod page;
 mod reader;
 mod reading;
 mod staging;
-#[cfg(test)]
-mod tests;
 
 pub use area::Area;
 pub use fault::{AppendFault, AreaFault, OpenFault};

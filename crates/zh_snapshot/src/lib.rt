@@ -12,8 +12,6 @@ mod layout;
 mod opening;
 mod refill;
 mod store;
-#[cfg(test)]
-mod tests;
 mod zeros;
 
 pub use fault::{AppendFault, FormatFault, OpenFault, StoreFault, SwitchFault};

@@ -1,11 +1,13 @@
 //! Allocations that are refused, one in each run: tests/refused_allocations.sh runs these tests once for each that is
 //! made. What is called is called once more where memory was refused to it.
 
+use super::elections::totals_of;
 use std::alloc::{AllocError, Global};
 use std::test::Fail;
+use zh_disk::{Disk, MemoryDisk, Stop};
 use zh_districts::{SeatFault, Setup, SetupFault, read_setup, rehearsal, seats, setup_bytes};
 use zh_quorum::participating;
-use zh_returns::{Command, Count, Row, Verdict, decode_command};
+use zh_returns::Count;
 use zh_totals::Totals;
 use zh_upper::{UpperFault, upper, voters};
 
@@ -85,21 +87,11 @@ fn totals_are_made(rt: HostRuntime) -> Result<(), Fail> {
     Ok(())
 }
 
-// 570 votes for A and 30 for B, which are 5 percent, in Nord.
-const RETURNS: [u8; 25] = [
-    0x05, 0x00, 0x02, // a batch of two rows
-    0x00, 0x01, 0x01, 0x00, 0x00, 0x00, 0x01, 0x00, 0x00, 0x02, 0x3a, // 570
-    0x00, 0x01, 0x02, 0x00, 0x00, 0x00, 0x01, 0x00, 0x00, 0x00, 0x1e, // 30
-];
-
 #[test]
 fn groups_take_part(rt: HostRuntime) -> Result<(), Fail> {
     let setup = rehearsal(rt.alloc())?;
-    let mut count = Count::new(rt.alloc(), &setup)?;
-    let returns = decode_command(&RETURNS).ok_or("a batch")?;
-    assert_eq!(rt; count.judge(&returns), Verdict::Accept);
-    count.apply(&returns);
-    let totals = Totals::of(rt.alloc(), &count)?;
+    // In Nord 570 votes for A and 30 for B, which are 5 percent.
+    let totals = totals_of(&rt, rt.alloc(), &setup, &[&[570, 30]])?;
     let taking = match participating(rt.alloc(), &totals) {
         Ok(taking) => taking,
         Err(AllocError) => participating(rt.alloc(), &totals)?,
@@ -111,16 +103,7 @@ fn groups_take_part(rt: HostRuntime) -> Result<(), Fail> {
 #[test]
 fn voters_are_counted(rt: HostRuntime) -> Result<(), Fail> {
     let setup = rehearsal(rt.alloc())?;
-    let mut count = Count::new(rt.alloc(), &setup)?;
-    let command = Command::Return(Row {
-        municipality: 1,
-        list: 1,
-        number: 1,
-        votes: 525,
-    });
-    assert_eq!(rt; count.judge(&command), Verdict::Accept);
-    count.apply(&command);
-    let totals = Totals::of(rt.alloc(), &count)?;
+    let totals = totals_of(&rt, rt.alloc(), &setup, &[&[525]])?;
     assert_eq!(rt; totals.setup().constituencies(), 3);
     let sums = match voters(rt.alloc(), &totals, &[5, 3, 2]) {
         Ok(sums) => sums,
@@ -142,5 +125,26 @@ fn groups_get_seats(rt: HostRuntime) -> Result<(), Fail> {
         }
     };
     assert_eq!(rt; (all.num(), all.den()), (300, 6));
+    Ok(())
+}
+
+#[test]
+fn a_disk_is_written(rt: HostRuntime) -> Result<(), Fail> {
+    let mut disk = match MemoryDisk::blank(rt.alloc()) {
+        Ok(disk) => disk,
+        Err(_) => MemoryDisk::blank(rt.alloc())?,
+    };
+    for byte in 1..=5u8 {
+        if disk.write_at(0, &[byte]).is_err() {
+            assert_eq!(rt; disk.image()[0], byte - 1);
+            disk.write_at(0, &[byte])?;
+        }
+        if disk.sync().is_err() {
+            disk.sync()?;
+        }
+        disk.write_at(0, &[9]).or_else(|_| disk.write_at(0, &[9]))?;
+        disk.stop(Stop::Old);
+        assert_eq!(rt; disk.image()[0], byte);
+    }
     Ok(())
 }

@@ -1,10 +1,13 @@
 //! The text of a sheet.
 use super::elections::{setup_of, totals_of};
+use std::alloc::Global;
 use std::io;
 use std::io::Write;
+use std::process::Abort;
 use std::test::Fail;
 use zh_commands::WriteFault;
 use zh_sheet::{make, write_sheet};
+use zh_totals::Totals;
 
 /// A writer that counts its writes and the lines, and may fail.
 #[derive(Drop)]
@@ -30,30 +33,39 @@ impl Write for Counter {
     }
 }
 
+fn new_counter(fails: bool) -> Counter {
+    Counter {
+        writes: 0,
+        lines: 0,
+        fails,
+    }
+}
+
 #[test]
 fn a_fault_of_the_writer_is_reported(rt: HostRuntime) -> Result<(), Fail> {
     let setup = setup_of(rt.alloc(), 3, &[900], 1)?;
     let totals = totals_of(&rt, rt.alloc(), &setup, &[&[300]])?;
     let sheet = make(rt.alloc(), &totals)?;
-    let mut out = Counter {
-        writes: 0,
-        lines: 0,
-        fails: true,
-    };
-    assert_eq!(rt; write_sheet(&sheet, 1, false, 1, &mut out), Err(WriteFault));
+    let written = write_sheet(&sheet, 1, false, 1, &mut new_counter(true));
+    assert_eq!(rt; written, Err(WriteFault));
     Ok(())
 }
 
-#[test]
-fn the_largest_sheet_takes_few_writes(rt: HostRuntime) -> Result<(), Fail> {
-    let mut persons = [0u32; 32];
-    let mut next = 300_000u32;
-    for count in persons.iter_mut() {
+/// The persons of 32 constituencies, and a number to go on from.
+fn persons_of_32(first: u32) -> ([u32; 32], u32) {
+    let mut persons = [0; 32];
+    let mut next = first;
+    for count in &mut persons {
         *count = next;
         next = next.wrapping_add(811);
     }
-    // Each group is strong in one constituency, so that all take part.
-    let mut votes = [[0u32; 32]; 32];
+    (persons, next)
+}
+
+/// The votes of 32 groups in 32 constituencies. Each group is strong in one of them, so that all take part.
+fn votes_of_32(first: u32) -> [[u32; 32]; 32] {
+    let mut votes = [[0; 32]; 32];
+    let mut next = first;
     for (row, lists) in votes.iter_mut().enumerate() {
         for (column, list) in lists.iter_mut().enumerate() {
             next = next.wrapping_mul(1_103_515_245).wrapping_add(12_345);
@@ -65,16 +77,27 @@ fn the_largest_sheet_takes_few_writes(rt: HostRuntime) -> Result<(), Fail> {
             *list = most.wrapping_sub(next % 10_000_000);
         }
     }
-    let rows: Vec<&[u32]> = votes.iter().map(|row| row.as_slice()).collect(rt.alloc())?;
-    let setup = setup_of(rt.alloc(), 400, &persons, 32)?;
-    let totals = totals_of(&rt, rt.alloc(), &setup, &rows)?;
-    let sheet = make(rt.alloc(), &totals)?;
-    let mut out = Counter {
-        writes: 0,
-        lines: 0,
-        fails: false,
-    };
-    write_sheet(&sheet, 1, true, 1024, &mut out)?;
+    votes
+}
+
+fn write_sheet_of(totals: &Totals<'_>, alloc: Global, out: &mut Counter) -> Result<(), Fail> {
+    let sheet = make(alloc, totals)?;
+    Ok(write_sheet(&sheet, 1, true, 1024, out)?)
+}
+
+/// Writes the sheet of 400 seats, 32 constituencies and 32 groups that all take part.
+fn write_largest(rt: &impl Abort, alloc: Global, out: &mut Counter) -> Result<(), Fail> {
+    let (persons, next) = persons_of_32(300_000);
+    let setup = setup_of(alloc, 400, &persons, 32)?;
+    let votes = votes_of_32(next);
+    let rows: Vec<&[u32]> = votes.iter().map(|row| row.as_slice()).collect(alloc)?;
+    write_sheet_of(&totals_of(rt, alloc, &setup, &rows)?, alloc, out)
+}
+
+#[test]
+fn the_largest_sheet_takes_few_writes(rt: HostRuntime) -> Result<(), Fail> {
+    let mut out = new_counter(false);
+    write_largest(&rt, rt.alloc(), &mut out)?;
     // The head, the house and two keys, 32 constituencies, 32 groups, 1,024 lists, and the end.
     assert_eq!(rt; out.lines, 1093);
     assert!(rt; out.writes < 20);

@@ -50,8 +50,18 @@ fn reply_at_last(office: &mut Office<'_>, disk: &mut MemoryDisk, line: &[u8]) ->
     }
 }
 
-/// Sees that the return is stored as the command of this number, whatever the office answered to it, and was answered
-/// rightly.
+/// The reply of a newly opened office to a return, and whether the disk failed under it.
+fn send_return(
+    alloc: Global,
+    setup: &Setup,
+    disk: &mut MemoryDisk,
+) -> Result<(Option<Reply>, bool), Fail> {
+    let mut office = opened(alloc, setup, disk)?;
+    let reply = reply(&mut office, disk, b"1 return 1 1 1 525");
+    Ok((reply, office.faulted()))
+}
+
+/// Sees that the return is answered rightly, and in the end stored as the command of this number.
 fn see_return(
     rt: &impl Abort,
     alloc: Global,
@@ -59,12 +69,10 @@ fn see_return(
     disk: &mut MemoryDisk,
     number: u64,
 ) -> Result<(), Fail> {
-    let mut office = opened(alloc, setup, disk)?;
-    let first = reply(&mut office, disk, b"1 return 1 1 1 525");
-    assert_eq!(rt; office.faulted(), first == DEVICE);
+    let (first, faulted) = send_return(alloc, setup, disk)?;
+    assert_eq!(rt; faulted, first == DEVICE);
     assert!(rt; first == DEVICE || first == Some(Reply::Stored(number)));
-    let mut office = opened(alloc, setup, disk)?;
-    let again = reply(&mut office, disk, b"1 return 1 1 1 525");
+    let (again, _) = send_return(alloc, setup, disk)?;
     let stored = Some(Reply::Stored(number));
     assert!(rt; again == Some(Reply::Same) || (first == DEVICE && again == stored));
     Ok(())
@@ -78,22 +86,46 @@ fn a_return_is_stored_once(rt: HostRuntime) -> Result<(), Fail> {
     see_return(&rt, alloc, &setup, &mut disk, 1)
 }
 
+/// Uses all 1,024 pages of a slot, one for each command, unless the disk fails under one.
+fn use_all_pages(alloc: Global, setup: &Setup, disk: &mut MemoryDisk) -> Result<bool, Fail> {
+    let mut office = opened(alloc, setup, disk)?;
+    for _ in 0..512 {
+        office.line(disk, b"1 close 1");
+        office.line(disk, b"1 reopen 1");
+    }
+    Ok(!office.faulted())
+}
+
 #[test]
 fn a_return_that_needs_a_switch_is_stored_once(rt: HostRuntime) -> Result<(), Fail> {
     let alloc = rt.alloc();
     let setup = rehearsal(alloc).or_else(|_| rehearsal(alloc))?;
     let mut disk = formatted(alloc, &setup)?;
-    let mut office = opened(alloc, &setup, &mut disk)?;
-    // each command takes one of the 1,024 pages
-    for _ in 0..512 {
-        office.line(&mut disk, b"1 close 1");
-        office.line(&mut disk, b"1 reopen 1");
-    }
-    if office.faulted() {
+    if !use_all_pages(alloc, &setup, &mut disk)? {
         // memory that is refused to a disk is a fault of the device
         return Ok(());
     }
     see_return(&rt, alloc, &setup, &mut disk, 1_025)
+}
+
+/// Sees that each row of a batch is held once, and that the batch is stored unless the disk fails.
+fn see_rows(rt: &impl Abort, office: &mut Office<'_>, disk: &mut MemoryDisk) {
+    let rows: [(&[u8], u32); 5] = [
+        (b"1 row 1 1 1 10", 1),
+        (b"1 row 1 2 1 20", 2),
+        (b"1 row 2 1 1 30", 3),
+        (b"1 row 2 2 1 40", 4),
+        (b"1 row 3 3 1 50", 5),
+    ];
+    office.line(disk, b"1 open");
+    for (row, held) in rows {
+        let first = reply_at_last(office, disk, row);
+        assert_eq!(rt; first, Some(Reply::Held(held)));
+        let again = reply(office, disk, row);
+        assert_eq!(rt; again, Some(Reply::Refused(Refusal::Twice)));
+    }
+    let stored = reply(office, disk, b"1 commit");
+    assert!(rt; stored == DEVICE || stored == Some(Reply::Stored(1)));
 }
 
 #[test]
@@ -102,23 +134,26 @@ fn a_row_without_memory_leaves_the_batch_as_it_was(rt: HostRuntime) -> Result<()
     let setup = rehearsal(alloc).or_else(|_| rehearsal(alloc))?;
     let mut disk = formatted(alloc, &setup)?;
     let mut office = opened(alloc, &setup, &mut disk)?;
-    let rows: [(&[u8], u32); 5] = [
-        (b"1 row 1 1 1 10", 1),
-        (b"1 row 1 2 1 20", 2),
-        (b"1 row 2 1 1 30", 3),
-        (b"1 row 2 2 1 40", 4),
-        (b"1 row 3 3 1 50", 5),
-    ];
-    office.line(&mut disk, b"1 open");
-    for (row, held) in rows {
-        let first = reply_at_last(&mut office, &mut disk, row);
-        assert_eq!(rt; first, Some(Reply::Held(held)));
-        let again = reply(&mut office, &mut disk, row);
-        assert_eq!(rt; again, Some(Reply::Refused(Refusal::Twice)));
-    }
-    let stored = reply(&mut office, &mut disk, b"1 commit");
-    assert!(rt; stored == DEVICE || stored == Some(Reply::Stored(1)));
+    see_rows(&rt, &mut office, &mut disk);
     Ok(())
+}
+
+/// Sees that a sheet is given at last after three returns, unless the disk fails under one.
+fn see_sheet(rt: &impl Abort, office: &mut Office<'_>, disk: &mut MemoryDisk) {
+    let returns: [&[u8]; 3] = [
+        b"1 return 1 1 1 525",
+        b"1 return 2 1 1 240",
+        b"1 return 3 1 1 90",
+    ];
+    for line in returns {
+        if reply(office, disk, line) == DEVICE {
+            // memory that is refused to a disk is a fault of the device
+            return;
+        }
+    }
+    let sheet = reply_at_last(office, disk, b"1 sheet");
+    assert_eq!(rt; sheet, None);
+    assert_eq!(rt; office.count().accepted(), 3);
 }
 
 #[test]
@@ -127,20 +162,7 @@ fn a_sheet_without_memory_changes_nothing(rt: HostRuntime) -> Result<(), Fail> {
     let setup = rehearsal(alloc).or_else(|_| rehearsal(alloc))?;
     let mut disk = formatted(alloc, &setup)?;
     let mut office = opened(alloc, &setup, &mut disk)?;
-    let returns: [&[u8]; 3] = [
-        b"1 return 1 1 1 525",
-        b"1 return 2 1 1 240",
-        b"1 return 3 1 1 90",
-    ];
-    for line in returns {
-        if reply(&mut office, &mut disk, line) == DEVICE {
-            // memory that is refused to a disk is a fault of the device
-            return Ok(());
-        }
-    }
-    let sheet = reply_at_last(&mut office, &mut disk, b"1 sheet");
-    assert_eq!(rt; sheet, None);
-    assert_eq!(rt; office.count().accepted(), 3);
+    see_sheet(&rt, &mut office, &mut disk);
     Ok(())
 }
 
@@ -169,20 +191,30 @@ fn exported(office: &Office<'_>, alloc: Global) -> Result<Vec<u8>, Fail> {
     }
 }
 
+/// Sees that a text is loaded at last, unless the disk fails under it, and that what was loaded is exported.
+fn see_load(
+    rt: &impl Abort,
+    alloc: Global,
+    office: &mut Office<'_>,
+    disk: &mut MemoryDisk,
+) -> Result<(), Fail> {
+    let text = b"municipality,list,number,votes\n1,1,1,525\n2,1,1,240\n".as_slice();
+    let reply = load(office, disk, text);
+    assert!(rt; reply == Reply::Refused(Refusal::Device) || reply == Reply::Stored(1));
+    let exported = exported(office, alloc)?;
+    if reply == Reply::Stored(1) {
+        assert_eq!(rt; exported.as_slice(), text);
+    }
+    Ok(())
+}
+
 #[test]
 fn a_text_without_memory_leaves_the_count_as_it_was(rt: HostRuntime) -> Result<(), Fail> {
     let alloc = rt.alloc();
     let setup = rehearsal(alloc).or_else(|_| rehearsal(alloc))?;
     let mut disk = formatted(alloc, &setup)?;
     let mut office = opened(alloc, &setup, &mut disk)?;
-    let text = b"municipality,list,number,votes\n1,1,1,525\n2,1,1,240\n".as_slice();
-    let reply = load(&mut office, &mut disk, text);
-    assert!(rt; reply == Reply::Refused(Refusal::Device) || reply == Reply::Stored(1));
-    let exported = exported(&office, alloc)?;
-    if reply == Reply::Stored(1) {
-        assert_eq!(rt; exported.as_slice(), text);
-    }
-    Ok(())
+    see_load(&rt, alloc, &mut office, &mut disk)
 }
 
 #[test]

@@ -1,17 +1,16 @@
 //! Inputs that give one byte at a time.
 
 use super::fakes::{SlowReader, run_rehearsal};
+use std::alloc::Global;
+use std::process::Abort;
 use std::test::Fail;
 use zh_disk::MemoryDisk;
 use zh_districts::rehearsal;
 use zh_office::{Office, ServeFault};
+use zh_tasks::{ProgramFault, RunFault};
 
-#[test]
-fn each_byte_needs_a_turn_and_the_end_too(rt: HostRuntime) -> Result<(), Fail> {
-    let setup = rehearsal(rt.alloc())?;
-    let mut disk = MemoryDisk::blank(rt.alloc())?;
-    Office::format(rt.alloc(), &setup, &mut disk)?;
-    let mut office = Office::open(rt.alloc(), &setup, &mut disk)?;
+/// Sees how serving a text ends that comes byte by byte, in at most so many turns, and what is written.
+fn see_serving(rt: &impl Abort, alloc: Global, office: &mut Office<'_>, disk: &mut MemoryDisk) {
     let table: [(&[u8], u64, Result<u64, ServeFault>, &[u8]); 8] = [
         (b"1 show 1 1\n", 10, Err(ServeFault::Turns), b""),
         (b"1 show 1 1\n", 11, Err(ServeFault::Turns), b"1 none\n"),
@@ -29,16 +28,27 @@ fn each_byte_needs_a_turn_and_the_end_too(rt: HostRuntime) -> Result<(), Fail> {
     ];
     for (text, turns, end, written) in table {
         let mut input = SlowReader { text, at_end: None };
-        let mut out = Vec::new(rt.alloc());
-        let found = office.serve(&mut input, &mut out, &mut disk, turns);
+        let mut out = Vec::new(alloc);
+        let found = office.serve(&mut input, &mut out, disk, turns);
         assert_eq!(rt; (found, out.as_slice()), (end, written), "{turns} turns");
     }
-    Ok(())
 }
 
 #[test]
+fn each_byte_needs_a_turn_and_the_end_too(rt: HostRuntime) -> Result<(), Fail> {
+    let setup = rehearsal(rt.alloc())?;
+    let mut disk = MemoryDisk::blank(rt.alloc())?;
+    Office::format(rt.alloc(), &setup, &mut disk)?;
+    let mut office = Office::open(rt.alloc(), &setup, &mut disk)?;
+    see_serving(&rt, rt.alloc(), &mut office, &mut disk);
+    Ok(())
+}
+
+// No test makes so many reads that the program reports this by itself.
+#[test]
 fn the_fault_of_too_many_turns_has_its_name(rt: HostRuntime) -> Result<(), Fail> {
-    let name = format!(in rt.alloc(); "{}", ServeFault::Turns)?;
+    let fault = ProgramFault::Run(RunFault::Serve(ServeFault::Turns));
+    let name = format!(in rt.alloc(); "{fault}")?;
     assert_eq!(rt; name.as_str(), "turns");
     Ok(())
 }
