@@ -9,9 +9,9 @@ use Rattle.zh_commands.specs.declared.lines.Line.{Line}
 use Rattle.zh_commands.specs.declared.lines.LineFault.{LineFault}
 use Rattle.zh_commands.specs.declared.lines.LineFault.TheVariants.{Syntax, Desk}
 use Rattle.zh_commands.specs.Words.{first_word, numerals}
-use Rattle.zh_commands.specs.Lines.{request_text, spelling, IsDesk, IsRequest, IsLine, NamesNoDesk, ParsesAs, desk_of}
+use Rattle.zh_commands.specs.Lines.{request_text, word_of, numbers_of, spelling, IsDesk, IsRequest, IsLine, NamesNoDesk, ParsesAs, desk_of}
 use Rattle.zh_commands.proofs.SplitLemmas.{IsWord-decimal, first_word-append, split_is}
-use Rattle.zh_commands.proofs.RequestLemmas.{word_of, numbers_of, AreNumerals-numbers_of, request_text-parts, request_injective}
+use Rattle.zh_commands.proofs.RequestLemmas.{AreNumerals-numbers_of, request_text-parts, request_injective}
 
 -- a text that is split at its first space, where it spells a line
 pub split_spelling : (bytes first left : List ℕ) (line : Line) → first ≡ first_word bytes → bytes ≡ first ++ left → IsLine line → bytes ≡ spelling line → (first ≡ decimal line.desk) × (left ≡ 32 ∷ request_text line.request)

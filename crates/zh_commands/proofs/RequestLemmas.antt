@@ -1,6 +1,7 @@
 -- Requests are distinguished by their words.
-use Rattle.std.proofs.Common.{◌≡◌, ◌≢◌, ℕ, ◌<◌, cond, ◌^◌, List, [], ◌∷◌, ◌++◌, get_or, drop, decimal, codes, sym, ap, ◌∙◌, refl, subst, arith, append_assoc, append-nil}
+use Rattle.std.proofs.Common.{◌≡◌, ◌≢◌, ℕ, ◌<◌, cond, ◌^◌, List, [], ◌∷◌, ◌++◌, get_or, drop, decimal, codes, sym, ap, ◌∙◌, refl, subst, arith, append_assoc, append-nil, Option, Some, None}
 use Rattle.std.specs.List.{AllByRecursion}
+use Rattle.std.specs.Option.{MatchOption}
 use Rattle.std.specs.Str.{bytes_eq, IsUtf8}
 use Rattle.std.proofs.lemmas.Fmt.{decimal_injective}
 use Rattle.std.proofs.lemmas.List.Elements.{All-from_recursion, recursion_from_All}
@@ -8,7 +9,7 @@ use Rattle.zh_records.specs.declared.row.Row.{Row}
 use Rattle.zh_commands.specs.declared.lines.Request.{Request}
 use Rattle.zh_commands.specs.declared.lines.Request.TheVariants as requests
 use Rattle.zh_commands.specs.Words.{first_word, numerals, AreNumerals}
-use Rattle.zh_commands.specs.Lines.{request_text, IsRow, IsRequest}
+use Rattle.zh_commands.specs.Lines.{request_text, word_of, numbers_of, IsRow, IsRequest}
 use Rattle.zh_commands.proofs.SplitLemmas.{IsWord, IsWord-decimal, first_word-append, first_word-numerals, split_is}
 
 -- numerals that read alike are of the same numbers
@@ -45,33 +46,6 @@ AreNumerals-one n fit = All-from_recursion (λ n. n < 2 ^ 32) (n ∷ []) (fit, t
 
 pub AreNumerals-none : AreNumerals []
 AreNumerals-none = All-from_recursion (λ n. n < 2 ^ 32) [] tt
-
--- the word of a request, and its numbers
-abbrev pub word_of : Request → List ℕ
-word_of (requests.Return row) = codes "return"
-word_of (requests.Withdraw municipality list number) = codes "withdraw"
-word_of (requests.Close municipality) = codes "close"
-word_of (requests.Reopen municipality) = codes "reopen"
-word_of requests.Open = codes "open"
-word_of (requests.Row row) = codes "row"
-word_of requests.Commit = codes "commit"
-word_of requests.Drop = codes "drop"
-word_of (requests.Show municipality list) = codes "show"
-word_of requests.Sheet = codes "sheet"
-word_of requests.Final = codes "final"
-
-abbrev pub numbers_of : Request → List ℕ
-numbers_of (requests.Return row) = row_numbers row
-numbers_of (requests.Withdraw municipality list number) = municipality ∷ list ∷ number ∷ []
-numbers_of (requests.Close municipality) = municipality ∷ []
-numbers_of (requests.Reopen municipality) = municipality ∷ []
-numbers_of requests.Open = []
-numbers_of (requests.Row row) = row_numbers row
-numbers_of requests.Commit = []
-numbers_of requests.Drop = []
-numbers_of (requests.Show municipality list) = municipality ∷ list ∷ []
-numbers_of requests.Sheet = []
-numbers_of requests.Final = []
 
 pub AreNumerals-numbers_of : (request : Request) → IsRequest request → AreNumerals (numbers_of request)
 AreNumerals-numbers_of (requests.Return row) is = AreNumerals-row row is
@@ -135,13 +109,6 @@ pub split_request : (text first left : List ℕ) (request : Request) → first �
 split_request text first left request is whole e =
     split_is text first left (word_of request) (numerals (numbers_of request)) is whole (worded request).one_word (first_word-numerals (numbers_of request)) (e ∙ request_text-parts request)
 
--- a text is no request, if what stands after its first word is not of a request with that word
-pub NoRequest-after : (text first left word : List ℕ) → first ≡ first_word text → text ≡ first ++ left → first ≡ word → ((ns : List ℕ) → IsRequest (request_from word ns) → left ≢ numerals (numbers_of (request_from word ns))) → (request : Request) → IsRequest request → text ≢ request_text request
-NoRequest-after text first left word is whole one none request fits e =
-    let (same, rest) = split_request text first left request is whole e in
-    let own : request ≡ request_from word (numbers_of request) = sym (worded request).back ∙ ap (λ w. request_from w (numbers_of request)) (sym same ∙ one) in
-    none (numbers_of request) (subst IsRequest own fits) (rest ∙ ap (λ k. numerals (numbers_of k)) own)
-
 -- a text is no request, if its first word is of none
 pub NoRequest-word : (text first left : List ℕ) → first ≡ first_word text → text ≡ first ++ left → ((request : Request) → first ≢ word_of request) → (request : Request) → IsRequest request → text ≢ request_text request
 NoRequest-word text first left is whole other request fits e = other request (split_request text first left request is whole e).0
@@ -149,6 +116,69 @@ NoRequest-word text first left is whole other request fits e = other request (sp
 -- bytes that are no text are no word of a request
 pub other_word-bytes : (word : List ℕ) → ¬ IsUtf8 word → (request : Request) → word ≢ word_of request
 other_word-bytes word none request e = none (subst IsUtf8 (sym e) (worded request).text)
+
+-- a word and a text of a request with numbers, if they are of one at all with the word
+pub NoNumbers-after : (own text word : List ℕ) → own ≡ word → ((ns : List ℕ) → IsRequest (request_from word ns) → text ≢ numerals (numbers_of (request_from word ns))) → (request : Request) → IsRequest request → numbers_of request ≢ [] → own ≡ word_of request → text ≢ numerals (numbers_of request)
+NoNumbers-after own text word one none request fits some same e =
+    let is : request ≡ request_from word (numbers_of request) = sym (worded request).back ∙ ap (λ w. request_from w (numbers_of request)) (sym same ∙ one) in
+    none (numbers_of request) (subst IsRequest is fits) (e ∙ ap (λ k. numerals (numbers_of k)) is)
+
+-- a request without numbers is said by its word alone
+pub IsRequest-lone : (request : Request) → numbers_of request ≡ [] → IsRequest request
+IsRequest-lone (requests.Return row) e = absurd (cc)
+IsRequest-lone (requests.Withdraw m l n) e = absurd (cc)
+IsRequest-lone (requests.Close m) e = absurd (cc)
+IsRequest-lone (requests.Reopen m) e = absurd (cc)
+IsRequest-lone requests.Open e = tt
+IsRequest-lone (requests.Row row) e = absurd (cc)
+IsRequest-lone requests.Commit e = tt
+IsRequest-lone requests.Drop e = tt
+IsRequest-lone (requests.Show m l) e = absurd (cc)
+IsRequest-lone requests.Sheet e = tt
+IsRequest-lone requests.Final e = tt
+
+lone_from : (request : Request) (ns : List ℕ) → numbers_of request ≡ [] → request_from (word_of request) ns ≡ request
+lone_from (requests.Return row) ns e = absurd (cc)
+lone_from (requests.Withdraw m l n) ns e = absurd (cc)
+lone_from (requests.Close m) ns e = absurd (cc)
+lone_from (requests.Reopen m) ns e = absurd (cc)
+lone_from requests.Open ns e = refl
+lone_from (requests.Row row) ns e = absurd (cc)
+lone_from requests.Commit ns e = refl
+lone_from requests.Drop ns e = refl
+lone_from (requests.Show m l) ns e = absurd (cc)
+lone_from requests.Sheet ns e = refl
+lone_from requests.Final ns e = refl
+
+-- a text is no request, if more stands after a word that stands alone
+NoRequest-lone : (text first left : List ℕ) (lone : Request) → first ≡ first_word text → text ≡ first ++ left → numbers_of lone ≡ [] → first ≡ word_of lone → left ≢ [] → (request : Request) → IsRequest request → text ≢ request_text request
+NoRequest-lone text first left lone is whole alone one more request fits e =
+    let (same, rest) = split_request text first left request is whole e in
+    let own : request ≡ lone = sym (worded request).back ∙ ap (λ w. request_from w (numbers_of request)) (sym same ∙ one) ∙ lone_from lone (numbers_of request) alone in
+    more (rest ∙ ap (λ k. numerals (numbers_of k)) own ∙ ap numerals alone)
+
+-- a word and the numerals of a request are its text
+request_text-from_parts : (text first left : List ℕ) (request : Request) → text ≡ first ++ left → first ≡ word_of request → left ≡ numerals (numbers_of request) → text ≡ request_text request
+request_text-from_parts text first left request whole word rest =
+    whole ∙ ap (λ l. l ++ left) word ∙ ap (λ l. word_of request ++ l) rest ∙ sym (request_text-parts request)
+
+-- the request of a text, where there is one
+abbrev pub Reads : List ℕ → Option Request → Type 0
+Reads text result = MatchOption result ((request : Request) → IsRequest request → text ≢ request_text request) (λ request. IsRequest request × (text ≡ request_text request))
+
+-- what a text is whose first word stands alone
+pub Reads-lone : (text first left : List ℕ) (lone : Request) (result : Option Request) → first ≡ first_word text → text ≡ first ++ left → numbers_of lone ≡ [] → first ≡ word_of lone → MatchOption result (left ≢ []) (λ found. (found ≡ lone) × (left ≡ [])) → Reads text result
+Reads-lone text first left lone None is whole alone one more = NoRequest-lone text first left lone is whole alone one more
+Reads-lone text first left lone (Some found) is whole alone one (same, nothing) =
+    rw same (IsRequest-lone lone alone, request_text-from_parts text first left lone whole one (nothing ∙ sym (ap numerals alone)))
+
+-- what a text is whose first word does not stand alone
+pub Reads-numbers : (text first left : List ℕ) (result : Option Request) → first ≡ first_word text → text ≡ first ++ left → ((lone : Request) → numbers_of lone ≡ [] → first ≢ word_of lone) → MatchOption result ((request : Request) → IsRequest request → numbers_of request ≢ [] → first ≡ word_of request → left ≢ numerals (numbers_of request)) (λ request. IsRequest request × (first ≡ word_of request) × (left ≡ numerals (numbers_of request))) → Reads text result
+Reads-numbers text first left None is whole alone none = λ request fits e.
+    let (same, rest) = split_request text first left request is whole e in
+    none request fits (λ no. alone request no same) same rest
+Reads-numbers text first left (Some request) is whole alone found =
+    (found.0, request_text-from_parts text first left request whole found.1 found.2)
 
 -- a request has its word and its numbers, and no others
 request_same : (a b : Request) → word_of a ≡ word_of b → numbers_of a ≡ numbers_of b → a ≡ b

@@ -22,6 +22,33 @@ request_text (requests.Show municipality list) = codes "show " ++ decimal munici
 request_text requests.Sheet = codes "sheet"
 request_text requests.Final = codes "final"
 
+-- the word of a request, and the numbers after it
+abbrev pub word_of : Request → List ℕ
+word_of (requests.Return row) = codes "return"
+word_of (requests.Withdraw municipality list number) = codes "withdraw"
+word_of (requests.Close municipality) = codes "close"
+word_of (requests.Reopen municipality) = codes "reopen"
+word_of requests.Open = codes "open"
+word_of (requests.Row row) = codes "row"
+word_of requests.Commit = codes "commit"
+word_of requests.Drop = codes "drop"
+word_of (requests.Show municipality list) = codes "show"
+word_of requests.Sheet = codes "sheet"
+word_of requests.Final = codes "final"
+
+abbrev pub numbers_of : Request → List ℕ
+numbers_of (requests.Return row) = row.municipality ∷ row.list ∷ row.number ∷ row.votes ∷ []
+numbers_of (requests.Withdraw municipality list number) = municipality ∷ list ∷ number ∷ []
+numbers_of (requests.Close municipality) = municipality ∷ []
+numbers_of (requests.Reopen municipality) = municipality ∷ []
+numbers_of requests.Open = []
+numbers_of (requests.Row row) = row.municipality ∷ row.list ∷ row.number ∷ row.votes ∷ []
+numbers_of requests.Commit = []
+numbers_of requests.Drop = []
+numbers_of (requests.Show municipality list) = municipality ∷ list ∷ []
+numbers_of requests.Sheet = []
+numbers_of requests.Final = []
+
 -- the one spelling of a line: its desk, a space, the request
 abbrev pub spelling : Line → List ℕ
 spelling line = decimal line.desk ++ 32 ∷ request_text line.request

@@ -35,6 +35,14 @@ name (refusals.NoVotes constituency) = codes "novotes " ++ decimal constituency
 name (refusals.TiedLower constituency group) = codes "tied lower " ++ decimal constituency ++ 32 ∷ decimal group
 name refusals.Exhausted = codes "exhausted"
 
+-- the numbers at the end of a refusal's name, if any
+abbrev pub name_numbers : Refusal → List ℕ
+name_numbers (refusals.NotClosed municipality) = decimal municipality
+name_numbers (refusals.NoSeat constituency) = decimal constituency
+name_numbers (refusals.NoVotes constituency) = decimal constituency
+name_numbers (refusals.TiedLower constituency group) = decimal constituency ++ 32 ∷ decimal group
+name_numbers refusal = []
+
 -- what a reply says after the desk
 abbrev pub answer : Reply → List ℕ
 answer (Stored accepted) = codes "stored " ++ decimal accepted

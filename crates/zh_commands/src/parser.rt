@@ -1,6 +1,6 @@
 ghost use Rattle.std.specs.Prelude.{◌≡◌, ◌≢◌, ◌↔◌, ◌^◌, ◌<◌, ℕ, [], ◌∷◌, IsTrue, MatchOption};
 ghost use Rattle.zh_commands.specs.Words.{numerals};
-ghost use Rattle.zh_commands.specs.Lines.{request_text, row_text, IsDesk, IsRow, IsRequest, ParsesAs, desk_of};
+ghost use Rattle.zh_commands.specs.Lines.{request_text, word_of, numbers_of, row_text, IsDesk, IsRow, IsRequest, ParsesAs, desk_of};
 
 use crate::lines::{Line, LineFault, Request};
 use crate::words::{after_space, numbers, numeral, split_word};
@@ -55,10 +55,39 @@ fn request_of(text: &[u8]) -> Option<Request>
     let Ok(word) = str::from_utf8(word) else {
         return None;
     };
+    match lone_request(word) {
+        Some(request) => alone(request, rest),
+        None => numbered_request(word, rest),
+    }
+}
+
+// The request that is this word, with no number after it.
+fn lone_request(word: &str) -> Option<Request>
+    ensures { MatchOption result ((request : Request) → numbers_of request ≡ [] → word.now ≢ word_of request)
+        (λ request. (numbers_of request ≡ []) × (word.now ≡ word_of request)) }
+{
     match word {
-        "return" => Some(Request::Return(row_of(rest)?)),
+        "open" => Some(Request::Open),
+        "commit" => Some(Request::Commit),
+        "drop" => Some(Request::Drop),
+        "sheet" => Some(Request::Sheet),
+        "final" => Some(Request::Final),
+        _ => None,
+    }
+}
+
+// The request of this word and of the numerals after it, of which there is at least one.
+fn numbered_request(word: &str, text: &[u8]) -> Option<Request>
+    ensures { MatchOption result
+        ((request : Request) → IsRequest request → numbers_of request ≢ [] → word.now ≡ word_of request
+        → text.now ≢ numerals (numbers_of request))
+        (λ request. IsRequest request × (word.now ≡ word_of request)
+        × (text.now ≡ numerals (numbers_of request))) }
+{
+    match word {
+        "return" => Some(Request::Return(row_of(text)?)),
         "withdraw" => {
-            let (municipality, list, number) = withdrawal_of(rest)?;
+            let (municipality, list, number) = withdrawal_of(text)?;
             Some(Request::Withdraw {
                 municipality,
                 list,
@@ -66,21 +95,16 @@ fn request_of(text: &[u8]) -> Option<Request>
             })
         }
         "close" => Some(Request::Close {
-            municipality: municipality_of(rest)?,
+            municipality: municipality_of(text)?,
         }),
         "reopen" => Some(Request::Reopen {
-            municipality: municipality_of(rest)?,
+            municipality: municipality_of(text)?,
         }),
-        "open" => alone(Request::Open, rest),
-        "row" => Some(Request::Row(row_of(rest)?)),
-        "commit" => alone(Request::Commit, rest),
-        "drop" => alone(Request::Drop, rest),
+        "row" => Some(Request::Row(row_of(text)?)),
         "show" => {
-            let [municipality, list] = numbers::<2>(rest)?;
+            let [municipality, list] = numbers::<2>(text)?;
             Some(Request::Show { municipality, list })
         }
-        "sheet" => alone(Request::Sheet, rest),
-        "final" => alone(Request::Final, rest),
         _ => None,
     }
 }

@@ -1,5 +1,5 @@
 ghost use Rattle.std.specs.Prelude.{◌≡◌, ◌≤◌, ◌++◌, length, take};
-ghost use Rattle.zh_commands.specs.Replies.{name, answer, reply_text};
+ghost use Rattle.zh_commands.specs.Replies.{name, name_numbers, answer, reply_text};
 
 use crate::replies::{Refusal, Reply};
 use crate::text::Text;
@@ -55,36 +55,51 @@ fn push_name(text: &mut Text, refusal: &Refusal)
     ensures name { text.new ≡ text.old ++ name refusal.now }
     ensures short { length text.new ≤ 63 }
 {
+    let words = words_of(refusal);
     match refusal {
-        Refusal::Syntax => text.push(b"syntax"),
-        Refusal::Desk => text.push(b"desk"),
-        Refusal::Municipality => text.push(b"municipality"),
-        Refusal::List => text.push(b"list"),
-        Refusal::Votes => text.push(b"votes"),
-        Refusal::Closed => text.push(b"closed"),
-        Refusal::Stale => text.push(b"stale"),
-        Refusal::Gap => text.push(b"gap"),
-        Refusal::Conflict => text.push(b"conflict"),
-        Refusal::Twice => text.push(b"twice"),
-        Refusal::NoBatch => text.push(b"nobatch"),
-        Refusal::BatchFull => text.push(b"batchfull"),
-        Refusal::NotClosed(municipality) => text.push_numbered(b"notclosed ", *municipality),
-        Refusal::Memory => text.push(b"memory"),
-        Refusal::Device => text.push(b"device"),
-        Refusal::ReopenDisk => text.push(b"reopen-disk"),
-        Refusal::Spent => text.push(b"spent"),
-        Refusal::BatchOpen => text.push(b"batchopen"),
-        Refusal::Csv => text.push(b"csv"),
-        Refusal::TiedSeats => text.push(b"tied seats"),
-        Refusal::NoSeat(constituency) => text.push_numbered(b"noseat ", *constituency),
-        Refusal::NoGroup => text.push(b"nogroup"),
-        Refusal::NoVoters => text.push(b"novoters"),
-        Refusal::TiedUpper => text.push(b"tied upper"),
-        Refusal::NoVotes(constituency) => text.push_numbered(b"novotes ", *constituency),
+        Refusal::NotClosed(number) | Refusal::NoSeat(number) | Refusal::NoVotes(number) => {
+            text.push_numbered(words, *number);
+        }
         Refusal::TiedLower(constituency, group) => {
-            text.push_numbered(b"tied lower ", *constituency);
+            text.push_numbered(words, *constituency);
             text.push_numbered(b" ", *group);
         }
-        Refusal::Exhausted => text.push(b"exhausted"),
+        _ => text.push(words),
+    }
+}
+
+// The words of a refusal's name, which end with a space where a number follows.
+fn words_of(refusal: &Refusal) -> &'static [u8]
+    ensures words { name refusal.now ≡ result.now ++ name_numbers refusal.now }
+    ensures short { length result.now ≤ 12 }
+{
+    match refusal {
+        Refusal::Syntax => b"syntax",
+        Refusal::Desk => b"desk",
+        Refusal::Municipality => b"municipality",
+        Refusal::List => b"list",
+        Refusal::Votes => b"votes",
+        Refusal::Closed => b"closed",
+        Refusal::Stale => b"stale",
+        Refusal::Gap => b"gap",
+        Refusal::Conflict => b"conflict",
+        Refusal::Twice => b"twice",
+        Refusal::NoBatch => b"nobatch",
+        Refusal::BatchFull => b"batchfull",
+        Refusal::NotClosed(_) => b"notclosed ",
+        Refusal::Memory => b"memory",
+        Refusal::Device => b"device",
+        Refusal::ReopenDisk => b"reopen-disk",
+        Refusal::Spent => b"spent",
+        Refusal::BatchOpen => b"batchopen",
+        Refusal::Csv => b"csv",
+        Refusal::TiedSeats => b"tied seats",
+        Refusal::NoSeat(_) => b"noseat ",
+        Refusal::NoGroup => b"nogroup",
+        Refusal::NoVoters => b"novoters",
+        Refusal::TiedUpper => b"tied upper",
+        Refusal::NoVotes(_) => b"novotes ",
+        Refusal::TiedLower(..) => b"tied lower ",
+        Refusal::Exhausted => b"exhausted",
     }
 }

@@ -1,5 +1,5 @@
 -- Municipalities and lists of a set-up.
-use Rattle.std.proofs.Common.{◌≡◌, ◌≤◌, ℕ, Bool, true, false, not, cond, length, Option, Some, None, refl, arith, rules, ap, ◌∙◌}
+use Rattle.std.proofs.Common.{◌≡◌, ◌≤◌, ℕ, Bool, true, false, not, cond, length, Some, None, refl, arith, rules}
 use Rattle.std.proofs.lemmas.Grind.{common_steps}
 use Rattle.std.proofs.lemmas.Option.{gets}
 use Rattle.zh_districts.specs.Canton.{Canton, has_municipality, stands, constituency_of}

@@ -1,5 +1,5 @@
 -- Reading values one after the other, as a loop does.
-use Rattle.std.proofs.Common.{◌≡◌, ◌==◌, ℕ, zero, suc, add-zero, add-one, ◌+◌, ◌<◌, List, [], ◌∷◌, ◌++◌, length, get_or, drop, map, Option, Some, None, Ok, option_map, refl, sym, ap, ◌∙◌, append_assoc, arith}
+use Rattle.std.proofs.Common.{◌≡◌, ◌==◌, ℕ, zero, suc, add-zero, add-one, ◌+◌, ◌<◌, List, [], ◌∷◌, ◌++◌, length, get_or, drop, map, Option, Some, None, Result, Ok, Err, option_map, refl, sym, ap, ◌∙◌, append_assoc, arith}
 use Rattle.std.proofs.lemmas.List.{drop_more}
 use Rattle.std.specs.List.{list_any, range_with_len}
 use Rattle.toml.specs.View.{view}
@@ -19,19 +19,23 @@ pub said_ok : {X : Type 0} (o : Option X) (x : X) → within_range o ≡ Ok x �
 said_ok None x e = absurd cc
 said_ok (Some y) x e = cc
 
+-- the fault of a range stands where no value is left
+pub fails_within : {X Y : Type 0} (fault : SetupFault) (o : Option X) (wanted : Result Y SetupFault) → (o ≡ None → wanted ≡ Err Range) → Fails fault (within_range o) → Fails fault wanted
+fails_within Memory o wanted h e = tt
+fails_within Range None wanted h e = h refl
+fails_within Range (Some x) wanted h e = absurd cc
+fails_within Text None wanted h e = absurd cc
+fails_within Text (Some x) wanted h e = absurd cc
+fails_within Missing None wanted h e = absurd cc
+fails_within Missing (Some x) wanted h e = absurd cc
+fails_within Unknown None wanted h e = absurd cc
+fails_within Unknown (Some x) wanted h e = absurd cc
+fails_within Double None wanted h e = absurd cc
+fails_within Double (Some x) wanted h e = absurd cc
+
 -- a fault goes through where no value is left
 pub fails_through : {X Y : Type 0} (fault : SetupFault) (o : Option X) (p : Option Y) → (o ≡ None → p ≡ None) → Fails fault (within_range o) → Fails fault (within_range p)
-fails_through Memory o p h e = tt
-fails_through Range None p h e = rw (h refl) refl
-fails_through Range (Some x) p h e = absurd cc
-fails_through Text None p h e = absurd cc
-fails_through Text (Some x) p h e = absurd cc
-fails_through Missing None p h e = absurd cc
-fails_through Missing (Some x) p h e = absurd cc
-fails_through Unknown None p h e = absurd cc
-fails_through Unknown (Some x) p h e = absurd cc
-fails_through Double None p h e = absurd cc
-fails_through Double (Some x) p h e = absurd cc
+fails_through fault o p h e = fails_within fault o (within_range p) (λ none. ap within_range (h none)) e
 
 regroup : {X : Type 0} (front : List X) (x : X) (wanted : Option (List X)) → joined front (wanted >>= λ xs. Some (x ∷ xs)) ≡ joined (front ++ x ∷ []) wanted
 regroup front x None = refl

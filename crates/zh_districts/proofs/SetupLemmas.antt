@@ -101,3 +101,9 @@ pub no_groups : (document : Members) (v h n : ℕ) (cs : List Constituency) (ms 
     → (values_at (codes "constituency") 32 document >>= each constituency_of) ≡ Some cs → length cs ≡ n → (values_at (codes "municipality") 512 document >>= each (municipality_of n)) ≡ Some ms
     → (values_at (codes "group") 32 document >>= each (group_of n)) ≡ None → setup_of document ≡ None
 no_groups document v h n cs ms e f g len m none = rw (e, f, g, len, m, none) refl
+
+-- the set-up of its parts
+pub setup_read : (document : Members) (v h n : ℕ) (cs : List Constituency) (ms : List Municipality) (gs : List Group) → (get_member (codes "version") document >>= number_within 1 1) ≡ Some v → (get_member (codes "house") document >>= number_within 1 400) ≡ Some h
+    → (values_at (codes "constituency") 32 document >>= each constituency_of) ≡ Some cs → length cs ≡ n → (values_at (codes "municipality") 512 document >>= each (municipality_of n)) ≡ Some ms
+    → (values_at (codes "group") 32 document >>= each (group_of n)) ≡ Some gs → setup_of document ≡ Some (record { house = h; constituencies = cs; municipalities = ms; groups = gs })
+setup_read document v h n cs ms gs e f g len m k = rw (e, f, g, len, m, k) refl

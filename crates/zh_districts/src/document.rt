@@ -3,7 +3,7 @@
 ghost use Rattle.std.specs.Prelude.{option_and_then};
 ghost use Rattle.toml.specs.Data.{get_member};
 ghost use Rattle.toml.specs.View.{table_view};
-ghost use Rattle.zh_districts.specs.Document.{number_within, setup_of, checked};
+ghost use Rattle.zh_districts.specs.Document.{number_within, setup_of, has_double, undoubled, checked};
 ghost use Rattle.zh_districts.specs.Outcomes.{Gives, GivesInRange};
 ghost use Rattle.zh_districts.specs.Parts.{draft};
 
@@ -42,6 +42,17 @@ fn read_draft(alloc: Global, document: &Table) -> Result<Draft, SetupFault>
     })
 }
 
+/// The set-up of a document with its keys and no others, or the first fault.
+fn read_undoubled(alloc: Global, document: &Table) -> Result<Setup, SetupFault>
+    ensures { Gives (λ setup. setup) result (undoubled (has_double (table_view document.now)) (setup_of (table_view document.now))) }
+{
+    let draft = read_draft(alloc, document)?;
+    if has_double(document) {
+        return Err(SetupFault::Double);
+    }
+    Ok(Setup::assembled(draft))
+}
+
 /// The set-up of a document, or the first fault: each check goes over the whole document before the next.
 pub(crate) fn read_document(alloc: Global, document: &Table) -> Result<Setup, SetupFault>
     ensures { Gives (λ setup. setup) result (checked (table_view document.now)) }
@@ -52,9 +63,5 @@ pub(crate) fn read_document(alloc: Global, document: &Table) -> Result<Setup, Se
     if has_other_key(document) {
         return Err(SetupFault::Unknown);
     }
-    let draft = read_draft(alloc, document)?;
-    if has_double(document) {
-        return Err(SetupFault::Double);
-    }
-    Ok(Setup::assembled(draft))
+    read_undoubled(alloc, document)
 }

@@ -1,6 +1,7 @@
 //! The seats of the constituencies.
 
 ghost use Rattle.std.specs.Prelude.{◌≡◌, ◌≤◌, ◌<◌, ℕ, List, All, MatchOption, IfOk, IfErr, IsErrOf, length, slice_index};
+ghost use Rattle.zh_districts.specs.Canton.{IsCanton};
 ghost use Rattle.zh_districts.specs.Seats.{persons, AreSeats, IsFirstWithout};
 ghost use Rattle.zh_divisors.specs.Fit.{IsTied};
 ghost use Rattle.zh_divisors.specs.Shares.{HasDivisor, RoundsEach};
@@ -56,6 +57,19 @@ fn first_without(seats: &[u32]) -> Option<u32>
     None
 }
 
+/// The seats of the constituencies in proportion to their persons, where one may get none.
+fn proportion(alloc: Global, setup: &Setup) -> Result<Shares, ShareFault>
+    ensures seats { IfOk result (λ shares. AreSeats setup.now shares.seats) }
+    ensures divisor { IfOk result (HasDivisor (persons setup.now)) }
+    ensures rounds { IfOk result (RoundsEach (persons setup.now)) }
+    ensures tied { IsErrOf result ShareFault.Tied → IsTied (persons setup.now) setup.now.house }
+    ensures limits { IsCanton setup.now }
+{
+    let persons = setup.each_persons(alloc)?;
+    let weights = Weights::new(alloc, &persons)?;
+    apportion(alloc, &weights, setup.house())
+}
+
 /// The seats of the constituencies in proportion to their persons (GPR section 88), each at least 1.
 pub fn seats(alloc: Global, setup: &Setup) -> Result<Shares, SeatFault>
     ensures seats { IfOk result (λ shares. AreSeats setup.now shares.seats) }
@@ -67,9 +81,7 @@ pub fn seats(alloc: Global, setup: &Setup) -> Result<Shares, SeatFault>
     ensures tied { IsErrOf result SeatFault.Tied → IsTied (persons setup.now) setup.now.house }
     ensures no_seat { (d : ℕ) → IsErrOf result (SeatFault.NoSeat d) → (seats : List ℕ) × AreSeats setup.now seats × IsFirstWithout seats d }
 {
-    let persons = setup.each_persons(alloc)?;
-    let weights = Weights::new(alloc, &persons)?;
-    let shares = match apportion(alloc, &weights, setup.house()) {
+    let shares = match proportion(alloc, setup) {
         Ok(shares) => shares,
         Err(fault) => return Err(fault_of(fault)),
     };

@@ -1,11 +1,20 @@
 -- A fit with one seat more.
-use Rattle.std.proofs.Common.{◌≡◌, ◌≢◌, ℕ, ◌+◌, ◌-◌, ◌*◌, ◌<◌, ◌≤◌, List, length, get_or, set, inl, inr, sym, ◌∙◌, arith}
+use Rattle.std.proofs.Common.{◌≡◌, ◌≢◌, ℕ, ◌+◌, ◌-◌, ◌*◌, ◌<◌, ◌≤◌, List, length, get_or, replicate, set, inl, inr, sym, ◌∙◌, arith}
 use Rattle.std.proofs.lemmas.Bool.{cases_eq}
-use Rattle.std.proofs.lemmas.List.{length-set, get_or-set_other, get_or-set_same}
+use Rattle.std.proofs.lemmas.Grind.{common_steps}
+use Rattle.std.proofs.lemmas.List.{get_or-replicate, length-replicate, length-set, get_or-set_other, get_or-set_same}
 use Rattle.std.proofs.Math.Nat.{mul-le-mul_left, le_trans}
 use Rattle.zh_divisors.specs.Fit.{NextAgainstLast, IsFit}
 use Rattle.zh_divisors.specs.Worth.{IsMostNext}
 use Rattle.zh_divisors.proofs.Sums.{sum-one_more}
+
+-- before the first seat is given
+pub IsFit-none : (weights seats : List ℕ) → seats ≡ replicate (length weights) 0 → IsFit weights 0 seats
+IsFit-none weights seats none = rw none (record {
+  one_each = length-replicate {A = ℕ} (length weights) 0;
+  add_up = grind (arith, common_steps);
+  in_order = λ i j iw jw differ seated. absurd (omega (arith, seated, get_or-replicate {A = ℕ} (length weights) i 0 0 iw));
+})
 
 -- a pair stays in order, once the seat was given to the greatest next one
 in_order-give : (weights seats : List ℕ) (house next : ℕ) → IsFit weights house seats →

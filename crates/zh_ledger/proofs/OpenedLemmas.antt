@@ -5,7 +5,9 @@ use Rattle.std.specs.Result.{IsErrAnd}
 use Rattle.std.proofs.lemmas.List.{take-append-le, take_all, drop_all}
 use Rattle.zh_districts.specs.Canton.{Canton}
 use Rattle.zh_districts.specs.Spelling.{setup_spelling}
-use Rattle.zh_disk.specs.Disk.{Moment, Trail, IsImage, IsSettled}
+use Rattle.zh_disk.specs.Disk.{Moment, Trail, IsImage, IsSettled, settled}
+use Rattle.zh_journal.specs.Pages.{Frames}
+use Rattle.zh_journal.specs.Place.{Rest}
 use Rattle.zh_disk.proofs.Runs.{synced_image}
 use Rattle.zh_returns.specs.Limits.{IsTally}
 use Rattle.zh_returns.specs.Payload.{payload_spelling}
@@ -17,7 +19,7 @@ use Rattle.zh_snapshot.specs.Store.{State, Fits}
 use Rattle.zh_snapshot.specs.declared.fault.OpenFault as store
 use Rattle.zh_snapshot.specs.declared.fault.OpenFault.TheVariants as of_store
 use Rattle.zh_snapshot.proofs.Contents.{framed_once}
-use Rattle.zh_ledger.specs.Opened.{IsNew, IsDamaged, OpenedAs}
+use Rattle.zh_ledger.specs.Opened.{IsNew, IsDamaged, IsLeft, IsWrong, OpenedAs}
 use Rattle.zh_ledger.specs.Stands.{StandsFor, Replays}
 use Rattle.zh_ledger.specs.declared.fault.OpenFault.TheVariants as faults
 use Rattle.zh_ledger.proofs.ReplayLemmas.{replays_none}
@@ -79,15 +81,18 @@ damaged_all canton bytes none = record {
   nothing = λ x j framed tally same stands. none.1 x j framed;
 }
 
--- a disk whose content stands for no count of this set-up, which is its own
-pub damaged_one : (canton : Canton) (bytes : List ℕ) (x : Content) (j : ℕ) → length bytes ≡ 1118720 → IsFramed x j bytes → x.setup ≡ setup_spelling canton
-    → ((tally : Tally) → tally.canton ≡ canton → StandsFor x tally → ⊥) → IsDamaged canton bytes
-damaged_one canton bytes x j long framed same none = record {
+-- a disk whose one content is wrong
+pub damaged_one : (canton : Canton) (bytes : List ℕ) (x : Content) (j : ℕ) → length bytes ≡ 1118720 → IsFramed x j bytes → IsWrong canton x → IsDamaged canton bytes
+damaged_one canton bytes x j long framed wrong = record {
   gate = λ blank. blank framed.gate;
-  setup = λ y k other. ap (λ (z : Content). z.setup) (framed_once y x k j bytes long other framed) ∙ same;
+  setup = λ y k other. ap (λ (z : Content). z.setup) (framed_once y x k j bytes long other framed) ∙ wrong.own;
   nothing = λ y k other tally same_canton stands.
-      none tally same_canton (subst (λ (z : Content). StandsFor z tally) (framed_once y x k j bytes long other framed) stands);
+      wrong.nothing tally same_canton (subst (λ (z : Content). StandsFor z tally) (framed_once y x k j bytes long other framed) stands);
 }
+
+-- what a store's opening found and settled, and its reader has left
+pub left_there : (old new : Moment) (s : State) (rest : Rest) (x : Content) (j : ℕ) → new ≡ settled old.bytes → IsFramed x j old.bytes → Fits s x j old.bytes → Frames 0 rest.pages rest.page x.records rest.end → IsLeft s rest x new.bytes
+left_there old new s rest x j is framed fits left = subst (λ (m : Moment). IsLeft s rest x m.bytes) (sym is) (record { end = j; framed = framed; fits = fits; left = left })
 
 -- what a comparison with the set-up bytes told
 pub setup_told : (equal : Bool) (setup given spelled : List ℕ) → IsTrue equal ↔ (setup ≡ given) → given ≡ spelled → equal ≡ true → setup ≡ spelled
@@ -96,35 +101,33 @@ setup_told equal setup given spelled told is right = told.0 right ∙ is
 pub setup_untold : (equal : Bool) (setup given spelled : List ℕ) → IsTrue equal ↔ (setup ≡ given) → given ≡ spelled → equal ≡ false → setup ≡ spelled → ⊥
 setup_untold equal setup given spelled told is wrong same = let right = told.1 (same ∙ sym is) in cc
 
--- what was read of a disk with this set-up: its content, which the store fits, and the content's snapshot
-pub record IsRead (canton : Canton) (bytes : List ℕ) (s : State) (payload : List ℕ) : Type 0 where
-  pub content : Content
-  pub end : ℕ
-  pub long : length bytes ≡ 1118720
-  pub framed : IsFramed content end bytes
-  pub fits : Fits s content end bytes
-  pub own : content.setup ≡ setup_spelling canton
-  pub snapshot : payload ≡ content.snapshot
+-- what was read of a disk: a content with this set-up, and its snapshot
+pub record IsRead (canton : Canton) (x : Content) (payload : List ℕ) : Type 0 where
+  pub own : x.setup ≡ setup_spelling canton
+  pub snapshot : payload ≡ x.snapshot
 
 -- where no count of the set-up has the snapshot
-pub damaged_snapshot : (canton : Canton) (bytes : List ℕ) (s : State) (payload : List ℕ) → IsRead canton bytes s payload
-    → ((start : Tally) → start.canton ≡ canton → IsTally start → payload_spelling start ≡ payload → ⊥) → IsDamaged canton bytes
-damaged_snapshot canton bytes s payload read none =
-    damaged_one canton bytes read.content read.end read.long read.framed read.own (λ tally same stands.
-    none stands.start (stands.canton ∙ same) stands.limits (stands.snapshot ∙ sym read.snapshot))
+pub wrong_snapshot : (canton : Canton) (x : Content) (payload : List ℕ) → IsRead canton x payload
+    → ((start : Tally) → start.canton ≡ canton → IsTally start → payload_spelling start ≡ payload → ⊥) → IsWrong canton x
+wrong_snapshot canton x payload read none = record {
+  own = read.own;
+  nothing = λ tally same stands. none stands.start (stands.canton ∙ same) stands.limits (stands.snapshot ∙ sym read.snapshot);
+}
 
 -- where the records lead nowhere from the one count that has it
-pub damaged_records : (canton : Canton) (bytes : List ℕ) (s : State) (payload : List ℕ) (read : IsRead canton bytes s payload) (start : Tally) → start.canton ≡ canton → IsTally start → payload_spelling start ≡ payload
-    → ((tally : Tally) → Replays start read.content.records tally → ⊥) → IsDamaged canton bytes
-damaged_records canton bytes s payload read start its limits spelled none =
-    damaged_one canton bytes read.content read.end read.long read.framed read.own (λ tally same stands.
-    let once : stands.start ≡ start = tally_once stands.start start stands.limits limits (stands.canton ∙ same ∙ sym its) (stands.snapshot ∙ sym read.snapshot ∙ sym spelled) in
-    none tally (subst (λ (t : Tally). Replays t read.content.records tally) once stands.replays))
+pub wrong_records : (canton : Canton) (x : Content) (payload : List ℕ) → IsRead canton x payload → (start : Tally) → start.canton ≡ canton → IsTally start → payload_spelling start ≡ payload
+    → ((tally : Tally) → Replays start x.records tally → ⊥) → IsWrong canton x
+wrong_records canton x payload read start its limits spelled none = record {
+  own = read.own;
+  nothing = λ tally same stands.
+      let once : stands.start ≡ start = tally_once stands.start start stands.limits limits (stands.canton ∙ same ∙ sym its) (stands.snapshot ∙ sym read.snapshot ∙ sym spelled) in
+      none tally (subst (λ (t : Tally). Replays t x.records tally) once stands.replays);
+}
 
 -- where they lead to a count
-pub found_stands : (canton : Canton) (bytes : List ℕ) (s : State) (payload : List ℕ) (read : IsRead canton bytes s payload) (start tally : Tally) → start.canton ≡ canton → tally.canton ≡ start.canton → IsTally start → payload_spelling start ≡ payload
-    → Replays start read.content.records tally → StandsFor read.content tally
-found_stands canton bytes s payload read start tally its same limits spelled replays = record {
+pub found_stands : (canton : Canton) (x : Content) (payload : List ℕ) → IsRead canton x payload → (start tally : Tally) → start.canton ≡ canton → tally.canton ≡ start.canton → IsTally start → payload_spelling start ≡ payload
+    → Replays start x.records tally → StandsFor x tally
+found_stands canton x payload read start tally its same limits spelled replays = record {
   setup = read.own ∙ ap setup_spelling (sym (same ∙ its));
   start = start;
   canton = sym same;

@@ -4,7 +4,9 @@ use Rattle.zh_districts.specs.Canton.{Canton}
 use Rattle.zh_districts.specs.Spelling.{setup_spelling}
 use Rattle.zh_returns.specs.Tally.{Tally, empty}
 use Rattle.zh_snapshot.specs.Image.{Content, IsBlank, IsFramed}
-use Rattle.zh_snapshot.specs.Store.{Fits}
+use Rattle.zh_journal.specs.Pages.{Frames}
+use Rattle.zh_journal.specs.Place.{Rest}
+use Rattle.zh_snapshot.specs.Store.{State, Fits}
 use Rattle.zh_snapshot.specs.declared.fault.OpenFault as store
 use Rattle.zh_snapshot.specs.declared.fault.OpenFault.TheVariants as of_store
 use Rattle.zh_ledger.specs.declared.fault.OpenFault.{OpenFault}
@@ -46,6 +48,18 @@ pub record IsDamaged (canton : Canton) (bytes : List ℕ) : Type 0 where
   pub gate : IsBlank bytes → ⊥
   pub setup : (x : Content) (j : ℕ) → IsFramed x j bytes → x.setup ≡ setup_spelling canton
   pub nothing : (x : Content) (j : ℕ) → IsFramed x j bytes → (tally : Tally) → tally.canton ≡ canton → StandsFor x tally → ⊥
+
+-- these bytes are framed with this content, which the store fits, and the reader has its records left
+pub record IsLeft (s : State) (rest : Rest) (x : Content) (bytes : List ℕ) : Type 0 where
+  pub end : ℕ
+  pub framed : IsFramed x end bytes
+  pub fits : Fits s x end bytes
+  pub left : Frames 0 rest.pages rest.page x.records rest.end
+
+-- the content is one of this set-up, and stands for no count
+pub record IsWrong (canton : Canton) (x : Content) : Type 0 where
+  pub own : x.setup ≡ setup_spelling canton
+  pub nothing : (tally : Tally) → tally.canton ≡ canton → StandsFor x tally → ⊥
 
 -- the fault of a store's opening as one of a ledger's
 abbrev pub OpenedAs : store.OpenFault → OpenFault → Type 0

@@ -1,15 +1,16 @@
 //! Formatting a disk, and opening the ledger that stands there.
 
-ghost use Rattle.std.specs.Prelude.{◌≡◌, ◌≤◌, ℕ, length, List, [], IfOk, OnOk, IsErrOf};
+ghost use Rattle.std.specs.Prelude.{◌≡◌, ◌≢◌, ◌≤◌, ℕ, length, List, [], IfOk, OnOk, IsErrOf};
 ghost use Rattle.zh_districts.specs.Spelling.{setup_spelling};
 ghost use Rattle.zh_disk.specs.Disk.{IsImage, Leaves, settled};
 ghost use Rattle.zh_journal.specs.Cause.{HasRisen};
 ghost use Rattle.zh_returns.specs.Tally.{empty};
 ghost use Rattle.zh_returns.specs.Payload.{payload_spelling};
-ghost use Rattle.zh_snapshot.specs.Image.{IsBlank};
+ghost use Rattle.zh_snapshot.specs.Image.{Content, IsBlank};
 ghost use Rattle.zh_snapshot.specs.Store.{Settles};
 ghost use Rattle.zh_snapshot.specs.Format.{Formats};
-ghost use Rattle.zh_ledger.specs.Opened.{IsNew, IsReady, IsOpened, Differs, IsDamaged};
+ghost use Rattle.zh_ledger.specs.Opened.{IsNew, IsReady, IsOpened, Differs, IsDamaged, IsLeft, IsWrong};
+ghost use Rattle.zh_ledger.specs.Stands.{StandsFor};
 
 use crate::fault::OpenFault;
 use crate::ledger::Ledger;
@@ -17,6 +18,7 @@ use crate::replay::replay;
 use std::alloc::{AllocError, Global};
 use zh_disk::Disk;
 use zh_districts::{Setup, setup_bytes};
+use zh_journal::Reader;
 use zh_returns::{Count, PAYLOAD_LENGTH};
 use zh_snapshot::{FormatFault, Store};
 use zh_totals::RunningCount;
@@ -80,19 +82,47 @@ impl<'s> Ledger<'s> {
         let mut count = RunningCount::new(alloc, setup)?;
         let mut buffer = buffer(alloc)?;
         let (store, mut reader) = Store::open(alloc, disk)?;
-        if !store.setup_equals(disk, &bytes)? {
-            return Err(OpenFault::SetupDiffers);
-        }
-        if !count.decode(store.snapshot(disk, &mut buffer)?) {
-            return Err(OpenFault::Damaged);
-        }
-        if !replay(&mut reader, &mut buffer, &mut count) {
-            return Err(OpenFault::Damaged);
-        }
+        read_count(disk, &store, &bytes, &mut reader, &mut buffer, &mut count)?;
         Ok(Ledger {
             count,
             store,
             buffer,
         })
     }
+}
+
+/// Reads the count that stands on a store's disk: the snapshot, and over it the records that the reader has left. The
+/// count given is the one before the first return, of the set-up that has these bytes.
+fn read_count<D: Disk>(
+    disk: &mut D,
+    store: &Store,
+    setup: &[u8],
+    reader: &mut Reader,
+    buffer: &mut [u8],
+    count: &mut RunningCount<'_>,
+) -> Result<(), OpenFault>
+    requires setup { setup.now ≡ setup_spelling count.old.canton }
+    requires buffer { PAYLOAD_LENGTH ≤ length buffer.old }
+    requires count { count.old ≡ empty count.old.canton }
+    ensures kept { D.honest disk.new → D.honest disk.old }
+    ensures same { D.honest disk.new → D.trail disk.new ≡ D.trail disk.old }
+    ensures canton { count.new.canton ≡ count.old.canton }
+    ensures found { D.honest disk.new → (x : Content) → IsLeft store.now reader.old x (D.trail disk.old).now.bytes → OnOk result (StandsFor x count.new) }
+    ensures differs { D.honest disk.new → IsErrOf result OpenFault.SetupDiffers → (x : Content) → IsLeft store.now reader.old x (D.trail disk.old).now.bytes → x.setup ≢ setup.now }
+    ensures damaged { D.honest disk.new → IsErrOf result OpenFault.Damaged → (x : Content) → IsLeft store.now reader.old x (D.trail disk.old).now.bytes → IsWrong count.old.canton x }
+    ensures blank { result ≢ Err OpenFault.Blank }
+    ensures memory { result ≢ Err OpenFault.Memory }
+    ensures later { D.failures disk.old ≤ D.failures disk.new }
+    ensures cause { IsErrOf result OpenFault.Device → HasRisen (D.failures disk.old) (D.failures disk.new) }
+{
+    if !store.setup_equals(disk, setup)? {
+        return Err(OpenFault::SetupDiffers);
+    }
+    if !count.decode(store.snapshot(disk, buffer)?) {
+        return Err(OpenFault::Damaged);
+    }
+    if !replay(reader, buffer, count) {
+        return Err(OpenFault::Damaged);
+    }
+    Ok(())
 }

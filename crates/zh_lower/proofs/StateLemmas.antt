@@ -1,5 +1,5 @@
 -- The states of a round.
-use Rattle.std.proofs.Common.{◌≡◌, ℕ, ◌+◌, ◌*◌, inl, inr, refl, sym, ap, ◌∙◌, arith, add-one}
+use Rattle.std.proofs.Common.{◌≡◌, ℕ, ◌+◌, ◌*◌, Option, Some, None, IfNone, inl, inr, refl, sym, ap, ◌∙◌, arith, add-one}
 use Rattle.std.proofs.lemmas.Bool.{cases_eq}
 use Rattle.std.proofs.Math.Nat.{mul-mod_right, mul-add-mod_self_left}
 use Rattle.zh_lower.specs.Divisors.{Divisors}
@@ -43,3 +43,13 @@ pub start-none : (q : Question) → HasNone q (state q 0) → NoneBefore q 1
 start-none q here k lt =
     let is : k ≡ 0 = omega arith in
     rw is here
+
+-- two half-steps without an end
+pub goes_on : {End : Type 0} (q : Question) (x y z : Divisors) (result : Option End) → y ≡ with_columns_renewed q x → z ≡ with_rows_renewed q y → HasNone q y →
+    IfNone result (HasNone q z) → IfNone result (GoesOn q x z)
+goes_on q x y z (Some end) columns rows between after = tt
+goes_on q x y z None columns rows between after = record {
+  after_is = rows ∙ ap (with_rows_renewed q) columns;
+  none_between = rw (← columns) between;
+  none_after = after;
+}

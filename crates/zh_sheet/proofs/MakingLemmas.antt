@@ -16,13 +16,13 @@ use Rattle.zh_lower.specs.declared.fault.LowerFault.TheVariants as lower_faults
 use Rattle.zh_lower.proofs.OneAnswerLemmas.{no_seats}
 use Rattle.zh_quorum.specs.Quorum.{AreParticipating, TakesPart}
 use Rattle.zh_totals.specs.Totals.{VoteTotals}
-use Rattle.zh_upper.specs.UpperSeats.{AreTied, AreUpperSeats, HasNoGroup, HasNoVoters, IsReportedWhere, of_participants}
+use Rattle.zh_upper.specs.UpperSeats.{AreTied, HasNoGroup, HasNoVoters, IsReportedWhere, of_participants}
 use Rattle.zh_upper.specs.VoterNumbers.{AreVoterSums, voter_sum}
 use Rattle.zh_upper.specs.declared.fault.UpperFault.{UpperFault}
 use Rattle.zh_upper.specs.declared.fault.UpperFault.TheVariants as upper_faults
 use Rattle.zh_sheet.specs.Distribution.{HaveSeats, Targets, lower_question, seated_groups}
 use Rattle.zh_sheet.specs.Refusals.{HaveNoVoters, IsAnswer, NoneOf, NoneTakesPart}
-use Rattle.zh_sheet.specs.Stages.{HasColumn, LowerOutcome, group_at, of_lower, of_seats, of_upper}
+use Rattle.zh_sheet.specs.Stages.{HasColumn, LowerOutcome, StandAbove, group_at, of_lower, of_seats, of_upper}
 use Rattle.zh_sheet.specs.declared.fault.SheetFault.TheVariants as faults
 use Rattle.zh_sheet.proofs.AskedLemmas.{All-participants, participant_at}
 use Rattle.zh_sheet.proofs.RefusalLemmas.{given_answer, memory_answer, none_1, none_2, none_3, none_4, none_5, none_6, none_yet, refused_answer}
@@ -145,17 +145,18 @@ upper_given t seats taking voters is u no_group no_voters =
     (not_reported (Ok u) upper_faults.NoGroup (HasNoGroup taking) no_group (λ e. cc) (λ e. cc))
     (not_reported (Ok u) upper_faults.NoVoters (HasNoVoters voters taking) no_voters (λ e. cc) (λ e. cc))
 
-abbrev pub targets_of : (t : VoteTotals) (seats : List ℕ) (taking : List Bool) (voters upper : List ℕ) → IsBasis t seats taking voters →
-    AreUpperSeats voters taking t.canton.house upper → Targets t
-targets_of t seats taking voters upper is groups = record {
-  seats = seats;
+-- the seats of the constituencies and of the groups, as targets
+abbrev pub targets_above : (t : VoteTotals) (seats : Apportionment) (taking : List Bool) (voters : List ℕ) (upper : Apportionment) →
+    StandAbove t seats taking voters upper → Targets t
+targets_above t seats taking voters upper is = record {
+  seats = seats.seats;
   taking = taking;
   voters = voters;
-  upper = upper;
+  upper = upper.seats;
   constituencies = is.constituencies;
   participation = is.participation;
   sums = is.sums;
-  groups = groups;
+  groups = is.groups;
 }
 
 -- each constituency has votes

@@ -1,9 +1,9 @@
 -- The groups with upper seats, by their numbers.
-use Rattle.std.proofs.Common.{◌≡◌, ℕ, zero, suc, ◌+◌, ◌-◌, ◌*◌, ◌<◌, ◌≤◌, cond, All, List, [], ◌∷◌, ◌++◌, length, get_or, map, filter, inl, inr, ap, sym, ◌∙◌, arith, add-one, append-nil, length-append, mul_comm}
+use Rattle.std.proofs.Common.{◌≡◌, ℕ, zero, suc, ◌+◌, ◌-◌, ◌*◌, ◌<◌, ◌≤◌, cond, All, List, [], ◌∷◌, ◌++◌, length, get_or, map, filter, take, inl, inr, ap, sym, ◌∙◌, arith, add-one, append-nil, append_assoc, length-append, mul_comm}
 use Rattle.std.specs.Prelude.{nat_lt}
 use Rattle.std.specs.List.{flat_map, range_with_len}
 use Rattle.std.proofs.lemmas.Bool.{cases_lt, ltb-true, lt-ltb, le-ltb}
-use Rattle.std.proofs.lemmas.List.{get_or-map, length-map}
+use Rattle.std.proofs.lemmas.List.{get_or-map, length-map, map-append, take_all, take_more}
 use Rattle.std.proofs.lemmas.List.Concat.{flat_map-append}
 use Rattle.std.proofs.lemmas.List.Elements.{All-filter, All-from_get_or, filter-append, filter_passes}
 use Rattle.std.proofs.lemmas.List.FromFn.{get_or-range_with_len, length-range_with_len}
@@ -112,3 +112,16 @@ rows_more totals seated n =
     ap (flat_map (λ d. map (votes_in totals d) seated)) (numbers_more n)
     ∙ (flat_map-append (λ d. map (votes_in totals d) seated) (range_with_len 1 n) ((n + 1) ∷ [])
     ∙ ap (λ xs. flat_map (λ d. map (votes_in totals d) seated) (range_with_len 1 n) ++ xs) (append-nil (map (votes_in totals (n + 1)) seated)))
+
+-- one more of some numbers is put at the end
+pub put_more : (f : ℕ → ℕ) (old before after xs : List ℕ) (i n : ℕ) → i < length xs → before ≡ old ++ map f (take i xs) → n ≡ f (get_or xs i 0) →
+    after ≡ before ++ n ∷ [] → after ≡ old ++ map f (take (i + 1) xs)
+put_more f old before after xs i n lt were is put =
+    let one_more : map f (take i xs) ++ n ∷ [] ≡ map f (take (i + 1) xs) =
+    ap (λ (k : ℕ). map f (take i xs) ++ k ∷ []) is ∙ (sym (map-append f (take i xs) (get_or xs i 0 ∷ [])) ∙ ap (map f) (sym (take_more xs i 0 lt)))
+    in
+    put ∙ (ap (λ t. t ++ n ∷ []) were ∙ (append_assoc old (map f (take i xs)) (n ∷ []) ∙ ap (λ t. old ++ t) one_more))
+
+-- all of them are put
+pub put_all : (f : ℕ → ℕ) (old done xs : List ℕ) (i : ℕ) → length xs ≤ i → done ≡ old ++ map f (take i xs) → done ≡ old ++ map f xs
+put_all f old done xs i last are = are ∙ ap (λ ys. old ++ map f ys) (take_all i xs last)

@@ -1,15 +1,23 @@
 -- What stands between the steps to a sheet.
-use Rattle.std.specs.Prelude.{◌≡◌, ℕ, ◌≤◌, List, Result, IfOk, IsErrOf, ◌⊎◌, length, slice_index, ◌-◌}
+use Rattle.std.specs.Prelude.{◌≡◌, ℕ, ◌≤◌, Bool, List, Result, IfOk, IsErrOf, ◌⊎◌, length, slice_index, ◌-◌}
 use Rattle.zh_districts.specs.declared.shares.SeatFault.{SeatFault}
 use Rattle.zh_districts.specs.declared.shares.SeatFault.TheVariants as seat_faults
+use Rattle.zh_districts.specs.Seats.{persons}
+use Rattle.zh_divisors.specs.Shares.{Apportionment, HasDivisor}
 use Rattle.zh_lower.specs.Divisors.{AreWithinLimits, millionths}
 use Rattle.zh_lower.specs.Outcomes.{IsTied, NoneBefore}
 use Rattle.zh_lower.specs.Question.{AreTotals, EachColumnHasVotes, IsFirstWithoutVotes, Question}
 use Rattle.zh_lower.specs.SeatMatrix.{IsStrict, SeatMatrix}
 use Rattle.zh_lower.specs.declared.fault.LowerFault.{LowerFault}
 use Rattle.zh_lower.specs.declared.fault.LowerFault.TheVariants as lower_faults
+use Rattle.zh_quorum.specs.Quorum.{AreParticipating}
+use Rattle.zh_totals.specs.Totals.{VoteTotals}
+use Rattle.zh_upper.specs.UpperSeats.{AreUpperSeats, of_participants, shares_of_participants}
+use Rattle.zh_upper.specs.VoterNumbers.{AreVoterSums}
 use Rattle.zh_upper.specs.declared.fault.UpperFault.{UpperFault}
 use Rattle.zh_upper.specs.declared.fault.UpperFault.TheVariants as upper_faults
+use Rattle.zh_sheet.specs.Distribution.{HaveSeats}
+use Rattle.zh_sheet.specs.Refusals.{NoneOf}
 use Rattle.zh_sheet.specs.declared.fault.SheetFault.{SheetFault}
 use Rattle.zh_sheet.specs.declared.fault.SheetFault.TheVariants as faults
 
@@ -24,6 +32,16 @@ of_upper upper_faults.Memory = faults.Memory
 of_upper upper_faults.NoGroup = faults.NoGroup
 of_upper upper_faults.NoVoters = faults.NoVoters
 of_upper upper_faults.Tied = faults.TiedUpper
+
+-- the seats of the constituencies and of the groups, and what they follow from; no case before a tie of the groups holds
+pub record StandAbove (totals : VoteTotals) (seats : Apportionment) (taking : List Bool) (voters : List ℕ) (upper : Apportionment) : Type 0 where
+  pub constituencies : HaveSeats totals seats.seats
+  pub seats_key : HasDivisor (persons totals.canton) seats
+  pub participation : AreParticipating totals taking
+  pub sums : AreVoterSums totals seats.seats voters
+  pub groups : AreUpperSeats voters taking totals.canton.house upper.seats
+  pub upper_key : HasDivisor (of_participants voters taking) (shares_of_participants upper taking)
+  pub none : NoneOf 4 totals
 
 -- what a lower apportionment may be asked: 1 to 32 lines, each with a total of 1 to 400 seats, and votes in each column
 pub record CanBeAsked (q : Question) : Type 0 where

@@ -3,7 +3,7 @@ ghost use Rattle.zh_lower.specs.Divisors.{Divisors};
 ghost use Rattle.zh_lower.specs.SeatMatrix.{IsWeak};
 ghost use Rattle.zh_sheet.specs.Distribution.{IsDistribution, question_of};
 ghost use Rattle.zh_sheet.specs.Refusals.{IsAnswer};
-ghost use Rattle.zh_sheet.specs.Stages.{HasColumn, of_lower};
+ghost use Rattle.zh_sheet.specs.Stages.{HasColumn, StandAbove, of_lower};
 
 use crate::fault::SheetFault;
 use crate::lower::seats_of_lists;
@@ -11,10 +11,11 @@ use crate::seated::seated_groups;
 use crate::sheet::Sheet;
 use std::alloc::Global;
 use zh_districts::seats;
+use zh_divisors::Shares;
 use zh_lower::LowerFault;
 use zh_quorum::participating;
 use zh_totals::Totals;
-use zh_upper::{upper, voters};
+use zh_upper::{Upper, upper, voters};
 
 /// The refusal of a sheet for one of the lower apportionment, whose columns are the seated groups.
 fn fault_of(fault: LowerFault, seated: &[u32]) -> SheetFault
@@ -29,6 +30,39 @@ fn fault_of(fault: LowerFault, seated: &[u32]) -> SheetFault
         }
         LowerFault::Exhausted => SheetFault::Exhausted,
     }
+}
+
+/// The sheet of these totals with the seats of the constituencies and of the groups, or why there is none.
+fn with_lists<'s>(
+    alloc: Global,
+    totals: &Totals<'s>,
+    seats: Shares,
+    taking: Vec<bool>,
+    voters: Vec<u64>,
+    upper: Upper,
+) -> Result<Sheet<'s>, SheetFault>
+    requires { StandAbove totals.now seats taking.items voters.items upper }
+    ensures totals { IfOk result (λ sheet. sheet.totals ≡ totals.now) }
+    ensures meets { IfOk result (λ sheet. IsDistribution sheet) }
+    ensures one_answer { IfOk result (λ sheet. (divisors : Divisors) (seats : List ℕ) →
+        IsWeak (question_of sheet) divisors seats → seats ≡ sheet.lower.seats) }
+    ensures answer { IsAnswer totals.now result }
+{
+    let seated = seated_groups(alloc, &upper, totals.setup().groups())?;
+    let totals = totals.copy(alloc)?;
+    let lower = match seats_of_lists(alloc, &totals, seats.seats(), &upper, &seated) {
+        Ok(lower) => lower,
+        Err(fault) => return Err(fault_of(fault, &seated)),
+    };
+    Ok(Sheet {
+        totals,
+        seats,
+        taking,
+        voters,
+        upper,
+        seated,
+        lower,
+    })
 }
 
 /// The sheet of these totals, or why there is none: the first case that holds decides, in the order of `SheetFault`.
@@ -48,19 +82,5 @@ pub fn make<'s>(alloc: Global, totals: &Totals<'s>) -> Result<Sheet<'s>, SheetFa
     let taking = participating(alloc, totals)?;
     let voters = voters(alloc, totals, seats.seats())?;
     let upper = upper(alloc, &voters, &taking, setup.house())?;
-    let seated = seated_groups(alloc, &upper, setup.groups())?;
-    let totals = totals.copy(alloc)?;
-    let lower = match seats_of_lists(alloc, &totals, seats.seats(), &upper, &seated) {
-        Ok(lower) => lower,
-        Err(fault) => return Err(fault_of(fault, &seated)),
-    };
-    Ok(Sheet {
-        totals,
-        seats,
-        taking,
-        voters,
-        upper,
-        seated,
-        lower,
-    })
+    with_lists(alloc, totals, seats, taking, voters, upper)
 }

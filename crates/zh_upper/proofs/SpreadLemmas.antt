@@ -1,9 +1,9 @@
 -- Seats of the groups that take part, put back to the numbers of all groups, one more group at a time.
 use Rattle.std.proofs.Common.{◌≡◌, ℕ, suc, ◌+◌, ◌<◌, Bool, true, false, Some, List, [], ◌∷◌, ◌++◌, length, cond, count_by, get_or, take, drop, slice_get, refl, ap, sym, ◌∙◌, length-append, append-nil, add-one, arith, below_more}
 use Rattle.std.proofs.Math.Seq.{drop-cons, get_or-append_seam}
-use Rattle.std.proofs.lemmas.List.{take_more, length-take-le, get_or_append_left}
+use Rattle.std.proofs.lemmas.List.{drop_all, take_all, take_more, length-take-le, get_or_append_left}
 use Rattle.std.proofs.lemmas.List.Sums.{sum_by-cons}
-use Rattle.std.proofs.lemmas.Option.{get_or_from_slice_get}
+use Rattle.std.proofs.lemmas.Option.{get_or_from_slice_get, slice_get_within}
 use Rattle.zh_upper.specs.UpperSeats.{of_participants}
 use Rattle.zh_upper.proofs.ParticipantLemmas.{of_participants-append}
 
@@ -13,6 +13,15 @@ pub record IsSpread (seats : List ℕ) (taking : List Bool) (all : List ℕ) (ne
   pub left : next + count_by (λ b. b) (drop i taking) ≡ length seats
   pub participants : of_participants all (take i taking) ≡ take next seats
   pub others : (g : ℕ) → g < i → slice_get taking g ≡ Some false → get_or all g 0 ≡ 0
+
+-- before the first group
+pub IsSpread-none : (seats : List ℕ) (taking : List Bool) (all : List ℕ) → length seats ≡ count_by (λ b. b) taking → all ≡ [] → IsSpread seats taking all 0 0
+IsSpread-none seats taking all same none = record {
+  one_each = ap length none;
+  left = omega (arith, same);
+  participants = ap (λ xs. of_participants xs []) none;
+  others = λ g lt. absurd (omega (arith, lt));
+}
 
 -- how many of the groups from i on take part
 count-drop : (taking : List Bool) (i : ℕ) (takes_part : Bool) → i < length taking → get_or taking i takes_part ≡ takes_part →
@@ -68,3 +77,21 @@ IsSpread-unseated seats taking all next i is lt none = record {
   participants = append-participants seats taking all next i 0 false is lt none ∙ append-nil (take next seats);
   others = append-others taking all i 0 is.one_each is.others (λ _. refl);
 }
+
+-- after the last group
+pub IsSpread-one_each : (seats : List ℕ) (taking : List Bool) (all : List ℕ) (next i : ℕ) → IsSpread seats taking all next i →
+    i ≡ length taking → length all ≡ length taking
+IsSpread-one_each seats taking all next i is last = is.one_each ∙ last
+
+pub IsSpread-participants : (seats : List ℕ) (taking : List Bool) (all : List ℕ) (next i : ℕ) → IsSpread seats taking all next i →
+    i ≡ length taking → of_participants all taking ≡ seats
+IsSpread-participants seats taking all next i is last =
+    let none_left : drop i taking ≡ [] = drop_all i taking (omega (arith, last)) in
+    let all_seats : next ≡ length seats = omega (arith, is.left, ap (count_by (λ b. b)) none_left) in
+    let whole : take i taking ≡ taking = take_all i taking (omega (arith, last)) in
+    ap (of_participants all) (sym whole) ∙ (is.participants ∙ take_all next seats (omega (arith, all_seats)))
+
+pub IsSpread-others : (seats : List ℕ) (taking : List Bool) (all : List ℕ) (next i : ℕ) → IsSpread seats taking all next i →
+    i ≡ length taking → (g : ℕ) → slice_get taking g ≡ Some false → get_or all g 0 ≡ 0
+IsSpread-others seats taking all next i is last g none =
+    is.others g (omega (arith, last, slice_get_within taking g false none)) none

@@ -1,9 +1,12 @@
 -- How large a voter sum is.
-use Rattle.std.proofs.Common.{◌≡◌, ℕ, zero, suc, ◌+◌, ◌-◌, ◌^◌, ◌<◌, ◌≤◌, All, List, length, get_or, inl, inr, arith}
+use Rattle.std.proofs.Common.{◌≡◌, ℕ, zero, suc, ◌+◌, ◌-◌, ◌^◌, ◌<◌, ◌≤◌, ◌∙◌, ◌++◌, ◌∷◌, All, List, [], length, length-append, get_or, refl, ap, sym, inl, inr, arith}
+use Rattle.std.proofs.Math.Seq.{get_or-append_seam}
 use Rattle.std.proofs.lemmas.Bool.{cases_eq}
+use Rattle.std.proofs.lemmas.List.{get_or_append_left}
+use Rattle.std.proofs.lemmas.List.Elements.{All-nil, All-push}
 use Rattle.zh_totals.specs.Sums.{sum_to}
 use Rattle.zh_totals.specs.Totals.{VoteTotals, AreTotals, votes_in, constituency_votes}
-use Rattle.zh_upper.specs.VoterNumbers.{voter_number, voter_sum}
+use Rattle.zh_upper.specs.VoterNumbers.{AreVoterSums, voter_number, voter_sum}
 use Rattle.zh_upper.proofs.CallerLemmas.{voter_number-le}
 
 -- each term at most the other's
@@ -56,3 +59,25 @@ pub record AreVoterSumsTo (totals : VoteTotals) (seats sums : List ℕ) (n : ℕ
   pub one_each : length sums ≡ n
   pub each : (g : ℕ) → 1 ≤ g → g ≤ n → get_or sums (g - 1) 0 ≡ voter_sum totals seats g
   pub small : All (λ v. v ≤ 10 ^ 14) sums
+
+pub no_sums : (totals : VoteTotals) (seats sums : List ℕ) → sums ≡ [] → AreVoterSumsTo totals seats sums 0
+no_sums totals seats sums none = rw none (record { one_each = refl; each = λ g low high. absurd (omega (arith, low, high)); small = All-nil (λ v. v ≤ 10 ^ 14) })
+
+-- and of one more
+pub one_sum_more : (totals : VoteTotals) (seats before after : List ℕ) (n sum : ℕ) → AreVoterSumsTo totals seats before n → after ≡ before ++ sum ∷ [] →
+    sum ≡ voter_sum totals seats (n + 1) → sum ≤ 10 ^ 14 → AreVoterSumsTo totals seats after (n + 1)
+one_sum_more totals seats before after n sum are put is small =
+    rw put (record {
+      one_each = omega (arith, are.one_each, length-append before (sum ∷ []));
+      each = λ g low high. elim (cases_eq g (n + 1)) [
+        | inl last ↦
+            let place : g - 1 ≡ length before = omega (arith, last, are.one_each) in
+            ap (λ (k : ℕ). get_or (before ++ sum ∷ []) k 0) place ∙ (get_or-append_seam before sum [] 0 ∙ (is ∙ ap (voter_sum totals seats) (sym last)))
+        | inr other ↦ get_or_append_left before (sum ∷ []) 0 (g - 1) (omega (arith, low, high, other, are.one_each)) ∙ are.each g low (omega (arith, high, other))
+      ];
+      small = All-push (λ v. v ≤ 10 ^ 14) before sum are.small small;
+    })
+
+-- the first n groups are all
+pub all_sums : (totals : VoteTotals) (seats sums : List ℕ) (n : ℕ) → AreVoterSumsTo totals seats sums n → n ≡ length totals.canton.groups → AreVoterSums totals seats sums
+all_sums totals seats sums n are last = record { one_each = are.one_each ∙ last; each = λ g low high. are.each g low (omega (arith, high, last)) }

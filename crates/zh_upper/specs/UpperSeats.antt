@@ -4,7 +4,7 @@ use Rattle.std.specs.List.{zip}
 use Rattle.zh_divisors.specs.Fit.{IsStrictFit, IsTied}
 use Rattle.zh_divisors.specs.Shares.{Apportionment}
 use Rattle.zh_upper.specs.declared.fault.UpperFault.{UpperFault}
-use Rattle.zh_upper.specs.declared.fault.UpperFault.TheVariants.{Memory}
+use Rattle.zh_upper.specs.declared.fault.UpperFault.TheVariants.{Memory, NoGroup, NoVoters, Tied}
 
 -- of these numbers, one for each group, those of the groups that take part: the others are left out
 abbrev pub of_participants : List ℕ → List Bool → List ℕ
@@ -39,3 +39,9 @@ pub record AreTied (voters : List ℕ) (taking : List Bool) (house : ℕ) : Type
 pub record IsReportedWhere {Seats : Type 0} (result : Result Seats UpperFault) (fault : UpperFault) (reason : Type 0) : Type 0 where
   pub only : IsErrOf result fault → reason
   pub always : reason → IsErrOf result fault ⊎ IsErrOf result Memory
+
+-- shares are refused where they are tied, and for no other reason but memory
+pub record FromShares {Seats : Type 0} (reason : Type 0) (result : Result Seats UpperFault) : Type 0 where
+  pub tied : IsReportedWhere result Tied reason
+  pub some_group : ¬ IsErrOf result NoGroup
+  pub some_voters : ¬ IsErrOf result NoVoters

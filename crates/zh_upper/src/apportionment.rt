@@ -1,18 +1,39 @@
 ghost use Rattle.std.specs.Prelude.{◌≡◌, ◌^◌, ◌<◌, ◌≤◌, All, Any, IfOk, MatchBool, length};
+ghost use Rattle.zh_divisors.specs.Fit.{IsStrictFit, IsTied};
 ghost use Rattle.zh_divisors.specs.Shares.{HasDivisor, RoundsEach};
-ghost use Rattle.zh_upper.specs.UpperSeats.{AreTied, AreUpperSeats, HasNoGroup, HasNoVoters, IsReportedWhere, of_participants, shares_of_participants};
+ghost use Rattle.zh_upper.specs.UpperSeats.{AreTied, AreUpperSeats, FromShares, HasNoGroup, HasNoVoters, IsReportedWhere, of_participants, shares_of_participants};
 
 use crate::fault::UpperFault;
 use crate::participants::{of_participants, spread};
 use crate::seats::Upper;
 use std::alloc::Global;
-use zh_divisors::{ShareFault, Weights, apportion};
+use zh_divisors::{ShareFault, Shares, Weights, apportion};
 
 /// Whether some voter sum is not 0.
 fn has_voters(sums: &[u64]) -> bool
     ensures { MatchBool result (Any (λ v. 0 < v) sums.now) (All (λ v. v ≡ 0) sums.now) }
 {
     sums.iter().any(|sum| *sum > 0)
+}
+
+/// The seats of the house in proportion to these sums, one of them not 0, with the divisor.
+fn shares_of(alloc: Global, sums: &[u64], house: u32) -> Result<Shares, UpperFault>
+    requires some_voters { Any (λ v. 0 < v) sums.now }
+    requires at_most_32 { length sums.now ≤ 32 }
+    requires each_small { All (λ v. v ≤ 10 ^ 14) sums.now }
+    requires at_least_one { 1 ≤ house }
+    requires at_most_400 { house ≤ 400 }
+    ensures seats { IfOk result (λ shares. IsStrictFit sums.now house shares.seats) }
+    ensures divisor { IfOk result (HasDivisor sums.now) }
+    ensures rounds { IfOk result (RoundsEach sums.now) }
+    ensures faults { FromShares (IsTied sums.now house) result }
+{
+    let weights = Weights::new(alloc, sums)?;
+    match apportion(alloc, &weights, house) {
+        Ok(shares) => Ok(shares),
+        Err(ShareFault::Memory) => Err(UpperFault::Memory),
+        Err(ShareFault::Tied) => Err(UpperFault::Tied),
+    }
 }
 
 /// The seats of the house for each group, in proportion to the voter sums of the groups that take part (GPR
@@ -45,12 +66,7 @@ pub fn upper(
     if !has_voters(&sums) {
         return Err(UpperFault::NoVoters);
     }
-    let weights = Weights::new(alloc, &sums)?;
-    let shares = match apportion(alloc, &weights, house) {
-        Ok(shares) => shares,
-        Err(ShareFault::Memory) => return Err(UpperFault::Memory),
-        Err(ShareFault::Tied) => return Err(UpperFault::Tied),
-    };
+    let shares = shares_of(alloc, &sums, house)?;
     let seats = spread(alloc, shares.seats(), taking)?;
     Ok(Upper::new(seats, shares.num(), shares.den()))
 }

@@ -1,12 +1,11 @@
-use Rattle.std.proofs.Common.{sym}
-use Rattle.toml.specs.View.{table_view}
-use Rattle.zh_districts.specs.Document.{setup_of}
-use Rattle.zh_districts.specs.Parts.{draft}
-use Rattle.zh_districts.proofs.EachLemmas.{said_ok}
-use Rattle.zh_districts.proofs.SetupLemmas.{IsCanton-from_document}
+use Rattle.std.proofs.Common.{refl, sym}
 use Rattle.zh_districts.proofs.document.read_document.Goals as goal
 
-pub assembled-requires : goal.assembled-requires
-assembled-requires c =
-    let document = table_view c.args.document.now in
-    IsCanton-from_document document (draft c.in_ok-draft.draft) (said_ok (setup_of document) (draft c.in_ok-draft.draft) c.in_ok-draft.ensures) (sym c.if-has_double.ensures)
+pub returns-then-misses_key : goal.returns-then-misses_key
+returns-then-misses_key c = rw (sym c.if-misses_key.ensures) refl
+
+pub returns-then-has_other_key : goal.returns-then-has_other_key
+returns-then-has_other_key c = rw (sym c.if-misses_key.ensures, sym c.if-has_other_key.ensures) refl
+
+pub returns : goal.returns
+returns c = rw (sym c.if-misses_key.ensures, sym c.if-has_other_key.ensures) c.read_undoubled.ensures

@@ -1,4 +1,4 @@
-use Rattle.std.proofs.Common.{arith}
+use Rattle.std.proofs.Common.{◌≡◌, ◌+◌, get_or, arith}
 use Rattle.std.proofs.lemmas.Grind.{common_steps}
 use Rattle.zh_divisors.specs.Fit.{IsStrictFit, IsTied}
 use Rattle.zh_divisors.proofs.Ends.{AreApart, IsStrictFit-apart, RoundsEach-apart, IsTied-together}
@@ -17,11 +17,27 @@ tied c =
     IsTied-together c.args.weights.now c.in_ok-seats.seats.items c.args.house c.least_last-last.result c.most_next-next.result
     (grind arith) c.requires.positive (grind arith) (grind arith) (grind arith)
 
+num : (c : goal.After-new) → c.new.result.num ≡ get_or c.args.weights.now c.least_last-last.result 0 + get_or c.args.weights.now c.most_next-next.result 0
+num c = grind arith
+
+den : (c : goal.After-new) → c.new.result.den ≡ get_or c.new.result.seats c.least_last-last.result 0 + get_or c.new.result.seats c.most_next-next.result 0
+den c = grind (arith, common_steps)
+
 pub returns-clause-seats : goal.returns-clause-seats
 returns-clause-seats c = strict c
 
+pub returns-clause-divisor : goal.returns-clause-divisor
+returns-clause-divisor c = record {
+  last = c.least_last-last.result;
+  next = c.most_next-next.result;
+  last_is = (apart c).last_is;
+  next_is = (apart c).next_is;
+  num_is = num c;
+  den_is = den c;
+}
+
 pub returns-clause-rounds : goal.returns-clause-rounds
-returns-clause-rounds c = RoundsEach-apart c.args.weights.now c.new.result _ _ (apart c) (grind arith) (grind (arith, common_steps))
+returns-clause-rounds c = RoundsEach-apart c.args.weights.now c.new.result _ _ (apart c) (num c) (den c)
 
 pub returns-clause-untied : goal.returns-clause-untied
 returns-clause-untied c = λ is. no_strict_fit _ _ _ is (strict c)

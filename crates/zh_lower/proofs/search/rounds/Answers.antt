@@ -1,6 +1,6 @@
-use Rattle.std.proofs.Common.{◌∙◌}
+use Rattle.std.proofs.Common.{◌≡◌, ◌+◌, ◌*◌, ◌∙◌, arith}
 use Rattle.zh_lower.specs.Asked.{asked}
-use Rattle.zh_lower.proofs.StateLemmas.{round-none, round-state}
+use Rattle.zh_lower.proofs.StateLemmas.{round-none, round-state, start-none}
 use Rattle.zh_lower.proofs.search.rounds.Goals as goal
 
 pub loop-round-preserved : goal.loop-round-preserved
@@ -15,3 +15,32 @@ loop-round-preserved c = record {
   none = round-none (asked c.args.question.now) c.loop-round._round _ _ c.loop-round.invariant.at c.in_default-round.ensures.goes_on
       c.loop-round.invariant.none;
 }
+
+pub end_test-requires-clause-seats : goal.end_test-requires-clause-seats
+end_test-requires-clause-seats c = c.requires.room.seats_length
+
+pub end_test-requires-clause-others : goal.end_test-requires-clause-others
+end_test-requires-clause-others c = c.requires.room.others_length
+
+pub loop-round-init : goal.loop-round-init
+loop-round-init c = record {
+  limits = c.requires.limits;
+  room = record {
+    line_length = c.requires.room.line_length;
+    seats_length = c.end_test.auto.seats ∙ c.requires.room.seats_length;
+    others_length = c.end_test.auto.others ∙ c.requires.room.others_length;
+  };
+  at = c.requires.start;
+  none = start-none (asked c.args.question.now) (rw c.requires.start at c.in_default.ensures.none);
+}
+
+pub round-requires-clause-room : goal.round-requires-clause-room
+round-requires-clause-room c = c.loop-round.invariant.room
+
+pub returns-in-Some-round-clause-ends : goal.returns-in-Some-round-clause-ends
+returns-in-Some-round-clause-ends c = c.in-Some-round.ensures.ends
+
+pub returns-clause-none : goal.returns-clause-none
+returns-clause-none c =
+    let all : 2 * c.loop-round._round + 1 ≡ 2001 = omega arith in
+    rw all at c.loop-round.invariant.none

@@ -1,4 +1,4 @@
-use Rattle.std.proofs.Common.{◌∙◌, ap, codes}
+use Rattle.std.proofs.Common.{◌∙◌, ℕ, ap, arith, codes, length, length-append}
 use Rattle.zh_districts.specs.Canton.{persons_of}
 use Rattle.zh_totals.specs.Totals.{constituency_votes}
 use Rattle.zh_sheet.specs.SheetText.{divisor_text, field}
@@ -18,3 +18,25 @@ returns-clause-text c =
     let before_name = put_words _ _ _ _ _ with_divisor c.push-2.ensures in
     let with_name = put_next _ _ _ _ (λ t. t) _ _ before_name c.push-3.ensures (c.as_bytes.ensures.value ∙ c.constituency_name.ensures.name) in
     (put_words _ _ _ _ _ with_name c.push-4.ensures).is
+
+pub push-requires-3 : goal.push-requires-3
+push-requires-3 c = omega (arith, length-append {A = ℕ}, ap length c.push.ensures, ap length c.push-2.ensures)
+
+pub push-requires-4 : goal.push-requires-4
+push-requires-4 c = omega (arith, length-append {A = ℕ}, ap length c.push.ensures, ap length c.push-2.ensures, ap length c.push-3.ensures)
+
+pub returns-clause-short : goal.returns-clause-short
+returns-clause-short c =
+    omega (arith, length-append {A = ℕ}, ap length c.push.ensures, ap length c.push-2.ensures, ap length c.push-3.ensures, ap length c.push-4.ensures)
+
+pub push_field-requires-4 : goal.push_field-requires-4
+push_field-requires-4 c = omega arith
+
+pub push-requires : goal.push-requires
+push-requires c = omega arith
+
+pub push_divisor-requires : goal.push_divisor-requires
+push_divisor-requires c = omega (arith, length-append {A = ℕ}, ap length c.push.ensures)
+
+pub push-requires-2 : goal.push-requires-2
+push-requires-2 c = omega (arith, length-append {A = ℕ}, ap length c.push.ensures)

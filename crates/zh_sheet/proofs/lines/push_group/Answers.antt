@@ -1,4 +1,4 @@
-use Rattle.std.proofs.Common.{◌∙◌, ap, codes, decimal}
+use Rattle.std.proofs.Common.{◌∙◌, ℕ, ap, arith, codes, decimal, length, length-append}
 use Rattle.zh_sheet.specs.SheetText.{divisor_text, field, or_dash, yes_or_no}
 use Rattle.zh_sheet.proofs.PageLemmas.{put_first, put_next, put_words}
 use Rattle.zh_sheet.proofs.lines.push_group.Goals as goal
@@ -16,3 +16,46 @@ returns-clause-text c =
     let before_name = put_words _ _ _ _ _ with_divisor c.push-5.ensures in
     let with_name = put_next _ _ _ _ (λ t. t) _ _ before_name c.push-6.ensures (c.as_bytes-2.ensures.value ∙ c.group_name.ensures.name) in
     (put_words _ _ _ _ _ with_name c.push-7.ensures).is
+
+pub push_divisor_or_dash-requires : goal.push_divisor_or_dash-requires
+push_divisor_or_dash-requires c =
+    omega (arith, length-append {A = ℕ}, ap length c.push.ensures, ap length c.push-2.ensures, ap length c.push-3.ensures, ap length c.push-4.ensures)
+
+pub push-requires-6 : goal.push-requires-6
+push-requires-6 c =
+    omega (
+      arith,
+      length-append {A = ℕ},
+      ap length c.push.ensures,
+      ap length c.push-2.ensures,
+      ap length c.push-3.ensures,
+      ap length c.push-4.ensures,
+      ap length c.push-5.ensures,
+    )
+
+pub push-requires-7 : goal.push-requires-7
+push-requires-7 c =
+    omega (
+      arith,
+      length-append {A = ℕ},
+      ap length c.push.ensures,
+      ap length c.push-2.ensures,
+      ap length c.push-3.ensures,
+      ap length c.push-4.ensures,
+      ap length c.push-5.ensures,
+      ap length c.push-6.ensures,
+    )
+
+pub returns-clause-short : goal.returns-clause-short
+returns-clause-short c =
+    omega (
+      arith,
+      length-append {A = ℕ},
+      ap length c.push.ensures,
+      ap length c.push-2.ensures,
+      ap length c.push-3.ensures,
+      ap length c.push-4.ensures,
+      ap length c.push-5.ensures,
+      ap length c.push-6.ensures,
+      ap length c.push-7.ensures,
+    )

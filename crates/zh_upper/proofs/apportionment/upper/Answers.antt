@@ -1,8 +1,10 @@
-use Rattle.std.proofs.Common.{rules, ◌≤◌, ◌^◌, ◌<◌, Any, refl, arith}
-use Rattle.std.proofs.lemmas.Grind.{common_steps}
-use Rattle.zh_upper.specs.UpperSeats.{of_participants, HasNoGroup}
-use Rattle.zh_upper.proofs.FaultLemmas.{IsReportedWhere-always, IsReportedWhere-never}
-use Rattle.zh_upper.proofs.ParticipantLemmas.{Contains-from_participant, length-of_participants, length-of_participants-le, All-of_participants}
+use Rattle.std.proofs.Common.{rules, ◌≤◌, ◌^◌, ◌∙◌, Ok, ap, arith}
+use Rattle.std.proofs.lemmas.Result.{err_from_is_err_and}
+use Rattle.zh_divisors.specs.Fit.{IsTied}
+use Rattle.zh_divisors.specs.Shares.{HasDivisor, RoundsEach}
+use Rattle.zh_upper.specs.UpperSeats.{FromShares, HasNoGroup, of_participants}
+use Rattle.zh_upper.proofs.FaultLemmas.{FromShares-err, FromShares-memory, FromShares-ok, IsReportedWhere-never, reported_group, reported_tie, reported_voters}
+use Rattle.zh_upper.proofs.ParticipantLemmas.{Contains-from_participant, length-of_participants, length-of_participants-le, All-of_participants, of_shares}
 use Rattle.zh_upper.proofs.apportionment.upper.Goals as goal
 
 pub returns-then-not-contains-clause-tied : goal.returns-then-not-contains-clause-tied
@@ -11,35 +13,99 @@ returns-then-not-contains-clause-tied c =
     IsReportedWhere-never _ _ _ (λ e. cc)
     (λ t. none (Contains-from_participant c.args.voters.now c.args.taking.now (omega (arith, t.some_voters.2))))
 
-pub new-requires-clause-at_most_32 : goal.new-requires-clause-at_most_32
-new-requires-clause-at_most_32 c =
-    let fewer = length-of_participants-le c.args.voters.now c.args.taking.now in grind (arith, common_steps)
+pub shares_of-requires-clause-at_most_32 : goal.shares_of-requires-clause-at_most_32
+shares_of-requires-clause-at_most_32 c =
+    let fewer = length-of_participants-le c.args.voters.now c.args.taking.now in
+    rw (c.deref-2.ensures.value, c.in_ok-sums.ensures) (omega (arith, fewer, c.requires.at_most_32))
 
-pub new-requires-clause-each_small : goal.new-requires-clause-each_small
-new-requires-clause-each_small c =
-    let small = All-of_participants (λ v. v ≤ 10 ^ 14) c.args.voters.now c.args.taking.now c.requires.each_small in
-    rw (c.deref-2.ensures.value, c.in_ok-sums.ensures) small
-
-pub returns-in-Err-Tied-clause-no_group : goal.returns-in-Err-Tied-clause-no_group
-returns-in-Err-Tied-clause-no_group c =
-    let voters : Any (λ v. 0 < v) (of_participants c.args.voters.now c.args.taking.now) = search rules in
-    let takes_part = Contains-from_participant c.args.voters.now c.args.taking.now (omega (arith, voters.2)) in
-    IsReportedWhere-never _ _ _ (λ e. cc) (λ none. none takes_part)
-
-pub returns-in-Err-Tied-clause-no_voters : goal.returns-in-Err-Tied-clause-no_voters
-returns-in-Err-Tied-clause-no_voters c =
-    let voters : Any (λ v. 0 < v) (of_participants c.args.voters.now c.args.taking.now) = search rules in
-    IsReportedWhere-never _ _ _ (λ e. cc) (λ none. omega (arith, none.without_voters voters.0 voters.1 voters.2, voters.3, voters.4))
-
-pub returns-in-Err-Tied-clause-tied : goal.returns-in-Err-Tied-clause-tied
-returns-in-Err-Tied-clause-tied c = IsReportedWhere-always _ _ _ refl (record { some_voters = search rules; tied = search rules })
+pub shares_of-requires-clause-each_small : goal.shares_of-requires-clause-each_small
+shares_of-requires-clause-each_small c =
+    rw (c.deref-2.ensures.value, c.in_ok-sums.ensures) (All-of_participants (λ v. v ≤ 10 ^ 14) c.args.voters.now c.args.taking.now c.requires.each_small)
 
 pub spread-requires : goal.spread-requires
 spread-requires c =
-    let kept = length-of_participants c.args.voters.now c.args.taking.now c.requires.one_each in grind (arith, common_steps)
+    let fit = rw (c.deref-2.ensures.value, c.in_ok-sums.ensures) at c.in_ok-shares.ensures.seats in
+    rw c.seats.ensures (fit.one_each ∙ length-of_participants c.args.voters.now c.args.taking.now c.requires.one_each)
+
+pub returns-in_err-shares-clause-no_group : goal.returns-in_err-shares-clause-no_group
+returns-in_err-shares-clause-no_group c =
+    let some = rw (c.deref.ensures.value, c.in_ok-sums.ensures) at c.if-not-has_voters.ensures in
+    let p = err_from_is_err_and c.from_residual-in_err-shares.result c.from_residual-in_err-shares.ensures.1 in
+    let from : FromShares (IsTied (of_participants c.args.voters.now c.args.taking.now) c.args.house) c.from_residual-in_err-shares.result
+    = rw (p.1, p.2) (FromShares-err _ _ (rw (c.deref-2.ensures.value, c.in_ok-sums.ensures) at c.in_err-shares.ensures.faults)) in
+    reported_group c.args.voters.now c.args.taking.now _ _ from some
+
+pub returns-in_err-shares-clause-no_voters : goal.returns-in_err-shares-clause-no_voters
+returns-in_err-shares-clause-no_voters c =
+    let some = rw (c.deref.ensures.value, c.in_ok-sums.ensures) at c.if-not-has_voters.ensures in
+    let p = err_from_is_err_and c.from_residual-in_err-shares.result c.from_residual-in_err-shares.ensures.1 in
+    let from : FromShares (IsTied (of_participants c.args.voters.now c.args.taking.now) c.args.house) c.from_residual-in_err-shares.result
+    = rw (p.1, p.2) (FromShares-err _ _ (rw (c.deref-2.ensures.value, c.in_ok-sums.ensures) at c.in_err-shares.ensures.faults)) in
+    reported_voters c.args.voters.now c.args.taking.now _ _ from some
+
+pub returns-in_err-shares-clause-tied : goal.returns-in_err-shares-clause-tied
+returns-in_err-shares-clause-tied c =
+    let some = rw (c.deref.ensures.value, c.in_ok-sums.ensures) at c.if-not-has_voters.ensures in
+    let p = err_from_is_err_and c.from_residual-in_err-shares.result c.from_residual-in_err-shares.ensures.1 in
+    let from : FromShares (IsTied (of_participants c.args.voters.now c.args.taking.now) c.args.house) c.from_residual-in_err-shares.result
+    = rw (p.1, p.2) (FromShares-err _ _ (rw (c.deref-2.ensures.value, c.in_ok-sums.ensures) at c.in_err-shares.ensures.faults)) in
+    reported_tie c.args.voters.now c.args.taking.now c.args.house _ from some
+
+pub returns-in_err-seats-clause-no_group : goal.returns-in_err-seats-clause-no_group
+returns-in_err-seats-clause-no_group c =
+    let some = rw (c.deref.ensures.value, c.in_ok-sums.ensures) at c.if-not-has_voters.ensures in
+    let p = err_from_is_err_and c.from_residual-in_err-seats.result c.from_residual-in_err-seats.ensures.1 in
+    let from : FromShares (IsTied (of_participants c.args.voters.now c.args.taking.now) c.args.house) c.from_residual-in_err-seats.result
+    = rw (p.1, p.2) (FromShares-memory _) in
+    reported_group c.args.voters.now c.args.taking.now _ _ from some
+
+pub returns-in_err-seats-clause-no_voters : goal.returns-in_err-seats-clause-no_voters
+returns-in_err-seats-clause-no_voters c =
+    let some = rw (c.deref.ensures.value, c.in_ok-sums.ensures) at c.if-not-has_voters.ensures in
+    let p = err_from_is_err_and c.from_residual-in_err-seats.result c.from_residual-in_err-seats.ensures.1 in
+    let from : FromShares (IsTied (of_participants c.args.voters.now c.args.taking.now) c.args.house) c.from_residual-in_err-seats.result
+    = rw (p.1, p.2) (FromShares-memory _) in
+    reported_voters c.args.voters.now c.args.taking.now _ _ from some
+
+pub returns-in_err-seats-clause-tied : goal.returns-in_err-seats-clause-tied
+returns-in_err-seats-clause-tied c =
+    let some = rw (c.deref.ensures.value, c.in_ok-sums.ensures) at c.if-not-has_voters.ensures in
+    let p = err_from_is_err_and c.from_residual-in_err-seats.result c.from_residual-in_err-seats.ensures.1 in
+    let from : FromShares (IsTied (of_participants c.args.voters.now c.args.taking.now) c.args.house) c.from_residual-in_err-seats.result
+    = rw (p.1, p.2) (FromShares-memory _) in
+    reported_tie c.args.voters.now c.args.taking.now c.args.house _ from some
 
 pub returns-clause-no_group : goal.returns-clause-no_group
 returns-clause-no_group c =
-    let voters : Any (λ v. 0 < v) (of_participants c.args.voters.now c.args.taking.now) = search rules in
-    let takes_part = Contains-from_participant c.args.voters.now c.args.taking.now (omega (arith, voters.2)) in
-    IsReportedWhere-never _ _ _ (λ e. cc) (λ none. none takes_part)
+    let some = rw (c.deref.ensures.value, c.in_ok-sums.ensures) at c.if-not-has_voters.ensures in
+    let from : FromShares (IsTied (of_participants c.args.voters.now c.args.taking.now) c.args.house) (Ok c.new.result)
+    = FromShares-ok _ _ _ (rw (c.deref-2.ensures.value, c.in_ok-sums.ensures) at c.in_ok-shares.ensures.faults) in
+    reported_group c.args.voters.now c.args.taking.now _ _ from some
+
+pub returns-clause-no_voters : goal.returns-clause-no_voters
+returns-clause-no_voters c =
+    let some = rw (c.deref.ensures.value, c.in_ok-sums.ensures) at c.if-not-has_voters.ensures in
+    let from : FromShares (IsTied (of_participants c.args.voters.now c.args.taking.now) c.args.house) (Ok c.new.result)
+    = FromShares-ok _ _ _ (rw (c.deref-2.ensures.value, c.in_ok-sums.ensures) at c.in_ok-shares.ensures.faults) in
+    reported_voters c.args.voters.now c.args.taking.now _ _ from some
+
+pub returns-clause-tied : goal.returns-clause-tied
+returns-clause-tied c =
+    let some = rw (c.deref.ensures.value, c.in_ok-sums.ensures) at c.if-not-has_voters.ensures in
+    let from : FromShares (IsTied (of_participants c.args.voters.now c.args.taking.now) c.args.house) (Ok c.new.result)
+    = FromShares-ok _ _ _ (rw (c.deref-2.ensures.value, c.in_ok-sums.ensures) at c.in_ok-shares.ensures.faults) in
+    reported_tie c.args.voters.now c.args.taking.now c.args.house _ from some
+
+pub returns-clause-divisor : goal.returns-clause-divisor
+returns-clause-divisor c =
+    let same = ap (λ seats. of_participants seats c.args.taking.now) c.new.ensures.seats ∙ (c.in_ok-seats.ensures.participants ∙ c.seats.ensures) in
+    of_shares (HasDivisor (of_participants c.args.voters.now c.args.taking.now)) c.in_ok-shares.shares c.new.result c.args.taking.now same
+    (omega (arith, c.new.ensures.num)) (omega (arith, c.new.ensures.den))
+    (rw (c.deref-2.ensures.value, c.in_ok-sums.ensures) at c.in_ok-shares.ensures.divisor)
+
+pub returns-clause-rounds : goal.returns-clause-rounds
+returns-clause-rounds c =
+    let same = ap (λ seats. of_participants seats c.args.taking.now) c.new.ensures.seats ∙ (c.in_ok-seats.ensures.participants ∙ c.seats.ensures) in
+    of_shares (RoundsEach (of_participants c.args.voters.now c.args.taking.now)) c.in_ok-shares.shares c.new.result c.args.taking.now same
+    (omega (arith, c.new.ensures.num)) (omega (arith, c.new.ensures.den))
+    (rw (c.deref-2.ensures.value, c.in_ok-sums.ensures) at c.in_ok-shares.ensures.rounds)

@@ -1,5 +1,5 @@
 use Rattle.std.proofs.Common.{ap, arith, subst}
-use Rattle.zh_disk.specs.Disk.{Leaves, Moves}
+use Rattle.zh_disk.specs.Disk.{Moment, Leaves, Moves}
 use Rattle.zh_journal.specs.Pages.{AddsOrNot, Adds}
 use Rattle.zh_journal.specs.Place.{Place}
 use Rattle.zh_journal.proofs.Joined.{at_staging, at_opening, at_end}
@@ -27,3 +27,6 @@ returns-clause-added g c = λ h.
     subst (λ (p : Place). Moves (Adds p.base p.end c.args.payload.now) (g.D.Disk.trail c.args.disk.now).now (g.D.Disk.trail c.open_gate.new.disk).now) c.self.view_is
     (at_end c.self.inside.base c.self.inside.end c.args.payload.now (c.requires.some, c.requires.most) (omega (arith, c.self.invariant, ap (λ (p : Place). p.end) c.self.view_is)) _ _ (omega (arith, c.self.invariant, g.met.D.Disk.size c.args.disk.now (c.stage.ensures.kept (c.open_gate.ensures.kept h)))) (c.stage.ensures.any_moment (c.open_gate.ensures.kept h)) (g.D.Disk.trail c.open_gate.new.disk)
     (c.in_ok-stage.ensures.ok (c.open_gate.ensures.kept h)) (c.in_ok-open_gate.ensures.ok h))
+
+pub returns-clause-settled : goal.returns-clause-settled
+returns-clause-settled g c = λ h. ap (λ (m : Moment). m.pending) (c.in_ok-open_gate.ensures.ok h)

@@ -1,4 +1,4 @@
-use Rattle.std.proofs.Common.{◌≡◌, sym, subst, true}
+use Rattle.std.proofs.Common.{◌≡◌, sym, subst, ap, true}
 use Rattle.zh_returns.specs.Limits.{IsTally}
 use Rattle.zh_returns.proofs.CallerLemmas.{speakable}
 use Rattle.zh_ledger.specs.Ledger.{Ledger, Becomes, has_room}
@@ -43,3 +43,15 @@ returns-in-Ok-clause-leaves g c = λ honest.
 pub returns-in-Err-Device-clause-leaves : goal.returns-in-Err-Device-clause-leaves
 returns-in-Err-Device-clause-leaves g c = λ honest.
     while_made_ready c.args.self.now c.args.command.now (g.D.Disk.trail c.args.disk.now) (g.D.Disk.trail c.make_room.new.disk) (c.make_room.ensures.any_moment honest)
+
+pub returns-in-Err-Spent-clause-after : goal.returns-in-Err-Spent-clause-after
+returns-in-Err-Spent-clause-after g c = (c.in-Err-Spent.ensures.untouched (cc)).1
+
+pub returns-in-Err-Spent-clause-leaves : goal.returns-in-Err-Spent-clause-leaves
+returns-in-Err-Spent-clause-leaves g c = λ honest. ap g.D.Disk.trail (c.in-Err-Spent.ensures.untouched (cc)).0
+
+pub returns-in-Err-Spent-clause-untouched : goal.returns-in-Err-Spent-clause-untouched
+returns-in-Err-Spent-clause-untouched g c = (c.in-Err-Spent.ensures.untouched (cc)).0
+
+pub returns-in-Err-Device-clause-after : goal.returns-in-Err-Device-clause-after
+returns-in-Err-Device-clause-after g c = c.in-Err-Device.ensures.device (cc)

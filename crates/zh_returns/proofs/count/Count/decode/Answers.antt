@@ -44,3 +44,7 @@ pub returns-in-None-clause-empty : goal.returns-in-None-clause-empty
 returns-in-None-clause-empty c = λ _.
     stands_for c.self.inside.setup.now c.self.inside.entries c.self.inside.closed c.read_tables.new.entries c.clear_entries.new.table c.read_tables.new.closed c.clear_flags.new.flags (c.clear_entries.ensures.length ∙ c.deref_mut-in-None.ensures.len) (c.clear_flags.ensures.length ∙ c.deref_mut-in-None-2.ensures.len) c.clear_entries.ensures.absent c.clear_flags.ensures.unset
     ∙ ap (λ (t : Tally). empty t.canton) c.self.view_is
+
+pub returns-in-None-clause-refused : goal.returns-in-None-clause-refused
+returns-in-None-clause-refused c _ tally canton is spelled =
+    c.in-None.ensures.refused tally (canton ∙ sym (ap (λ (t : Tally). t.canton) c.self.view_is)) is spelled

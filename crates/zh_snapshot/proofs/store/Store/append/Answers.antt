@@ -27,3 +27,21 @@ pub returns-in-Err-Device-clause-outside : goal.returns-in-Err-Device-clause-out
 returns-in-Err-Device-clause-outside g c = λ h.
     subst (λ (s : State). Leaves (SameOutside s.area.base 262144) (g.D.Disk.trail c.args.disk.now) (g.D.Disk.trail c.append.new.disk)) c.self.view_is
     (leaves_weaken _ _ _ _ (λ x f image by. by.around) (c.append.ensures.any_moment h))
+
+pub returns-in-Ok-clause-kept : goal.returns-in-Ok-clause-kept
+returns-in-Ok-clause-kept g c = c.append.ensures.kept
+
+pub returns-in-Ok-clause-settled : goal.returns-in-Ok-clause-settled
+returns-in-Ok-clause-settled g c = c.in-Ok.ensures.settled
+
+pub returns-in-Ok-clause-later : goal.returns-in-Ok-clause-later
+returns-in-Ok-clause-later g c = c.append.ensures.later
+
+pub returns-in-Err-Device-clause-kept : goal.returns-in-Err-Device-clause-kept
+returns-in-Err-Device-clause-kept g c = c.append.ensures.kept
+
+pub returns-in-Err-Device-clause-later : goal.returns-in-Err-Device-clause-later
+returns-in-Err-Device-clause-later g c = c.append.ensures.later
+
+pub returns-in-Err-Device-clause-cause : goal.returns-in-Err-Device-clause-cause
+returns-in-Err-Device-clause-cause g c = λ is. c.append.ensures.cause (cc)

@@ -81,3 +81,37 @@ returns-clause-left g c = λ h x j framed.
     c.in_ok-area.ensures.left h x.records j
     (subst (λ (n : ℕ). Reads n (g.D.Disk.trail c.find_slot.new.disk).now.bytes x.records j) (sym c.journal.ensures)
     (subst (λ (l : List ℕ). Reads (journal_at c.in-Some.found.slot) l x.records j) (sym now3) (held c.in-Some.found.slot x j b used.0 framed).records))
+
+pub returns-in_default-clause-blank : goal.returns-in_default-clause-blank
+returns-in_default-clause-blank g c = λ h is. absurd (cc)
+
+pub returns-clause-whole : goal.returns-clause-whole
+returns-clause-whole g c = refl
+
+pub returns-in_err-found-clause-kept : goal.returns-in_err-found-clause-kept
+returns-in_err-found-clause-kept g c = λ h. c.open_header.ensures.kept (c.find_slot.ensures.kept h)
+
+pub returns-in_err-found-clause-same : goal.returns-in_err-found-clause-same
+returns-in_err-found-clause-same g c = λ h. c.find_slot.ensures.same h ∙ c.open_header.ensures.same (c.find_slot.ensures.kept h)
+
+pub returns-in_default-clause-kept : goal.returns-in_default-clause-kept
+returns-in_default-clause-kept g c = λ h. c.open_header.ensures.kept (c.find_slot.ensures.kept h)
+
+pub returns-in_default-clause-same : goal.returns-in_default-clause-same
+returns-in_default-clause-same g c = λ h. c.find_slot.ensures.same h ∙ c.open_header.ensures.same (c.find_slot.ensures.kept h)
+
+pub returns-in_err-area-clause-kept : goal.returns-in_err-area-clause-kept
+returns-in_err-area-clause-kept g c = λ h. c.open_header.ensures.kept (c.find_slot.ensures.kept (c.open.ensures.kept h))
+
+pub returns-in_err-area-clause-same : goal.returns-in_err-area-clause-same
+returns-in_err-area-clause-same g c = λ h.
+    let h2 = c.open.ensures.kept h in
+    c.open.ensures.same h ∙ c.find_slot.ensures.same h2 ∙ c.open_header.ensures.same (c.find_slot.ensures.kept h2)
+
+pub returns-clause-kept : goal.returns-clause-kept
+returns-clause-kept g c = λ h. c.open_header.ensures.kept (c.find_slot.ensures.kept (c.open.ensures.kept h))
+
+pub returns-clause-same : goal.returns-clause-same
+returns-clause-same g c = λ h.
+    let h2 = c.open.ensures.kept h in
+    c.open.ensures.same h ∙ c.find_slot.ensures.same h2 ∙ c.open_header.ensures.same (c.find_slot.ensures.kept h2)
