@@ -12,7 +12,9 @@ use std::alloc::{AllocError, Global};
 /// The files of the set-up and the disk of a task.
 #[derive(Clone, Copy, Debug, PartialEq, Eq)]
 pub struct Paths<'a> {
+    /// The path of the set-up, a TOML text.
     pub setup: &'a str,
+    /// The path of the disk.
     pub disk: &'a str,
 }
 

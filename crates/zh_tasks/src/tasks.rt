@@ -152,7 +152,10 @@ fn run<I: Read, O: Write, S: Start>(
     Ok(done?)
 }
 
-/// Does what is asked for.
+/// Carries out a task. The disk of a file that it worked on is handed over to `used`, with the record of its calls,
+/// whatever the result; `S` stands for what the file held when it was opened.
+///
+/// An error says why the task was not done. Its text is what the program reports after its name (docs/MANUAL.md).
 pub fn carry_out<I: Read, O: Write, S: Start>(
     rt: &HostRuntime,
     alloc: Global,
