@@ -6,6 +6,8 @@ ghost use Rattle.zh_districts.specs.Canton.{IsCanton};
 ghost use Rattle.zh_journal.specs.Cause.{HasRisen};
 ghost use Rattle.zh_snapshot.specs.Image.{IsBlank};
 ghost use Rattle.zh_ledger.specs.Opened.{IsNew};
+ghost use Rattle.zh_office.specs.Runs.{on_disk};
+ghost use Rattle.zh_tasks.specs.Csv.{IsThis};
 ghost use Rattle.zh_tasks.specs.Tasks.{Does, Formatted, FormatsBlank, FormatsOnFile, IsEarly, IsFrom, IsRefused, Ran, Rehearses, RunsOnFile, Serves};
 
 use crate::csv_tasks::{export, load};
@@ -88,6 +90,19 @@ fn serve_on<I: Read, O: Write, D: Disk>(
     ensures served { Serves (D.honest disk.new) (λ fault. ((input.new ≡ input.old) × (out.new ≡ out.old)) × (D.honest disk.new → IsRefused setup.now (D.trail disk.old) (D.trail disk.new) fault)) (I.remaining input.old) (I.remaining input.new) (O.contents out.old) (O.contents out.new) (IsFrom (D.honest disk.new) setup.now (D.trail disk.old) (D.trail disk.new)) result }
 {
     let mut office = Office::open(alloc, setup, disk)?;
+    serve_lines(&mut office, disk, input, out)
+}
+
+/// Serves the lines of the input on an office.
+fn serve_lines<I: Read, O: Write, D: Disk>(
+    office: &mut Office<'_>,
+    disk: &mut D,
+    input: &mut I,
+    out: &mut O,
+) -> Result<(), RunFault>
+    ensures kept { D.honest disk.new → D.honest disk.old }
+    ensures served { Serves (D.honest disk.new) (λ fault. ⊥) (I.remaining input.old) (I.remaining input.new) (O.contents out.old) (O.contents out.new) (IsThis (on_disk office.old (D.failures disk.old) (D.trail disk.old)) (D.trail disk.new)) result }
+{
     office.serve(input, out, disk, most_reads())?;
     if office.faulted() {
         return Err(RunFault::Faulted);
