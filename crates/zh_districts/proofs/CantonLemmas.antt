@@ -1,10 +1,12 @@
 -- Municipalities and lists of a set-up.
-use Rattle.std.proofs.Common.{◌≡◌, ◌≤◌, ℕ, Bool, true, false, not, cond, length, Some, None, refl, arith, rules}
+use Rattle.std.proofs.Common.{◌≡◌, ◌≤◌, ◌<◌, ◌-◌, ℕ, Bool, true, false, not, cond, length, Some, None, refl, arith, rules}
+use Rattle.std.proofs.lemmas.Bool.{le-leb}
 use Rattle.std.proofs.lemmas.Grind.{common_steps}
-use Rattle.std.proofs.lemmas.Option.{gets}
+use Rattle.std.proofs.lemmas.Option.{gets, slice_get_past}
 use Rattle.zh_districts.specs.Canton.{Canton, has_municipality, stands, constituency_of}
 use Rattle.zh_districts.specs.Misplaced.{misplaced}
 use Rattle.zh_districts.specs.declared.misplaced.Misplaced.{Misplaced}
+use Rattle.zh_districts.specs.declared.misplaced.Misplaced.TheVariants as reasons
 
 -- a municipality of the set-up has a number from 1
 pub municipality_within : (canton : Canton) (municipality : ℕ) → has_municipality canton municipality ≡ true → (1 ≤ municipality) × (municipality ≤ length canton.municipalities)
@@ -26,3 +28,17 @@ placed canton municipality list none = none_of (has_municipality canton municipa
 -- the other way round
 pub not_misplaced : (canton : Canton) (municipality list : ℕ) → has_municipality canton municipality ≡ true → stands canton (constituency_of canton municipality) list ≡ true → misplaced canton municipality list ≡ None
 not_misplaced canton municipality list there standing = rw (there, standing) refl
+
+-- a list after the last group stands nowhere, nor does list 0
+pub stands_past : (canton : Canton) (constituency list : ℕ) → length canton.groups < list → stands canton constituency list ≡ false
+stands_past canton constituency list past =
+    let none = slice_get_past canton.groups (list - 1) (omega arith) in
+    rw (le-leb 1 list (omega arith), none) refl
+
+pub stands_zero : (canton : Canton) (constituency list : ℕ) → list ≡ 0 → stands canton constituency list ≡ false
+stands_zero canton constituency list zero = rw zero refl
+
+-- a list that does not stand in its municipality is misplaced
+pub misplaced_list : (canton : Canton) (municipality list constituency : ℕ) → has_municipality canton municipality ≡ true → constituency ≡ constituency_of canton municipality → stands canton constituency list ≡ false
+    → Some reasons.List ≡ misplaced canton municipality list
+misplaced_list canton municipality list constituency there lies standing = rw (there, ← lies, standing) refl

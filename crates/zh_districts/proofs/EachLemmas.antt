@@ -19,6 +19,10 @@ pub said_ok : {X : Type 0} (o : Option X) (x : X) → within_range o ≡ Ok x �
 said_ok None x e = absurd cc
 said_ok (Some y) x e = cc
 
+-- equal errors have equal faults
+pub same_fault : {X : Type 0} (a b : SetupFault) → ◌≡◌ {A = Result X SetupFault} (Err a) (Err b) → a ≡ b
+same_fault a b e = cc
+
 -- the fault of a range stands where no value is left
 pub fails_within : {X Y : Type 0} (fault : SetupFault) (o : Option X) (wanted : Result Y SetupFault) → (o ≡ None → wanted ≡ Err Range) → Fails fault (within_range o) → Fails fault wanted
 fails_within Memory o wanted h e = tt

@@ -2,6 +2,7 @@ pub mod ImageLemmas
 pub mod AsciiLemmas
 pub mod MaskLemmas
 pub mod LengthLemmas
+pub mod SpellingLemmas
 pub mod OneSpellingLemmas
 pub mod ArrayLemmas
 pub mod EachLemmas

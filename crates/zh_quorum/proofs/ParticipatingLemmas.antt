@@ -1,5 +1,6 @@
 -- Which groups take part, as far as they were looked at.
-use Rattle.std.proofs.Common.{◌≡◌, ℕ, ◌-◌, ◌≤◌, ◌↔◌, Bool, false, IsTrue, List, length, get_or}
+use Rattle.std.proofs.Common.{◌≡◌, ℕ, ◌+◌, ◌-◌, ◌≤◌, ◌↔◌, Bool, false, IsTrue, List, [], ◌∷◌, ◌++◌, length, get_or, length-append, arith}
+use Rattle.std.proofs.lemmas.Grind.{common_steps}
 use Rattle.zh_totals.specs.Totals.{VoteTotals}
 use Rattle.zh_quorum.specs.Quorum.{TakesPart}
 
@@ -7,3 +8,11 @@ use Rattle.zh_quorum.specs.Quorum.{TakesPart}
 pub record AreParticipatingTo (totals : VoteTotals) (taking : List Bool) (n : ℕ) : Type 0 where
   pub one_each : length taking ≡ n
   pub each : (g : ℕ) → 1 ≤ g → g ≤ n → IsTrue (get_or taking (g - 1) false) ↔ TakesPart totals g
+
+-- one more group
+pub AreParticipatingTo-more : (totals : VoteTotals) (taking : List Bool) (n : ℕ) (flag : Bool) → AreParticipatingTo totals taking n
+    → (IsTrue flag ↔ TakesPart totals (n + 1)) → AreParticipatingTo totals (taking ++ flag ∷ []) (n + 1)
+AreParticipatingTo-more totals taking n flag so is = record {
+  one_each = omega (arith, length-append {A = Bool}, so.one_each);
+  each = grind (arith, common_steps, so, is);
+}

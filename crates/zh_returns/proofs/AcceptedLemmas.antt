@@ -1,10 +1,10 @@
 -- What an accepted command says fits its bytes.
-use Rattle.std.proofs.Common.{◌≡◌, ◌<◌, ◌≤◌, ◌^◌, ◌∙◌, ℕ, Bool, true, false, not, cond, List, length, map, Option, Some, None, get_or, sym, ap, refl, arith, lit≤}
+use Rattle.std.proofs.Common.{◌≡◌, ◌<◌, ◌^◌, ◌∙◌, ℕ, Bool, true, false, not, cond, List, map, Option, Some, None, get_or, sym, ap, refl, arith}
 use Rattle.std.specs.Prelude.{All}
 use Rattle.std.specs.FinSet as set
 use Rattle.std.proofs.lemmas.Bool.{ltb-false}
 use Rattle.std.proofs.lemmas.List.{get_or-map, length-map}
-use Rattle.std.proofs.lemmas.List.Elements.{All-get_or, All-from_get_or, All-weaker}
+use Rattle.std.proofs.lemmas.List.Elements.{All-get_or, All-from_get_or}
 use Rattle.zh_districts.specs.Canton.{has_municipality, constituency_of}
 use Rattle.zh_records.specs.declared.command.Command.{Command}
 use Rattle.zh_records.specs.declared.command.Command.TheVariants as commands
@@ -14,7 +14,7 @@ use Rattle.zh_returns.specs.declared.verdict.Verdict.TheVariants.{Accept, Same, 
 use Rattle.zh_returns.specs.declared.verdict.Reason.TheVariants as reasons
 use Rattle.zh_returns.specs.Judgement.{judge, judge_row, is_refusal, of_all}
 use Rattle.zh_returns.specs.Limits.{IsTally}
-use Rattle.zh_records.specs.Rows.{FitsRow, IsSpeakableRow}
+use Rattle.zh_records.specs.Rows.{FitsRow}
 use Rattle.zh_records.specs.Spelling.{FitsCommand, HasNumbers, IsSpeakable}
 use Rattle.zh_returns.specs.Tally.{Tally}
 use Rattle.zh_returns.proofs.JudgementLemmas.{Passes, passes}

@@ -1,5 +1,6 @@
-use Rattle.std.proofs.Common.{rules, map, List, Option, subst, ◌∙◌}
+use Rattle.std.proofs.Common.{rules, inl, map, List, Option, subst, ◌∙◌}
 use Rattle.std.specs.String.{string_bytes}
+use Rattle.std.proofs.lemmas.Result.{err_from_is_err_and}
 use Rattle.clap.specs.Words.{app_of, found_of, rows_of, subcommand_rows_of, Row, Text}
 use Rattle.zh_arguments.specs.Arguments.{Names}
 use Rattle.zh_arguments.proofs.ArgumentLemmas.{refused, taken, command_read, named, parts}
@@ -19,3 +20,8 @@ returns c =
       taken app arguments c.in_ok-zhcount.ensures c.in_ok-matches.ensures.kinds,
       subst (λ (o : Option (Text × List Row)). Names o c.task_for.result) (given ∙ read) c.task_for.ensures,
     )
+
+pub returns-in_err-zhcount : goal.returns-in_err-zhcount
+returns-in_err-zhcount c =
+    let p = err_from_is_err_and c.from_residual.result c.from_residual.ensures.1 in
+    rw p.1 (inl p.2)

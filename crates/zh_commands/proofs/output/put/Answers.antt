@@ -1,4 +1,5 @@
-use Rattle.std.proofs.Common.{rules}
+use Rattle.std.proofs.Common.{arith, rules}
+use Rattle.std.proofs.lemmas.Grind.{common_steps}
 use Rattle.std.proofs.KnownBytes.{Appends-trans}
 use Rattle.zh_commands.proofs.WriteLemmas.{Keeps-from_none, IsFront-from_kept, moves_front}
 use Rattle.zh_commands.proofs.output.put.Goals as goal
@@ -17,3 +18,6 @@ pub loop-rest-preserved : goal.loop-rest-preserved
 loop-rest-preserved g c =
     let (front, split, written) = c.loop-rest.invariant in
     (_, moves_front _ front c.loop-rest.rest.now c.in-Ok.written split, Appends-trans _ _ _ _ _ written c.in-Ok.ensures.bytes)
+
+pub returns-clause-all : goal.returns-clause-all
+returns-clause-all g c = grind (arith, common_steps)

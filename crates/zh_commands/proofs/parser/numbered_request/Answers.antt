@@ -1,4 +1,5 @@
-use Rattle.std.proofs.Common.{get_or, refl, [], ◌∷◌}
+use Rattle.std.proofs.Common.{arith, get_or, refl, [], ◌∷◌}
+use Rattle.std.proofs.lemmas.Grind.{common_steps}
 use Rattle.zh_commands.proofs.RequestLemmas.{NoNumbers-after, row_from, AreNumerals-pair}
 use Rattle.zh_commands.proofs.parser.numbered_request.Goals as goal
 
@@ -28,3 +29,6 @@ pub returns-in_ok-row_of-in-row : goal.returns-in_ok-row_of-in-row
 returns-in_ok-row_of-in-row c =
     let found = c.in_ok-row_of-in-row.ensures in
     (found.0, c.in-row.is, found.1)
+
+pub returns-in_ok-municipality-in-show : goal.returns-in_ok-municipality-in-show
+returns-in_ok-municipality-in-show c = grind (arith, common_steps)

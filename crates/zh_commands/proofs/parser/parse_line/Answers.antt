@@ -1,4 +1,4 @@
-use Rattle.std.proofs.Common.{ap, drop, length, sym, ◌∙◌, arith}
+use Rattle.std.proofs.Common.{rules, ap, drop, length, sym, ◌∙◌, arith}
 use Rattle.zh_commands.specs.Lines.{request_text}
 use Rattle.zh_commands.proofs.LineLemmas.{split_spelling, NamesDesk, length-spelling}
 use Rattle.zh_commands.proofs.parser.parse_line.Goals as goal
@@ -38,3 +38,9 @@ returns-in_default-request_of c =
         λ line is e. c.in_default-request_of.ensures line.request is.1 (ap (drop 1) (sym c.in-Some-after_space.ensures ∙ (split_spelling _ _ _ line split.word split.whole is e).1)),
       );
     }
+
+pub returns : goal.returns
+returns c = search rules
+
+pub returns-then-not-is_desk : goal.returns-then-not-is_desk
+returns-then-not-is_desk c = search rules

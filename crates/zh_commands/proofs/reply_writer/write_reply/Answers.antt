@@ -1,4 +1,5 @@
 use Rattle.std.proofs.Common.{◌≡◌, ◌++◌, [], ◌∷◌, decimal, length, ap, ◌∙◌, arith, length-append}
+use Rattle.std.proofs.lemmas.Grind.{common_steps}
 use Rattle.std.proofs.lemmas.Fmt.{length-decimal-le}
 use Rattle.zh_commands.proofs.reply_writer.write_reply.Goals as goal
 
@@ -9,3 +10,6 @@ push_answer-requires c =
     let text : c.push.new.self ≡ decimal c.args.desk ++ 32 ∷ [] =
     c.push.ensures ∙ ap (λ l. l ++ 32 ∷ []) (c.push_number.ensures.text ∙ ap (λ l. l ++ decimal c.from.result) c.new-text.ensures ∙ ap decimal c.from.ensures) in
     omega (arith, digits, ap length text, length-append (decimal c.args.desk) (32 ∷ []))
+
+pub returns-clause-text : goal.returns-clause-text
+returns-clause-text c = grind (arith, common_steps)

@@ -1,3 +1,4 @@
+use Rattle.std.proofs.Common.{rules}
 use Rattle.csv.specs.Writing.{text_written}
 use Rattle.zh_csv.specs.Export.{municipality_text}
 use Rattle.zh_csv.proofs.ExportLemmas.{Appends-start, Appends-next}
@@ -11,3 +12,9 @@ loop-place-preserved g c = record {
   written = Appends-next (municipality_text c.args.count.now) (text_written g.W.Write.contents c.args.writer.now) (text_written g.W.Write.contents c.loop-place.writer) (text_written g.W.Write.contents c.write_municipality.new.writer) c.loop-place.place c.loop-place.invariant.written c.in_ok-write_municipality.ensures.written;
   ready = c.in_ok-write_municipality.ensures.ready;
 }
+
+pub write_municipality-requires-clause-there : goal.write_municipality-requires-clause-there
+write_municipality-requires-clause-there g c = search rules
+
+pub returns : goal.returns
+returns g c = search rules

@@ -1,4 +1,5 @@
 use Rattle.std.proofs.Common.{rules, ◌≡◌, ◌∙◌, sym, arith}
+use Rattle.std.proofs.lemmas.Grind.{common_steps}
 use Rattle.csv.specs.Records.{fields_of}
 use Rattle.zh_csv.proofs.FieldLemmas.{number_is}
 use Rattle.zh_csv.proofs.fields.row_in.Goals as goal
@@ -9,3 +10,6 @@ returns-then-row-eq0 c row is e =
     let same = number_is row c.in_ok-numeral-3.field-0 (fields_of c.args.record.now) is.number.0 is.number.1 e (sym c.field-3.ensures ∙ read.1) read.0 in
     let zero : c.in_ok-numeral-3.field-0 ≡ 0 = search rules in
     absurd (omega (arith, is.number.0))
+
+pub returns-else-row-eq0 : goal.returns-else-row-eq0
+returns-else-row-eq0 c = grind (arith, common_steps)

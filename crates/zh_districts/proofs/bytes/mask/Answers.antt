@@ -1,4 +1,4 @@
-use Rattle.std.proofs.Common.{◌+◌, take, arith, ◌∙◌}
+use Rattle.std.proofs.Common.{◌+◌, take, arith, ◌∙◌, sym, subst, Fits, w32}
 use Rattle.std.proofs.lemmas.List.{length-take}
 use Rattle.zh_districts.proofs.MaskLemmas.{mask_of-here, mask_of-not_here, mask_of-fits}
 use Rattle.zh_districts.proofs.bytes.mask.Goals as goal
@@ -9,7 +9,7 @@ overflow_add-mask c =
     let xs = c.args.stands.now in
     let more = mask_of-here xs c.loop-place.place c.loop-place.mask c.loop-place-test.true c.requires c.if-here.true c.loop-place.invariant in
     let fits = mask_of-fits (take (c.loop-place.place + 1) xs) (omega (arith, length-take (c.loop-place.place + 1) xs, c.requires)) in
-    omega (arith, more, fits)
+    subst (Fits w32) (sym more) (omega (arith, fits))
 
 pub loop-place-preserved : goal.loop-place-preserved
 loop-place-preserved c =

@@ -1,4 +1,4 @@
-use Rattle.std.proofs.Common.{refl, sym}
+use Rattle.std.proofs.Common.{rules, refl, sym}
 use Rattle.std.proofs.lemmas.Result.{err_from_is_err_and}
 use Rattle.toml.specs.View.{table_view}
 use Rattle.zh_districts.specs.Document.{setup_of, has_double, undoubled}
@@ -17,3 +17,6 @@ returns-in_err-draft c =
     let document = table_view c.args.document.now in
     let p = err_from_is_err_and c.from_residual.result c.from_residual.ensures.1 in
     rw (p.1, p.2) (fails_within c.in_err-draft.field-0.0 (setup_of document) (undoubled (has_double document) (setup_of document)) (λ none. rw none refl) c.in_err-draft.ensures)
+
+pub returns-then-has_double : goal.returns-then-has_double
+returns-then-has_double c = search rules

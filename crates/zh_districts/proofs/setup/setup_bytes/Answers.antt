@@ -1,9 +1,9 @@
-use Rattle.std.proofs.Common.{◌≡◌, map, subst, arith}
-use Rattle.std.proofs.lemmas.Grind.{common_steps}
+use Rattle.std.proofs.Common.{◌≡◌, map, subst}
 use Rattle.zh_districts.specs.Canton.{IsCanton}
 use Rattle.zh_districts.specs.Parts.{constituency, municipality, group}
 use Rattle.zh_districts.specs.Spelling.{setup_spelling}
 use Rattle.zh_districts.proofs.LengthLemmas.{short_names, length-setup_spelling}
+use Rattle.zh_districts.proofs.SpellingLemmas.{spelled}
 use Rattle.zh_districts.proofs.setup.setup_bytes.Goals as goal
 
 pub put_constituencies-requires-clause-names : goal.put_constituencies-requires-clause-names
@@ -18,7 +18,17 @@ pub put_groups-requires-clause-names : goal.put_groups-requires-clause-names
 put_groups-requires-clause-names c =
     rw c.deref-3.ensures.value (short_names (λ x. x.name) (map group c.setup.inside.groups.items) c.setup.invariant.group_names)
 
+-- what was put
+the_bytes : (c : goal.In_ok-put_groups) → c.put_groups.new.out.items ≡ setup_spelling c.args.setup.now
+the_bytes c =
+    let house = rw (c.new-out.ensures.items, c.to_be_bytes.ensures) at c.in_ok-extend_from_slice.ensures.items in
+    let constituencies = rw c.deref.ensures.value at c.in_ok-put_constituencies.ensures in
+    let municipalities = rw c.deref-2.ensures.value at c.in_ok-put_municipalities.ensures in
+    let groups = rw c.deref-3.ensures.value at c.in_ok-put_groups.ensures in
+    spelled c.setup.inside c.args.setup.now c.extend_from_slice.new.self.items c.put_constituencies.new.out.items c.put_municipalities.new.out.items c.put_groups.new.out.items c.setup.view_is house constituencies municipalities groups
+
+pub returns-clause-spelling : goal.returns-clause-spelling
+returns-clause-spelling c = the_bytes c
+
 pub returns-clause-length : goal.returns-clause-length
-returns-clause-length c =
-    let spelled : c.put_groups.new.out.items ≡ setup_spelling c.args.setup.now = grind (arith, common_steps) in
-    rw spelled (length-setup_spelling c.args.setup.now (subst IsCanton c.setup.view_is c.setup.invariant))
+returns-clause-length c = rw (the_bytes c) (length-setup_spelling c.args.setup.now (subst IsCanton c.setup.view_is c.setup.invariant))

@@ -1,4 +1,4 @@
-use Rattle.std.proofs.Common.{◌≡◌, ◌∙◌, sym, subst, refl}
+use Rattle.std.proofs.Common.{◌≡◌, ◌∙◌, sym, subst, refl, arith}
 use Rattle.zh_disk.specs.Disk.{Trail}
 use Rattle.zh_snapshot.specs.Image.{Content, IsFramed}
 use Rattle.zh_snapshot.specs.Slots.{IsInUse}
@@ -117,3 +117,12 @@ returns-then-not-replay-clause-kept g c = λ h. c.setup_equals.ensures.kept (c.s
 
 pub returns-then-not-replay-clause-same : goal.returns-then-not-replay-clause-same
 returns-then-not-replay-clause-same g c = λ h. c.snapshot.ensures.same h ∙ c.setup_equals.ensures.same (c.snapshot.ensures.kept h)
+
+pub snapshot-requires : goal.snapshot-requires
+snapshot-requires g c = c.requires.buffer
+
+pub decode-requires : goal.decode-requires
+decode-requires g c = c.requires.count
+
+pub returns-clause-later : goal.returns-clause-later
+returns-clause-later g c = omega (arith, c.setup_equals.ensures.later, c.snapshot.ensures.later)

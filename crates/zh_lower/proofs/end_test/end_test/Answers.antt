@@ -1,4 +1,4 @@
-use Rattle.std.proofs.Common.{refl}
+use Rattle.std.proofs.Common.{rules, refl}
 use Rattle.zh_lower.specs.Asked.{asked}
 use Rattle.zh_lower.specs.Divisors.{millionths}
 use Rattle.zh_lower.proofs.PlaceLemmas.{HasNone-tested, rounded-few}
@@ -17,3 +17,6 @@ pub returns-in_default-clause-none : goal.returns-in_default-clause-none
 returns-in_default-clause-none c =
     HasNone-tested (asked c.args.question.now) _ c.round_cells.new.seats _ c.requires.proper refl c.round_cells.ensures
     c.follows.ensures c.if-follows.false
+
+pub returns-then-are_two_ways-clause-ends : goal.returns-then-are_two_ways-clause-ends
+returns-then-are_two_ways-clause-ends c = search rules

@@ -1,4 +1,8 @@
-use Rattle.std.proofs.Common.{◌≡◌, ◌∙◌, sym, true}
+use Rattle.std.proofs.Common.{◌≡◌, ◌∙◌, refl, sym, true, false}
+use Rattle.zh_commands.specs.declared.replies.Refusal.TheVariants as refusals
+use Rattle.zh_ledger.specs.Submissions.{on_disk}
+use Rattle.zh_answers.specs.declared.answer.Answer.TheVariants as answers
+use Rattle.zh_requests.proofs.AnswerLemmas.{commit_acts, own_acts, own_held, quiet_acts, quiet_disk, refused_held}
 use Rattle.zh_requests.proofs.BrokenLemmas.{broken_acts}
 use Rattle.zh_requests.proofs.requests.answer_to.Goals as goal
 
@@ -6,3 +10,45 @@ pub returns-then-is_broken-clause-acts : goal.returns-then-is_broken-clause-acts
 returns-then-is_broken-clause-acts g c =
     let broken : c.args.ledger.now.store.broken ≡ true = sym c.is_broken.ensures ∙ c.if-is_broken.true in
     broken_acts _ _ _ _ _ c.args.line broken
+
+pub returns-then-is_broken-clause-held : goal.returns-then-is_broken-clause-held
+returns-then-is_broken-clause-held g c = refused_held c.args.desks.now c.args.line refusals.ReopenDisk
+
+pub returns-then-is_broken-clause-untouched : goal.returns-then-is_broken-clause-untouched
+returns-then-is_broken-clause-untouched g c = refl
+
+pub returns-in-Some-clause-acts : goal.returns-in-Some-clause-acts
+returns-in-Some-clause-acts g c = own_acts _ _ _ c.args.line.request c.in-Some.command _ _ _ c.in-Some.ensures.command c.submit.ensures.reported
+
+pub returns-in_default-request-clause-acts : goal.returns-in_default-request-clause-acts
+returns-in_default-request-clause-acts g c =
+    let whole : c.args.ledger.now.store.broken ≡ false = cc in
+    quiet_acts _ _ _ c.args.ledger.now.tally _ c.args.desks.now c.args.line _ whole c.count.ensures (sym c.in_default.ensures.command) c.in_default-request.not-Commit c.answer_without_command.ensures.answer
+
+pub returns-in_default-request-clause-untouched : goal.returns-in_default-request-clause-untouched
+returns-in_default-request-clause-untouched g c = quiet_disk c.answer_without_command.result c.args.disk.now
+
+pub returns-in_default-request-clause-held : goal.returns-in_default-request-clause-held
+returns-in_default-request-clause-held g c = c.answer_without_command.ensures.held
+
+pub returns-in-Some-clause-held : goal.returns-in-Some-clause-held
+returns-in-Some-clause-held g c = own_held c.args.desks.now c.args.line c.in-Some.command c.submit.result c.in-Some.ensures.command
+
+pub returns-in-Some-clause-untouched : goal.returns-in-Some-clause-untouched
+returns-in-Some-clause-untouched g c = c.submit.ensures.untouched
+
+pub returns-in-Commit-clause-acts : goal.returns-in-Commit-clause-acts
+returns-in-Commit-clause-acts g c =
+    let whole : c.args.ledger.now.store.broken ≡ false = cc in
+    let before = on_disk c.args.ledger.now (g.D.Disk.failures c.args.disk.now) (g.D.Disk.trail c.args.disk.now) in
+    let after = on_disk c.commit.new.ledger (g.D.Disk.failures c.commit.new.disk) (g.D.Disk.trail c.commit.new.disk) in
+    commit_acts _ before c.args.ledger.now.tally c.args.desks.now c.args.line (answers.Reply c.commit.result) after whole c.in-Commit.is c.commit.ensures.acts
+
+pub returns-in-Commit-clause-untouched : goal.returns-in-Commit-clause-untouched
+returns-in-Commit-clause-untouched g c = c.commit.ensures.untouched
+
+pub returns-in-Commit-clause-kept : goal.returns-in-Commit-clause-kept
+returns-in-Commit-clause-kept g c = c.commit.ensures.kept
+
+pub returns-in_default-request-clause-kept : goal.returns-in_default-request-clause-kept
+returns-in_default-request-clause-kept g c = λ honest. honest

@@ -80,3 +80,6 @@ upper-requires-clause-at_least_one c = rw c.house.ensures.house c.house.ensures.
 
 pub upper-requires-clause-at_most_400 : goal.upper-requires-clause-at_most_400
 upper-requires-clause-at_most_400 c = rw c.house.ensures.house c.house.ensures.limits.house.1
+
+pub returns-clause-answer : goal.returns-clause-answer
+returns-clause-answer c = c.with_lists.ensures.answer

@@ -1,4 +1,4 @@
-use Rattle.std.proofs.Common.{arith}
+use Rattle.std.proofs.Common.{rules, arith}
 use Rattle.zh_upper.proofs.VoterSumLemmas.{voter_sum-small}
 use Rattle.zh_upper.proofs.sums.voter_sum.Goals as goal
 
@@ -17,3 +17,9 @@ returns-clause-small c =
       voter_sum-small c.args.totals.now c.args.seats.now c.args.group c.loop-place.place
           c.requires.limits c.requires.one_each c.requires.each_seated c.requires.from_one c.requires.there (omega arith),
     )
+
+pub loop-place-preserved : goal.loop-place-preserved
+loop-place-preserved c = search rules
+
+pub returns-clause-sum : goal.returns-clause-sum
+returns-clause-sum c = search rules

@@ -1,4 +1,4 @@
-use Rattle.std.proofs.Common.{◌≡◌, ◌<◌, ◌∙◌, ◌∷◌, ◌++◌, [], false, ap, sym, subst, List, ℕ, length}
+use Rattle.std.proofs.Common.{rules, ◌≡◌, ◌<◌, ◌∙◌, ◌∷◌, ◌++◌, [], false, ap, sym, subst, List, ℕ, length}
 use Rattle.std.specs.Map.{values_of}
 use Rattle.std.proofs.lemmas.List.{map-append}
 use Rattle.indexmap.proofs.CallerLemmas.{insert_entry-new}
@@ -30,3 +30,6 @@ invariant_of-self-2 c =
       subst AreKeyed (sym (grown c)) (keyed_more c.self.inside.rows.entries c.args.row c.self.invariant.0),
       subst AreRows (sym (grown_rows c)) (rows_more (values_of c.self.inside.rows.entries) c.args.row c.self.invariant.1 few (fresh c) c.requires.speakable),
     )
+
+pub returns-then-is_err-clause-pushed : goal.returns-then-is_err-clause-pushed
+returns-then-is_err-clause-pushed c = search rules

@@ -1,4 +1,4 @@
-use Rattle.std.proofs.Common.{◌∷◌, arith, ap, ◌∙◌}
+use Rattle.std.proofs.Common.{rules, ◌∷◌, arith, ap, ◌∙◌}
 use Rattle.std.specs.Prelude.{map}
 use Rattle.zh_file.specs.Past.{items}
 use Rattle.zh_file.specs.Held.{moment}
@@ -13,3 +13,6 @@ returns-clause-written g c = λ clean.
     c.push-2.ensures
     (ap (map (moment g.D.Disk.seen)) c.push.ensures ∙ ap (λ h. moment g.D.Disk.seen h ∷ map (moment g.D.Disk.seen) (items c.args.self.now.before)) c.of.ensures)
     (omega (arith, c.requires, size)) call.others call.written
+
+pub returns-clause-ends : goal.returns-clause-ends
+returns-clause-ends g c = search rules

@@ -1,4 +1,4 @@
-use Rattle.std.proofs.Common.{ap, arith, subst}
+use Rattle.std.proofs.Common.{rules, ap, arith, subst}
 use Rattle.zh_disk.specs.Disk.{Moment, Leaves, Moves}
 use Rattle.zh_journal.specs.Pages.{AddsOrNot, Adds}
 use Rattle.zh_journal.specs.Place.{Place}
@@ -30,3 +30,6 @@ returns-clause-added g c = λ h.
 
 pub returns-clause-settled : goal.returns-clause-settled
 returns-clause-settled g c = λ h. ap (λ (m : Moment). m.pending) (c.in_ok-open_gate.ensures.ok h)
+
+pub returns-then-pages_left-pages-clause-full : goal.returns-then-pages_left-pages-clause-full
+returns-then-pages_left-pages-clause-full g c = search rules

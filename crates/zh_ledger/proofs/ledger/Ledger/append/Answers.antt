@@ -1,4 +1,4 @@
-use Rattle.std.proofs.Common.{◌≡◌, ◌∙◌, ◌+◌, inl, inr, List, ℕ, take, arith, subst, ap, refl}
+use Rattle.std.proofs.Common.{◌≡◌, ◌∙◌, ◌+◌, inl, inr, List, ℕ, take, arith, subst, ap, refl, rules}
 use Rattle.zh_disk.specs.Disk.{Leaves, Moves}
 use Rattle.zh_returns.specs.Tally.{Tally}
 use Rattle.zh_returns.specs.Step.{step, changed, on_verdict}
@@ -66,3 +66,6 @@ returns-in-Ok-clause-results g c =
     let stepped = c.count.ensures ∙ c.apply.ensures ∙ ap (λ (y : Ledger). step y.tally x) c.self.view_is in
     let more : (step tally x).accepted ≡ tally.accepted + 1 = ap (λ (v : Verdict). (on_verdict v (changed tally x) tally).accepted) c.requires.accept in
     inl (ap Stored (c.accepted.ensures.accepted ∙ ap (λ (t : Tally). t.accepted) stepped ∙ more))
+
+pub returns-in-Ok-clause-after : goal.returns-in-Ok-clause-after
+returns-in-Ok-clause-after g c = search rules

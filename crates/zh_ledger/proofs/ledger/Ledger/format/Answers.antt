@@ -1,4 +1,5 @@
 use Rattle.std.proofs.Common.{◌≡◌, ◌∙◌, ap, subst, length, arith}
+use Rattle.std.proofs.lemmas.List.{with_items_is}
 use Rattle.std.proofs.lemmas.Result.{on_ok_weaker}
 use Rattle.zh_districts.specs.Spelling.{setup_spelling}
 use Rattle.zh_returns.specs.Limits.{IsTally}
@@ -38,3 +39,13 @@ pub returns-clause-formatted : goal.returns-clause-formatted
 returns-clause-formatted g c = λ h.
     let limits = subst IsTally (c.encode.view_is ∙ c.in_ok-new.ensures) c.encode.invariant.tally in
     on_ok_weaker c.format.result (new_image c.args.setup.now c.deref.result.now c.deref-2.result.now (g.D.Disk.trail c.format.new.disk).now (setup_is g c) (first_is g c) limits) (c.format.ensures.formatted h)
+
+pub format-requires-clause-setup : goal.format-requires-clause-setup
+format-requires-clause-setup g c = omega (arith, ap length c.deref.ensures.value, c.in_ok-bytes.ensures.length)
+
+pub format-requires-clause-first : goal.format-requires-clause-first
+format-requires-clause-first g c =
+    let first = c.in_ok-first.first in
+    let size : first.len ≡ 262391 = omega (arith, first.ok.0, c.in_ok-first.ensures) in
+    let whole : length c.encode-2.new.out ≡ first.len = omega (arith, c.encode-2.auto.out, c.deref_mut.ensures.len) in
+    ap length (c.deref-2.ensures.value ∙ with_items_is first c.encode-2.new.out whole) ∙ whole ∙ size

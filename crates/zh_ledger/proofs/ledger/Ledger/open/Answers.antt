@@ -1,6 +1,7 @@
-use Rattle.std.proofs.Common.{◌≡◌, ◌∙◌, Err, sym, ap, subst}
+use Rattle.std.proofs.Common.{◌≡◌, ◌∙◌, Err, sym, ap, subst, arith}
 use Rattle.zh_disk.specs.Disk.{Trail, Leaves}
-use Rattle.zh_returns.specs.Tally.{Tally}
+use Rattle.zh_districts.specs.Spelling.{setup_spelling}
+use Rattle.zh_returns.specs.Tally.{Tally, empty}
 use Rattle.zh_snapshot.specs.Store.{Settles}
 use Rattle.zh_snapshot.specs.declared.fault.OpenFault as store
 use Rattle.zh_ledger.specs.declared.fault.OpenFault.{OpenFault}
@@ -88,3 +89,12 @@ returns-clause-settled g c = λ h. ap (λ (t : Trail). t.now) (c.read_count.ensu
 
 pub returns-clause-ready : goal.returns-clause-ready
 returns-clause-ready g c = record { set_up = c.read_count.ensures.canton ∙ of_setup g (goal.at.returns-clause-ready g c).After-read_count; whole = c.in_ok-store.ensures.whole }
+
+pub read_count-requires-clause-setup : goal.read_count-requires-clause-setup
+read_count-requires-clause-setup g c = c.deref.ensures.value ∙ c.in_ok-bytes.ensures.spelling ∙ sym (ap (λ (t : Tally). setup_spelling t.canton) c.in_ok-count.ensures)
+
+pub read_count-requires-clause-buffer : goal.read_count-requires-clause-buffer
+read_count-requires-clause-buffer g c = omega (arith, c.deref_mut.ensures.len, c.in_ok-buffer.buffer.ok.0, c.in_ok-buffer.ensures)
+
+pub read_count-requires-clause-count : goal.read_count-requires-clause-count
+read_count-requires-clause-count g c = c.in_ok-count.ensures ∙ sym (ap (λ (t : Tally). empty t.canton) c.in_ok-count.ensures)

@@ -1,4 +1,4 @@
-use Rattle.std.proofs.Common.{◌∙◌, ap}
+use Rattle.std.proofs.Common.{rules, ◌∙◌, ap}
 use Rattle.zh_answers.specs.Answers.{held_after}
 use Rattle.zh_office.specs.Office.{State}
 use Rattle.zh_office.proofs.Others.{others_after}
@@ -8,3 +8,6 @@ pub returns-in-Ok-clause-others : goal.returns-in-Ok-clause-others
 returns-in-Ok-clause-others g c =
     let held = c.answer_to.ensures.held ∙ ap (λ (s : State). held_after s.held c.in-Ok.line c.answer_to.result) c.self.view_is in
     others_after c.args.bytes.now c.in-Ok.line c.args.self.now.held c.answer_to.new.desks c.answer_to.result c.in-Ok.ensures.reads held
+
+pub returns-in-Err-Syntax-clause-turn : goal.returns-in-Err-Syntax-clause-turn
+returns-in-Err-Syntax-clause-turn g c = search rules

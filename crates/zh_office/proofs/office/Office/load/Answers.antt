@@ -14,3 +14,6 @@ returns-then-len-eq0-clause-turn g c = empty_turn _ _ _ c.in-Ok.batch (sym c.fau
 pub returns-clause-turn : goal.returns-clause-turn
 returns-clause-turn g c =
     rw (← c.self.view_is) (submitted_turn _ _ _ _ _ _ (search rules) (search rules) refl (search rules) c.submit_batch.ensures.reported)
+
+pub returns-then-faulted-clause-unread : goal.returns-then-faulted-clause-unread
+returns-then-faulted-clause-unread g c = search rules

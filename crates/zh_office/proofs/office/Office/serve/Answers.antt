@@ -29,3 +29,6 @@ loop-preserved g c = record { kept = λ h. c.loop.invariant.kept (c.take_block.e
 
 pub returns-clause-turns : goal.returns-clause-turns
 returns-clause-turns g c = λ _. Serving-stops _ _ _ _ _ _ _ _ _ _ c.loop.invariant.serving (Consumes-none _)
+
+pub returns-clause-ok : goal.returns-clause-ok
+returns-clause-ok g c = tt

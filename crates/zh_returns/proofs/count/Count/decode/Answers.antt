@@ -1,10 +1,11 @@
-use Rattle.std.proofs.Common.{◌≡◌, ◌∙◌, List, Vec, Bool, false, Option, None, length, sym, ap, subst}
+use Rattle.std.proofs.Common.{◌≡◌, ◌∙◌, ℕ, List, Vec, Bool, false, Option, None, length, sym, ap, subst}
 use Rattle.std.specs.Vec.{with_items}
 use Rattle.std.proofs.lemmas.List.{with_items_is}
 use Rattle.std.specs.List.{All}
 use Rattle.zh_districts.specs.Canton.{Canton}
 use Rattle.zh_returns.specs.declared.entry.Entry.{Entry}
 use Rattle.zh_returns.specs.Limits.{IsTally}
+use Rattle.zh_returns.specs.Payload.{payload_spelling}
 use Rattle.zh_returns.specs.Tables.{entries_of, closed_of, tally_from}
 use Rattle.zh_returns.specs.Tally.{Tally, empty}
 use Rattle.zh_returns.proofs.EntryTableLemmas.{entries_of-absent}
@@ -48,3 +49,25 @@ returns-in-None-clause-empty c = λ _.
 pub returns-in-None-clause-refused : goal.returns-in-None-clause-refused
 returns-in-None-clause-refused c _ tally canton is spelled =
     c.in-None.ensures.refused tally (canton ∙ sym (ap (λ (t : Tally). t.canton) c.self.view_is)) is spelled
+
+pub read_tables-requires : goal.read_tables-requires
+read_tables-requires c = record {
+  entries = ap length c.deref_mut.ensures.value ∙ c.self.invariant.places;
+  closed = ap length c.deref_mut-2.ensures.value ∙ c.self.invariant.flags;
+}
+
+-- tables that were read stand for the count that they hold
+read_for : {Z : Type 0} (canton : Canton) (entries : Vec (Option Entry) Z) (closed : Vec Bool Z) (table : List (Option Entry)) (flags : List Bool) (accepted : ℕ) → length table ≡ entries.len → length flags ≡ closed.len →
+    tally_from canton (with_items entries table).items (with_items closed flags).items accepted ≡ tally_from canton table flags accepted
+read_for canton entries closed table flags accepted table_length flags_length =
+    ap (λ (t : List (Option Entry)). tally_from canton t (with_items closed flags).items accepted) (with_items_is entries table table_length) ∙ ap (λ (f : List Bool). tally_from canton table f accepted) (with_items_is closed flags flags_length)
+
+pub returns-in-Some-clause-limits : goal.returns-in-Some-clause-limits
+returns-in-Some-clause-limits c =
+    let same = read_for c.self.inside.setup.now c.self.inside.entries c.self.inside.closed c.read_tables.new.entries c.read_tables.new.closed c.in-Some.accepted (c.read_tables.ensures.entries_length ∙ c.deref_mut.ensures.len) (c.read_tables.ensures.closed_length ∙ c.deref_mut-2.ensures.len) in
+    subst IsTally (sym same) c.in-Some.ensures.read.0
+
+pub returns-in-Some-clause-read : goal.returns-in-Some-clause-read
+returns-in-Some-clause-read c = λ _.
+    ap payload_spelling (read_for c.self.inside.setup.now c.self.inside.entries c.self.inside.closed c.read_tables.new.entries c.read_tables.new.closed c.in-Some.accepted (c.read_tables.ensures.entries_length ∙ c.deref_mut.ensures.len) (c.read_tables.ensures.closed_length ∙ c.deref_mut-2.ensures.len))
+    ∙ c.in-Some.ensures.read.1

@@ -1,4 +1,4 @@
-use Rattle.std.proofs.Common.{◌∙◌, ap, subst}
+use Rattle.std.proofs.Common.{rules, ◌∙◌, ap, subst}
 use Rattle.zh_disk.specs.Disk.{Leaves, SameOutside}
 use Rattle.zh_disk.proofs.Runs.{leaves_weaken}
 use Rattle.zh_snapshot.specs.Layout.{journal_at}
@@ -45,3 +45,18 @@ returns-in-Err-Device-clause-later g c = c.append.ensures.later
 
 pub returns-in-Err-Device-clause-cause : goal.returns-in-Err-Device-clause-cause
 returns-in-Err-Device-clause-cause g c = λ is. c.append.ensures.cause (cc)
+
+pub returns-in-Err-Full-clause-broken : goal.returns-in-Err-Full-clause-broken
+returns-in-Err-Full-clause-broken g c = search rules
+
+pub returns-in-Err-Full-clause-full : goal.returns-in-Err-Full-clause-full
+returns-in-Err-Full-clause-full g c = search rules
+
+pub returns-in-Err-Device-clause-device : goal.returns-in-Err-Device-clause-device
+returns-in-Err-Device-clause-device g c = search rules
+
+pub returns-in-Ok-clause-broken : goal.returns-in-Ok-clause-broken
+returns-in-Ok-clause-broken g c = search rules
+
+pub returns-in-Err-Device-clause-broken : goal.returns-in-Err-Device-clause-broken
+returns-in-Err-Device-clause-broken g c = search rules

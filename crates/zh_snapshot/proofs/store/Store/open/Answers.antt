@@ -1,8 +1,8 @@
-use Rattle.std.proofs.Common.{◌≡◌, ℕ, List, length, subst, Some, None}
+use Rattle.std.proofs.Common.{ℕ, List, subst}
 use Rattle.std.specs.Prelude.{IfOk}
 use Rattle.std.proofs.lemmas.Result.{IfOk-weaker}
 use Rattle.zh_journal.specs.Pages.{Frames}
-use Rattle.zh_snapshot.specs.Image.{Content, IsFramed, IsBlank, content_of}
+use Rattle.zh_snapshot.specs.Image.{Content, IsFramed, IsBlank}
 use Rattle.zh_snapshot.specs.Store.{Fits}
 use Rattle.zh_snapshot.proofs.Closing.{settles, same_bytes}
 use Rattle.zh_snapshot.proofs.Contents.{framed_content, no_content}

@@ -1,0 +1,19 @@
+use Rattle.std.proofs.Common.{Bool, Option, Some, None, sym, ap, ◌∙◌, if◌then◌else◌, le-ltb, lt-ltb}
+use Rattle.zh_districts.specs.Misplaced.{misplaced}
+use Rattle.zh_districts.specs.declared.misplaced.Misplaced.{Misplaced}
+use Rattle.zh_commands.specs.declared.replies.Refusal.TheVariants as refusals
+use Rattle.zh_answers.specs.Answers.{row_refusal}
+use Rattle.zh_answers.proofs.answer.row_refusal.Goals as goal
+
+pub returns-clause-first : goal.returns-clause-first
+returns-clause-first c =
+    let judged = ap (λ t. misplaced t c.args.row.municipality c.args.row.list) (sym c.setup-setup.ensures) ∙ sym c.misplaced.ensures.misplaced ∙ c.in_default.is in
+    sym (ap (λ (o : Option Misplaced). row_refusal o c.args.row) judged ∙ ap (λ (b : Bool). if b then Some refusals.Votes else None) (le-ltb _ _ c.if-row-gt-MOST_VOTES.false))
+
+pub returns-then-row-gt-MOST_VOTES-clause-first : goal.returns-then-row-gt-MOST_VOTES-clause-first
+returns-then-row-gt-MOST_VOTES-clause-first c =
+    let judged = ap (λ t. misplaced t c.args.row.municipality c.args.row.list) (sym c.setup-setup.ensures) ∙ sym c.misplaced.ensures.misplaced ∙ c.in_default.is in
+    sym (ap (λ (o : Option Misplaced). row_refusal o c.args.row) judged ∙ ap (λ (b : Bool). if b then Some refusals.Votes else None) (lt-ltb _ _ c.if-row-gt-MOST_VOTES.true))
+
+pub returns-then-row-gt-MOST_VOTES-clause-fits : goal.returns-then-row-gt-MOST_VOTES-clause-fits
+returns-then-row-gt-MOST_VOTES-clause-fits c = tt

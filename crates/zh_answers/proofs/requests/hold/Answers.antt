@@ -1,0 +1,11 @@
+use Rattle.std.proofs.Common.{Option, refl, sym, ◌∙◌, subst}
+use Rattle.zh_answers.specs.Answers.{MayAnswerRow, MayAdd}
+use Rattle.zh_commands.specs.declared.replies.Refusal.{Refusal}
+use Rattle.zh_commands.specs.declared.replies.Reply.TheVariants as replies
+use Rattle.zh_answers.proofs.requests.hold.Goals as goal
+
+pub returns-in-Some-row_refusal-clause-answer : goal.returns-in-Some-row_refusal-clause-answer
+returns-in-Some-row_refusal-clause-answer c =
+    let reply = replies.Refused c.in-Some-row_refusal.refusal in
+    let refused = subst (λ (o : Option Refusal). MayAdd o c.in-Some.batch.now c.args.row reply) (sym c.in-Some-row_refusal.is ∙ c.row_refusal.ensures.first) refl in
+    subst (λ o. MayAnswerRow c.args.count.now o c.args.row reply) c.in-Some.ensures refused

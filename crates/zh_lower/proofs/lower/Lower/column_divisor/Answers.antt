@@ -1,0 +1,6 @@
+use Rattle.std.proofs.Common.{arith, rules}
+use Rattle.std.proofs.lemmas.Grind.{common_steps}
+use Rattle.zh_lower.proofs.lower.Lower.column_divisor.Goals as goal
+
+pub returns : goal.returns
+returns c = grind (arith, common_steps)
