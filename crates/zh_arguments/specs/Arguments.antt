@@ -1,8 +1,10 @@
 -- The arguments of the program, and what they ask for. The program's name is not among them.
-use Rattle.std.specs.Prelude.{◌≡◌, ◌≢◌, List, [], Option, Some, None, Result, MatchResult, true, unwrap_or, codes}
-use Rattle.clap.specs.Words.{App, Rule, Row, Text, first_of, new_app, new_rule, subcommand_of, with_rule, with_subcommand}
+use Rattle.std.specs.Prelude.{◌≡◌, ◌≢◌, List, [], Option, Some, None, Result, MatchResult, true, false, unwrap_or, codes}
+use Rattle.clap.specs.Words.{App, Rule, Row, Text, app_of, first_of, new_app, new_rule, subcommand_of, with_rule, with_subcommand}
 use Rattle.clap.specs.Kinds.{Kinds, HasKind}
 use Rattle.clap.specs.Faults.{fault_of}
+use Rattle.clap.specs.declared.builder.command.Command.{Command}
+use Rattle.clap.specs.declared.builder.command.Command.TheViews.{out-Command as fields_of}
 use Rattle.clap.specs.declared.error.Error.{Error}
 use Rattle.zh_arguments.specs.declared.arguments.Paths.{Paths}
 use Rattle.zh_arguments.specs.declared.arguments.Task.{Task}
@@ -20,14 +22,21 @@ command_for name = with_rule (with_rule (new_app name) (path_rule (codes "setup"
 abbrev pub load_command : App
 load_command = with_rule (command_for (codes "load")) (path_rule (codes "csv"))
 
--- the program with the commands that make a disk and serve on it
-abbrev pub with_lines : App
-with_lines = with_subcommand (with_subcommand (record { top = record (new_app (codes "zhcount")).top { no_binary_name = true }; subs = [] })
-    (command_for (codes "format")).top) (command_for (codes "run")).top
+-- what a command takes, and that none of it is global
+abbrev pub IsCommand : Command → App → Type 0
+IsCommand command app = (app_of command ≡ app) × ((fields_of command).has_globals ≡ false)
 
--- the arguments that the program takes: a command or none; the program's name is not among them
+-- the program before it has commands; its own name is not among the arguments
+abbrev pub bare : App
+bare = record { top = record (new_app (codes "zhcount")).top { no_binary_name = true }; subs = [] }
+
+-- the program with the command of this name, which needs a set-up and a disk
+abbrev pub and : App → Text → App
+and program name = with_subcommand program (command_for name).top
+
+-- the arguments that the program takes: a command or none
 abbrev pub zhcount : App
-zhcount = with_subcommand (with_subcommand with_lines load_command.top) (command_for (codes "export")).top
+zhcount = and (with_subcommand (and (and bare (codes "format")) (codes "run")) load_command.top) (codes "export")
 
 -- what clap refuses these arguments for, a call for help among it; nothing where it takes them
 unfoldable pub refusals : List Text → Kinds

@@ -2,15 +2,14 @@
 
 ghost use Rattle.std.specs.Prelude.{◌≡◌, IfOk, codes, false, map, option_map};
 ghost use Rattle.std.specs.String.{string_bytes};
-ghost use Rattle.clap.specs.Words.{app_of, found_of, rows_of, rule_of};
-ghost use Rattle.clap.specs.declared.builder.command.Command.TheViews.{out-Command as fields_of};
-ghost use Rattle.zh_arguments.specs.Arguments.{ArePaths, Names, ReadsArguments, command_for, load_command, path_in, path_rule, with_lines, zhcount};
+ghost use Rattle.clap.specs.Words.{App, app_of, found_of, rows_of, rule_of, with_subcommand};
+ghost use Rattle.zh_arguments.specs.Arguments.{ArePaths, IsCommand, Names, ReadsArguments, bare, command_for, load_command, path_in, path_rule, zhcount};
 
 use clap::{Arg, ArgMatches, Command, Error};
 use std::alloc::{AllocError, Global};
 
 /// The files of the set-up and the disk of a task.
-#[derive(Clone, Copy, Debug, PartialEq, Eq)]
+#[derive(Clone, Copy)]
 pub struct Paths<'a> {
     /// The path of the set-up, a TOML text.
     pub setup: &'a str,
@@ -19,7 +18,7 @@ pub struct Paths<'a> {
 }
 
 /// What the program is asked to do.
-#[derive(Clone, Copy, Debug, PartialEq, Eq)]
+#[derive(Clone, Copy)]
 pub enum Task<'a> {
     /// Serve on the set-up of the rehearsal, on a disk in memory.
     Rehearse,
@@ -47,8 +46,7 @@ fn path<'a>(alloc: Global, name: &'a str, help: &'a str) -> Arg<'a>
 
 /// A command that needs a set-up and a disk.
 fn command_for<'a>(alloc: Global, name: &'a str, about: &'a str) -> Result<Command<'a>, AllocError>
-    ensures app { IfOk result (λ command. app_of command ≡ command_for name.now) }
-    ensures local { IfOk result (λ command. (fields_of command).has_globals ≡ false) }
+    ensures { IfOk result (λ command. IsCommand command (command_for name.now)) }
 {
     Command::new(alloc, name)
         .about(about)
@@ -58,8 +56,7 @@ fn command_for<'a>(alloc: Global, name: &'a str, about: &'a str) -> Result<Comma
 
 /// The command that needs a CSV file too.
 fn load_command<'a>(alloc: Global) -> Result<Command<'a>, AllocError>
-    ensures app { IfOk result (λ command. app_of command ≡ load_command) }
-    ensures local { IfOk result (λ command. (fields_of command).has_globals ≡ false) }
+    ensures { IfOk result (λ command. IsCommand command load_command) }
 {
     command_for(alloc, "load", "Load the returns of a CSV file as one batch")?.arg(path(
         alloc,
@@ -68,39 +65,49 @@ fn load_command<'a>(alloc: Global) -> Result<Command<'a>, AllocError>
     ))
 }
 
-/// The program with the commands that make a disk and serve on it.
-fn with_lines<'a>(alloc: Global) -> Result<Command<'a>, AllocError>
-    ensures { IfOk result (λ command. app_of command ≡ with_lines) }
+/// The program before it has commands.
+fn bare<'a>(alloc: Global) -> Result<Command<'a>, AllocError>
+    ensures { IfOk result (λ command. app_of command ≡ bare) }
 {
-    Command::new(alloc, "zhcount")
-        .bin_name("zhcount")?
-        .no_binary_name(true)
-        .about(
-            "The count office of a cantonal parliament. Without a command: a rehearsal that keeps nothing.",
-        )
-        .subcommand(command_for(
-            alloc,
-            "format",
-            "Make a disk on which nothing has been returned yet",
-        )?)?
-        .subcommand(command_for(
-            alloc,
-            "run",
-            "Answer the lines of the standard input, and keep the count on the disk",
-        )?)
+    let program = Command::new(alloc, "zhcount").bin_name("zhcount")?;
+    Ok(program.no_binary_name(true).about(
+        "The count office of a cantonal parliament. Without a command: a rehearsal that keeps nothing.",
+    ))
+}
+
+/// The program with one more command, where both could be made.
+fn with<'a>(
+    program: Result<Command<'a>, AllocError>,
+    command: Result<Command<'a>, AllocError>,
+) -> Result<Command<'a>, AllocError>
+    ensures { (one two : App) → IfOk program.entry (λ p. app_of p ≡ one)
+        → IfOk command.entry (λ c. IsCommand c two)
+        → IfOk result (λ both. app_of both ≡ with_subcommand one two.top) }
+{
+    program?.subcommand(command?)
 }
 
 /// The arguments that the program takes.
 fn zhcount<'a>(alloc: Global) -> Result<Command<'a>, AllocError>
     ensures { IfOk result (λ command. app_of command ≡ zhcount) }
 {
-    with_lines(alloc)?
-        .subcommand(load_command(alloc)?)?
-        .subcommand(command_for(
-            alloc,
-            "export",
-            "Write what is held to the standard output, as CSV",
-        )?)
+    let format = command_for(
+        alloc,
+        "format",
+        "Make a disk on which nothing has been returned yet",
+    );
+    let run = command_for(
+        alloc,
+        "run",
+        "Answer the lines of the standard input, and keep the count on the disk",
+    );
+    let load = load_command(alloc);
+    let export = command_for(
+        alloc,
+        "export",
+        "Write what is held to the standard output, as CSV",
+    );
+    with(with(with(with(bare(alloc), format), run), load), export)
 }
 
 /// The paths that were given. The command requires both, so none of them is left out.
