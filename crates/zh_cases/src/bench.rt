@@ -47,6 +47,11 @@ fn open_on<'s>(
     }
 }
 
+/// How opening the office on a disk goes.
+fn opening_of(alloc: Global, setup: &Setup, disk: &mut Device) -> &'static str {
+    open_on(alloc, setup, disk).1
+}
+
 impl<'s> Bench<'s> {
     /// The first of the set-ups, and no disk.
     pub(crate) fn new(alloc: Global, setups: &'s [Named]) -> Result<Bench<'s>, Fault> {
@@ -64,9 +69,13 @@ impl<'s> Bench<'s> {
         })
     }
 
+    fn close(&mut self) {
+        self.office = None;
+    }
+
     /// Takes a disk of these bytes, on which no office is open.
     pub(crate) fn take_disk(&mut self, image: &[u8]) -> Result<&'static str, Fault> {
-        self.office = None;
+        self.close();
         self.disk = Some(disk_of(self.alloc, image)?);
         Ok("ok")
     }
@@ -84,7 +93,7 @@ impl<'s> Bench<'s> {
     pub(crate) fn take_setup(&mut self, name: &str) -> Result<&'static str, Fault> {
         for named in self.setups {
             if named.name.as_str() == name {
-                self.office = None;
+                self.close();
                 self.setup = &named.setup;
                 return Ok("ok");
             }
@@ -93,7 +102,7 @@ impl<'s> Bench<'s> {
     }
 
     pub(crate) fn format(&mut self) -> Result<&'static str, Fault> {
-        self.office = None;
+        self.close();
         let disk = self.disk.as_mut().ok_or(NO_CASE)?;
         match Office::format(self.alloc, self.setup, disk) {
             Ok(()) => Ok("ok"),
@@ -164,7 +173,7 @@ impl<'s> Bench<'s> {
 
     /// A power failure.
     pub(crate) fn stop(&mut self, how: Stop) -> Result<&'static str, Fault> {
-        self.office = None;
+        self.close();
         let mut disk = self.disk.take().ok_or(NO_CASE)?.inner.into_inner();
         disk.stop(how);
         self.disk = Some(device(disk, NO_FUSE));
@@ -191,7 +200,7 @@ impl<'s> Bench<'s> {
     pub(crate) fn damage(&mut self, text: &str) -> Result<&'static str, Fault> {
         let image = self.damaged(text)?;
         let mut disk = disk_of(self.alloc, &image)?;
-        let (_, answer) = open_on(self.alloc, self.setup, &mut disk);
+        let answer = opening_of(self.alloc, self.setup, &mut disk);
         if image_of(self.alloc, &mut disk)? == image {
             Ok(answer)
         } else {

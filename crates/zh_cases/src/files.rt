@@ -20,12 +20,17 @@ fn compare(rt: &HostRuntime, one: &str, other: &str) -> Result<&'static str, Fau
     }
 }
 
+/// Writes a file.
+pub(crate) fn save(rt: &HostRuntime, name: &str, bytes: &[u8]) -> Result<&'static str, Fault> {
+    fs::write(rt, name, bytes)?;
+    Ok("ok")
+}
+
 /// Appends bytes to a file.
 fn append(rt: &HostRuntime, name: &str, bytes: &[u8]) -> Result<&'static str, Fault> {
     let mut all = fs::read(rt, name)?;
     all.extend_from_slice(bytes)?;
-    fs::write(rt, name, all)?;
-    Ok("ok")
+    save(rt, name, &all)
 }
 
 /// Writes a file with another's text, where `OLD => NEW` puts the new in the place of the old.
@@ -35,8 +40,7 @@ fn replace(rt: &HostRuntime, from: &str, to: &str, change: &str) -> Result<&'sta
     };
     let text = fs::read_to_string(rt, from)?;
     let text = text.as_str().replace(rt.alloc(), old.trim(), new.trim())?;
-    fs::write(rt, to, text.as_str().as_bytes())?;
-    Ok("ok")
+    save(rt, to, text.as_str().as_bytes())
 }
 
 /// Removes a file.
@@ -57,13 +61,11 @@ pub(crate) fn act_on_files(
     match word {
         "file" => {
             let (name, text) = named(rest, '\n')?;
-            fs::write(rt, name, text.as_bytes())?;
-            Ok("ok")
+            save(rt, name, text.as_bytes())
         }
         "write" => {
             let (name, bytes) = named(rest, ' ')?;
-            fs::write(rt, name, read_bytes(rt.alloc(), bytes)?)?;
-            Ok("ok")
+            save(rt, name, &read_bytes(rt.alloc(), bytes)?)
         }
         "append" => {
             let (name, bytes) = named(rest, ' ')?;

@@ -17,7 +17,7 @@ mod words;
 use bench::Bench;
 use fault::Fault;
 use lines::{Line, lines_of};
-use setups::setups_of;
+use setups::{Named, setups_of};
 use std::process::ExitCode;
 use std::{env, fs};
 use turn::run_turn;
@@ -47,15 +47,35 @@ fn run_line(
     Ok(())
 }
 
+/// Runs lines.
+fn run_lines(
+    rt: &HostRuntime,
+    bench: &mut Bench<'_>,
+    lines: &[Line],
+    progress: &mut Progress,
+) -> Result<(), Fault> {
+    for line in lines {
+        run_line(rt, bench, line, progress)?;
+    }
+    Ok(())
+}
+
+/// Runs the lines of a text that asks for these set-ups.
+fn run_with(
+    rt: &HostRuntime,
+    setups: &[Named],
+    lines: &[Line],
+    progress: &mut Progress,
+) -> Result<(), Fault> {
+    let mut bench = Bench::new(rt.alloc(), setups)?;
+    run_lines(rt, &mut bench, lines, progress)
+}
+
 /// Runs the cases of a text.
 fn run_text(rt: &HostRuntime, text: &str, progress: &mut Progress) -> Result<(), Fault> {
     let lines = lines_of(rt.alloc(), text, &mut progress.line)?;
     let setups = setups_of(rt, &lines, &mut progress.line)?;
-    let mut bench = Bench::new(rt.alloc(), &setups)?;
-    for line in &lines {
-        run_line(rt, &mut bench, line, progress)?;
-    }
-    Ok(())
+    run_with(rt, &setups, &lines, progress)
 }
 
 /// Runs the cases of a file, and prints how it went. It gives the cases and the turns, none where one went wrong.
@@ -77,12 +97,9 @@ fn run_file(rt: &HostRuntime, name: &str) -> Result<Option<Progress>, Fault> {
     }
 }
 
-/// The files that the arguments name, or else all of the folder that end in `.case`, in the order of their names.
-fn names_of_files(rt: &HostRuntime) -> Result<Vec<String>, Fault> {
-    let mut names: Vec<String> = env::args(rt)?.skip(1).collect(rt.alloc())?;
-    if !names.is_empty() {
-        return Ok(names);
-    }
+/// The files of the folder that end in `.case`, in the order of their names.
+fn cases_of_folder(rt: &HostRuntime) -> Result<Vec<String>, Fault> {
+    let mut names = Vec::new(rt.alloc());
     for entry in fs::read_dir(rt, ".")? {
         let entry = entry?;
         if entry.file_name().ends_with(".case") {
@@ -91,6 +108,16 @@ fn names_of_files(rt: &HostRuntime) -> Result<Vec<String>, Fault> {
     }
     names.sort()?;
     Ok(names)
+}
+
+/// The files that the arguments name, or else all cases of the folder.
+fn names_of_files(rt: &HostRuntime) -> Result<Vec<String>, Fault> {
+    let names: Vec<String> = env::args(rt)?.skip(1).collect(rt.alloc())?;
+    if names.is_empty() {
+        cases_of_folder(rt)
+    } else {
+        Ok(names)
+    }
 }
 
 /// Runs all files, and says whether all answers were the expected ones.

@@ -3,7 +3,7 @@
 use crate::bench::Bench;
 use crate::device::NO_FUSE;
 use crate::fault::Fault;
-use crate::files::act_on_files;
+use crate::files::{act_on_files, save};
 use crate::lines::Line;
 use crate::program::run_program;
 use crate::words::{read_bytes, read_number, read_stop};
@@ -29,7 +29,25 @@ fn act(rt: &HostRuntime, bench: &mut Bench<'_>, text: &str) -> Result<String, Fa
         "calls" => bench.calls(),
         "csv" => bench.load(&fs::read(rt, rest)?),
         "zhcount" => run_program(rt, rest),
-        _ => Ok(String::from_str(rt.alloc(), act_on_disk(rt, bench, word, rest)?)?),
+        _ => Ok(String::from_str(rt.alloc(), act_on_office(rt, bench, word, rest)?)?),
+    }
+}
+
+/// Makes a turn on the office, on the disk or on a file.
+fn act_on_office(
+    rt: &HostRuntime,
+    bench: &mut Bench<'_>,
+    word: &str,
+    rest: &str,
+) -> Result<&'static str, Fault> {
+    match word {
+        "case" => bench.begin(),
+        "setup" => bench.take_setup(rest),
+        "format" => bench.format(),
+        "open" => bench.open(),
+        "mark" => bench.mark(),
+        "back" => bench.back(rest),
+        _ => act_on_disk(rt, bench, word, rest),
     }
 }
 
@@ -41,22 +59,13 @@ fn act_on_disk(
     rest: &str,
 ) -> Result<&'static str, Fault> {
     match word {
-        "case" => bench.begin(),
-        "setup" => bench.take_setup(rest),
-        "format" => bench.format(),
-        "open" => bench.open(),
         "fuse" => bench.fuse(read_number(rest)?),
         "mend" => bench.fuse(NO_FUSE),
         "stop" => bench.stop(read_stop(rest)?),
         "poke" => bench.poke(rest),
         "damage" => bench.damage(rest),
-        "mark" => bench.mark(),
-        "back" => bench.back(rest),
         "load" => bench.take_disk(&fs::read(rt, rest)?),
-        "save" => {
-            fs::write(rt, rest, bench.image()?)?;
-            Ok("ok")
-        }
+        "save" => save(rt, rest, &bench.image()?),
         _ => act_on_files(rt, word, rest),
     }
 }

@@ -79,8 +79,8 @@ impl<'s> Ledger<'s> {
         ensures cause { IsErrOf result OpenFault.Device → HasRisen (D.failures disk.old) (D.failures disk.new) }
     {
         let bytes = setup_bytes(alloc, setup)?;
-        let mut count = RunningCount::new(alloc, setup)?;
         let mut buffer = buffer(alloc)?;
+        let mut count = RunningCount::new(alloc, setup)?;
         let (store, mut reader) = Store::open(alloc, disk)?;
         read_count(disk, &store, &bytes, &mut reader, &mut buffer, &mut count)?;
         Ok(Ledger {

@@ -1,4 +1,5 @@
 mod failing_streams;
 mod fakes;
+mod offices;
 mod refused_allocations;
 mod single_bytes;

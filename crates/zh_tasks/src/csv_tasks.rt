@@ -2,7 +2,7 @@
 
 ghost use Rattle.std.specs.Prelude.{◌≡◌, IfErr, OnErr, OnOk};
 ghost use Rattle.std.specs.Io.KnownBytes.{Appends};
-ghost use Rattle.zh_office.specs.Runs.{on_disk};
+ghost use Rattle.zh_office.specs.Runs.{OnDisk, on_disk};
 ghost use Rattle.zh_tasks.specs.Csv.{Exports, IsThis, IsUnreadable, Loads, WritesFront, printed};
 ghost use Rattle.zh_tasks.specs.Tasks.{ExportsFromFile, HasExported, HasLoaded, IsFrom, IsRefused, LoadsOnFile};
 
@@ -87,6 +87,15 @@ fn load_on<O: Write, D: Disk>(
     load_text(&mut office, disk, &text, out)
 }
 
+/// Writes what an office holds.
+fn write_held<O: Write>(alloc: Global, office: &Office<'_>, out: &mut O) -> Result<(), ExportFault>
+    ensures { (start : OnDisk) → start.office ≡ office.now → Exports (λ fault. ⊥) (out.new ≡ out.old) (O.contents out.old) (O.contents out.new) (λ first last. (first ≡ start) × (last ≡ start)) result }
+{
+    let text = office.export(Vec::new(alloc))?;
+    put(out, &text)?;
+    Ok(())
+}
+
 /// Opens the office that stands on a disk, and writes what it holds.
 fn export_from<O: Write, D: Disk>(
     alloc: Global,
@@ -98,9 +107,7 @@ fn export_from<O: Write, D: Disk>(
     ensures written { Exports (λ fault. (out.new ≡ out.old) × (D.honest disk.new → IsRefused setup.now (D.trail disk.old) (D.trail disk.new) fault)) (out.new ≡ out.old) (O.contents out.old) (O.contents out.new) (IsFrom (D.honest disk.new) setup.now (D.trail disk.old) (D.trail disk.new)) result }
 {
     let office = Office::open(alloc, setup, disk)?;
-    let text = office.export(Vec::new(alloc))?;
-    put(out, &text)?;
-    Ok(())
+    write_held(alloc, &office, out)
 }
 
 /// Loads a CSV file into the office on the disk in a file, and hands the disk over to `used`.

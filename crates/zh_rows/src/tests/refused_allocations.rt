@@ -2,37 +2,18 @@
 //! made. They pass whichever it is, and where none is.
 
 use super::fakes::run_rehearsal;
+use super::offices::{formatted, on_office, opened};
 use std::alloc::Global;
 use std::process::Abort;
 use std::test::Fail;
 use zh_commands::{Refusal, Reply};
 use zh_disk::MemoryDisk;
 use zh_districts::{Setup, rehearsal};
-use zh_office::{Answer, FormatFault, Office, OpenFault};
+use zh_office::{Answer, Office};
 
 const MEMORY: Option<Reply> = Some(Reply::Refused(Refusal::Memory));
 
 const DEVICE: Option<Reply> = Some(Reply::Refused(Refusal::Device));
-
-/// A disk on which nothing has been returned. What was refused memory is done again.
-fn formatted(alloc: Global, setup: &Setup) -> Result<MemoryDisk, Fail> {
-    let mut disk = MemoryDisk::blank(alloc).or_else(|_| MemoryDisk::blank(alloc))?;
-    // memory that is refused to a disk is a fault of the device
-    if let Err(FormatFault::Memory | FormatFault::Device) = Office::format(
-        alloc, setup, &mut disk,
-    ) {
-        Office::format(alloc, setup, &mut disk)?;
-    }
-    Ok(disk)
-}
-
-/// The office on a disk.
-fn opened<'s>(alloc: Global, setup: &'s Setup, disk: &mut MemoryDisk) -> Result<Office<'s>, Fail> {
-    match Office::open(alloc, setup, disk) {
-        Err(OpenFault::Memory | OpenFault::Device) => Ok(Office::open(alloc, setup, disk)?),
-        office => Ok(office?),
-    }
-}
 
 /// The reply to a line, none where it is answered with a sheet.
 fn reply(office: &mut Office<'_>, disk: &mut MemoryDisk, line: &[u8]) -> Option<Reply> {
@@ -86,14 +67,19 @@ fn a_return_is_stored_once(rt: HostRuntime) -> Result<(), Fail> {
     see_return(&rt, alloc, &setup, &mut disk, 1)
 }
 
+/// Sends 1,024 commands, and says whether the disk stood them all.
+fn close_and_reopen(office: &mut Office<'_>, disk: &mut MemoryDisk) -> bool {
+    for _ in 0..512 {
+        reply(office, disk, b"1 close 1");
+        reply(office, disk, b"1 reopen 1");
+    }
+    !office.faulted()
+}
+
 /// Uses all 1,024 pages of a slot, one for each command, unless the disk fails under one.
 fn use_all_pages(alloc: Global, setup: &Setup, disk: &mut MemoryDisk) -> Result<bool, Fail> {
     let mut office = opened(alloc, setup, disk)?;
-    for _ in 0..512 {
-        office.line(disk, b"1 close 1");
-        office.line(disk, b"1 reopen 1");
-    }
-    Ok(!office.faulted())
+    Ok(close_and_reopen(&mut office, disk))
 }
 
 #[test]
@@ -117,7 +103,7 @@ fn see_rows(rt: &impl Abort, office: &mut Office<'_>, disk: &mut MemoryDisk) {
         (b"1 row 2 2 1 40", 4),
         (b"1 row 3 3 1 50", 5),
     ];
-    office.line(disk, b"1 open");
+    reply(office, disk, b"1 open");
     for (row, held) in rows {
         let first = reply_at_last(office, disk, row);
         assert_eq!(rt; first, Some(Reply::Held(held)));
@@ -130,12 +116,10 @@ fn see_rows(rt: &impl Abort, office: &mut Office<'_>, disk: &mut MemoryDisk) {
 
 #[test]
 fn a_row_without_memory_leaves_the_batch_as_it_was(rt: HostRuntime) -> Result<(), Fail> {
-    let alloc = rt.alloc();
-    let setup = rehearsal(alloc).or_else(|_| rehearsal(alloc))?;
-    let mut disk = formatted(alloc, &setup)?;
-    let mut office = opened(alloc, &setup, &mut disk)?;
-    see_rows(&rt, &mut office, &mut disk);
-    Ok(())
+    on_office(rt.alloc(), |office, disk| {
+        see_rows(&rt, office, disk);
+        Ok(())
+    })
 }
 
 /// Sees that a sheet is given at last after three returns, unless the disk fails under one.
@@ -158,12 +142,10 @@ fn see_sheet(rt: &impl Abort, office: &mut Office<'_>, disk: &mut MemoryDisk) {
 
 #[test]
 fn a_sheet_without_memory_changes_nothing(rt: HostRuntime) -> Result<(), Fail> {
-    let alloc = rt.alloc();
-    let setup = rehearsal(alloc).or_else(|_| rehearsal(alloc))?;
-    let mut disk = formatted(alloc, &setup)?;
-    let mut office = opened(alloc, &setup, &mut disk)?;
-    see_sheet(&rt, &mut office, &mut disk);
-    Ok(())
+    on_office(rt.alloc(), |office, disk| {
+        see_sheet(&rt, office, disk);
+        Ok(())
+    })
 }
 
 /// A buffer with room, so that what is written to it takes no memory.
@@ -210,11 +192,9 @@ fn see_load(
 
 #[test]
 fn a_text_without_memory_leaves_the_count_as_it_was(rt: HostRuntime) -> Result<(), Fail> {
-    let alloc = rt.alloc();
-    let setup = rehearsal(alloc).or_else(|_| rehearsal(alloc))?;
-    let mut disk = formatted(alloc, &setup)?;
-    let mut office = opened(alloc, &setup, &mut disk)?;
-    see_load(&rt, alloc, &mut office, &mut disk)
+    on_office(rt.alloc(), |office, disk| {
+        see_load(&rt, rt.alloc(), office, disk)
+    })
 }
 
 #[test]

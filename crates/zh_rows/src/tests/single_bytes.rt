@@ -1,11 +1,11 @@
 //! Inputs that give one byte at a time.
 
 use super::fakes::{SlowReader, run_rehearsal};
+use super::offices::on_office;
 use std::alloc::Global;
 use std::process::Abort;
 use std::test::Fail;
 use zh_disk::MemoryDisk;
-use zh_districts::rehearsal;
 use zh_office::{Office, ServeFault};
 use zh_tasks::{ProgramFault, RunFault};
 
@@ -36,12 +36,10 @@ fn see_serving(rt: &impl Abort, alloc: Global, office: &mut Office<'_>, disk: &m
 
 #[test]
 fn each_byte_needs_a_turn_and_the_end_too(rt: HostRuntime) -> Result<(), Fail> {
-    let setup = rehearsal(rt.alloc())?;
-    let mut disk = MemoryDisk::blank(rt.alloc())?;
-    Office::format(rt.alloc(), &setup, &mut disk)?;
-    let mut office = Office::open(rt.alloc(), &setup, &mut disk)?;
-    see_serving(&rt, rt.alloc(), &mut office, &mut disk);
-    Ok(())
+    on_office(rt.alloc(), |office, disk| {
+        see_serving(&rt, rt.alloc(), office, disk);
+        Ok(())
+    })
 }
 
 // No test makes so many reads that the program reports this by itself.
