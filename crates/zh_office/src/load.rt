@@ -1,6 +1,7 @@
 //! Loading a text as one batch.
 
-ghost use Rattle.std.specs.Prelude.{◌≡◌, true};
+ghost use Rattle.std.specs.Prelude.{◌≡◌, ℕ, true, false, List, Option, Some, Ok};
+ghost use Rattle.zh_csv.specs.Load.{Loads};
 ghost use Rattle.zh_office.specs.Load.{LoadTurn, load_refusal};
 ghost use Rattle.zh_requests.specs.Requests.{UnlessStored};
 ghost use Rattle.zh_office.specs.Runs.{on_disk};
@@ -10,6 +11,7 @@ use crate::office::Office;
 use std::io::Read;
 use zh_commands::{Refusal, Reply};
 use zh_csv::{LoadFault, read_batch};
+use zh_desks::Batch;
 use zh_disk::Disk;
 use zh_requests::submit_batch;
 
@@ -45,13 +47,23 @@ impl<'s> Office<'s> {
         if self.faulted() {
             return Reply::Refused(Refusal::ReopenDisk);
         }
-        let batch = match read_batch(self.alloc, self.ledger.count().setup(), reader) {
-            Ok(batch) => batch,
-            Err(fault) => return Reply::Refused(load_refusal(fault)),
-        };
+        match read_batch(self.alloc, self.ledger.count().setup(), reader) {
+            Ok(batch) => self.store(disk, &batch),
+            Err(fault) => Reply::Refused(load_refusal(fault)),
+        }
+    }
+
+    /// Stores the rows of a text, if it has any.
+    fn store<D: Disk>(&mut self, disk: &mut D, batch: &Batch) -> Reply
+        requires whole { self.old.ledger.store.broken ≡ false }
+        ensures kept { D.honest disk.new → D.honest disk.old }
+        ensures turn { (text : Option (List ℕ)) → ((bytes : List ℕ) → text ≡ Some bytes → Loads self.old.ledger.tally.canton bytes (Ok batch.now))
+            → LoadTurn (D.honest disk.new) (on_disk self.old (D.failures disk.old) (D.trail disk.old)) text result (on_disk self.new (D.failures disk.new) (D.trail disk.new)) }
+        ensures untouched { UnlessStored (answers.Reply result) disk.old disk.new }
+    {
         if batch.len() == 0 {
             return Reply::Same;
         }
-        submit_batch(&mut self.ledger, disk, &batch, &mut self.rows)
+        submit_batch(&mut self.ledger, disk, batch, &mut self.rows)
     }
 }
