@@ -6,3 +6,4 @@ pub mod Question
 pub mod RoundingOf
 pub mod SeatMatrix
 pub mod States
+pub mod Tables

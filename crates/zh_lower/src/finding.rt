@@ -5,6 +5,7 @@ ghost use Rattle.zh_lower.specs.Divisors.{AreWithinLimits, Divisors, millionths}
 ghost use Rattle.zh_lower.specs.Outcomes.{IsProper, IsTied, NoneBefore};
 ghost use Rattle.zh_lower.specs.Question.{AreTotals, EachColumnHasVotes, IsFirstWithoutVotes, question};
 ghost use Rattle.zh_lower.specs.SeatMatrix.{IsStrict, IsWeak};
+ghost use Rattle.zh_lower.specs.Tables.{AreStarted};
 
 use crate::end_test::Ending;
 use crate::fault::LowerFault;
@@ -12,12 +13,45 @@ use crate::lower::Lower;
 use crate::matrix::Matrix;
 use crate::question::Question;
 use crate::search::search;
+use crate::tables::Tables;
 use crate::votes::first_without_votes;
 use std::alloc::Global;
 
-/// Seats with divisors, by the search. All memory is taken at its start.
+/// Seats with divisors, by the search on these tables.
 ///
 /// Where the search ends without an answer, at `None`, a second one could go on.
+fn seats_on(mut tables: Tables, question: &Question<'_>) -> Result<Lower, LowerFault>
+    requires proper { IsProper (asked question.now) }
+    requires started { AreStarted (asked question.now) tables }
+    ensures strict { IfOk result (λ lower. IsStrict (asked question.now) lower.divisors lower.seats) }
+    ensures limits { IfOk result (λ lower. AreWithinLimits (asked question.now) lower.divisors.of_rows lower.divisors.of_columns) }
+    ensures millionths { IfOk result (λ lower. lower.divisors ≡ millionths lower.divisors.of_rows lower.divisors.of_columns) }
+    ensures tied { (d g : ℕ) → IsErrOf result (LowerFault.Tied d g) → IsTied (asked question.now) d g }
+    ensures exhausted { IsErrOf result LowerFault.Exhausted → NoneBefore (asked question.now) 2001 }
+    ensures votes { (d : ℕ) → ¬ IsErrOf result (LowerFault.NoVotes d) }
+{
+    let ending = search(
+        question,
+        &mut tables.row_divisors,
+        &mut tables.column_divisors,
+        &mut tables.line,
+        &mut tables.seats,
+        &mut tables.others,
+    );
+    let Tables {
+        seats,
+        row_divisors,
+        column_divisors,
+        ..
+    } = tables;
+    match ending {
+        Some(Ending::Found) => Ok(Lower::new(seats, row_divisors, column_divisors)),
+        Some(Ending::Tied(row, column)) => Err(LowerFault::Tied(row, column)),
+        None => Err(LowerFault::Exhausted),
+    }
+}
+
+/// Seats with divisors, by the search. All memory is taken at its start.
 fn seats_by_search(alloc: Global, question: &Question<'_>) -> Result<Lower, LowerFault>
     requires { IsProper (asked question.now) }
     ensures strict { IfOk result (λ lower. IsStrict (asked question.now) lower.divisors lower.seats) }
@@ -27,24 +61,8 @@ fn seats_by_search(alloc: Global, question: &Question<'_>) -> Result<Lower, Lowe
     ensures exhausted { IsErrOf result LowerFault.Exhausted → NoneBefore (asked question.now) 2001 }
     ensures votes { (d : ℕ) → ¬ IsErrOf result (LowerFault.NoVotes d) }
 {
-    let mut row_divisors = vec![in alloc; 0u64; question.rows]?;
-    let mut column_divisors = vec![in alloc; 1_000_000u64; question.columns]?;
-    let mut line = vec![in alloc; 0u64; question.rows]?;
-    let mut seats = vec![in alloc; 0u32; question.votes.len()]?;
-    let mut others = vec![in alloc; 0u32; question.votes.len()]?;
-    let ending = search(
-        question,
-        &mut row_divisors,
-        &mut column_divisors,
-        &mut line,
-        &mut seats,
-        &mut others,
-    );
-    match ending {
-        Some(Ending::Found) => Ok(Lower::new(seats, row_divisors, column_divisors)),
-        Some(Ending::Tied(row, column)) => Err(LowerFault::Tied(row, column)),
-        None => Err(LowerFault::Exhausted),
-    }
+    let tables = Tables::new(alloc, question)?;
+    seats_on(tables, question)
 }
 
 /// The seats of each group in each constituency (GPR section 104), with divisors that give them.

@@ -27,6 +27,7 @@ mod question;
 mod quotient;
 mod rounding;
 mod search;
+mod tables;
 mod totals;
 mod two_ways;
 mod votes;

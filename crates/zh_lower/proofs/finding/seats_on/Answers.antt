@@ -1,10 +1,8 @@
-use Rattle.std.proofs.Common.{◌∙◌, ℕ, Ok, Err}
+use Rattle.std.proofs.Common.{ℕ, Ok, Err}
 use Rattle.std.specs.Prelude.{IsErrOf}
-use Rattle.zh_lower.specs.Asked.{asked}
 use Rattle.zh_lower.specs.declared.fault.LowerFault.{LowerFault}
 use Rattle.zh_lower.specs.declared.fault.LowerFault.TheVariants.{Exhausted, NoVotes, Tied}
-use Rattle.zh_lower.proofs.FilledLemmas.{started-replicate}
-use Rattle.zh_lower.proofs.finding.seats_by_search.Goals as goal
+use Rattle.zh_lower.proofs.finding.seats_on.Goals as goal
 
 -- an answer is one alone
 given : {Seats : Type 0} (seats : Seats) (fault : LowerFault) → ¬ IsErrOf (Ok seats) fault
@@ -22,12 +20,6 @@ exhausted_untied d g e = cc
 exhausted_with_votes : {Seats : Type 0} (d : ℕ) → ¬ IsErrOf {T = Seats} (Err Exhausted) (NoVotes d)
 exhausted_with_votes d e = cc
 
-pub search-ending-requires-clause-columns : goal.search-ending-requires-clause-columns
-search-ending-requires-clause-columns c =
-    c.deref_mut-2.ensures.value
-    ∙ c.in_ok-column_divisors.ensures.items_if_clones_equal (λ y e. e)
-    ∙ started-replicate (asked c.args.question.now)
-
 pub returns-in-Some-Found-clause-tied : goal.returns-in-Some-Found-clause-tied
 returns-in-Some-Found-clause-tied c = λ d g e. absurd (given _ _ e)
 
@@ -43,8 +35,8 @@ returns-in-Some-Tied-clause-exhausted c = λ e. absurd (tied_otherwise _ _ e)
 pub returns-in-Some-Tied-clause-votes : goal.returns-in-Some-Tied-clause-votes
 returns-in-Some-Tied-clause-votes c = tied_with_votes _ _
 
-pub returns-in-None-clause-tied : goal.returns-in-None-clause-tied
-returns-in-None-clause-tied c = λ d g e. absurd (exhausted_untied _ _ e)
+pub returns-clause-tied : goal.returns-clause-tied
+returns-clause-tied c = λ d g e. absurd (exhausted_untied _ _ e)
 
-pub returns-in-None-clause-votes : goal.returns-in-None-clause-votes
-returns-in-None-clause-votes c = exhausted_with_votes
+pub returns-clause-votes : goal.returns-clause-votes
+returns-clause-votes c = exhausted_with_votes
