@@ -22,7 +22,7 @@ fi
 
 RANDOM=${SEED:=20270404}
 echo "program $program, seed $SEED"
-rehearsal=$(realpath crates/zh_districts/data/rehearsal.toml)
+rehearsal=$(realpath crates/zh_setups/data/rehearsal.toml)
 election=$(realpath examples/zurich2006)
 setup=$rehearsal
 folder=$(mktemp -d) || exit 1

@@ -3,7 +3,8 @@
 use crate::fault::Fault;
 use crate::lines::{Line, lines_of};
 use std::fs;
-use zh_districts::{Setup, read_setup, rehearsal};
+use zh_districts::Setup;
+use zh_setups::{read_setup, rehearsal};
 
 /// A set-up, and the name by which a file asks for it.
 #[derive(Drop)]

@@ -1,15 +1,7 @@
 pub mod ImageLemmas
-pub mod AsciiLemmas
 pub mod MaskLemmas
 pub mod LengthLemmas
 pub mod SpellingLemmas
 pub mod OneSpellingLemmas
-pub mod ArrayLemmas
-pub mod EachLemmas
-pub mod ValueLemmas
-pub mod SetupLemmas
-pub mod SetupTextLemmas
-pub mod RehearsalTextLemmas
-pub mod TableLemmas
 pub mod CantonLemmas
 pub mod CallerLemmas

@@ -1,11 +1,6 @@
 pub mod Canton
 pub mod Misplaced
 pub mod Seats
-pub mod Rehearsal
 pub mod Parts
 pub mod Inside
 pub mod Spelling
-pub mod Keys
-pub mod Document
-pub mod Outcomes
-pub mod SetupText

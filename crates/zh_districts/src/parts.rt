@@ -23,9 +23,9 @@ pub struct Group {
 
 /// The parts of a set-up, of which it is not known that they make one.
 #[derive(Debug, Drop)]
-pub(crate) struct Draft {
-    pub(crate) house: u32,
-    pub(crate) constituencies: Vec<Constituency>,
-    pub(crate) municipalities: Vec<Municipality>,
-    pub(crate) groups: Vec<Group>,
+pub struct Draft {
+    pub house: u32,
+    pub constituencies: Vec<Constituency>,
+    pub municipalities: Vec<Municipality>,
+    pub groups: Vec<Group>,
 }

@@ -39,7 +39,7 @@ impl Setup {
     ghost use Rattle.zh_districts.specs.Parts.{draft};
 
     /// The set-up of these parts.
-    pub(crate) fn assembled(parts: Draft) -> Setup
+    pub fn assembled(parts: Draft) -> Setup
         requires { IsCanton (draft parts) }
         ensures { result ≡ draft parts }
     {

@@ -1,7 +1,7 @@
 -- What a task has done, by how it ended.
 use Rattle.std.proofs.Common.{◌≡◌, ◌∙◌, ℕ, List, [], Option, Result, Ok, Err, refl, sym, ap, subst, IsErrOf, OnOk}
 use Rattle.zh_districts.specs.Canton.{Canton, IsCanton}
-use Rattle.zh_districts.specs.Rehearsal.{rehearsal}
+use Rattle.zh_setups.specs.Rehearsal.{rehearsal}
 use Rattle.zh_disk.specs.Disk.{Moment, Trail, IsImage, fresh_trail}
 use Rattle.zh_file.specs.Held.{BeginsOrFills}
 use Rattle.zh_returns.specs.Tally.{empty}

@@ -2,7 +2,7 @@
 use Rattle.std.specs.Prelude.{◌≡◌, ◌⊎◌, ℕ, Bool, [], true, false, List, Option, Some, Result, Ok, Err, IsErrOf, OnOk}
 use Rattle.zh_districts.specs.Canton.{Canton, IsCanton}
 use Rattle.zh_districts.specs.Spelling.{setup_spelling}
-use Rattle.zh_districts.specs.Rehearsal.{rehearsal}
+use Rattle.zh_setups.specs.Rehearsal.{rehearsal}
 use Rattle.zh_returns.specs.Tally.{empty}
 use Rattle.zh_returns.specs.Payload.{payload_spelling}
 use Rattle.zh_disk.specs.Disk.{Trail, IsImage, Leaves, fresh_trail, settled}

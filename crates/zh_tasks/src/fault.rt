@@ -3,8 +3,8 @@
 use crate::csv_fault::{ExportFault, LoadFault};
 use std::alloc::AllocError;
 use thiserror::Error;
-use zh_districts::SetupFault;
 use zh_office::{OpenFault, ServeFault};
+use zh_setups::SetupFault;
 
 /// Why a disk was not formatted.
 #[derive(Clone, Copy, Debug, PartialEq, Eq, Error)]

@@ -17,9 +17,10 @@ use std::fs::File;
 use std::io::{ErrorKind, Read, Write};
 use zh_arguments::{Paths, Task};
 use zh_disk::{Disk, MemoryDisk};
-use zh_districts::{Setup, read_setup, rehearsal};
+use zh_districts::Setup;
 use zh_file::{FileDisk, Start, open, open_or_make};
 use zh_office::Office;
+use zh_setups::{read_setup, rehearsal};
 use zh_snapshot::Store;
 
 /// How many bytes of a set-up's file are read at most: one more than a set-up may have, so that a longer one is noticed.

@@ -1,8 +1,8 @@
 //! What no line of a desk and no disk shows of a count. All else are cases of `zh_cases`.
 
 use std::test::Fail;
-use zh_districts::rehearsal;
 use zh_returns::{Command, Count, Reason, Row, Verdict, decode_command};
+use zh_setups::rehearsal;
 
 fn returned(number: u32, votes: u32) -> Command<'static> {
     Command::Return(Row {

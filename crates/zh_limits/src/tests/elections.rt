@@ -2,8 +2,9 @@
 use std::alloc::Global;
 use std::process::Abort;
 use std::test::Fail;
-use zh_districts::{Setup, read_setup};
+use zh_districts::Setup;
 use zh_returns::{Command, Count, Row, Verdict};
+use zh_setups::read_setup;
 use zh_totals::Totals;
 
 /// A set-up in which each constituency has one municipality, and all groups stand everywhere.

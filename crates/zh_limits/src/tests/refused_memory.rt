@@ -5,9 +5,10 @@ use super::elections::totals_of;
 use std::alloc::{AllocError, Global};
 use std::test::Fail;
 use zh_disk::{Disk, MemoryDisk, Stop};
-use zh_districts::{SeatFault, Setup, SetupFault, read_setup, rehearsal, seats, setup_bytes};
+use zh_districts::{SeatFault, Setup, seats, setup_bytes};
 use zh_quorum::participating;
 use zh_returns::Count;
+use zh_setups::{SetupFault, read_setup, rehearsal};
 use zh_totals::Totals;
 use zh_upper::{UpperFault, upper, voters};
 

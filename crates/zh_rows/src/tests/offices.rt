@@ -3,8 +3,9 @@
 use std::alloc::Global;
 use std::test::Fail;
 use zh_disk::MemoryDisk;
-use zh_districts::{Setup, rehearsal};
+use zh_districts::Setup;
 use zh_office::{FormatFault, Office, OpenFault};
+use zh_setups::rehearsal;
 
 /// A disk on which nothing has been returned. What was refused memory is done again.
 pub(crate) fn formatted(alloc: Global, setup: &Setup) -> Result<MemoryDisk, Fail> {

@@ -8,8 +8,9 @@ use std::process::Abort;
 use std::test::Fail;
 use zh_commands::{Refusal, Reply};
 use zh_disk::MemoryDisk;
-use zh_districts::{Setup, rehearsal};
+use zh_districts::Setup;
 use zh_office::{Answer, Office};
+use zh_setups::rehearsal;
 
 const MEMORY: Option<Reply> = Some(Reply::Refused(Refusal::Memory));
 

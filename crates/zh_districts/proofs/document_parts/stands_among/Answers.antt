@@ -1,5 +1,0 @@
-use Rattle.zh_districts.proofs.EachLemmas.{stands_of-more}
-use Rattle.zh_districts.proofs.document_parts.stands_among.Goals as goal
-
-pub loop-before-preserved : goal.loop-before-preserved
-loop-before-preserved c = rw (stands_of-more c.args.numbers.now c.loop-before.before, ← c.loop-before.invariant, ← c.is_among.ensures) c.in_ok-push.ensures.items

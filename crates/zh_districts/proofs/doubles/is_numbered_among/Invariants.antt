@@ -1,9 +1,0 @@
-use Rattle.std.proofs.Common.{◌≡◌, map, drop}
-use Rattle.std.specs.List.{list_any}
-use Rattle.toml.specs.View.{view}
-use Rattle.zh_districts.specs.Document.{same_number}
-use Rattle.zh_districts.proofs.doubles.is_numbered_among.Given as goal
-
-abbrev pub invariant-loop-other : goal.invariant-loop-other
-invariant-loop-other l =
-    list_any (same_number (view l.value)) (map view (drop l.other-index l.others)) ≡ list_any (same_number (view l.value)) (map view l.others)

@@ -1,8 +1,0 @@
-use Rattle.std.proofs.Common.{◌≡◌, map, drop}
-use Rattle.toml.specs.View.{view}
-use Rattle.zh_districts.specs.Document.{same_number, repeats}
-use Rattle.zh_districts.proofs.doubles.repeats_number.Given as goal
-
-abbrev pub invariant-loop-place : goal.invariant-loop-place
-invariant-loop-place l =
-    repeats same_number (map view (drop l.place l.values)) ≡ repeats same_number (map view l.values)

@@ -1,0 +1,134 @@
+-- The table of a set-up text holds the set-up, part by part.
+use Rattle.std.proofs.Common.{◌≡◌, ℕ, Bool, true, false, cond, ◌&&◌, nat_le, List, length, map, Option, Some, None, option_map, option_and_then, Result, Ok, Err, pos, negsuc, codes, refl, sym, ap, subst, ◌∙◌, arith}
+use Rattle.std.specs.Prelude.{IfOk}
+use Rattle.std.specs.List.{AllZip}
+use Rattle.toml.specs.Data.{Data, Members, string, integer, float, boolean, datetime, array, table, get, get_member, as_array}
+use Rattle.zh_districts.specs.Canton.{Canton, Constituency, Municipality, Group, is_name}
+use Rattle.zh_setups.specs.Keys.{list_of, tables_at}
+use Rattle.zh_setups.specs.Document.{◌>>=◌, number_within, name_of, each, values_of, values_at, constituency_of, municipality_of, group_of, stands_of, setup_of, undoubled, checked}
+use Rattle.zh_setups.specs.Outcomes.{Gives}
+use Rattle.zh_setups.specs.SetupText.{ConstituencyOf, MunicipalityOf, GroupOf, SetupOf}
+use Rattle.zh_setups.specs.declared.fault.SetupFault.{SetupFault}
+use Rattle.zh_setups.specs.declared.fault.SetupFault.TheVariants.{Missing, Unknown}
+use Rattle.zh_setups.proofs.ValueLemmas.{bind_some, guard_some, number_within-bounds, HasName, each-holds, each-named, values_at-some, constituency_of-some, municipality_of-some, group_of-some}
+
+some_is : {A : Type 0} (x y : A) → Some x ≡ Some y → x ≡ y
+some_is x y e = cc
+
+number_within-is : (low high : ℕ) (d : Data) (n : ℕ) → number_within low high d ≡ Some n → d ≡ integer (pos n)
+number_within-is low high (integer (pos m)) n e = ap (λ (k : ℕ). integer (pos k)) (guard_some (nat_le low m && nat_le m high) m n e).1
+number_within-is low high (integer (negsuc m)) n e = absurd cc
+number_within-is low high (string s) n e = absurd cc
+number_within-is low high (float x) n e = absurd cc
+number_within-is low high (boolean b) n e = absurd cc
+number_within-is low high (datetime t) n e = absurd cc
+number_within-is low high (array ds) n e = absurd cc
+number_within-is low high (table ms) n e = absurd cc
+
+name_of-is : (d : Data) (name : List ℕ) → name_of d ≡ Some name → d ≡ string name
+name_of-is (string s) name e = ap (λ (x : List ℕ). string x) (guard_some (is_name s) s name e).1
+name_of-is (integer z) name e = absurd cc
+name_of-is (float x) name e = absurd cc
+name_of-is (boolean b) name e = absurd cc
+name_of-is (datetime t) name e = absurd cc
+name_of-is (array ds) name e = absurd cc
+name_of-is (table ms) name e = absurd cc
+
+-- the value of a number, or of a name, that was found
+number_found : (found : Option Data) (low high n : ℕ) → (found >>= number_within low high) ≡ Some n → found ≡ Some (integer (pos n))
+number_found found low high n e =
+    let b = bind_some found (number_within low high) n e in
+    b.1 ∙ ap (λ (d : Data). Some d) (number_within-is low high b.0 n b.2)
+
+name_found : (found : Option Data) (name : List ℕ) → (found >>= name_of) ≡ Some name → found ≡ Some (string name)
+name_found found name e =
+    let b = bind_some found name_of name e in
+    b.1 ∙ ap (λ (d : Data). Some d) (name_of-is b.0 name b.2)
+
+constituency_of-holds : (d : Data) (x : Constituency) → constituency_of d ≡ Some x → ConstituencyOf d x
+constituency_of-holds d x e =
+    let a = bind_some (get (codes "name") d >>= name_of) (λ name. (get (codes "persons") d >>= number_within 1 10000000) >>= λ persons. Some (record { name = name; persons = persons })) x e in
+    let b = bind_some (get (codes "persons") d >>= number_within 1 10000000) (λ persons. Some (record { name = a.0; persons = persons })) x a.2 in
+    let made : Constituency = record { name = a.0; persons = b.0 } in
+    subst (λ (y : Constituency). ConstituencyOf d y) (some_is made x b.2) (name_found (get (codes "name") d) a.0 a.1, number_found (get (codes "persons") d) 1 10000000 b.0 b.1)
+
+municipality_of-holds : (n : ℕ) (d : Data) (x : Municipality) → municipality_of n d ≡ Some x → MunicipalityOf d x
+municipality_of-holds n d x e =
+    let a = bind_some (get (codes "name") d >>= name_of) (λ name. (get (codes "constituency") d >>= number_within 1 n) >>= λ c. Some (record { name = name; constituency = c })) x e in
+    let b = bind_some (get (codes "constituency") d >>= number_within 1 n) (λ c. Some (record { name = a.0; constituency = c })) x a.2 in
+    let made : Municipality = record { name = a.0; constituency = b.0 } in
+    subst (λ (y : Municipality). MunicipalityOf d y) (some_is made x b.2) (name_found (get (codes "name") d) a.0 a.1, number_found (get (codes "constituency") d) 1 n b.0 b.1)
+
+-- numbers that were read stand there as they are
+each_number : (low high : ℕ) (ds : List Data) (ns : List ℕ) → each (number_within low high) ds ≡ Some ns → ds ≡ map (λ n. integer (pos n)) ns
+each_number low high ds ns e =
+    each-holds (λ d n. d ≡ integer (pos n)) (number_within low high) (number_within-is low high) (λ ds ns. ds ≡ map (λ n. integer (pos n)) ns) refl
+    (λ d n ds ns first others. rw (first, others) refl) ds ns e
+
+values_of-is : (d : Data) (ds : List Data) → values_of d ≡ Some ds → option_map list_of (as_array d) ≡ Some ds
+values_of-is d ds e =
+    let a = bind_some (as_array d) (λ items. cond (nat_le 1 (length (list_of items))) (Some (list_of items)) None) ds e in
+    let g = guard_some (nat_le 1 (length (list_of a.0))) (list_of a.0) ds a.2 in
+    rw (a.1, g.1) refl
+
+-- the values of an array that was found
+values_found : (found : Option Data) (ds : List Data) → (found >>= values_of) ≡ Some ds → option_map list_of (option_and_then as_array found) ≡ Some ds
+values_found None ds e = absurd cc
+values_found (Some d) ds e = values_of-is d ds e
+
+group_of-holds : (n : ℕ) (d : Data) (x : Group) → group_of n d ≡ Some x → GroupOf n d x
+group_of-holds n d x e =
+    let a = bind_some (get (codes "name") d >>= name_of) (λ name. (get (codes "stands") d >>= values_of) >>= λ values. each (number_within 1 n) values >>= λ numbers. Some (record { name = name; stands = stands_of n numbers })) x e in
+    let b = bind_some (get (codes "stands") d >>= values_of) (λ values. each (number_within 1 n) values >>= λ numbers. Some (record { name = a.0; stands = stands_of n numbers })) x a.2 in
+    let c = bind_some (each (number_within 1 n) b.0) (λ numbers. Some (record { name = a.0; stands = stands_of n numbers })) x b.2 in
+    let made : Group = record { name = a.0; stands = stands_of n c.0 } in
+    let listed : option_map list_of (option_and_then as_array (get (codes "stands") d)) ≡ Some (map (λ k. integer (pos k)) c.0) = values_found (get (codes "stands") d) b.0 b.1 ∙ ap (λ (ds : List Data). Some ds) (each_number 1 n b.0 c.0 c.1) in
+    subst (λ (y : Group). GroupOf n d y) (some_is made x c.2) (name_found (get (codes "name") d) a.0 a.1, (c.0, listed, refl))
+
+-- the tables of the parts of one kind
+zipped : {X : Type 0} (key : List ℕ) (most : ℕ) (name : X → List ℕ) (R : Data → X → Type 0) (f : Data → Option X) → ((d : Data) (x : X) → f d ≡ Some x → HasName d (name x)) → ((d : Data) (x : X) → f d ≡ Some x → R d x)
+    → (document : Members) (xs : List X) → (values_at key most document >>= each f) ≡ Some xs → AllZip R (tables_at key document) xs
+zipped key most name R f named holds document xs e =
+    let a = bind_some (values_at key most document) (each f) xs e in
+    let v = values_at-some key most document a.0 a.1 in
+    let n = each-named name f named a.0 xs a.2 in
+    let all : AllZip R a.0 xs = each-holds R f holds (λ ds ys. AllZip R ds ys) tt (λ d x ds ys h others. (h, others)) a.0 xs a.2 in
+    subst (λ (ds : List Data). AllZip R ds xs) (sym (v.2 n.kind)) all
+
+SetupOf-from_document : (document : Members) (canton : Canton) → setup_of document ≡ Some canton → SetupOf document canton
+SetupOf-from_document document canton e =
+    let version = get_member (codes "version") document >>= number_within 1 1 in
+    let house = get_member (codes "house") document >>= number_within 1 400 in
+    let constituencies = values_at (codes "constituency") 32 document >>= each constituency_of in
+    let municipalities = λ (n : ℕ). values_at (codes "municipality") 512 document >>= each (municipality_of n) in
+    let groups = λ (n : ℕ). values_at (codes "group") 32 document >>= each (group_of n) in
+    let a = bind_some version (λ v. house >>= λ h. constituencies >>= λ cs. municipalities (length cs) >>= λ ms. groups (length cs) >>= λ gs. Some (made_of h cs ms gs)) canton e in
+    let b = bind_some house (λ h. constituencies >>= λ cs. municipalities (length cs) >>= λ ms. groups (length cs) >>= λ gs. Some (made_of h cs ms gs)) canton a.2 in
+    let c = bind_some constituencies (λ cs. municipalities (length cs) >>= λ ms. groups (length cs) >>= λ gs. Some (made_of b.0 cs ms gs)) canton b.2 in
+    let d = bind_some (municipalities (length c.0)) (λ ms. groups (length c.0) >>= λ gs. Some (made_of b.0 c.0 ms gs)) canton c.2 in
+    let g = bind_some (groups (length c.0)) (λ gs. Some (made_of b.0 c.0 d.0 gs)) canton d.2 in
+    let vb = bind_some (get_member (codes "version") document) (number_within 1 1) a.0 a.1 in
+    let one : a.0 ≡ 1 = let bounds = number_within-bounds 1 1 vb.0 a.0 vb.2 in omega (arith, bounds.0, bounds.1) in
+    let n = length c.0 in
+    subst (λ (x : Canton). SetupOf document x) {x = made_of b.0 c.0 d.0 g.0} (some_is (made_of b.0 c.0 d.0 g.0) canton g.2) (record {
+      version = number_found (get_member (codes "version") document) 1 1 a.0 a.1 ∙ ap (λ (k : ℕ). Some (integer (pos k))) one;
+      house = number_found (get_member (codes "house") document) 1 400 b.0 b.1;
+      constituencies = zipped (codes "constituency") 32 (λ x. x.name) ConstituencyOf constituency_of (λ d x e. (constituency_of-some d x e).0) constituency_of-holds document c.0 c.1;
+      municipalities = zipped (codes "municipality") 512 (λ x. x.name) MunicipalityOf (municipality_of n) (λ d x e. (municipality_of-some n d x e).0) (municipality_of-holds n) document d.0 d.1;
+      groups = zipped (codes "group") 32 (λ x. x.name) (GroupOf n) (group_of n) (λ d x e. (group_of-some n d x e).0) (group_of-holds n) document g.0 g.1;
+    })
+  where
+    made_of : ℕ → List Constituency → List Municipality → List Group → Canton
+    made_of h cs ms gs = record { house = h; constituencies = cs; municipalities = ms; groups = gs }
+
+-- what passes each check is the set-up
+passes : (misses other double : Bool) (wanted : Option Canton) (canton : Canton) → cond misses (Err Missing) (cond other (Err Unknown) (undoubled double wanted)) ≡ Ok canton → wanted ≡ Some canton
+passes true other double wanted canton e = absurd cc
+passes false true double wanted canton e = absurd cc
+passes false false double None canton e = absurd cc
+passes false false true (Some x) canton e = absurd cc
+passes false false false (Some x) canton e = cc
+
+pub given_table : (document : Members) (r : Result Canton SetupFault) → Gives (λ s. s) r (checked document) → IfOk r (λ s. SetupOf document s)
+given_table document (Ok s) h = SetupOf-from_document document s (passes _ _ _ (setup_of document) s h)
+given_table document (Err fault) h = tt

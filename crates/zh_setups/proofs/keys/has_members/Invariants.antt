@@ -1,0 +1,9 @@
+use Rattle.std.proofs.Common.{◌≡◌, map, drop}
+use Rattle.toml.specs.Data.{table}
+use Rattle.toml.specs.View.{table_view}
+use Rattle.zh_setups.specs.Keys.{has_keys}
+use Rattle.zh_setups.proofs.keys.has_members.Given as goal
+
+abbrev pub invariant-loop-key : goal.invariant-loop-key
+invariant-loop-key l =
+    has_keys (map (λ k. k.now) (drop l.key-index l.keys)) (table (table_view l.document)) ≡ has_keys (map (λ k. k.now) l.keys) (table (table_view l.document))

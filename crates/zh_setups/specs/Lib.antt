@@ -1,0 +1,5 @@
+pub mod Keys
+pub mod Document
+pub mod Outcomes
+pub mod SetupText
+pub mod Rehearsal

@@ -1,0 +1,27 @@
+-- What a call that reads a part of a set-up text returns.
+use Rattle.std.specs.Prelude.{◌≡◌, Option, Some, None, Result, Ok, Err}
+use Rattle.zh_setups.specs.declared.fault.SetupFault.{SetupFault}
+use Rattle.zh_setups.specs.declared.fault.SetupFault.TheVariants.{Memory, Text, Missing, Unknown, Range, Double}
+
+-- this fault, unless memory ran out
+abbrev pub Fails : {Y : Type 0} → SetupFault → Result Y SetupFault → Type 0
+Fails Memory wanted = Unit {0}
+Fails Text wanted = wanted ≡ Err Text
+Fails Missing wanted = wanted ≡ Err Missing
+Fails Unknown wanted = wanted ≡ Err Unknown
+Fails Range wanted = wanted ≡ Err Range
+Fails Double wanted = wanted ≡ Err Double
+
+-- the wanted value, seen by view, or the wanted fault
+abbrev pub Gives : {X Y : Type 0} → (X → Y) → Result X SetupFault → Result Y SetupFault → Type 0
+Gives view (Ok x) wanted = wanted ≡ Ok (view x)
+Gives view (Err fault) wanted = Fails fault wanted
+
+-- without a value, one is of another kind or outside its limits
+abbrev pub within_range : {Y : Type 0} → Option Y → Result Y SetupFault
+within_range None = Err Range
+within_range (Some y) = Ok y
+
+-- the wanted value, or the fault of its range
+abbrev pub GivesInRange : {X Y : Type 0} → (X → Y) → Result X SetupFault → Option Y → Type 0
+GivesInRange view result wanted = Gives view result (within_range wanted)

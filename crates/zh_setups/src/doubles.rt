@@ -1,0 +1,121 @@
+//! What stands twice in a document.
+
+ghost use Rattle.std.specs.Prelude.{◌≡◌, map};
+ghost use Rattle.std.specs.List.{list_any};
+ghost use Rattle.toml.specs.View.{view, table_view};
+ghost use Rattle.zh_setups.specs.Document.{name_in, stands_in, same_name, same_number, repeats, has_double};
+
+use crate::table::{tables_at, value_of, values};
+use toml::{Table, Value};
+
+fn name_in(value: &Value) -> &str
+    ensures { result.now ≡ name_in (view value.now) }
+{
+    match value_of(value, "name") {
+        Some(name) => match name.as_str() {
+            Some(text) => text,
+            None => "",
+        },
+        None => "",
+    }
+}
+
+fn same_name(a: &Value, b: &Value) -> bool
+    ensures { result ≡ same_name (view a.now) (view b.now) }
+{
+    name_in(a) == name_in(b)
+}
+
+fn is_named_among(value: &Value, others: &[Value]) -> bool
+    ensures { result ≡ list_any (same_name (view value.now)) (map view others.now) }
+{
+    for other in others {
+        if same_name(value, other) {
+            return true;
+        }
+    }
+    false
+}
+
+/// Whether two of the tables have equal names.
+fn repeats_name(values: &[Value]) -> bool
+    ensures { result ≡ repeats same_name (map view values.now) }
+{
+    for (place, value) in values.iter().enumerate() {
+        if is_named_among(value, &values[place + 1..]) {
+            return true;
+        }
+    }
+    false
+}
+
+fn same_number(a: &Value, b: &Value) -> bool
+    ensures { result ≡ same_number (view a.now) (view b.now) }
+{
+    match (a.as_integer(), b.as_integer()) {
+        (Some(m), Some(n)) => m == n,
+        _ => false,
+    }
+}
+
+fn is_numbered_among(value: &Value, others: &[Value]) -> bool
+    ensures { result ≡ list_any (same_number (view value.now)) (map view others.now) }
+{
+    for other in others {
+        if same_number(value, other) {
+            return true;
+        }
+    }
+    false
+}
+
+fn repeats_number(values: &[Value]) -> bool
+    ensures { result ≡ repeats same_number (map view values.now) }
+{
+    for (place, value) in values.iter().enumerate() {
+        if is_numbered_among(value, &values[place + 1..]) {
+            return true;
+        }
+    }
+    false
+}
+
+fn stands_in(group: &Value) -> &[Value]
+    ensures { map view result.now ≡ stands_in (view group.now) }
+{
+    match value_of(group, "stands") {
+        Some(stands) => match values(stands) {
+            Some(values) => values,
+            None => &[],
+        },
+        None => &[],
+    }
+}
+
+/// Whether one of the groups stands twice in one constituency.
+fn stands_twice(groups: &[Value]) -> bool
+    ensures { result ≡ list_any (λ g. repeats same_number (stands_in g)) (map view groups.now) }
+{
+    for group in groups {
+        if repeats_number(stands_in(group)) {
+            return true;
+        }
+    }
+    false
+}
+
+/// Whether two names of one kind are equal, or a group stands twice in one constituency.
+pub(crate) fn has_double(document: &Table) -> bool
+    ensures { result ≡ has_double (table_view document.now) }
+{
+    if repeats_name(tables_at(document, "constituency")) {
+        return true;
+    }
+    if repeats_name(tables_at(document, "municipality")) {
+        return true;
+    }
+    if repeats_name(tables_at(document, "group")) {
+        return true;
+    }
+    stands_twice(tables_at(document, "group"))
+}

@@ -1,0 +1,129 @@
+//! The keys of a document: which are missing, and which should not be there.
+
+ghost use Rattle.std.specs.Prelude.{◌≡◌, map};
+ghost use Rattle.std.specs.List.{list_all, list_any};
+ghost use Rattle.std.specs.Str.{bytes_eq};
+ghost use Rattle.toml.specs.Data.{table};
+ghost use Rattle.toml.specs.View.{view, table_view};
+ghost use Rattle.zh_setups.specs.Keys.{has_keys, knows_keys, knows_keys_of, misses_key, has_other_key, tables_at};
+
+use crate::table::{tables_at, value_at, value_of};
+use toml::{Table, Value};
+
+fn has_keys(value: &Value, keys: &[&str]) -> bool
+    ensures { result ≡ has_keys (map (λ k. k.now) keys.now) (view value.now) }
+{
+    for key in keys {
+        if value_of(value, key).is_none() {
+            return false;
+        }
+    }
+    true
+}
+
+fn each_has_keys(values: &[Value], keys: &[&str]) -> bool
+    ensures { result ≡ list_all (has_keys (map (λ k. k.now) keys.now)) (map view values.now) }
+{
+    for value in values {
+        if !has_keys(value, keys) {
+            return false;
+        }
+    }
+    true
+}
+
+fn tables_have_keys(document: &Table, kind: &str, keys: &[&str]) -> bool
+    ensures { result ≡ list_all (has_keys (map (λ k. k.now) keys.now)) (tables_at kind.now (table_view document.now)) }
+{
+    each_has_keys(tables_at(document, kind), keys)
+}
+
+fn has_members(document: &Table, keys: &[&str]) -> bool
+    ensures { result ≡ has_keys (map (λ k. k.now) keys.now) (table (table_view document.now)) }
+{
+    for key in keys {
+        if value_at(document, key).is_none() {
+            return false;
+        }
+    }
+    true
+}
+
+/// Whether a key is missing at the top or in a table.
+pub(crate) fn misses_key(document: &Table) -> bool
+    ensures { result ≡ misses_key (table_view document.now) }
+{
+    if !has_members(
+        document,
+        &["version", "house", "constituency", "municipality", "group"],
+    ) {
+        return true;
+    }
+    if !tables_have_keys(document, "constituency", &["name", "persons"]) {
+        return true;
+    }
+    if !tables_have_keys(document, "municipality", &["name", "constituency"]) {
+        return true;
+    }
+    !tables_have_keys(document, "group", &["name", "stands"])
+}
+
+fn is_among(key: &str, keys: &[&str]) -> bool
+    ensures { result ≡ list_any (λ known. bytes_eq known key.now) (map (λ k. k.now) keys.now) }
+{
+    for known in keys {
+        if *known == key {
+            return true;
+        }
+    }
+    false
+}
+
+fn knows_keys(table: &Table, keys: &[&str]) -> bool
+    ensures { result ≡ knows_keys (map (λ k. k.now) keys.now) (table_view table.now) }
+{
+    for (key, _) in table {
+        if !is_among(key.as_str(), keys) {
+            return false;
+        }
+    }
+    true
+}
+
+fn each_knows_keys(values: &[Value], keys: &[&str]) -> bool
+    ensures { result ≡ list_all (knows_keys_of (map (λ k. k.now) keys.now)) (map view values.now) }
+{
+    for value in values {
+        if let Some(table) = value.as_table()
+            && !knows_keys(table, keys)
+        {
+            return false;
+        }
+    }
+    true
+}
+
+fn tables_know_keys(document: &Table, kind: &str, keys: &[&str]) -> bool
+    ensures { result ≡ list_all (knows_keys_of (map (λ k. k.now) keys.now)) (tables_at kind.now (table_view document.now)) }
+{
+    each_knows_keys(tables_at(document, kind), keys)
+}
+
+/// Whether another key stands at the top or in a table.
+pub(crate) fn has_other_key(document: &Table) -> bool
+    ensures { result ≡ has_other_key (table_view document.now) }
+{
+    if !knows_keys(
+        document,
+        &["version", "house", "constituency", "municipality", "group"],
+    ) {
+        return true;
+    }
+    if !tables_know_keys(document, "constituency", &["name", "persons"]) {
+        return true;
+    }
+    if !tables_know_keys(document, "municipality", &["name", "constituency"]) {
+        return true;
+    }
+    !tables_know_keys(document, "group", &["name", "stands"])
+}
