@@ -4,7 +4,7 @@ use Rattle.zh_arguments.specs.declared.arguments.Task.{Task}
 use Rattle.zh_arguments.specs.declared.arguments.Task.TheVariants.{Rehearse, Format, Run, Load, Export}
 use Rattle.zh_disk.specs.Disk.{Trail}
 use Rattle.zh_tasks.specs.Tasks.{Does}
-use Rattle.zh_tasks.specs.declared.csv_fault.LoadFault.TheVariants as loading
+use Rattle.zh_disk_tasks.specs.declared.csv_fault.LoadFault.TheVariants as loading
 use Rattle.zh_tasks.specs.declared.fault.ProgramFault.{ProgramFault}
 use Rattle.zh_tasks.specs.declared.fault.ProgramFault.TheVariants as faults
 use Rattle.zh_program.specs.Program.{UnlessRehearsal}

@@ -1,5 +1,5 @@
 -- What a task has done, by how it ended.
-use Rattle.std.proofs.Common.{◌≡◌, ◌∙◌, ℕ, List, [], Option, Result, Ok, Err, refl, sym, ap, subst, IsErrOf, OnOk}
+use Rattle.std.proofs.Common.{◌≡◌, ◌∙◌, ℕ, List, [], Option, Result, refl, sym, ap, subst, IsErrOf, OnOk}
 use Rattle.zh_districts.specs.Canton.{Canton, IsCanton}
 use Rattle.zh_setups.specs.Rehearsal.{rehearsal}
 use Rattle.zh_disk.specs.Disk.{Moment, Trail, IsImage, fresh_trail}
@@ -7,57 +7,23 @@ use Rattle.zh_file.specs.Held.{BeginsOrFills}
 use Rattle.zh_returns.specs.Tally.{empty}
 use Rattle.zh_snapshot.specs.Image.{Content, IsBlank}
 use Rattle.zh_snapshot.proofs.Contents.{framed_alike}
-use Rattle.zh_office.specs.Office.{State}
-use Rattle.zh_ledger.specs.Opened.{Differs, IsDamaged, IsNew}
+use Rattle.zh_ledger.specs.Opened.{IsNew}
 use Rattle.zh_ledger.specs.Stands.{StandsFor}
 use Rattle.zh_ledger.proofs.StandsLemmas.{stands_alike}
 use Rattle.zh_ledger.specs.declared.fault.OpenFault.{OpenFault}
-use Rattle.zh_ledger.specs.declared.fault.OpenFault.TheVariants as opening
+use Rattle.zh_office.specs.Office.{State}
 use Rattle.zh_office.specs.Opened.{IsOpened}
 use Rattle.zh_office.specs.Runs.{OnDisk}
-use Rattle.zh_office.specs.Served.{ServesEnded, ServesFront}
-use Rattle.zh_tasks.specs.Tasks.{FormatsBlank, FormatsFile, IsFrom, IsOnFile, IsRefused, IsRefusedFile, IsRehearsal, IsStart, Refuses, Serves}
-use Rattle.zh_office.specs.declared.serving.ServeFault.{ServeFault}
-use Rattle.zh_office.specs.declared.serving.ServeFault.TheVariants as serving
-use Rattle.zh_tasks.specs.declared.fault.FormatFault.{FormatFault}
-use Rattle.zh_tasks.specs.declared.fault.FormatFault.TheVariants as formatting
-use Rattle.zh_tasks.specs.declared.fault.RunFault.{RunFault}
-use Rattle.zh_tasks.specs.declared.fault.RunFault.TheVariants as runs
-
--- a fault of serving
-pub broke_off : (honest : Type 0) (Refused : OpenFault → Type 0) (r r' w w' : Option (List ℕ)) (Spans : OnDisk → OnDisk → Type 0) (start end : OnDisk) (result : Result ℕ ServeFault) (fault : ServeFault) → Spans start end → result ≡ Err fault
-    → (IsErrOf result serving.Read → ServesEnded honest r r' w w' start end)
-    → (IsErrOf result serving.Write → ServesFront honest r r' w w' start end)
-    → (IsErrOf result serving.Turns → ServesEnded honest r r' w w' start end)
-    → Serves honest Refused r r' w w' Spans (Err (runs.Serve fault))
-broke_off honest Refused r r' w w' Spans start end result serving.Read begins is read write turns = record { start = start; end = end; spans = begins; ended = read is }
-broke_off honest Refused r r' w w' Spans start end result serving.Write begins is read write turns = record { start = start; end = end; spans = begins; front = write is }
-broke_off honest Refused r r' w w' Spans start end result serving.Turns begins is read write turns = record { start = start; end = end; spans = begins; ended = turns is }
-
--- the same of an office that began in another way too, or was refused
-pub begun_as : (honest : Type 0) (Refused Refused' : OpenFault → Type 0) (r r' w w' : Option (List ℕ)) (Spans Spans' : OnDisk → OnDisk → Type 0) (result : Result (Unit {0}) RunFault)
-    → ((fault : OpenFault) → Refused fault → Refused' fault) → ((start end : OnDisk) → Spans start end → Spans' start end)
-    → Serves honest Refused r r' w w' Spans result → Serves honest Refused' r r' w w' Spans' result
-begun_as honest Refused Refused' r r' w w' Spans Spans' (Ok done) refused turn serves = record { start = serves.start; end = serves.end; count = serves.count; spans = turn serves.start serves.end serves.spans; all = serves.all; device = serves.device }
-begun_as honest Refused Refused' r r' w w' Spans Spans' (Err (runs.Open fault)) refused turn serves = refused fault serves
-begun_as honest Refused Refused' r r' w w' Spans Spans' (Err (runs.Serve serving.Read)) refused turn serves = record { start = serves.start; end = serves.end; spans = turn serves.start serves.end serves.spans; ended = serves.ended }
-begun_as honest Refused Refused' r r' w w' Spans Spans' (Err (runs.Serve serving.Write)) refused turn serves = record { start = serves.start; end = serves.end; spans = turn serves.start serves.end serves.spans; front = serves.front }
-begun_as honest Refused Refused' r r' w w' Spans Spans' (Err (runs.Serve serving.Turns)) refused turn serves = record { start = serves.start; end = serves.end; spans = turn serves.start serves.end serves.spans; ended = serves.ended }
-begun_as honest Refused Refused' r r' w w' Spans Spans' (Err runs.Faulted) refused turn serves = record { start = serves.start; end = serves.end; count = serves.count; spans = turn serves.start serves.end serves.spans; all = serves.all; device = serves.device }
+use Rattle.zh_disk_tasks.specs.Tasks.{FormatsBlank, IsFrom, IsRefused, IsStart, Serves}
+use Rattle.zh_disk_tasks.specs.declared.fault.FormatFault.{FormatFault}
+use Rattle.zh_disk_tasks.specs.declared.fault.FormatFault.TheVariants as formatting
+use Rattle.zh_disk_tasks.specs.declared.fault.RunFault.{RunFault}
+use Rattle.zh_disk_tasks.proofs.EndingLemmas.{begun_as}
+use Rattle.zh_tasks.specs.Tasks.{FormatsFile, IsOnFile, IsRefusedFile, IsRehearsal}
 
 -- an office that began on a disk of this trail
 pub begun_on : (honest : Type 0) (canton : Canton) (first first' last : Trail) (start end : OnDisk) → first ≡ first' → IsFrom honest canton first last start end → IsFrom honest canton first' last start end
 begun_on honest canton first first' last start end is from = subst (λ (t : Trail). IsFrom honest canton t last start end) is from
-
--- why an office was not opened
-pub refused : {T : Type 0} (canton : Canton) (bytes : List ℕ) (result : Result T OpenFault) (fault : OpenFault) → result ≡ Err fault
-    → (IsErrOf result opening.Blank → IsBlank bytes) → (IsErrOf result opening.SetupDiffers → Differs canton bytes) → (IsErrOf result opening.Damaged → IsDamaged canton bytes)
-    → Refuses canton bytes fault
-refused canton bytes result opening.Memory is blank differs damaged = tt
-refused canton bytes result opening.Device is blank differs damaged = tt
-refused canton bytes result opening.Blank is blank differs damaged = blank is
-refused canton bytes result opening.Damaged is blank differs damaged = damaged is
-refused canton bytes result opening.SetupDiffers is blank differs damaged = differs is
 
 -- a run on a disk that began as a file did
 pub runs_on_file : (h nothing : Type 0) (r r' w w' : Option (List ℕ)) (canton : Canton) (bytes : List ℕ) (first last : Trail) (result ended : Result (Unit {0}) RunFault) → IsCanton canton → first ≡ fresh_trail bytes → result ≡ ended

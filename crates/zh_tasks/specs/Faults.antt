@@ -2,10 +2,6 @@
 use Rattle.std.specs.Prelude.{◌≡◌}
 use Rattle.zh_file.specs.declared.fault.OpenFault as file
 use Rattle.zh_file.specs.declared.fault.OpenFault.TheVariants as of_file
-use Rattle.zh_snapshot.specs.declared.fault.FormatFault as store
-use Rattle.zh_snapshot.specs.declared.fault.FormatFault.TheVariants as of_store
-use Rattle.zh_tasks.specs.declared.fault.FormatFault.{FormatFault}
-use Rattle.zh_tasks.specs.declared.fault.FormatFault.TheVariants as formatting
 use Rattle.zh_tasks.specs.declared.fault.ProgramFault.{ProgramFault}
 use Rattle.zh_tasks.specs.declared.fault.ProgramFault.TheVariants as faults
 
@@ -14,8 +10,3 @@ abbrev pub FoundAs : file.OpenFault → ProgramFault → Type 0
 FoundAs of_file.Device e = e ≡ faults.Device
 FoundAs of_file.Size e = e ≡ faults.Size
 FoundAs of_file.Busy e = e ≡ faults.Busy
-
--- the fault of a formatting
-abbrev pub FormattedAs : store.FormatFault → FormatFault → Type 0
-FormattedAs of_store.Memory e = e ≡ formatting.Memory
-FormattedAs of_store.Device e = e ≡ formatting.Device

@@ -1,3 +1,2 @@
-pub mod Csv
 pub mod Faults
 pub mod Tasks

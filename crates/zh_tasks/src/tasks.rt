@@ -1,37 +1,23 @@
 //! The tasks of the program.
 
-ghost use Rattle.std.specs.Prelude.{◌≡◌, ◌≤◌, ◌^◌, List, ℕ, [], IfErr, IfOk, IsErrOf, OnOk, Some};
-ghost use Rattle.zh_disk.specs.Disk.{IsImage};
+ghost use Rattle.std.specs.Prelude.{◌≡◌, IfErr, IfOk, Some};
 ghost use Rattle.zh_districts.specs.Canton.{IsCanton};
-ghost use Rattle.zh_journal.specs.Cause.{HasRisen};
-ghost use Rattle.zh_snapshot.specs.Image.{IsBlank};
-ghost use Rattle.zh_ledger.specs.Opened.{IsNew};
-ghost use Rattle.zh_office.specs.Runs.{on_disk};
-ghost use Rattle.zh_tasks.specs.Csv.{IsThis};
-ghost use Rattle.zh_tasks.specs.Tasks.{Does, Formatted, FormatsBlank, FormatsOnFile, IsEarly, IsFrom, IsRefused, Ran, Rehearses, RunsOnFile, Serves};
+ghost use Rattle.zh_tasks.specs.Tasks.{Does, Formatted, FormatsOnFile, IsEarly, Ran, Rehearses, RunsOnFile};
 
 use crate::csv_tasks::{export, load};
-use crate::fault::{FormatFault, ProgramFault, RunFault};
+use crate::fault::ProgramFault;
 use std::alloc::Global;
 use std::fs::File;
 use std::io::{ErrorKind, Read, Write};
 use zh_arguments::{Paths, Task};
 use zh_disk::{Disk, MemoryDisk};
+use zh_disk_tasks::{format_blank, serve_on};
 use zh_districts::Setup;
 use zh_file::{FileDisk, Start, open, open_or_make};
-use zh_office::Office;
 use zh_setups::{read_setup, rehearsal};
-use zh_snapshot::Store;
 
 /// How many bytes of a set-up's file are read at most: one more than a set-up may have, so that a longer one is noticed.
 const LONGEST_READ: u64 = 1_048_577;
-
-/// How many reads of the input a run makes at most.
-fn most_reads() -> u64
-    ensures { result ≡ 2 ^ 32 }
-{
-    1 << 32
-}
 
 /// The front of the file at this path.
 fn front_of_file(rt: &HostRuntime, alloc: Global, path: &str) -> Result<Vec<u8>, ProgramFault>
@@ -55,60 +41,6 @@ pub(crate) fn setup_at(rt: &HostRuntime, alloc: Global, path: &str) -> Result<Se
 {
     let text = front_of_file(rt, alloc, path)?;
     Ok(read_setup(alloc, &text)?)
-}
-
-/// Formats a disk that is blank.
-fn format_blank<D: Disk>(alloc: Global, setup: &Setup, disk: &mut D) -> Result<(), FormatFault>
-    ensures kept { D.honest disk.new → D.honest disk.old }
-    // It is opened, and formatted only where it is blank: specs/Program.antt has the moments.
-    ensures any_moment { D.honest disk.new → FormatsBlank setup.now (D.trail disk.old) (D.trail disk.new) }
-
-    ensures blank { D.honest disk.new → OnOk result (IsBlank (D.trail disk.old).now.bytes) }
-    ensures formatted { D.honest disk.new → OnOk result ((c : List ℕ) → IsImage (D.trail disk.new).now c → IsNew setup.now c) }
-
-    ensures settled { D.honest disk.new → OnOk result ((D.trail disk.new).now.pending ≡ []) }
-    ensures in_use { D.honest disk.new → IsErrOf result FormatFault.InUse → IsBlank (D.trail disk.old).now.bytes → ⊥ }
-    ensures later { D.failures disk.old ≤ D.failures disk.new }
-    ensures cause { IsErrOf result FormatFault.Device → HasRisen (D.failures disk.old) (D.failures disk.new) }
-{
-    match Store::open(alloc, disk) {
-        Err(zh_snapshot::OpenFault::Blank) => Ok(Office::format(alloc, setup, disk)?),
-        Err(zh_snapshot::OpenFault::Device) => Err(FormatFault::Device),
-        Err(zh_snapshot::OpenFault::Memory) => Err(FormatFault::Memory),
-        Err(zh_snapshot::OpenFault::Damaged) | Ok(_) => Err(FormatFault::InUse),
-    }
-}
-
-/// Opens the office that stands on a disk, and serves the lines of the input.
-fn serve_on<I: Read, O: Write, D: Disk>(
-    alloc: Global,
-    setup: &Setup,
-    disk: &mut D,
-    input: &mut I,
-    out: &mut O,
-) -> Result<(), RunFault>
-    ensures kept { D.honest disk.new → D.honest disk.old }
-    ensures served { Serves (D.honest disk.new) (λ fault. ((input.new ≡ input.old) × (out.new ≡ out.old)) × (D.honest disk.new → IsRefused setup.now (D.trail disk.old) (D.trail disk.new) fault)) (I.remaining input.old) (I.remaining input.new) (O.contents out.old) (O.contents out.new) (IsFrom (D.honest disk.new) setup.now (D.trail disk.old) (D.trail disk.new)) result }
-{
-    let mut office = Office::open(alloc, setup, disk)?;
-    serve_lines(&mut office, disk, input, out)
-}
-
-/// Serves the lines of the input on an office.
-fn serve_lines<I: Read, O: Write, D: Disk>(
-    office: &mut Office<'_>,
-    disk: &mut D,
-    input: &mut I,
-    out: &mut O,
-) -> Result<(), RunFault>
-    ensures kept { D.honest disk.new → D.honest disk.old }
-    ensures served { Serves (D.honest disk.new) (λ fault. ⊥) (I.remaining input.old) (I.remaining input.new) (O.contents out.old) (O.contents out.new) (IsThis (on_disk office.old (D.failures disk.old) (D.trail disk.old)) (D.trail disk.new)) result }
-{
-    office.serve(input, out, disk, most_reads())?;
-    if office.faulted() {
-        return Err(RunFault::Faulted);
-    }
-    Ok(())
 }
 
 /// Serves the lines of the input on the set-up of the rehearsal, and keeps nothing.

@@ -1,7 +1,7 @@
 use Rattle.std.proofs.Common.{List, ℕ, OnOk, subst}
 use Rattle.std.specs.Io.KnownBytes.{Appends}
-use Rattle.zh_tasks.proofs.CsvLemmas.{printed_part, put_front}
-use Rattle.zh_tasks.proofs.csv_tasks.print_reply.Goals as goal
+use Rattle.zh_disk_tasks.proofs.CsvLemmas.{printed_part, put_front}
+use Rattle.zh_disk_tasks.proofs.csv_tasks.print_reply.Goals as goal
 
 pub returns-clause-all : goal.returns-clause-all
 returns-clause-all g c =

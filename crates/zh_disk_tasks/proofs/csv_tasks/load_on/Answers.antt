@@ -1,11 +1,11 @@
 use Rattle.std.proofs.Common.{rules, refl, sym, ◌≡◌, Err, subst}
 use Rattle.zh_office.specs.Runs.{OnDisk, on_disk}
-use Rattle.zh_tasks.specs.Csv.{IsThis}
-use Rattle.zh_tasks.specs.Tasks.{IsFrom, IsStart}
-use Rattle.zh_tasks.specs.declared.csv_fault.LoadFault.TheVariants as loading
-use Rattle.zh_tasks.proofs.CsvLemmas.{loads_as, unread}
-use Rattle.zh_tasks.proofs.EndingLemmas.{refused}
-use Rattle.zh_tasks.proofs.csv_tasks.load_on.Goals as goal
+use Rattle.zh_disk_tasks.specs.Csv.{IsThis}
+use Rattle.zh_disk_tasks.specs.Tasks.{IsFrom, IsStart}
+use Rattle.zh_disk_tasks.specs.declared.csv_fault.LoadFault.TheVariants as loading
+use Rattle.zh_disk_tasks.proofs.CsvLemmas.{loads_as, unread}
+use Rattle.zh_disk_tasks.proofs.EndingLemmas.{refused}
+use Rattle.zh_disk_tasks.proofs.csv_tasks.load_on.Goals as goal
 
 pub returns-in_err-office-clause-loaded : goal.returns-in_err-office-clause-loaded
 returns-in_err-office-clause-loaded g c =

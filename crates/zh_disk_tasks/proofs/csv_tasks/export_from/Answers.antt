@@ -1,10 +1,10 @@
 use Rattle.std.proofs.Common.{rules, refl, sym, ◌≡◌, subst, Err}
 use Rattle.zh_office.specs.Runs.{OnDisk, on_disk}
-use Rattle.zh_tasks.specs.Tasks.{IsFrom}
-use Rattle.zh_tasks.specs.declared.csv_fault.ExportFault.TheVariants as exporting
-use Rattle.zh_tasks.proofs.CsvLemmas.{exports_as}
-use Rattle.zh_tasks.proofs.EndingLemmas.{refused}
-use Rattle.zh_tasks.proofs.csv_tasks.export_from.Goals as goal
+use Rattle.zh_disk_tasks.specs.Tasks.{IsFrom}
+use Rattle.zh_disk_tasks.specs.declared.csv_fault.ExportFault.TheVariants as exporting
+use Rattle.zh_disk_tasks.proofs.CsvLemmas.{exports_as}
+use Rattle.zh_disk_tasks.proofs.EndingLemmas.{refused}
+use Rattle.zh_disk_tasks.proofs.csv_tasks.export_from.Goals as goal
 
 pub returns-in_err-office-clause-written : goal.returns-in_err-office-clause-written
 returns-in_err-office-clause-written g c =

@@ -1,9 +1,9 @@
 use Rattle.std.proofs.Common.{rules, refl, sym, ◌≡◌, ◌++◌, ◌∙◌, ap, subst, ℕ, List, Err}
 use Rattle.std.specs.Io.KnownBytes.{Appends}
 use Rattle.zh_csv.specs.Export.{export_text}
-use Rattle.zh_tasks.specs.declared.csv_fault.ExportFault.TheVariants as exporting
-use Rattle.zh_tasks.proofs.CsvLemmas.{writes_front}
-use Rattle.zh_tasks.proofs.csv_tasks.write_held.Goals as goal
+use Rattle.zh_disk_tasks.specs.declared.csv_fault.ExportFault.TheVariants as exporting
+use Rattle.zh_disk_tasks.proofs.CsvLemmas.{writes_front}
+use Rattle.zh_disk_tasks.proofs.csv_tasks.write_held.Goals as goal
 
 pub returns-in_err-text : goal.returns-in_err-text
 returns-in_err-text g c = λ start is.

@@ -1,6 +1,6 @@
 use Rattle.std.proofs.Common.{rules, refl, inl, inr}
-use Rattle.zh_tasks.proofs.tasks.format_blank.Goals as goal
-use Rattle.zh_tasks.proofs.tasks.format_blank.Goals.{in-Err-Blank+in_ok-format-in-Err-Blank, in-Err-Device, in-Err-Memory, in-Err-Damaged, in-Err-Damaged-2}
+use Rattle.zh_disk_tasks.proofs.tasks.format_blank.Goals as goal
+use Rattle.zh_disk_tasks.proofs.tasks.format_blank.Goals.{in-Err-Blank+in_ok-format-in-Err-Blank, in-Err-Device, in-Err-Memory, in-Err-Damaged, in-Err-Damaged-2}
 
 pub returns-clause-formatted : goal.returns-clause-formatted
 returns-clause-formatted g c honest = elim c.match-open.branch [

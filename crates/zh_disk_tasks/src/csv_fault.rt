@@ -39,7 +39,7 @@ pub enum ExportFault {
 
 impl From<OpenFault> for LoadFault {
     ghost use Rattle.std.specs.Prelude.{◌≡◌};
-    ghost use Rattle.zh_tasks.specs.declared.csv_fault.LoadFault.TheVariants as faults;
+    ghost use Rattle.zh_disk_tasks.specs.declared.csv_fault.LoadFault.TheVariants as faults;
 
     ghost from_gives = { λ fault e. e ≡ faults.Open fault };
 
@@ -50,7 +50,7 @@ impl From<OpenFault> for LoadFault {
 
 impl From<WriteFault> for LoadFault {
     ghost use Rattle.std.specs.Prelude.{◌≡◌};
-    ghost use Rattle.zh_tasks.specs.declared.csv_fault.LoadFault.TheVariants as faults;
+    ghost use Rattle.zh_disk_tasks.specs.declared.csv_fault.LoadFault.TheVariants as faults;
 
     ghost from_gives = { λ _ e. e ≡ faults.Write };
 
@@ -61,7 +61,7 @@ impl From<WriteFault> for LoadFault {
 
 impl From<OpenFault> for ExportFault {
     ghost use Rattle.std.specs.Prelude.{◌≡◌};
-    ghost use Rattle.zh_tasks.specs.declared.csv_fault.ExportFault.TheVariants as faults;
+    ghost use Rattle.zh_disk_tasks.specs.declared.csv_fault.ExportFault.TheVariants as faults;
 
     ghost from_gives = { λ fault e. e ≡ faults.Open fault };
 
@@ -72,7 +72,7 @@ impl From<OpenFault> for ExportFault {
 
 impl From<zh_csv::ExportFault> for ExportFault {
     ghost use Rattle.std.specs.Prelude.{◌≡◌};
-    ghost use Rattle.zh_tasks.specs.declared.csv_fault.ExportFault.TheVariants as faults;
+    ghost use Rattle.zh_disk_tasks.specs.declared.csv_fault.ExportFault.TheVariants as faults;
 
     // The text is made in memory, where nothing else can fail.
     ghost from_gives = { λ _ e. e ≡ faults.Memory };
@@ -84,7 +84,7 @@ impl From<zh_csv::ExportFault> for ExportFault {
 
 impl From<WriteFault> for ExportFault {
     ghost use Rattle.std.specs.Prelude.{◌≡◌};
-    ghost use Rattle.zh_tasks.specs.declared.csv_fault.ExportFault.TheVariants as faults;
+    ghost use Rattle.zh_disk_tasks.specs.declared.csv_fault.ExportFault.TheVariants as faults;
 
     ghost from_gives = { λ _ e. e ≡ faults.Write };
 

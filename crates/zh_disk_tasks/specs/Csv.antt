@@ -10,10 +10,10 @@ use Rattle.zh_disk.specs.Disk.{Trail}
 use Rattle.zh_ledger.specs.declared.fault.OpenFault.{OpenFault}
 use Rattle.zh_office.specs.Load.{LoadTurn}
 use Rattle.zh_office.specs.Runs.{OnDisk}
-use Rattle.zh_tasks.specs.declared.csv_fault.ExportFault.{ExportFault}
-use Rattle.zh_tasks.specs.declared.csv_fault.ExportFault.TheVariants as exporting
-use Rattle.zh_tasks.specs.declared.csv_fault.LoadFault.{LoadFault}
-use Rattle.zh_tasks.specs.declared.csv_fault.LoadFault.TheVariants as loading
+use Rattle.zh_disk_tasks.specs.declared.csv_fault.ExportFault.{ExportFault}
+use Rattle.zh_disk_tasks.specs.declared.csv_fault.ExportFault.TheVariants as exporting
+use Rattle.zh_disk_tasks.specs.declared.csv_fault.LoadFault.{LoadFault}
+use Rattle.zh_disk_tasks.specs.declared.csv_fault.LoadFault.TheVariants as loading
 
 -- a reply as it is printed: without a desk, and ended by LF, which is 10
 abbrev pub printed : Reply → List ℕ

@@ -1,9 +1,9 @@
 use Rattle.std.proofs.Common.{rules, refl, ◌≡◌, Err}
 use Rattle.zh_office.specs.Runs.{on_disk}
-use Rattle.zh_tasks.specs.Csv.{IsThis}
-use Rattle.zh_tasks.specs.declared.fault.RunFault.TheVariants as runs
-use Rattle.zh_tasks.proofs.EndingLemmas.{broke_off}
-use Rattle.zh_tasks.proofs.tasks.serve_lines.Goals as goal
+use Rattle.zh_disk_tasks.specs.Csv.{IsThis}
+use Rattle.zh_disk_tasks.specs.declared.fault.RunFault.TheVariants as runs
+use Rattle.zh_disk_tasks.proofs.EndingLemmas.{broke_off}
+use Rattle.zh_disk_tasks.proofs.tasks.serve_lines.Goals as goal
 
 pub returns-in_err-serve-clause-served : goal.returns-in_err-serve-clause-served
 returns-in_err-serve-clause-served g c =

@@ -2,10 +2,10 @@ use Rattle.std.proofs.Common.{rules, ◌≡◌, Err, false, subst}
 use Rattle.zh_commands.specs.declared.replies.Reply.{Reply}
 use Rattle.zh_commands.specs.declared.replies.Reply.TheVariants as replies
 use Rattle.zh_office.specs.Runs.{on_disk}
-use Rattle.zh_tasks.specs.Csv.{IsThis, Loaded}
-use Rattle.zh_tasks.specs.declared.csv_fault.LoadFault.TheVariants as loading
-use Rattle.zh_tasks.proofs.CsvLemmas.{loaded_to, replied_to}
-use Rattle.zh_tasks.proofs.csv_tasks.load_text.Goals as goal
+use Rattle.zh_disk_tasks.specs.Csv.{IsThis, Loaded}
+use Rattle.zh_disk_tasks.specs.declared.csv_fault.LoadFault.TheVariants as loading
+use Rattle.zh_disk_tasks.proofs.CsvLemmas.{loaded_to, replied_to}
+use Rattle.zh_disk_tasks.proofs.csv_tasks.load_text.Goals as goal
 
 pub returns-in_err-print_reply-clause-loaded : goal.returns-in_err-print_reply-clause-loaded
 returns-in_err-print_reply-clause-loaded g c =

@@ -1,10 +1,10 @@
 use Rattle.std.proofs.Common.{rules, refl, sym, subst, ◌≡◌, Err}
 use Rattle.zh_office.specs.Runs.{OnDisk, on_disk}
-use Rattle.zh_tasks.specs.Csv.{IsThis}
-use Rattle.zh_tasks.specs.Tasks.{IsFrom, IsStart}
-use Rattle.zh_tasks.specs.declared.fault.RunFault.TheVariants as runs
-use Rattle.zh_tasks.proofs.EndingLemmas.{begun_as, refused}
-use Rattle.zh_tasks.proofs.tasks.serve_on.Goals as goal
+use Rattle.zh_disk_tasks.specs.Csv.{IsThis}
+use Rattle.zh_disk_tasks.specs.Tasks.{IsFrom, IsStart}
+use Rattle.zh_disk_tasks.specs.declared.fault.RunFault.TheVariants as runs
+use Rattle.zh_disk_tasks.proofs.EndingLemmas.{begun_as, refused}
+use Rattle.zh_disk_tasks.proofs.tasks.serve_on.Goals as goal
 
 pub returns-in_err-office-clause-served : goal.returns-in_err-office-clause-served
 returns-in_err-office-clause-served g c =

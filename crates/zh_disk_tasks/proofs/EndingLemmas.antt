@@ -1,0 +1,45 @@
+-- What a task on a disk has done, by how it ended.
+use Rattle.std.proofs.Common.{◌≡◌, ℕ, List, Option, Result, Ok, Err, IsErrOf}
+use Rattle.zh_districts.specs.Canton.{Canton}
+use Rattle.zh_snapshot.specs.Image.{IsBlank}
+use Rattle.zh_ledger.specs.Opened.{Differs, IsDamaged}
+use Rattle.zh_ledger.specs.declared.fault.OpenFault.{OpenFault}
+use Rattle.zh_ledger.specs.declared.fault.OpenFault.TheVariants as opening
+use Rattle.zh_office.specs.Runs.{OnDisk}
+use Rattle.zh_office.specs.Served.{ServesEnded, ServesFront}
+use Rattle.zh_office.specs.declared.serving.ServeFault.{ServeFault}
+use Rattle.zh_office.specs.declared.serving.ServeFault.TheVariants as serving
+use Rattle.zh_disk_tasks.specs.Tasks.{Refuses, Serves}
+use Rattle.zh_disk_tasks.specs.declared.fault.RunFault.{RunFault}
+use Rattle.zh_disk_tasks.specs.declared.fault.RunFault.TheVariants as runs
+
+-- a fault of serving
+pub broke_off : (honest : Type 0) (Refused : OpenFault → Type 0) (r r' w w' : Option (List ℕ)) (Spans : OnDisk → OnDisk → Type 0) (start end : OnDisk) (result : Result ℕ ServeFault) (fault : ServeFault) → Spans start end → result ≡ Err fault
+    → (IsErrOf result serving.Read → ServesEnded honest r r' w w' start end)
+    → (IsErrOf result serving.Write → ServesFront honest r r' w w' start end)
+    → (IsErrOf result serving.Turns → ServesEnded honest r r' w w' start end)
+    → Serves honest Refused r r' w w' Spans (Err (runs.Serve fault))
+broke_off honest Refused r r' w w' Spans start end result serving.Read begins is read write turns = record { start = start; end = end; spans = begins; ended = read is }
+broke_off honest Refused r r' w w' Spans start end result serving.Write begins is read write turns = record { start = start; end = end; spans = begins; front = write is }
+broke_off honest Refused r r' w w' Spans start end result serving.Turns begins is read write turns = record { start = start; end = end; spans = begins; ended = turns is }
+
+-- the same of an office that began in another way too, or was refused
+pub begun_as : (honest : Type 0) (Refused Refused' : OpenFault → Type 0) (r r' w w' : Option (List ℕ)) (Spans Spans' : OnDisk → OnDisk → Type 0) (result : Result (Unit {0}) RunFault)
+    → ((fault : OpenFault) → Refused fault → Refused' fault) → ((start end : OnDisk) → Spans start end → Spans' start end)
+    → Serves honest Refused r r' w w' Spans result → Serves honest Refused' r r' w w' Spans' result
+begun_as honest Refused Refused' r r' w w' Spans Spans' (Ok done) refused turn serves = record { start = serves.start; end = serves.end; count = serves.count; spans = turn serves.start serves.end serves.spans; all = serves.all; device = serves.device }
+begun_as honest Refused Refused' r r' w w' Spans Spans' (Err (runs.Open fault)) refused turn serves = refused fault serves
+begun_as honest Refused Refused' r r' w w' Spans Spans' (Err (runs.Serve serving.Read)) refused turn serves = record { start = serves.start; end = serves.end; spans = turn serves.start serves.end serves.spans; ended = serves.ended }
+begun_as honest Refused Refused' r r' w w' Spans Spans' (Err (runs.Serve serving.Write)) refused turn serves = record { start = serves.start; end = serves.end; spans = turn serves.start serves.end serves.spans; front = serves.front }
+begun_as honest Refused Refused' r r' w w' Spans Spans' (Err (runs.Serve serving.Turns)) refused turn serves = record { start = serves.start; end = serves.end; spans = turn serves.start serves.end serves.spans; ended = serves.ended }
+begun_as honest Refused Refused' r r' w w' Spans Spans' (Err runs.Faulted) refused turn serves = record { start = serves.start; end = serves.end; count = serves.count; spans = turn serves.start serves.end serves.spans; all = serves.all; device = serves.device }
+
+-- why an office was not opened
+pub refused : {T : Type 0} (canton : Canton) (bytes : List ℕ) (result : Result T OpenFault) (fault : OpenFault) → result ≡ Err fault
+    → (IsErrOf result opening.Blank → IsBlank bytes) → (IsErrOf result opening.SetupDiffers → Differs canton bytes) → (IsErrOf result opening.Damaged → IsDamaged canton bytes)
+    → Refuses canton bytes fault
+refused canton bytes result opening.Memory is blank differs damaged = tt
+refused canton bytes result opening.Device is blank differs damaged = tt
+refused canton bytes result opening.Blank is blank differs damaged = blank is
+refused canton bytes result opening.Damaged is blank differs damaged = damaged is
+refused canton bytes result opening.SetupDiffers is blank differs damaged = differs is

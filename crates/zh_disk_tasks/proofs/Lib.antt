@@ -1,0 +1,2 @@
+pub mod CsvLemmas
+pub mod EndingLemmas

@@ -1,0 +1,3 @@
+pub mod Csv
+pub mod Faults
+pub mod Tasks

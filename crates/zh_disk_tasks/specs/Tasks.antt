@@ -1,0 +1,81 @@
+-- What a task on a disk leaves of the streams and of the disk.
+use Rattle.std.specs.Prelude.{◌≡◌, ◌⊎◌, ℕ, Bool, true, false, List, Option, Result, Ok, Err}
+use Rattle.zh_districts.specs.Canton.{Canton}
+use Rattle.zh_districts.specs.Spelling.{setup_spelling}
+use Rattle.zh_returns.specs.Tally.{empty}
+use Rattle.zh_returns.specs.Payload.{payload_spelling}
+use Rattle.zh_disk.specs.Disk.{Trail, Leaves, settled}
+use Rattle.zh_snapshot.specs.Image.{IsBlank}
+use Rattle.zh_snapshot.specs.Store.{Settles}
+use Rattle.zh_snapshot.specs.Format.{Formats}
+use Rattle.zh_ledger.specs.Opened.{Differs, IsDamaged}
+use Rattle.zh_ledger.specs.declared.fault.OpenFault.{OpenFault}
+use Rattle.zh_ledger.specs.declared.fault.OpenFault.TheVariants as opening
+use Rattle.zh_office.specs.Opened.{IsOpened, IsReady}
+use Rattle.zh_office.specs.Runs.{OnDisk}
+use Rattle.zh_office.specs.Served.{ServesAll, ServesEnded, ServesFront}
+use Rattle.zh_office.specs.declared.serving.ServeFault.TheVariants as serving
+use Rattle.zh_disk_tasks.specs.declared.fault.RunFault.{RunFault}
+use Rattle.zh_disk_tasks.specs.declared.fault.RunFault.TheVariants as runs
+
+-- the office that stood on the disk of this trail, once it is opened there
+pub record IsStart (honest : Type 0) (canton : Canton) (trail : Trail) (start : OnDisk) : Type 0 where
+  pub ready : IsReady canton start.office
+  pub opening : honest → Leaves (Settles trail.now.bytes) trail start.trail
+  pub opened : honest → IsOpened canton trail.now.bytes start.office
+  pub settled : honest → start.trail.now ≡ settled trail.now.bytes
+
+-- it began there, and its disk has this trail at the end
+abbrev pub IsFrom : Type 0 → Canton → Trail → Trail → OnDisk → OnDisk → Type 0
+IsFrom honest canton first last start end = IsStart honest canton first start × (end.trail ≡ last)
+
+-- all lines of the input were answered by an office that began so, and the device failed under it or not
+pub record Served (honest : Type 0) (reader reader' writer writer' : Option (List ℕ)) (Spans : OnDisk → OnDisk → Type 0) (faulted : Bool) : Type 0 where
+  pub start : OnDisk
+  pub end : OnDisk
+  pub count : ℕ
+  pub spans : Spans start end
+  pub all : ServesAll honest reader reader' writer writer' start end count
+  pub device : end.office.ledger.store.broken ≡ faulted
+
+-- the input was not read to its end, and the lines that were ended are answered
+pub record ServedEnded (honest : Type 0) (reader reader' writer writer' : Option (List ℕ)) (Spans : OnDisk → OnDisk → Type 0) : Type 0 where
+  pub start : OnDisk
+  pub end : OnDisk
+  pub spans : Spans start end
+  pub ended : ServesEnded honest reader reader' writer writer' start end
+
+-- the writer failed, and a front of the answers is written
+pub record ServedFront (honest : Type 0) (reader reader' writer writer' : Option (List ℕ)) (Spans : OnDisk → OnDisk → Type 0) : Type 0 where
+  pub start : OnDisk
+  pub end : OnDisk
+  pub spans : Spans start end
+  pub front : ServesFront honest reader reader' writer writer' start end
+
+-- What serving with this result has done. Where no office was opened nothing is served.
+abbrev pub Serves : Type 0 → (OpenFault → Type 0) → Option (List ℕ) → Option (List ℕ) → Option (List ℕ) → Option (List ℕ) → (OnDisk → OnDisk → Type 0) → Result (Unit {0}) RunFault → Type 0
+Serves honest Refused reader reader' writer writer' Spans (Ok done) = Served honest reader reader' writer writer' Spans false
+Serves honest Refused reader reader' writer writer' Spans (Err runs.Faulted) = Served honest reader reader' writer writer' Spans true
+Serves honest Refused reader reader' writer writer' Spans (Err (runs.Serve serving.Read)) = ServedEnded honest reader reader' writer writer' Spans
+Serves honest Refused reader reader' writer writer' Spans (Err (runs.Serve serving.Turns)) = ServedEnded honest reader reader' writer writer' Spans
+Serves honest Refused reader reader' writer writer' Spans (Err (runs.Serve serving.Write)) = ServedFront honest reader reader' writer writer' Spans
+Serves honest Refused reader reader' writer writer' Spans (Err (runs.Open fault)) = Refused fault
+
+-- why no office is opened on a disk that held these bytes; memory and the device say nothing of them
+abbrev pub Refuses : Canton → List ℕ → OpenFault → Type 0
+Refuses canton bytes opening.Blank = IsBlank bytes
+Refuses canton bytes opening.Damaged = IsDamaged canton bytes
+Refuses canton bytes opening.SetupDiffers = Differs canton bytes
+Refuses canton bytes fault = Unit {0}
+
+-- No office was opened on this disk. It is as it was: at each moment a stop leaves an image from the start, and once it
+-- is synced what a read gave there.
+pub record IsRefused (canton : Canton) (first last : Trail) (fault : OpenFault) : Type 0 where
+  pub moments : Leaves (Settles first.now.bytes) first last
+  pub cause : Refuses canton first.now.bytes fault
+
+-- What a formatting leaves of a disk, moment by moment: it is opened, and formatted only where it is blank.
+pub record FormatsBlank (canton : Canton) (old new : Trail) : Type 0 where
+  pub opened : Trail
+  pub opening : Leaves (Settles old.now.bytes) old opened
+  pub after : (new ≡ opened) ⊎ (IsBlank old.now.bytes × Formats (setup_spelling canton) (payload_spelling (empty canton)) opened new)

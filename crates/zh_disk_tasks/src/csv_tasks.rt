@@ -1,0 +1,107 @@
+//! Loading a CSV file into the office on a disk, and writing what it holds as CSV.
+
+ghost use Rattle.std.specs.Prelude.{◌≡◌, IfErr, OnErr, OnOk};
+ghost use Rattle.std.specs.Io.KnownBytes.{Appends};
+ghost use Rattle.zh_office.specs.Runs.{OnDisk, on_disk};
+ghost use Rattle.zh_disk_tasks.specs.Csv.{Exports, IsThis, IsUnreadable, Loads, WritesFront, printed};
+ghost use Rattle.zh_disk_tasks.specs.Tasks.{IsFrom, IsRefused};
+
+use crate::csv_fault::{ExportFault, LoadFault};
+use std::alloc::Global;
+use std::fs::File;
+use std::io::{ErrorKind, Read, Write};
+use zh_commands::{Reply, WriteFault, put, write_reply};
+use zh_disk::Disk;
+use zh_districts::Setup;
+use zh_office::Office;
+
+/// How many bytes a CSV file may have: more than its 1,000 rows need, and few enough to be held in memory.
+const LONGEST_FILE: u64 = 1_048_576;
+
+/// The text of the file at this path, which is read whole or not at all.
+fn text_at(rt: &HostRuntime, alloc: Global, path: &str) -> Result<Vec<u8>, LoadFault>
+    ensures { IfErr result IsUnreadable }
+{
+    let Ok(file) = File::open(rt, path) else {
+        return Err(LoadFault::File);
+    };
+    let mut text = Vec::new(alloc);
+    match file.take(LONGEST_FILE + 1).read_to_end(&mut text) {
+        Ok(length) if length as u64 > LONGEST_FILE => Err(LoadFault::File),
+        Ok(_) => Ok(text),
+        Err(error) if error.kind() == ErrorKind::OutOfMemory => Err(LoadFault::Memory),
+        Err(_) => Err(LoadFault::File),
+    }
+}
+
+/// Writes a reply without its desk.
+fn print_reply<O: Write>(reply: &Reply, out: &mut O) -> Result<(), WriteFault>
+    ensures all { OnOk result (Appends (O.contents out.old) (O.contents out.new) (printed reply.now)) }
+    ensures front { OnErr result (WritesFront (O.contents out.old) (O.contents out.new) (printed reply.now)) }
+{
+    let mut text = [0; 64];
+    let length = write_reply(0, reply, &mut text);
+    put(out, &text[2..length])
+}
+
+/// Gives an office the text of a file, and writes the reply.
+fn load_text<O: Write, D: Disk>(
+    office: &mut Office<'_>,
+    disk: &mut D,
+    text: &[u8],
+    out: &mut O,
+) -> Result<(), LoadFault>
+    ensures kept { D.honest disk.new → D.honest disk.old }
+    ensures loaded { Loads (D.honest disk.new) (λ fault. ⊥) (out.new ≡ out.old) (O.contents out.old) (O.contents out.new) (IsThis (on_disk office.old (D.failures disk.old) (D.trail disk.old)) (D.trail disk.new)) result }
+{
+    let mut reader = text;
+    let reply = office.load(disk, &mut reader);
+    print_reply(&reply, out)?;
+    if office.faulted() {
+        return Err(LoadFault::Faulted);
+    }
+    match reply {
+        Reply::Refused(_) => Err(LoadFault::Refused),
+        _ => Ok(()),
+    }
+}
+
+/// Opens the office that stands on a disk, loads the text of a file, and writes the reply.
+pub fn load_on<O: Write, D: Disk>(
+    rt: &HostRuntime,
+    alloc: Global,
+    setup: &Setup,
+    disk: &mut D,
+    csv: &str,
+    out: &mut O,
+) -> Result<(), LoadFault>
+    ensures kept { D.honest disk.new → D.honest disk.old }
+    ensures loaded { Loads (D.honest disk.new) (λ fault. (out.new ≡ out.old) × (D.honest disk.new → IsRefused setup.now (D.trail disk.old) (D.trail disk.new) fault)) (out.new ≡ out.old) (O.contents out.old) (O.contents out.new) (IsFrom (D.honest disk.new) setup.now (D.trail disk.old) (D.trail disk.new)) result }
+{
+    let mut office = Office::open(alloc, setup, disk)?;
+    let text = text_at(rt, alloc, csv)?;
+    load_text(&mut office, disk, &text, out)
+}
+
+/// Writes what an office holds.
+fn write_held<O: Write>(alloc: Global, office: &Office<'_>, out: &mut O) -> Result<(), ExportFault>
+    ensures { (start : OnDisk) → start.office ≡ office.now → Exports (λ fault. ⊥) (out.new ≡ out.old) (O.contents out.old) (O.contents out.new) (λ first last. (first ≡ start) × (last ≡ start)) result }
+{
+    let text = office.export(Vec::new(alloc))?;
+    put(out, &text)?;
+    Ok(())
+}
+
+/// Opens the office that stands on a disk, and writes what it holds.
+pub fn export_from<O: Write, D: Disk>(
+    alloc: Global,
+    setup: &Setup,
+    disk: &mut D,
+    out: &mut O,
+) -> Result<(), ExportFault>
+    ensures kept { D.honest disk.new → D.honest disk.old }
+    ensures written { Exports (λ fault. (out.new ≡ out.old) × (D.honest disk.new → IsRefused setup.now (D.trail disk.old) (D.trail disk.new) fault)) (out.new ≡ out.old) (O.contents out.old) (O.contents out.new) (IsFrom (D.honest disk.new) setup.now (D.trail disk.old) (D.trail disk.new)) result }
+{
+    let office = Office::open(alloc, setup, disk)?;
+    write_held(alloc, &office, out)
+}
