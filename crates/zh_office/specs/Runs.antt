@@ -10,7 +10,7 @@ use Rattle.zh_commands.specs.declared.replies.Reply.TheVariants.{Stored, Refused
 use Rattle.zh_commands.specs.declared.replies.Refusal.TheVariants as refusals
 use Rattle.zh_ledger.specs.Submissions as ledger
 use Rattle.zh_ledger.specs.Submissions.{Submission, Log, nothing, followed_by}
-use Rattle.zh_sheet.specs.SheetText.{sheet_text}
+use Rattle.zh_sheet_text.specs.SheetText.{sheet_text}
 use Rattle.zh_requests.specs.Requests.{Acts}
 use Rattle.zh_office.specs.Office.{State, MayAnswer, command_read, batches_after}
 use Rattle.zh_answers.specs.declared.answer.Answer.{Answer}

@@ -14,7 +14,7 @@ use thiserror::Error;
 use zh_answers::Answer;
 use zh_commands::{WriteFault, desk_of, put, write_reply};
 use zh_disk::Disk;
-use zh_sheet::write_sheet;
+use zh_sheet_text::write_sheet;
 
 /// How many bytes a read asks for at most.
 const BLOCK: usize = 8192;

@@ -4,5 +4,3 @@ pub mod RefusalLemmas
 pub mod AskedLemmas
 pub mod MakingLemmas
 pub mod SheetLemmas
-pub mod PageLemmas
-pub mod PrintingLemmas

@@ -1,13 +1,13 @@
 -- What follows from a distribution for its parts.
-use Rattle.std.proofs.Common.{◌≡◌, ℕ, ◌<◌, ◌≤◌, true, false, cond, Option, Some, None, IfSome, IsTrue, List, [], length, map, slice_get, ap, sym, ◌∙◌, subst, arith}
+use Rattle.std.proofs.Common.{◌≡◌, ℕ, ◌<◌, ◌≤◌, Option, Some, None, IfSome, IsTrue, List, [], length, map, slice_get, ap, sym, ◌∙◌, subst, arith}
 use Rattle.std.specs.Option.{option_map}
 use Rattle.std.specs.Prelude.{◌==◌}
 use Rattle.std.proofs.lemmas.List.Quantifiers.{position-Some}
 use Rattle.std.proofs.lemmas.Option.{get_or_from_slice_get, slice_get-map, slice_get_within}
-use Rattle.zh_districts.specs.Canton.{AreNames, is_name, stands}
+use Rattle.zh_districts.specs.Canton.{AreNames, is_name}
 use Rattle.zh_districts.proofs.LengthLemmas.{is_name-short}
 use Rattle.zh_sheet.specs.Distribution.{Distribution, IsDistribution, Targets, seated_groups}
-use Rattle.zh_sheet.specs.SheetText.{column_of, line_if_standing, list_line}
+use Rattle.zh_sheet.specs.Readings.{column_of}
 use Rattle.zh_sheet.proofs.AskedLemmas.{few_seated}
 
 abbrev targets : (x : Distribution) → IsDistribution x → Targets x.totals
@@ -47,10 +47,3 @@ name_short name xs i found names is =
     let there = slice_get-map name xs i ∙ is in
     let within = slice_get_within (map name xs) i found there in
     is_name-short found (subst (λ (n : List ℕ). IsTrue (is_name n)) (get_or_from_slice_get (map name xs) i found [] there) (names.rule i [] within))
-
--- a list that stands has its line, another one has none
-pub standing_line : (x : Distribution) (d g : ℕ) → stands x.totals.canton d g ≡ true → line_if_standing x d g ≡ list_line x d g
-standing_line x d g is = ap (λ b. cond b (list_line x d g) []) is
-
-pub absent_line : (x : Distribution) (d g : ℕ) → stands x.totals.canton d g ≡ false → line_if_standing x d g ≡ []
-absent_line x d g is = ap (λ b. cond b (list_line x d g) []) is

@@ -1,6 +1,5 @@
 pub mod Distribution
 pub mod Inside
-pub mod Printing
+pub mod Readings
 pub mod Refusals
-pub mod SheetText
 pub mod Stages

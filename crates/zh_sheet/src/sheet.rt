@@ -36,7 +36,7 @@ impl<'s> Model for Sheet<'s> {
 
 impl<'s> Sheet<'s> {
     ghost use Rattle.zh_sheet.specs.Distribution.{IsDistribution};
-    ghost use Rattle.zh_sheet.specs.SheetText.{column_of, constituency_name, group_divisor, group_name, list_seats, list_voters, takes_part, voters_of};
+    ghost use Rattle.zh_sheet.specs.Readings.{column_of, constituency_name, group_divisor, group_name, list_seats, list_voters, takes_part, voters_of};
 
     /// The set-up of the election. The sheet meets the definitions.
     pub fn setup(&self) -> &'s Setup
@@ -46,8 +46,29 @@ impl<'s> Sheet<'s> {
         self.totals.setup()
     }
 
+    /// The votes of the election.
+    pub fn totals(&self) -> &Totals<'s>
+        ensures { result.now ≡ self.now.totals }
+    {
+        &self.totals
+    }
+
+    /// The seats of the constituencies, with their divisor.
+    pub fn seats(&self) -> &Shares
+        ensures { result.now ≡ self.now.seats }
+    {
+        &self.seats
+    }
+
+    /// The seats of the groups in the whole canton, with their divisor.
+    pub fn upper(&self) -> &Upper
+        ensures { result.now ≡ self.now.upper }
+    {
+        &self.upper
+    }
+
     /// The seats of a constituency, at least one.
-    pub(crate) fn constituency_seats(&self, constituency: u32) -> u32
+    pub fn constituency_seats(&self, constituency: u32) -> u32
         requires from_one { 1 ≤ constituency }
         requires there { constituency ≤ length self.now.totals.canton.constituencies }
         ensures seats { result ≡ slice_index self.now.seats.seats (constituency - 1) }
@@ -57,7 +78,7 @@ impl<'s> Sheet<'s> {
     }
 
     /// The divisor of a constituency in millionths.
-    pub(crate) fn constituency_divisor(&self, constituency: u32) -> u64
+    pub fn constituency_divisor(&self, constituency: u32) -> u64
         requires from_one { 1 ≤ constituency }
         requires there { constituency ≤ length self.now.totals.canton.constituencies }
         ensures { result ≡ slice_index self.now.lower.divisors.of_rows (constituency - 1) }
@@ -65,7 +86,8 @@ impl<'s> Sheet<'s> {
         self.lower.row_divisor(constituency)
     }
 
-    pub(crate) fn constituency_name(&self, constituency: u32) -> &str
+    /// The name of a constituency.
+    pub fn constituency_name(&self, constituency: u32) -> &str
         requires from_one { 1 ≤ constituency }
         requires there { constituency ≤ length self.now.totals.canton.constituencies }
         ensures name { result.now ≡ constituency_name self.now constituency }
@@ -74,7 +96,8 @@ impl<'s> Sheet<'s> {
         self.setup().constituency_name(constituency)
     }
 
-    pub(crate) fn takes_part(&self, group: u32) -> bool
+    /// Whether a group takes part in the apportionment.
+    pub fn takes_part(&self, group: u32) -> bool
         requires from_one { 1 ≤ group }
         requires there { group ≤ length self.now.totals.canton.groups }
         ensures { result ≡ takes_part self.now group }
@@ -83,7 +106,7 @@ impl<'s> Sheet<'s> {
     }
 
     /// The voter sum of a group, where it takes part.
-    pub(crate) fn voters(&self, group: u32) -> Option<u64>
+    pub fn voters(&self, group: u32) -> Option<u64>
         requires from_one { 1 ≤ group }
         requires there { group ≤ length self.now.totals.canton.groups }
         ensures { result ≡ voters_of self.now group }
@@ -96,7 +119,7 @@ impl<'s> Sheet<'s> {
     }
 
     /// The seats of a group in the whole canton.
-    pub(crate) fn group_seats(&self, group: u32) -> u32
+    pub fn group_seats(&self, group: u32) -> u32
         requires from_one { 1 ≤ group }
         requires there { group ≤ length self.now.totals.canton.groups }
         ensures { result ≡ slice_index self.now.upper.seats (group - 1) }
@@ -114,14 +137,15 @@ impl<'s> Sheet<'s> {
     }
 
     /// The divisor of a group in millionths, where it has seats.
-    pub(crate) fn group_divisor(&self, group: u32) -> Option<u64>
+    pub fn group_divisor(&self, group: u32) -> Option<u64>
         ensures { result ≡ group_divisor self.now group }
     {
         let column = self.column(group)?;
         Some(self.lower.column_divisor(column as u32 + 1))
     }
 
-    pub(crate) fn group_name(&self, group: u32) -> &str
+    /// The name of a group.
+    pub fn group_name(&self, group: u32) -> &str
         requires from_one { 1 ≤ group }
         requires there { group ≤ length self.now.totals.canton.groups }
         ensures name { result.now ≡ group_name self.now group }
@@ -131,7 +155,7 @@ impl<'s> Sheet<'s> {
     }
 
     /// The voter number of a list, where its group takes part.
-    pub(crate) fn list_voters(&self, constituency: u32, group: u32) -> Option<u64>
+    pub fn list_voters(&self, constituency: u32, group: u32) -> Option<u64>
         requires from_one { 1 ≤ constituency }
         requires there { constituency ≤ length self.now.totals.canton.constituencies }
         requires group_from_one { 1 ≤ group }
@@ -147,7 +171,7 @@ impl<'s> Sheet<'s> {
     }
 
     /// The seats of a list.
-    pub(crate) fn list_seats(&self, constituency: u32, group: u32) -> u32
+    pub fn list_seats(&self, constituency: u32, group: u32) -> u32
         requires from_one { 1 ≤ constituency }
         requires there { constituency ≤ length self.now.totals.canton.constituencies }
         ensures { result ≡ list_seats self.now constituency group }

@@ -6,7 +6,8 @@ use std::io::Write;
 use std::process::Abort;
 use std::test::Fail;
 use zh_commands::WriteFault;
-use zh_sheet::{make, write_sheet};
+use zh_sheet::make;
+use zh_sheet_text::write_sheet;
 use zh_totals::Totals;
 
 /// A writer that counts its writes and the lines, and may fail.

@@ -2,7 +2,7 @@ use Rattle.std.specs.Prelude.{OnOk, OnErr}
 use Rattle.std.proofs.Common.{◌≡◌, ◌<◌, ◌∙◌, ℕ, List, length, take, ap, subst}
 use Rattle.std.specs.Io.KnownBytes.{Appends}
 use Rattle.zh_returns.specs.Tally.{Tally}
-use Rattle.zh_sheet.specs.SheetText.{sheet_text}
+use Rattle.zh_sheet_text.specs.SheetText.{sheet_text}
 use Rattle.zh_office.specs.Runs.{on_disk, text_after}
 use Rattle.zh_answers.specs.declared.answer.Answer.TheVariants as answers
 use Rattle.zh_office.proofs.office.Office.answer.Goals as goal

@@ -1,7 +1,7 @@
 use Rattle.std.proofs.Common.{◌≡◌, ap, ◌∙◌}
 use Rattle.std.specs.Prelude.{◌==◌, position}
 use Rattle.zh_sheet.specs.Inside.{distribution_in}
-use Rattle.zh_sheet.specs.SheetText.{column_of}
+use Rattle.zh_sheet.specs.Readings.{column_of}
 use Rattle.zh_sheet.proofs.SheetLemmas.{column_few, column_there}
 use Rattle.zh_sheet.proofs.sheet.Sheet.column.Goals as goal
 

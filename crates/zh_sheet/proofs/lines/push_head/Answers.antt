@@ -1,6 +1,0 @@
-use Rattle.std.proofs.Common.{arith, rules}
-use Rattle.std.proofs.lemmas.Grind.{common_steps}
-use Rattle.zh_sheet.proofs.lines.push_head.Goals as goal
-
-pub returns-clause-text : goal.returns-clause-text
-returns-clause-text c = grind (arith, common_steps)

@@ -1,0 +1,121 @@
+//! The lines of a sheet (docs/FORMATS.md, "The sheet").
+ghost use Rattle.std.specs.Prelude.{◌≡◌, ◌+◌, ◌≤◌, ◌++◌, length};
+ghost use Rattle.zh_sheet_text.specs.SheetText.{constituency_line, group_line, head_line, house_line, key_lines, kind, list_line, yes_or_no};
+
+use crate::page::{LINE, Page, ROOM};
+use zh_sheet::Sheet;
+
+/// Whether a sheet is final, in a word.
+fn kind(closing: bool) -> &'static str
+    ensures kind { result.now ≡ kind closing }
+    ensures short { length result.now ≤ 11 }
+{
+    if closing { "final" } else { "provisional" }
+}
+
+fn yes_or_no(yes: bool) -> &'static str
+    ensures word { result.now ≡ yes_or_no yes }
+    ensures short { length result.now ≤ 3 }
+{
+    if yes { "yes" } else { "no" }
+}
+
+/// The first line: the desk, whether the sheet is final, and how many commands were accepted.
+pub(crate) fn push_head(page: &mut Page, desk: u8, closing: bool, accepted: u64)
+    requires { length page.old + LINE ≤ ROOM }
+    ensures text { page.new ≡ page.old ++ head_line desk closing accepted }
+    ensures short { length page.new ≤ length page.old + LINE }
+{
+    page.push_number(u64::from(desk));
+    page.push(b" sheet ");
+    page.push(kind(closing).as_bytes());
+    page.push_field(b" ", accepted);
+    page.push(b"\n");
+}
+
+/// The house.
+pub(crate) fn push_house(page: &mut Page, sheet: &Sheet<'_>)
+    requires { length page.old + LINE ≤ ROOM }
+    ensures text { page.new ≡ page.old ++ house_line sheet.now }
+    ensures short { length page.new ≤ length page.old + LINE }
+{
+    page.push_field(b"house ", u64::from(sheet.setup().house()));
+    page.push(b"\n");
+}
+
+/// The divisors of the constituencies' seats and of the groups' seats, each a fraction.
+pub(crate) fn push_keys(page: &mut Page, sheet: &Sheet<'_>)
+    requires { length page.old + LINE ≤ ROOM }
+    ensures text { page.new ≡ page.old ++ key_lines sheet.now }
+    ensures short { length page.new ≤ length page.old + LINE }
+{
+    page.push_field(b"seats key ", sheet.seats().num());
+    page.push_field(b"/", u64::from(sheet.seats().den()));
+    page.push(b"\n");
+    page.push_field(b"upper key ", sheet.upper().num());
+    page.push_field(b"/", u64::from(sheet.upper().den()));
+    page.push(b"\n");
+}
+
+/// A constituency: its persons, seats, votes, divisor and name.
+pub(crate) fn push_constituency(page: &mut Page, sheet: &Sheet<'_>, constituency: u32)
+    requires from_one { 1 ≤ constituency }
+    requires there { constituency ≤ length sheet.now.totals.canton.constituencies }
+    requires room { length page.old + LINE ≤ ROOM }
+    ensures text { page.new ≡ page.old ++ constituency_line sheet.now constituency }
+    ensures short { length page.new ≤ length page.old + LINE }
+{
+    let setup = sheet.setup();
+    page.push_field(b"constituency ", u64::from(constituency));
+    page.push_field(b" persons ", u64::from(setup.persons(constituency)));
+    page.push_field(
+        b" seats ",
+        u64::from(sheet.constituency_seats(constituency)),
+    );
+    page.push_field(b" votes ", sheet.totals().constituency(constituency));
+    page.push(b" divisor ");
+    page.push_divisor(sheet.constituency_divisor(constituency));
+    page.push(b" ");
+    page.push(sheet.constituency_name(constituency).as_bytes());
+    page.push(b"\n");
+}
+
+/// A group: whether it takes part, its voters, seats, divisor and name.
+pub(crate) fn push_group(page: &mut Page, sheet: &Sheet<'_>, group: u32)
+    requires from_one { 1 ≤ group }
+    requires there { group ≤ length sheet.now.totals.canton.groups }
+    requires room { length page.old + LINE ≤ ROOM }
+    ensures text { page.new ≡ page.old ++ group_line sheet.now group }
+    ensures short { length page.new ≤ length page.old + LINE }
+{
+    page.push_field(b"group ", u64::from(group));
+    page.push(b" quorum ");
+    page.push(yes_or_no(sheet.takes_part(group)).as_bytes());
+    page.push(b" voters ");
+    page.push_number_or_dash(sheet.voters(group));
+    page.push_field(b" seats ", u64::from(sheet.group_seats(group)));
+    page.push(b" divisor ");
+    page.push_divisor_or_dash(sheet.group_divisor(group));
+    page.push(b" ");
+    page.push(sheet.group_name(group).as_bytes());
+    page.push(b"\n");
+}
+
+/// A list: its votes, voters and seats.
+pub(crate) fn push_list(page: &mut Page, sheet: &Sheet<'_>, constituency: u32, group: u32)
+    requires from_one { 1 ≤ constituency }
+    requires there { constituency ≤ length sheet.now.totals.canton.constituencies }
+    requires group_from_one { 1 ≤ group }
+    requires group_there { group ≤ length sheet.now.totals.canton.groups }
+    requires room { length page.old + LINE ≤ ROOM }
+    ensures text { page.new ≡ page.old ++ list_line sheet.now constituency group }
+    ensures short { length page.new ≤ length page.old + LINE }
+{
+    page.push_field(b"list ", u64::from(constituency));
+    page.push_field(b" ", u64::from(group));
+    page.push_field(b" votes ", sheet.totals().votes(constituency, group));
+    page.push(b" voters ");
+    page.push_number_or_dash(sheet.list_voters(constituency, group));
+    page.push_field(b" seats ", u64::from(sheet.list_seats(constituency, group)));
+    page.push(b"\n");
+}

@@ -1,0 +1,145 @@
+//! Text that waits for the writer.
+ghost use Rattle.std.specs.Prelude.{◌≡◌, ◌+◌, ◌<◌, ◌≤◌, ◌++◌, [], length, decimal, OnErr, OnOk};
+ghost use Rattle.zh_sheet_text.specs.Printing.{Prints, WritesFront};
+ghost use Rattle.zh_sheet_text.specs.SheetText.{divisor_text, field, or_dash, six_digits};
+
+use itoa::Buffer;
+use std::io::Write;
+use std::marker::Model;
+use zh_commands::{WriteFault, put};
+
+/// The bytes that a page has room for.
+pub(crate) const ROOM: usize = 4096;
+
+/// The bytes of the longest line, and more.
+pub(crate) const LINE: usize = 256;
+
+/// Text that waits for the writer, so that it goes out in few writes. It takes no memory.
+#[derive(Drop)]
+pub(crate) struct Page {
+    bytes: [u8; ROOM],
+    end: usize,
+}
+
+impl Model for Page {
+    ghost use Rattle.std.specs.Prelude.{List, ℕ, ◌≤◌, take};
+    ghost use Rattle.zh_sheet_text.specs.declared.page.TheConstants.{ROOM};
+
+    ghost Value = { List ℕ };
+
+    ghost view = { λ page. take page.end page.bytes };
+
+    ghost invariant = { λ page. page.end ≤ ROOM };
+}
+
+impl Page {
+    pub fn new() -> Page
+        ensures { result ≡ [] }
+    {
+        Page {
+            bytes: [0; ROOM],
+            end: 0,
+        }
+    }
+
+    /// Puts the bytes at the end.
+    pub fn push(&mut self, bytes: &[u8])
+        requires { length self.old + length bytes.now ≤ ROOM }
+        ensures { self.new ≡ self.old ++ bytes.now }
+    {
+        let end = self.end + bytes.len();
+        self.bytes[self.end..end].copy_from_slice(bytes);
+        self.end = end;
+    }
+
+    /// Puts a number at the end.
+    pub fn push_number(&mut self, number: u64)
+        requires { length self.old + 20 ≤ ROOM }
+        ensures text { self.new ≡ self.old ++ decimal number }
+        ensures short { length self.new ≤ length self.old + 20 }
+    {
+        self.push(Buffer::new().format(number).as_bytes());
+    }
+
+    /// Puts words and a number at the end.
+    pub fn push_field(&mut self, words: &[u8], number: u64)
+        requires { length self.old + length words.now + 20 ≤ ROOM }
+        ensures text { self.new ≡ self.old ++ field words.now number }
+        ensures short { length self.new ≤ length self.old + length words.now + 20 }
+    {
+        self.push(words);
+        self.push_number(number);
+    }
+
+    /// Puts a number of six digits at the end, zeros in front.
+    fn push_six_digits(&mut self, number: u64)
+        requires small { number < 1000000 }
+        requires room { length self.old + 6 ≤ ROOM }
+        ensures text { self.new ≡ self.old ++ six_digits number }
+        ensures short { length self.new ≤ length self.old + 6 }
+    {
+        let zeros = [b'0'; 6];
+        let mut buffer = Buffer::new();
+        let digits = buffer.format(number).as_bytes();
+        self.push(&zeros[digits.len()..]);
+        self.push(digits);
+    }
+
+    /// Puts a divisor in millionths at the end, with six digits after the dot.
+    pub fn push_divisor(&mut self, millionths: u64)
+        requires { length self.old + 27 ≤ ROOM }
+        ensures text { self.new ≡ self.old ++ divisor_text millionths }
+        ensures short { length self.new ≤ length self.old + 27 }
+    {
+        self.push_number(millionths / 1_000_000);
+        self.push(b".");
+        self.push_six_digits(millionths % 1_000_000);
+    }
+
+    /// Puts a number at the end, or a dash where there is none.
+    pub fn push_number_or_dash(&mut self, number: Option<u64>)
+        requires { length self.old + 20 ≤ ROOM }
+        ensures text { self.new ≡ self.old ++ or_dash decimal number }
+        ensures short { length self.new ≤ length self.old + 20 }
+    {
+        match number {
+            Some(number) => self.push_number(number),
+            None => self.push(b"-"),
+        }
+    }
+
+    /// Puts a divisor in millionths at the end, or a dash where there is none.
+    pub fn push_divisor_or_dash(&mut self, millionths: Option<u64>)
+        requires { length self.old + 27 ≤ ROOM }
+        ensures text { self.new ≡ self.old ++ or_dash divisor_text millionths }
+        ensures short { length self.new ≤ length self.old + 27 }
+    {
+        match millionths {
+            Some(millionths) => self.push_divisor(millionths),
+            None => self.push(b"-"),
+        }
+    }
+
+    /// Hands what waits to the writer.
+    pub fn send<W: Write>(&mut self, out: &mut W) -> Result<(), WriteFault>
+        ensures sends { OnOk result (Prints (W.contents out.old) self.old (W.contents out.new) self.new []) }
+        ensures empty { OnOk result (self.new ≡ []) }
+        ensures front { OnErr result (WritesFront (W.contents out.old) (W.contents out.new) self.old) }
+    {
+        put(out, &self.bytes[..self.end])?;
+        self.end = 0;
+        Ok(())
+    }
+
+    /// Makes room for one more line.
+    pub fn make_room<W: Write>(&mut self, out: &mut W) -> Result<(), WriteFault>
+        ensures sends { OnOk result (Prints (W.contents out.old) self.old (W.contents out.new) self.new []) }
+        ensures room { OnOk result (length self.new + LINE ≤ ROOM) }
+        ensures front { OnErr result (WritesFront (W.contents out.old) (W.contents out.new) self.old) }
+    {
+        if ROOM - self.end < LINE {
+            self.send(out)?;
+        }
+        Ok(())
+    }
+}
