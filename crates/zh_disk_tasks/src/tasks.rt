@@ -27,7 +27,7 @@ fn most_reads() -> u64
 /// Formats a disk that is blank.
 pub fn format_blank<D: Disk>(alloc: Global, setup: &Setup, disk: &mut D) -> Result<(), FormatFault>
     ensures kept { D.honest disk.new → D.honest disk.old }
-    // It is opened, and formatted only where it is blank: specs/Program.antt has the moments.
+    // It is opened, and formatted only where it is blank: specs/Tasks.antt has the moments.
     ensures any_moment { D.honest disk.new → FormatsBlank setup.now (D.trail disk.old) (D.trail disk.new) }
 
     ensures blank { D.honest disk.new → OnOk result (IsBlank (D.trail disk.old).now.bytes) }
