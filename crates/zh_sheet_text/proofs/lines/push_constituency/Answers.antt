@@ -8,7 +8,7 @@ use Rattle.zh_sheet_text.proofs.lines.push_constituency.Goals as goal
 pub returns-clause-text : goal.returns-clause-text
 returns-clause-text c =
     let persons = c.from-2.ensures ∙ c.persons.ensures ∙ ap (λ k. persons_of k c.args.constituency) c.setup-setup.ensures.setup in
-    let votes = c.constituency.ensures.votes ∙ ap (λ x. constituency_votes x.totals c.args.constituency) c.sheet.view_is in
+    let votes = c.constituency.ensures.votes ∙ ap (λ t. constituency_votes t c.args.constituency) c.totals.ensures in
     let number = put_first _ _ (field (codes "constituency ")) _ _ c.push_field.ensures.text c.from.ensures in
     let with_persons = put_next _ _ _ _ (field (codes " persons ")) _ _ number c.push_field-2.ensures.text persons in
     let with_seats = put_next _ _ _ _ (field (codes " seats ")) _ _ with_persons c.push_field-3.ensures.text (c.from-3.ensures ∙ c.constituency_seats.ensures.seats) in

@@ -6,7 +6,7 @@ use Rattle.zh_sheet_text.proofs.lines.push_list.Goals as goal
 
 pub returns-clause-text : goal.returns-clause-text
 returns-clause-text c =
-    let votes = c.votes.ensures.votes ∙ ap (λ x. votes_in x.totals c.args.constituency c.args.group) c.sheet.view_is in
+    let votes = c.votes.ensures.votes ∙ ap (λ t. votes_in t c.args.constituency c.args.group) c.totals.ensures in
     let number = put_first _ _ (field (codes "list ")) _ _ c.push_field.ensures.text c.from.ensures in
     let with_group = put_next _ _ _ _ (field (codes " ")) _ _ number c.push_field-2.ensures.text c.from-2.ensures in
     let with_votes = put_next _ _ _ _ (field (codes " votes ")) _ _ with_group c.push_field-3.ensures.text votes in
