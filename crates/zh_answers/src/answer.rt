@@ -12,7 +12,7 @@ use zh_returns::{Count, Entry, MOST_VOTES, Reason, Row};
 use zh_sheet::Sheet;
 
 /// What is answered to a line.
-#[derive(Debug, Drop)]
+#[derive(Drop)]
 pub enum Answer<'s> {
     /// A reply of one line.
     Reply(Reply),

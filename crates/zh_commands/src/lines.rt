@@ -7,7 +7,7 @@ use thiserror::Error;
 use zh_records::{Command, Row};
 
 /// What one line asks of the office.
-#[derive(Clone, Copy, Debug, PartialEq, Eq)]
+#[derive(Clone, Copy)]
 pub struct Line {
     /// The desk that sent the line, 1 to 8.
     pub desk: u8,
@@ -16,7 +16,7 @@ pub struct Line {
 }
 
 /// The forms of a line after its desk.
-#[derive(Clone, Copy, Debug, PartialEq, Eq)]
+#[derive(Clone, Copy)]
 pub enum Request {
     /// `return M L N V`: the votes of a list in a municipality, under a replacement number from 1.
     Return(Row),

@@ -1,5 +1,5 @@
 /// Why a list does not stand in a municipality.
-#[derive(Clone, Copy, Debug, PartialEq, Eq)]
+#[derive(Clone, Copy)]
 pub enum Misplaced {
     /// The set-up has no such municipality.
     Municipality,

@@ -1,28 +1,28 @@
 //! The parts of a set-up.
 
 /// A constituency and how many persons live there, 1 to 10,000,000.
-#[derive(Debug, Drop)]
+#[derive(Drop)]
 pub struct Constituency {
     pub name: String,
     pub persons: u32,
 }
 
 /// A municipality and the number of its constituency, from 1.
-#[derive(Debug, Drop)]
+#[derive(Drop)]
 pub struct Municipality {
     pub name: String,
     pub constituency: u32,
 }
 
 /// A group, and for each constituency in order whether it stands there.
-#[derive(Debug, Drop)]
+#[derive(Drop)]
 pub struct Group {
     pub name: String,
     pub stands: Vec<bool>,
 }
 
 /// The parts of a set-up, of which it is not known that they make one.
-#[derive(Debug, Drop)]
+#[derive(Drop)]
 pub struct Draft {
     pub house: u32,
     pub constituencies: Vec<Constituency>,

@@ -14,7 +14,7 @@ use std::marker::Model;
 
 /// The house, the constituencies with their municipalities, and the groups. Each is numbered from 1, in the order of
 /// the set-up text. There are 1 to 32 constituencies, 1 to 512 municipalities and 1 to 32 groups.
-#[derive(Debug, Drop)]
+#[derive(Drop)]
 pub struct Setup {
     house: u32,
     constituencies: Vec<Constituency>,

@@ -4,7 +4,7 @@ use std::alloc::{AllocError, Global};
 use std::marker::Model;
 
 /// The weights of an apportionment, as persons or voter sums: 1 to 32 of them, each at most 10^14.
-#[derive(Debug, Drop)]
+#[derive(Drop)]
 pub struct Weights {
     numbers: Vec<u64>,
 }

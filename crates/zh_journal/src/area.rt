@@ -21,7 +21,7 @@ use zh_disk::{Disk, DiskFault};
 ///
 /// The disk is handed to each call, and must be the one that the area was opened on. After a fault of the
 /// device the area is opened again.
-#[derive(Debug, Drop)]
+#[derive(Drop)]
 pub struct Area {
     base: u64,
     end: u32,

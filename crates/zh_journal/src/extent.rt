@@ -7,7 +7,7 @@ use crate::head::{Head, head_at};
 use crate::page::{AREA_LENGTH, AREA_PAGES, PAGE_LENGTH, pages_of};
 
 // The page at which the records end, and their number.
-#[derive(Clone, Copy, Debug, PartialEq, Eq)]
+#[derive(Clone, Copy)]
 pub(crate) struct Extent {
     pub(crate) end: u32,
     pub(crate) count: u32,

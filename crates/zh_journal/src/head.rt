@@ -8,7 +8,7 @@ use crate::gate::OPEN_GATE;
 use crate::page::{LONGEST_PAYLOAD, pages_of};
 use zh_disk::{Disk, DiskFault};
 
-#[derive(Clone, Copy, Debug, PartialEq, Eq)]
+#[derive(Clone, Copy)]
 pub(crate) enum Head {
     Closed,
     // with the length of the payload

@@ -9,7 +9,7 @@ use std::marker::Model;
 
 /// The records that `Area::open` found, to be gone through once, in order. It holds the area's pages as they were
 /// read, so that nothing of them is read again.
-#[derive(Debug, Drop)]
+#[derive(Drop)]
 pub struct Reader {
     pages: Vec<u8>,
     page: u32,

@@ -23,7 +23,7 @@ use zh_totals::{RunningCount, Totals};
 ///
 /// The disk is handed to each call, and must be the one that the ledger was opened on. After a fault of the device every
 /// command is answered `Broken` until a new ledger is opened there.
-#[derive(Debug, Drop)]
+#[derive(Drop)]
 pub struct Ledger<'s> {
     pub(crate) count: RunningCount<'s>,
     pub(crate) store: Store,

@@ -3,7 +3,7 @@
 use zh_returns::Reason;
 
 /// What became of a command that was submitted.
-#[derive(Clone, Copy, Debug, PartialEq, Eq)]
+#[derive(Clone, Copy)]
 pub enum Outcome {
     /// It is on the disk and counted; so many commands are accepted, with this one.
     Stored(u64),

@@ -13,7 +13,7 @@ use crate::rounding::Rounding;
 use crate::two_ways::look_for_two_ways;
 
 /// How a search ends.
-#[derive(Clone, Copy, Debug)]
+#[derive(Clone, Copy)]
 pub(crate) enum Ending {
     /// The seats at hand follow strictly from the divisors at hand.
     Found,

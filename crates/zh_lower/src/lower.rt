@@ -7,7 +7,7 @@ use std::marker::Model;
 
 /// The seats of each group, a column, in each constituency, a row, and the divisors that give them. Rows and
 /// columns are counted from 1.
-#[derive(Debug, Drop)]
+#[derive(Drop)]
 pub struct Lower {
     seats: Vec<u32>,
     row_divisors: Vec<u64>,

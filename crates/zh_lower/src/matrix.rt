@@ -7,7 +7,7 @@ use std::marker::Model;
 
 /// The votes of each group, a column, in each constituency, a row: 1 to 32 of each, and at most 10^14 votes
 /// in a cell.
-#[derive(Debug, Drop)]
+#[derive(Drop)]
 pub struct Matrix {
     rows: usize,
     columns: usize,

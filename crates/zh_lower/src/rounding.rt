@@ -5,7 +5,7 @@ ghost use Rattle.zh_lower.specs.RoundingOf.{RoundsBy};
 ghost use Rattle.zh_lower.specs.SeatMatrix.{MayRound};
 
 /// What becomes of a quotient on a half.
-#[derive(Clone, Copy, Debug)]
+#[derive(Clone, Copy)]
 pub(crate) enum Rounding {
     /// It rounds to no number.
     Strict,

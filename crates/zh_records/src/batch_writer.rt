@@ -9,7 +9,7 @@ use crate::rows::{MOST_ROWS, Rows};
 use std::marker::Model;
 
 /// The rows of a batch, one after the other, written into bytes of the caller's. It takes no memory.
-#[derive(Debug, Drop)]
+#[derive(Drop)]
 pub struct BatchWriter<'a> {
     bytes: &'a mut [u8],
     count: usize,

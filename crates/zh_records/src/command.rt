@@ -2,7 +2,7 @@ use crate::row::Row;
 use crate::rows::Rows;
 
 /// What a desk asks of the count. Municipalities and lists are numbered from 1, replacement numbers count from 1.
-#[derive(Debug, Drop)]
+#[derive(Drop)]
 pub enum Command<'a> {
     Return(Row),
     /// A list takes back its votes in a municipality, under a replacement number like a return's.

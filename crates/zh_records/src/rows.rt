@@ -15,7 +15,7 @@ use std::marker::Model;
 pub const MOST_ROWS: usize = 1_000;
 
 /// The rows of a batch, seen through their bytes: 1 to 1,000 returns, each with a key of its own.
-#[derive(Debug, Drop)]
+#[derive(Drop)]
 pub struct Rows<'a> {
     bytes: &'a [u8],
 }

@@ -31,7 +31,7 @@ pub const MOST_VOTES: u32 = 1_000_000_000;
 /// What the municipalities have returned so far, for one set-up: what is held under each municipality and list, which
 /// municipalities are closed, and how many commands were accepted. Municipalities and lists are numbered from 1.
 /// The memory for all of it is taken in `new`, and no other call takes any.
-#[derive(Debug, Drop)]
+#[derive(Drop)]
 pub struct Count<'s> {
     setup: &'s Setup,
     entries: Vec<Option<Entry>>,

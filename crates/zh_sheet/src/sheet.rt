@@ -12,7 +12,7 @@ use zh_upper::{Upper, voter_number};
 /// votes, the seats of the constituencies and of the groups with their divisors, and the seats of each list.
 ///
 /// Each sheet meets the definitions: `setup` says so.
-#[derive(Debug, Drop)]
+#[derive(Drop)]
 pub struct Sheet<'s> {
     pub(crate) totals: Totals<'s>,
     pub(crate) seats: Shares,

@@ -15,7 +15,7 @@ pub(crate) const HEADER: u64 = 1;
 pub(crate) const SETUP: u64 = 4_096;
 
 /// One of the two places of a disk for a snapshot and the records since.
-#[derive(Clone, Copy, Debug, PartialEq, Eq)]
+#[derive(Clone, Copy)]
 pub(crate) enum Slot {
     First,
     Second,

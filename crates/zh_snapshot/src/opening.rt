@@ -57,7 +57,7 @@ fn read_head<D: Disk>(disk: &mut D, slot: Slot) -> Result<Option<u64>, DiskFault
 }
 
 /// The slot in use.
-#[derive(Clone, Copy, Debug, PartialEq, Eq)]
+#[derive(Clone, Copy)]
 pub(crate) struct InUse {
     pub(crate) slot: Slot,
     pub(crate) generation: u64,

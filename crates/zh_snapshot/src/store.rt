@@ -24,7 +24,7 @@ use zh_journal::{AREA_LENGTH, Area, LONGEST_PAYLOAD, Reader};
 ///
 /// The disk is handed to each call, and must be the one that the store was opened on. After a fault of the
 /// device in a call that writes, the store is broken until it is opened again.
-#[derive(Debug, Drop)]
+#[derive(Drop)]
 pub struct Store {
     setup_length: u32,
     slot: Slot,

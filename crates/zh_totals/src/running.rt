@@ -17,7 +17,7 @@ use zh_returns::{Command, Count};
 
 /// A count, and its totals, which each change of it brings up to date. The memory is taken in `new`, and no other call
 /// takes any.
-#[derive(Debug, Drop)]
+#[derive(Drop)]
 pub struct RunningCount<'s> {
     count: Count<'s>,
     totals: Totals<'s>,

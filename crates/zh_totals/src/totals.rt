@@ -13,7 +13,7 @@ use zh_districts::Setup;
 
 /// The votes of each group in each constituency, for one set-up. Constituencies and groups are numbered from 1. All
 /// votes together are at most 10^14. The memory is taken in `new` and in `copy`; no other call takes any.
-#[derive(Debug, Drop)]
+#[derive(Drop)]
 pub struct Totals<'s> {
     setup: &'s Setup,
     votes: Vec<u64>,
