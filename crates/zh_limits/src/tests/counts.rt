@@ -1,5 +1,6 @@
 //! What no line of a desk and no disk shows of a count. All else are cases of `zh_cases`.
 
+use std::process::Abort;
 use std::test::Fail;
 use zh_returns::{Command, Count, Reason, Row, Verdict, decode_command};
 use zh_setups::rehearsal;
@@ -22,14 +23,11 @@ const REFUSED: [u8; 36] = [
     0x00, 0x01, 0x09, 0x00, 0x00, 0x00, 0x01, 0x00, 0x00, 0x00, 0x00, // the last
 ];
 
-// No line has number 0, and no batch of a desk a list that does not stand.
-#[test]
-fn commands_that_no_line_asks_for_are_refused(rt: HostRuntime) -> Result<(), Fail> {
-    let setup = rehearsal(rt.alloc())?;
-    let mut count = Count::new(rt.alloc(), &setup)?;
+fn see_refusals(rt: &impl Abort, count: &mut Count<'_>) -> Result<(), Fail> {
     let refused = decode_command(&REFUSED).ok_or("a batch")?;
     assert_eq!(rt; count.judge(&refused), Verdict::Refused(Reason::Gap));
     assert_eq!(rt; count.judge(&returned(0, 5)), Verdict::Refused(Reason::Gap));
+    assert_eq!(rt; count.accepted(), 0);
     let first = returned(1, 525);
     assert_eq!(rt; count.judge(&first), Verdict::Accept);
     count.apply(&first);
@@ -38,4 +36,11 @@ fn commands_that_no_line_asks_for_are_refused(rt: HostRuntime) -> Result<(), Fai
         Verdict::Refused(Reason::Stale)
     );
     Ok(())
+}
+
+// No line has number 0, and no batch of a desk a list that does not stand.
+#[test]
+fn commands_that_no_line_asks_for_are_refused(rt: HostRuntime) -> Result<(), Fail> {
+    let setup = rehearsal(rt.alloc())?;
+    see_refusals(&rt, &mut Count::new(rt.alloc(), &setup)?)
 }

@@ -1,5 +1,5 @@
 //! Elections for the tests.
-use std::alloc::Global;
+use std::alloc::{AllocError, Global};
 use std::process::Abort;
 use std::test::Fail;
 use zh_districts::Setup;
@@ -15,23 +15,50 @@ pub(crate) fn setup_of(
     groups: u32,
 ) -> Result<Setup, Fail> {
     let mut text = format!(in alloc; "version = 1\nhouse = {house}\n")?;
-    let mut stands = String::new(alloc);
-    let mut number = 0u32;
-    for count in persons {
-        number = number.saturating_add(1);
+    push_constituencies(&mut text, alloc, persons)?;
+    push_groups(&mut text, alloc, persons.len(), groups)?;
+    Ok(read_setup(alloc, text.as_bytes())?)
+}
+
+fn push_constituencies(
+    text: &mut String,
+    alloc: Global,
+    persons: &[u32],
+) -> Result<(), AllocError> {
+    for (place, count) in persons.iter().enumerate() {
+        let number = place.saturating_add(1);
         text.push_str(format!(in alloc;
             "[[constituency]]\nname = \"{number}\"\npersons = {count}\n\
              [[municipality]]\nname = \"{number}\"\nconstituency = {number}\n"
         )?
         .as_str())?;
-        stands.push_str(format!(in alloc; "{number},")?.as_str())?;
     }
+    Ok(())
+}
+
+/// Groups that stand in each of so many constituencies.
+fn push_groups(
+    text: &mut String,
+    alloc: Global,
+    constituencies: usize,
+    groups: u32,
+) -> Result<(), AllocError> {
+    let stands = numbers_to(alloc, constituencies)?;
     for group in 0..groups {
         text.push_str(format!(in alloc;
             "[[group]]\nname = \"{group}\"\nstands = [{stands}]\n"
         )?.as_str())?;
     }
-    Ok(read_setup(alloc, text.as_bytes())?)
+    Ok(())
+}
+
+/// The numbers from 1 to this one, each with a comma after it.
+fn numbers_to(alloc: Global, last: usize) -> Result<String, AllocError> {
+    let mut text = String::new(alloc);
+    for number in 1..=last {
+        text.push_str(format!(in alloc; "{number},")?.as_str())?;
+    }
+    Ok(text)
 }
 
 /// The totals after one return for each list, constituency by constituency.

@@ -4,6 +4,7 @@
 ghost use Rattle.std.specs.Prelude.{◌≡◌, ◌+◌, ◌*◌, ◌≤◌, length};
 
 use std::alloc::{AllocError, Global};
+use std::process::Abort;
 use std::test::Fail;
 use zh_records::{COMMAND_LENGTH, Command, decode_command};
 
@@ -35,11 +36,17 @@ fn fill_rows(bytes: &mut [u8], rows: usize, lists: usize)
     }
 }
 
-#[test]
-fn a_batch_has_at_most_a_thousand_rows(rt: HostRuntime) -> Result<(), Fail> {
-    let bytes = batch_of(rt.alloc(), 1_000, 250)?;
+fn is_refused(alloc: Global, rows: usize, lists: usize) -> Result<bool, AllocError>
+    requires rows { rows ≤ 1001 }
+    requires some { 1 ≤ lists }
+    requires lists { lists ≤ 256 }
+{
+    Ok(decode_command(&batch_of(alloc, rows, lists)?).is_none())
+}
+
+fn see_thousand(rt: &impl Abort, bytes: &[u8]) {
     assert_eq!(rt; bytes.len(), COMMAND_LENGTH);
-    match decode_command(&bytes) {
+    match decode_command(bytes) {
         Some(Command::Batch(rows)) => {
             assert_eq!(rt; rows.len(), 1_000);
             assert_eq!(rt; rows.get(999).municipality, 3);
@@ -47,12 +54,14 @@ fn a_batch_has_at_most_a_thousand_rows(rt: HostRuntime) -> Result<(), Fail> {
         }
         _ => assert!(rt; false, "a batch of 1,000 rows"),
     }
-    assert!(rt; decode_command(&batch_of(rt.alloc(), 1_001, 250)?).is_none());
-    assert!(rt; decode_command(&batch_of(rt.alloc(), 0, 250)?).is_none());
-    assert!(rt;
-        decode_command(&batch_of(rt.alloc(), 1_000, 249)?).is_none(),
-        "equal keys"
-    );
+}
+
+#[test]
+fn a_batch_has_at_most_a_thousand_rows(rt: HostRuntime) -> Result<(), Fail> {
+    see_thousand(&rt, &batch_of(rt.alloc(), 1_000, 250)?);
+    assert!(rt; is_refused(rt.alloc(), 1_001, 250)?);
+    assert!(rt; is_refused(rt.alloc(), 0, 250)?);
+    assert!(rt; is_refused(rt.alloc(), 1_000, 249)?, "equal keys");
     Ok(())
 }
 

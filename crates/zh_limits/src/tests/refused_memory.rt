@@ -3,12 +3,13 @@
 
 use super::elections::totals_of;
 use std::alloc::{AllocError, Global};
+use std::process::Abort;
 use std::test::Fail;
 use zh_disk::{Disk, MemoryDisk, Stop};
-use zh_districts::{SeatFault, Setup, seats, setup_bytes};
+use zh_districts::{Setup, seats, setup_bytes};
 use zh_quorum::participating;
 use zh_returns::Count;
-use zh_setups::{SetupFault, read_setup, rehearsal};
+use zh_setups::{read_setup, rehearsal};
 use zh_totals::Totals;
 use zh_upper::{UpperFault, upper, voters};
 
@@ -42,29 +43,24 @@ const BYTES: [u8; 36] = [
     0x00, 0x00, 0x00, 0x03, 0x01, 0x41, // A in both
 ];
 
-#[test]
-fn a_set_up_is_read(rt: HostRuntime) -> Result<(), Fail> {
-    let setup = match read_setup(rt.alloc(), TEXT.as_bytes()) {
-        Ok(setup) => setup,
-        Err(fault) => {
-            assert_eq!(rt; fault, SetupFault::Memory);
-            read_setup(rt.alloc(), TEXT.as_bytes())?
-        }
-    };
-    let bytes = match setup_bytes(rt.alloc(), &setup) {
-        Ok(bytes) => bytes,
-        Err(_) => setup_bytes(rt.alloc(), &setup)?,
-    };
+fn see_bytes(rt: &impl Abort, alloc: Global, setup: &Setup) -> Result<(), Fail> {
+    let bytes = setup_bytes(alloc, setup).or_else(|_| setup_bytes(alloc, setup))?;
     assert_eq!(rt; bytes.as_slice(), BYTES.as_slice());
-    let shares = match seats(rt.alloc(), &setup) {
-        Ok(shares) => shares,
-        Err(fault) => {
-            assert_eq!(rt; fault, SeatFault::Memory);
-            seats(rt.alloc(), &setup)?
-        }
-    };
+    Ok(())
+}
+
+fn see_seats(rt: &impl Abort, alloc: Global, setup: &Setup) -> Result<(), Fail> {
+    let shares = seats(alloc, setup).or_else(|_| seats(alloc, setup))?;
     assert_eq!(rt; shares.seats(), [7, 3].as_slice());
     Ok(())
+}
+
+#[test]
+fn a_set_up_is_read(rt: HostRuntime) -> Result<(), Fail> {
+    let text = TEXT.as_bytes();
+    let setup = read_setup(rt.alloc(), text).or_else(|_| read_setup(rt.alloc(), text))?;
+    see_bytes(&rt, rt.alloc(), &setup)?;
+    see_seats(&rt, rt.alloc(), &setup)
 }
 
 /// The totals of an empty count, made for this call alone.
@@ -93,10 +89,10 @@ fn groups_take_part(rt: HostRuntime) -> Result<(), Fail> {
     let setup = rehearsal(rt.alloc())?;
     // In Nord 570 votes for A and 30 for B, which are 5 percent.
     let totals = totals_of(&rt, rt.alloc(), &setup, &[&[570, 30]])?;
-    let taking = match participating(rt.alloc(), &totals) {
-        Ok(taking) => taking,
-        Err(AllocError) => participating(rt.alloc(), &totals)?,
-    };
+    let taking = participating(rt.alloc(), &totals).or_else(|_| participating(
+        rt.alloc(),
+        &totals,
+    ))?;
     assert_eq!(rt; taking.as_slice(), [true, true, false].as_slice());
     Ok(())
 }

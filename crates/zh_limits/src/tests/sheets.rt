@@ -46,8 +46,7 @@ fn new_counter(fails: bool) -> Counter {
 fn a_fault_of_the_writer_is_reported(rt: HostRuntime) -> Result<(), Fail> {
     let setup = setup_of(rt.alloc(), 3, &[900], 1)?;
     let totals = totals_of(&rt, rt.alloc(), &setup, &[&[300]])?;
-    let sheet = make(rt.alloc(), &totals)?;
-    let written = write_sheet(&sheet, 1, false, 1, &mut new_counter(true));
+    let written = write_sheet_of(&totals, rt.alloc(), &mut new_counter(true))?;
     assert_eq!(rt; written, Err(WriteFault));
     Ok(())
 }
@@ -81,9 +80,13 @@ fn votes_of_32(first: u32) -> [[u32; 32]; 32] {
     votes
 }
 
-fn write_sheet_of(totals: &Totals<'_>, alloc: Global, out: &mut Counter) -> Result<(), Fail> {
+fn write_sheet_of(
+    totals: &Totals<'_>,
+    alloc: Global,
+    out: &mut Counter,
+) -> Result<Result<(), WriteFault>, Fail> {
     let sheet = make(alloc, totals)?;
-    Ok(write_sheet(&sheet, 1, true, 1024, out)?)
+    Ok(write_sheet(&sheet, 1, true, 1024, out))
 }
 
 /// Writes the sheet of 400 seats, 32 constituencies and 32 groups that all take part.
@@ -92,7 +95,7 @@ fn write_largest(rt: &impl Abort, alloc: Global, out: &mut Counter) -> Result<()
     let setup = setup_of(alloc, 400, &persons, 32)?;
     let votes = votes_of_32(next);
     let rows: Vec<&[u32]> = votes.iter().map(|row| row.as_slice()).collect(alloc)?;
-    write_sheet_of(&totals_of(rt, alloc, &setup, &rows)?, alloc, out)
+    Ok(write_sheet_of(&totals_of(rt, alloc, &setup, &rows)?, alloc, out)??)
 }
 
 #[test]
