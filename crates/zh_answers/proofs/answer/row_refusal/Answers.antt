@@ -5,6 +5,14 @@ use Rattle.zh_commands.specs.declared.replies.Refusal.TheVariants as refusals
 use Rattle.zh_answers.specs.Answers.{row_refusal}
 use Rattle.zh_answers.proofs.answer.row_refusal.Goals as goal
 
+pub returns-in-Some-clause-first : goal.returns-in-Some-clause-first
+returns-in-Some-clause-first c =
+    let judged = ap (λ t. misplaced t c.args.row.municipality c.args.row.list) (sym c.setup-setup.ensures) ∙ sym c.misplaced.ensures.misplaced ∙ c.in-Some.is in
+    ap Some c.place_refusal.ensures ∙ sym (ap (λ (o : Option Misplaced). row_refusal o c.args.row) judged)
+
+pub returns-in-Some-clause-fits : goal.returns-in-Some-clause-fits
+returns-in-Some-clause-fits c = tt
+
 pub returns-clause-first : goal.returns-clause-first
 returns-clause-first c =
     let judged = ap (λ t. misplaced t c.args.row.municipality c.args.row.list) (sym c.setup-setup.ensures) ∙ sym c.misplaced.ensures.misplaced ∙ c.in_default.is in

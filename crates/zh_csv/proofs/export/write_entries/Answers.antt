@@ -1,4 +1,4 @@
-use Rattle.std.proofs.Common.{rules}
+use Rattle.std.proofs.Common.{◌≡◌, arith, ap, length}
 use Rattle.csv.specs.Writing.{text_written}
 use Rattle.zh_csv.specs.Export.{municipality_text}
 use Rattle.zh_csv.proofs.ExportLemmas.{Appends-start, Appends-next}
@@ -14,7 +14,9 @@ loop-place-preserved g c = record {
 }
 
 pub write_municipality-requires-clause-there : goal.write_municipality-requires-clause-there
-write_municipality-requires-clause-there g c = search rules
+write_municipality-requires-clause-there g c = omega (arith, c.municipalities-place-end.ensures.count, ap (λ t. length t.municipalities) c.setup.ensures)
 
 pub returns : goal.returns
-returns g c = search rules
+returns g c =
+    let last : c.loop-place.place ≡ length c.args.count.now.canton.municipalities = omega (arith, c.municipalities-place-end.ensures.count, ap (λ t. length t.municipalities) c.setup.ensures) in
+    record { written = rw last at c.loop-place.invariant.written }

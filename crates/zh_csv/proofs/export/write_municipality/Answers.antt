@@ -1,3 +1,4 @@
+use Rattle.std.proofs.Common.{◌≡◌, arith, ap, length}
 use Rattle.csv.specs.Writing.{text_written}
 use Rattle.zh_csv.specs.Export.{list_text}
 use Rattle.zh_csv.proofs.ExportLemmas.{Appends-start, Appends-next}
@@ -12,3 +13,11 @@ loop-place-preserved g c = record {
       (rw c.entry.ensures.held at c.in_ok-write_held.ensures.written);
   ready = c.in_ok-write_held.ensures.ready;
 }
+
+pub entry-requires-clause-list_there : goal.entry-requires-clause-list_there
+entry-requires-clause-list_there g c = omega (arith, c.groups-place-end.ensures.count, ap (λ t. length t.groups) c.setup.ensures)
+
+pub returns-clause-written : goal.returns-clause-written
+returns-clause-written g c =
+    let last : c.loop-place.place ≡ length c.args.count.now.canton.groups = omega (arith, c.groups-place-end.ensures.count, ap (λ t. length t.groups) c.setup.ensures) in
+    rw last at c.loop-place.invariant.written

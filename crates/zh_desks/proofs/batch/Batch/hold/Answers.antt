@@ -18,3 +18,6 @@ returns-clause-count c = search rules
 
 pub push-requires-clause-new : goal.push-requires-clause-new
 push-requires-clause-new c = search rules
+
+pub returns-then-count-ge-MOST_ROWS-clause-fault : goal.returns-then-count-ge-MOST_ROWS-clause-fault
+returns-then-count-ge-MOST_ROWS-clause-fault c = search rules
