@@ -15,3 +15,9 @@ returns c =
 
 pub loop-given-init : goal.loop-given-init
 loop-given-init c = IsFit-none c.args.weights.now c.in_ok-seats.seats.items (c.in_ok-seats.ensures.items_if_clones_equal (λ y e. e))
+
+pub most_next-next-requires-clause-small : goal.most_next-next-requires-clause-small
+most_next-next-requires-clause-small c = grind (arith, common_steps)
+
+pub overflow_add-index_mut : goal.overflow_add-index_mut
+overflow_add-index_mut c = grind (arith, common_steps)

@@ -1,4 +1,4 @@
-use Rattle.std.proofs.Common.{◌≡◌, ◌+◌, ◌∙◌, ℕ, List, get_or, ap, arith}
+use Rattle.std.proofs.Common.{◌≡◌, ◌+◌, get_or, arith}
 use Rattle.std.proofs.lemmas.Grind.{common_steps}
 use Rattle.zh_divisors.specs.Fit.{IsStrictFit, IsTied}
 use Rattle.zh_divisors.proofs.Ends.{AreApart, IsStrictFit-apart, RoundsEach-apart, IsTied-together}
@@ -18,14 +18,10 @@ tied c =
     (grind arith) c.requires.positive (grind arith) (grind arith) (grind arith)
 
 num : (c : goal.After-new) → c.new.result.num ≡ get_or c.args.weights.now c.least_last-last.result 0 + get_or c.args.weights.now c.most_next-next.result 0
-num c =
-    c.new.ensures.num
-    ∙ ap (λ (weights : List ℕ). get_or weights c.least_last-last.result 0 + get_or weights c.most_next-next.result 0) c.as_slice-weights.ensures.value
+num c = grind arith
 
 den : (c : goal.After-new) → c.new.result.den ≡ get_or c.new.result.seats c.least_last-last.result 0 + get_or c.new.result.seats c.most_next-next.result 0
-den c =
-    let held : c.index.result.now + c.index-2.result.now ≡ get_or c.new.result.seats c.least_last-last.result 0 + get_or c.new.result.seats c.most_next-next.result 0 = grind (arith, common_steps) in
-    c.new.ensures.den ∙ held
+den c = grind (arith, common_steps)
 
 pub returns-clause-seats : goal.returns-clause-seats
 returns-clause-seats c = strict c
@@ -51,3 +47,18 @@ returns-then-not-next_is_worth_less-clause-tied c = λ _. tied c
 
 pub returns-then-not-next_is_worth_less-clause-no_strict : goal.returns-then-not-next_is_worth_less-clause-no_strict
 returns-then-not-next_is_worth_less-clause-no_strict c = λ _ seats. no_strict_fit _ _ seats (tied c)
+
+pub overflow_add-den : goal.overflow_add-den
+overflow_add-den c = grind (arith, common_steps)
+
+pub next_is_worth_less-requires-clause-small : goal.next_is_worth_less-requires-clause-small
+next_is_worth_less-requires-clause-small c = grind (arith, common_steps)
+
+pub most_next-next-requires-clause-small : goal.most_next-next-requires-clause-small
+most_next-next-requires-clause-small c = grind (arith, common_steps)
+
+pub least_last-last-requires-clause-small : goal.least_last-last-requires-clause-small
+least_last-last-requires-clause-small c = grind (arith, common_steps)
+
+pub returns-clause-tied : goal.returns-clause-tied
+returns-clause-tied c = grind (arith, common_steps)

@@ -1,4 +1,5 @@
-use Rattle.std.proofs.Common.{ℕ, Ok, Err}
+use Rattle.std.proofs.Common.{ℕ, Ok, Err, arith}
+use Rattle.std.proofs.lemmas.Grind.{common_steps}
 use Rattle.std.specs.Prelude.{IsErrOf}
 use Rattle.zh_lower.specs.declared.fault.LowerFault.{LowerFault}
 use Rattle.zh_lower.specs.declared.fault.LowerFault.TheVariants.{Exhausted, NoVotes, Tied}
@@ -40,3 +41,12 @@ returns-clause-tied c = λ d g e. absurd (exhausted_untied _ _ e)
 
 pub returns-clause-votes : goal.returns-clause-votes
 returns-clause-votes c = exhausted_with_votes
+
+pub returns-in-Some-Found-clause-strict : goal.returns-in-Some-Found-clause-strict
+returns-in-Some-Found-clause-strict c = grind (arith, common_steps)
+
+pub returns-in-Some-Found-clause-limits : goal.returns-in-Some-Found-clause-limits
+returns-in-Some-Found-clause-limits c = grind (arith, common_steps)
+
+pub new-requires : goal.new-requires
+new-requires c = grind (arith, common_steps)

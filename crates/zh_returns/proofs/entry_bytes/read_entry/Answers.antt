@@ -1,4 +1,5 @@
 use Rattle.std.proofs.Common.{◌≡◌, ◌<◌, ◌≤◌, ◌+◌, ◌==◌, ◌∙◌, ℕ, true, List, [], ◌∷◌, ◌++◌, length, get_or, take, drop, ap, sym, refl, arith}
+use Rattle.std.proofs.lemmas.Grind.{common_steps}
 use Rattle.std.specs.Int.{w32, to_be_bytes}
 use Rattle.std.specs.List.{list_all}
 use Rattle.std.proofs.lemmas.List.{get_or-drop, length-drop, length-take}
@@ -43,3 +44,9 @@ returns-in-2-clause-read c = (
   record { number = (omega arith, omega arith); votes = tt },
   fields_read c.args.bytes.now 2 c.read_u32-number.result 0 c.requires (λ i. omega (arith, c.type_inv.bytes i)) (sym c.in-2.is) (sym c.is_zero.ensures ∙ c.if-not-is_zero.false) (sym c.is_zero-else-not-is_zero.ensures ∙ c.if-not-is_zero-2.false) c.read_u32-number.ensures (sym c.if-votes-eq0-2.true ∙ c.read_u32-votes.ensures),
 )
+
+pub returns-in-0-clause-read : goal.returns-in-0-clause-read
+returns-in-0-clause-read c = grind (arith, common_steps)
+
+pub returns-in_default-3-clause-refused : goal.returns-in_default-3-clause-refused
+returns-in_default-3-clause-refused c = grind (arith, common_steps)

@@ -1,4 +1,5 @@
-use Rattle.std.proofs.Common.{◌≡◌, ◌++◌, [], ◌∷◌, map, ◌∙◌, ap}
+use Rattle.std.proofs.Common.{◌≡◌, ◌++◌, [], ◌∷◌, map, ◌∙◌, ap, arith}
+use Rattle.std.proofs.lemmas.Grind.{common_steps}
 use Rattle.std.proofs.lemmas.Result.{err_from_is_err_and}
 use Rattle.std.proofs.lemmas.List.{map-append}
 use Rattle.zh_setups.specs.Document.{group_of}
@@ -15,3 +16,6 @@ pub loop-value-preserved : goal.loop-value-preserved
 loop-value-preserved c =
     let grown : map group c.push.new.self.items ≡ map group c.loop-value.parts.items ++ group c.in_ok-part.part ∷ [] = ap (map group) c.in_ok-push.ensures.items ∙ map-append group c.loop-value.parts.items (c.in_ok-part.part ∷ []) in
     rw grown (goes_on (group_of c.args.constituencies) (map group c.loop-value.parts.items) c.args.values.now c.loop-value.value-index c.value-item.result (group c.in_ok-part.part) _ c.loop-value-test.true c.value-item.is c.in_ok-part.ensures c.loop-value.invariant)
+
+pub returns : goal.returns
+returns c = grind (arith, common_steps)

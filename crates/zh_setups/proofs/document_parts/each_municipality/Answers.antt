@@ -1,4 +1,5 @@
-use Rattle.std.proofs.Common.{◌≡◌, ◌++◌, [], ◌∷◌, map, ◌∙◌, ap}
+use Rattle.std.proofs.Common.{◌≡◌, ◌++◌, [], ◌∷◌, map, ◌∙◌, ap, arith}
+use Rattle.std.proofs.lemmas.Grind.{common_steps}
 use Rattle.std.proofs.lemmas.Result.{err_from_is_err_and}
 use Rattle.std.proofs.lemmas.List.{map-append}
 use Rattle.zh_setups.specs.Document.{municipality_of}
@@ -15,3 +16,6 @@ pub loop-value-preserved : goal.loop-value-preserved
 loop-value-preserved c =
     let grown : map municipality c.push.new.self.items ≡ map municipality c.loop-value.parts.items ++ municipality c.in_ok-part.part ∷ [] = ap (map municipality) c.in_ok-push.ensures.items ∙ map-append municipality c.loop-value.parts.items (c.in_ok-part.part ∷ []) in
     rw grown (goes_on (municipality_of c.args.constituencies) (map municipality c.loop-value.parts.items) c.args.values.now c.loop-value.value-index c.value-item.result (municipality c.in_ok-part.part) _ c.loop-value-test.true c.value-item.is c.in_ok-part.ensures c.loop-value.invariant)
+
+pub returns : goal.returns
+returns c = grind (arith, common_steps)

@@ -1,4 +1,5 @@
 use Rattle.std.proofs.Common.{◌≡◌, ◌+◌, arith, sym, ◌∙◌, ap}
+use Rattle.std.proofs.lemmas.Grind.{common_steps}
 use Rattle.std.specs.Prelude.{slice_range}
 use Rattle.zh_disk.specs.Disk.{Trail}
 use Rattle.zh_snapshot.proofs.Ranges.{part_differs, part_equal, bytes_differ, bytes_agree}
@@ -31,3 +32,6 @@ loop-done-preserved g c = record {
       let same = bytes_agree c.in_ok-stored.stored.now _ c.ne.result c.ne.ensures c.if-ne.false in
       part_equal b c.args.bytes.now c.args.at c.loop-done.done c.min-n.result (omega arith) (omega (arith, g.met.D.Disk.size c.args.disk.now h0, c.requires)) (c.loop-done.invariant.equal h1) (sym stored ∙ same);
 }
+
+pub returns-clause-equal : goal.returns-clause-equal
+returns-clause-equal g c = grind (arith, common_steps)

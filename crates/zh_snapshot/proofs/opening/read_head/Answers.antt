@@ -1,4 +1,5 @@
 use Rattle.std.proofs.Common.{◌≡◌, ◌≤◌, ◌+◌, ◌*◌, ℕ, List, length, sym, ◌∙◌, ap, arith}
+use Rattle.std.proofs.lemmas.Grind.{common_steps}
 use Rattle.std.specs.Prelude.{slice_index, slice_range}
 use Rattle.std.specs.Int.{w64, from_be_bytes}
 use Rattle.zh_journal.proofs.Bodies.{slice_at}
@@ -25,3 +26,6 @@ returns-clause-head g c = λ h.
     let part : slice_range into 1 9 ≡ slice_range b (at + 1) (at + 9) = slice_part b into at 9 1 9 read fits (omega arith) (omega arith) in
     let number : from_be_bytes w64 (slice_range into 1 9) ≡ c.from_be_bytes.result = eight into c.from_be_bytes.result c.from_be_bytes.ensures in
     (sym gate ∙ c.if-gate.false, ap (from_be_bytes w64) (sym part) ∙ number)
+
+pub returns-then-gate-clause-head : goal.returns-then-gate-clause-head
+returns-then-gate-clause-head g c = grind (arith, common_steps)

@@ -1,4 +1,5 @@
 use Rattle.std.proofs.Common.{rules, ◌≤◌, ◌^◌, ◌∙◌, Ok, ap, arith}
+use Rattle.std.proofs.lemmas.Grind.{common_steps}
 use Rattle.std.proofs.lemmas.Result.{err_from_is_err_and}
 use Rattle.zh_divisors.specs.Fit.{IsTied}
 use Rattle.zh_divisors.specs.Shares.{HasDivisor, RoundsEach}
@@ -109,3 +110,21 @@ returns-clause-rounds c =
     of_shares (RoundsEach (of_participants c.args.voters.now c.args.taking.now)) c.in_ok-shares.shares c.new.result c.args.taking.now same
     (omega (arith, c.new.ensures.num)) (omega (arith, c.new.ensures.den))
     (rw (c.deref-2.ensures.value, c.in_ok-sums.ensures) at c.in_ok-shares.ensures.rounds)
+
+pub returns-clause-seats : goal.returns-clause-seats
+returns-clause-seats c = grind (arith, common_steps)
+
+pub returns-in_err-shares-clause-seats : goal.returns-in_err-shares-clause-seats
+returns-in_err-shares-clause-seats c = grind (arith, common_steps)
+
+pub returns-in_err-shares-clause-divisor : goal.returns-in_err-shares-clause-divisor
+returns-in_err-shares-clause-divisor c = grind (arith, common_steps)
+
+pub returns-then-not-has_voters-clause-no_voters : goal.returns-then-not-has_voters-clause-no_voters
+returns-then-not-has_voters-clause-no_voters c = grind (arith, common_steps)
+
+pub returns-in_err-sums-clause-tied : goal.returns-in_err-sums-clause-tied
+returns-in_err-sums-clause-tied c = grind (arith, common_steps)
+
+pub shares_of-requires-clause-some_voters : goal.shares_of-requires-clause-some_voters
+shares_of-requires-clause-some_voters c = grind (arith, common_steps)

@@ -1,4 +1,5 @@
 use Rattle.std.proofs.Common.{◌∙◌, true, false, refl, arith}
+use Rattle.std.proofs.lemmas.Grind.{common_steps}
 use Rattle.std.proofs.lemmas.List.{get_or_default}
 use Rattle.zh_upper.proofs.SpreadLemmas.{IsSpread-none, IsSpread-one_each, IsSpread-others, IsSpread-participants, IsSpread-seated, IsSpread-unseated}
 use Rattle.zh_upper.proofs.participants.spread.Goals as goal
@@ -35,3 +36,24 @@ pub returns-clause-others : goal.returns-clause-others
 returns-clause-others c =
     IsSpread-others c.args.seats.now c.args.taking.now c.loop-takes_part.all.items c.loop-takes_part.next c.loop-takes_part.takes_part-index
     c.loop-takes_part.invariant (omega arith)
+
+pub bounds-seats-next : goal.bounds-seats-next
+bounds-seats-next c = grind (arith, common_steps)
+
+pub returns-in_err-push-clause-participants : goal.returns-in_err-push-clause-participants
+returns-in_err-push-clause-participants c = grind (arith, common_steps)
+
+pub returns-in_err-push-clause-others : goal.returns-in_err-push-clause-others
+returns-in_err-push-clause-others c = grind (arith, common_steps)
+
+pub returns-in_err-push-2-clause-others : goal.returns-in_err-push-2-clause-others
+returns-in_err-push-2-clause-others c = grind (arith, common_steps)
+
+pub returns-in_err-push-2-clause-participants : goal.returns-in_err-push-2-clause-participants
+returns-in_err-push-2-clause-participants c = grind (arith, common_steps)
+
+pub returns-in_err-push-clause-one_each : goal.returns-in_err-push-clause-one_each
+returns-in_err-push-clause-one_each c = grind (arith, common_steps)
+
+pub returns-in_err-push-2-clause-one_each : goal.returns-in_err-push-2-clause-one_each
+returns-in_err-push-2-clause-one_each c = grind (arith, common_steps)

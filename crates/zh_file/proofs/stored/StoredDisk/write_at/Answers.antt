@@ -1,4 +1,5 @@
 use Rattle.std.proofs.Common.{rules, ◌∷◌, arith, ap, ◌∙◌}
+use Rattle.std.proofs.lemmas.Grind.{common_steps}
 use Rattle.std.specs.Prelude.{map}
 use Rattle.zh_file.specs.Past.{items}
 use Rattle.zh_file.specs.Held.{moment}
@@ -16,3 +17,6 @@ returns-clause-written g c = λ clean.
 
 pub returns-clause-ends : goal.returns-clause-ends
 returns-clause-ends g c = search rules
+
+pub invariant_of-self-2 : goal.invariant_of-self-2
+invariant_of-self-2 g c = grind (arith, common_steps)

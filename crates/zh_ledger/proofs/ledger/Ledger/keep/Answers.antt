@@ -1,4 +1,5 @@
-use Rattle.std.proofs.Common.{◌≡◌, sym, subst, ap, true}
+use Rattle.std.proofs.Common.{◌≡◌, sym, subst, ap, true, arith}
+use Rattle.std.proofs.lemmas.Grind.{common_steps}
 use Rattle.zh_returns.specs.Limits.{IsTally}
 use Rattle.zh_returns.proofs.CallerLemmas.{speakable}
 use Rattle.zh_ledger.specs.Ledger.{Ledger, Becomes, has_room}
@@ -55,3 +56,9 @@ returns-in-Err-Spent-clause-untouched g c = (c.in-Err-Spent.ensures.untouched (c
 
 pub returns-in-Err-Device-clause-after : goal.returns-in-Err-Device-clause-after
 returns-in-Err-Device-clause-after g c = c.in-Err-Device.ensures.device (cc)
+
+pub returns-in-Ok-clause-results : goal.returns-in-Ok-clause-results
+returns-in-Ok-clause-results g c = grind (arith, common_steps)
+
+pub returns-in-Err-Device-clause-results : goal.returns-in-Err-Device-clause-results
+returns-in-Err-Device-clause-results g c = grind (arith, common_steps)

@@ -1,4 +1,5 @@
 use Rattle.std.proofs.Common.{◌≡◌, ◌∙◌, Err, sym, ap, subst, arith}
+use Rattle.std.proofs.lemmas.Grind.{common_steps}
 use Rattle.zh_disk.specs.Disk.{Trail, Leaves}
 use Rattle.zh_districts.specs.Spelling.{setup_spelling}
 use Rattle.zh_returns.specs.Tally.{Tally, empty}
@@ -98,3 +99,6 @@ read_count-requires-clause-buffer g c = omega (arith, c.deref_mut.ensures.len, c
 
 pub read_count-requires-clause-count : goal.read_count-requires-clause-count
 read_count-requires-clause-count g c = c.in_ok-count.ensures ∙ sym (ap (λ (t : Tally). empty t.canton) c.in_ok-count.ensures)
+
+pub invariant_of-result : goal.invariant_of-result
+invariant_of-result g c = grind (arith, common_steps)

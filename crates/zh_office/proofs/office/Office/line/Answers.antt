@@ -1,4 +1,5 @@
-use Rattle.std.proofs.Common.{rules, ◌∙◌, ap}
+use Rattle.std.proofs.Common.{rules, ◌∙◌, ap, arith}
+use Rattle.std.proofs.lemmas.Grind.{common_steps}
 use Rattle.zh_answers.specs.Answers.{held_after}
 use Rattle.zh_office.specs.Office.{State}
 use Rattle.zh_office.proofs.Others.{others_after}
@@ -11,3 +12,6 @@ returns-in-Ok-clause-others g c =
 
 pub returns-in-Err-Syntax-clause-turn : goal.returns-in-Err-Syntax-clause-turn
 returns-in-Err-Syntax-clause-turn g c = search rules
+
+pub invariant_of-self : goal.invariant_of-self
+invariant_of-self g c = grind (arith, common_steps)

@@ -1,4 +1,5 @@
 use Rattle.std.proofs.Common.{length, length-append, ap, arith, ◌∙◌}
+use Rattle.std.proofs.lemmas.Grind.{common_steps}
 use Rattle.zh_office.proofs.Blocks.{Progress-map, Progress-start, Progress-answered, Progress-failed, Progress-end}
 use Rattle.std.proofs.lemmas.Result.{err_from_is_err_and}
 use Rattle.zh_office.proofs.office.Office.take_block.Goals as goal
@@ -27,3 +28,6 @@ loop-ended-preserved g c = record {
 
 pub returns : goal.returns
 returns g c = record { kept = c.loop-ended.invariant.kept; taken = rw c.hear-2.ensures (Progress-end _ _ _ _ _ _ _ _ _ _ c.loop-ended.invariant.progress c.in_default.ensures) }
+
+pub loop-ended-smaller : goal.loop-ended-smaller
+loop-ended-smaller g c = grind (arith, common_steps)

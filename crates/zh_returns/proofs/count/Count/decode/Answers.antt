@@ -1,4 +1,5 @@
-use Rattle.std.proofs.Common.{◌≡◌, ◌∙◌, ℕ, List, Vec, Bool, false, Option, None, length, sym, ap, subst}
+use Rattle.std.proofs.Common.{◌≡◌, ◌∙◌, ℕ, List, Vec, Bool, false, Option, None, length, sym, ap, subst, arith}
+use Rattle.std.proofs.lemmas.Grind.{common_steps}
 use Rattle.std.specs.Vec.{with_items}
 use Rattle.std.proofs.lemmas.List.{with_items_is}
 use Rattle.std.specs.List.{All}
@@ -71,3 +72,6 @@ pub returns-in-Some-clause-read : goal.returns-in-Some-clause-read
 returns-in-Some-clause-read c = λ _.
     ap payload_spelling (read_for c.self.inside.setup.now c.self.inside.entries c.self.inside.closed c.read_tables.new.entries c.read_tables.new.closed c.in-Some.accepted (c.read_tables.ensures.entries_length ∙ c.deref_mut.ensures.len) (c.read_tables.ensures.closed_length ∙ c.deref_mut-2.ensures.len))
     ∙ c.in-Some.ensures.read.1
+
+pub invariant_of-self : goal.invariant_of-self
+invariant_of-self c = grind (arith, common_steps)
