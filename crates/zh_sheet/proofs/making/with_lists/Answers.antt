@@ -1,8 +1,15 @@
+use Rattle.std.proofs.lemmas.Result.{err_from_is_err_and}
 use Rattle.zh_lower.proofs.OneAnswerLemmas.{only_seats}
 use Rattle.zh_sheet.specs.Distribution.{lower_question}
 use Rattle.zh_sheet.proofs.AskedLemmas.{can_be_asked}
 use Rattle.zh_sheet.proofs.MakingLemmas.{column_there, lower_given, lower_refused, targets_above}
+use Rattle.zh_sheet.proofs.RefusalLemmas.{memory_answer}
 use Rattle.zh_sheet.proofs.making.with_lists.Goals as goal
+
+pub returns-in_err-seated-clause-answer : goal.returns-in_err-seated-clause-answer
+returns-in_err-seated-clause-answer c =
+    let p = err_from_is_err_and c.from_residual.result c.from_residual.ensures.1 in
+    rw (p.1, p.2) (memory_answer c.args.totals.now)
 
 pub seats_of_lists-requires-clause-asked : goal.seats_of_lists-requires-clause-asked
 seats_of_lists-requires-clause-asked c =

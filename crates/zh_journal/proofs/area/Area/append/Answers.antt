@@ -33,3 +33,9 @@ returns-clause-settled g c = λ h. ap (λ (m : Moment). m.pending) (c.in_ok-open
 
 pub returns-then-pages_left-pages-clause-full : goal.returns-then-pages_left-pages-clause-full
 returns-then-pages_left-pages-clause-full g c = search rules
+
+pub returns-clause-err : goal.returns-clause-err
+returns-clause-err g c = tt
+
+pub returns-clause-cause : goal.returns-clause-cause
+returns-clause-cause g c = λ is. absurd (cc)

@@ -32,3 +32,9 @@ returns-clause-turns g c = λ _. Serving-stops _ _ _ _ _ _ _ _ _ _ c.loop.invari
 
 pub returns-clause-ok : goal.returns-clause-ok
 returns-clause-ok g c = tt
+
+pub returns-clause-read : goal.returns-clause-read
+returns-clause-read g c = λ is. absurd (cc)
+
+pub returns-clause-write : goal.returns-clause-write
+returns-clause-write g c = λ is. absurd (cc)

@@ -1,5 +1,5 @@
-use Rattle.std.proofs.Common.{rules, refl, arith}
-use Rattle.std.proofs.lemmas.Grind.{common_steps}
+use Rattle.std.proofs.Common.{◌≡◌, ◌∙◌, length, rules, refl, ap, arith}
+use Rattle.std.proofs.lemmas.List.{with_items_is}
 use Rattle.zh_office.proofs.LoadLemmas.{empty_turn, submitted_turn}
 use Rattle.zh_office.proofs.office.Office.store.Goals as goal
 
@@ -12,5 +12,16 @@ returns-clause-turn g c = λ text loads.
     let read = rw (← c.self.view_is) at loads in
     rw (← c.self.view_is) (submitted_turn _ _ _ text _ _ whole (search rules) refl read c.submit_batch.ensures.reported)
 
+pub returns-clause-untouched : goal.returns-clause-untouched
+returns-clause-untouched g c = c.submit_batch.ensures.untouched
+
+pub returns-clause-kept : goal.returns-clause-kept
+returns-clause-kept g c = c.submit_batch.ensures.kept
+
+pub submit_batch-requires-clause-room : goal.submit_batch-requires-clause-room
+submit_batch-requires-clause-room g c = omega (arith, c.deref_mut.ensures.len, c.self.inside.rows.ok.0, c.self.invariant)
+
 pub invariant_of-self : goal.invariant_of-self
-invariant_of-self g c = grind (arith, common_steps)
+invariant_of-self g c =
+    let long : length c.submit_batch.new.bytes ≡ c.self.inside.rows.len = omega (arith, c.submit_batch.auto.bytes, c.deref_mut.ensures.len) in
+    ap length (with_items_is c.self.inside.rows c.submit_batch.new.bytes long) ∙ long ∙ c.self.inside.rows.ok.0 ∙ c.self.invariant

@@ -60,3 +60,9 @@ returns-in-Ok-clause-broken g c = search rules
 
 pub returns-in-Err-Device-clause-broken : goal.returns-in-Err-Device-clause-broken
 returns-in-Err-Device-clause-broken g c = search rules
+
+pub returns-in-Ok-clause-device : goal.returns-in-Ok-clause-device
+returns-in-Ok-clause-device g c = λ is. absurd (cc)
+
+pub returns-in-Ok-clause-cause : goal.returns-in-Ok-clause-cause
+returns-in-Ok-clause-cause g c = λ is. absurd (cc)
