@@ -61,6 +61,31 @@ fn numbers_to(alloc: Global, last: usize) -> Result<String, AllocError> {
     Ok(text)
 }
 
+/// Accepts one return for each list, constituency by constituency.
+fn accept_all(rt: &impl Abort, count: &mut Count<'_>, votes: &[&[u32]]) {
+    let mut municipality = 0u32;
+    for lists in votes {
+        municipality = municipality.saturating_add(1);
+        let mut list = 0u32;
+        for votes in *lists {
+            list = list.saturating_add(1);
+            let row = Row {
+                municipality,
+                list,
+                number: 1,
+                votes: *votes,
+            };
+            accept(rt, count, row);
+        }
+    }
+}
+
+fn accept(rt: &impl Abort, count: &mut Count<'_>, row: Row) {
+    let command = Command::Return(row);
+    assert!(rt; count.accepted() < 2000 && count.judge(&command) == Verdict::Accept);
+    count.apply(&command);
+}
+
 /// The totals after one return for each list, constituency by constituency.
 pub(crate) fn totals_of<'s>(
     rt: &impl Abort,
@@ -69,22 +94,6 @@ pub(crate) fn totals_of<'s>(
     votes: &[&[u32]],
 ) -> Result<Totals<'s>, Fail> {
     let mut count = Count::new(alloc, setup)?;
-    let mut municipality = 0u32;
-    for lists in votes {
-        municipality = municipality.saturating_add(1);
-        let mut list = 0u32;
-        for votes in *lists {
-            list = list.saturating_add(1);
-            let command = Command::Return(Row {
-                municipality,
-                list,
-                number: 1,
-                votes: *votes,
-            });
-            assert!(rt; count.accepted() < 2000);
-            assert_eq!(rt; count.judge(&command), Verdict::Accept);
-            count.apply(&command);
-        }
-    }
+    accept_all(rt, &mut count, votes);
     Ok(Totals::of(alloc, &count)?)
 }

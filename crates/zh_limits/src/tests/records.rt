@@ -44,42 +44,54 @@ fn is_refused(alloc: Global, rows: usize, lists: usize) -> Result<bool, AllocErr
     Ok(decode_command(&batch_of(alloc, rows, lists)?).is_none())
 }
 
-fn see_thousand(rt: &impl Abort, bytes: &[u8]) {
-    assert_eq!(rt; bytes.len(), COMMAND_LENGTH);
+/// Whether too many rows are refused, none, and equal keys.
+fn are_refused(alloc: Global) -> Result<bool, AllocError> {
+    let too_many = is_refused(alloc, 1_001, 250)?;
+    let none = is_refused(alloc, 0, 250)?;
+    let equal = is_refused(alloc, 1_000, 249)?;
+    Ok(too_many && none && equal)
+}
+
+/// The municipality and the list of the last row of a batch of 1,000.
+fn thousandth(bytes: &[u8]) -> Option<(u32, u32)> {
     match decode_command(bytes) {
-        Some(Command::Batch(rows)) => {
-            assert_eq!(rt; rows.len(), 1_000);
-            assert_eq!(rt; rows.get(999).municipality, 3);
-            assert_eq!(rt; rows.get(999).list, 249);
+        Some(Command::Batch(rows)) if rows.len() == 1_000 => {
+            let last = rows.get(999);
+            Some((last.municipality, last.list))
         }
-        _ => assert!(rt; false, "a batch of 1,000 rows"),
+        _ => None,
     }
+}
+
+fn see_thousand(rt: &impl Abort, bytes: &[u8]) {
+    assert!(rt; bytes.len() == COMMAND_LENGTH && thousandth(bytes) == Some((3, 249)));
 }
 
 #[test]
 fn a_batch_has_at_most_a_thousand_rows(rt: HostRuntime) -> Result<(), Fail> {
     see_thousand(&rt, &batch_of(rt.alloc(), 1_000, 250)?);
-    assert!(rt; is_refused(rt.alloc(), 1_001, 250)?);
-    assert!(rt; is_refused(rt.alloc(), 0, 250)?);
-    assert!(rt; is_refused(rt.alloc(), 1_000, 249)?, "equal keys");
+    assert!(rt; are_refused(rt.alloc())?);
     Ok(())
 }
 
 #[test]
 fn commands_have_a_length_and_numbers_from_one(rt: HostRuntime) {
-    for kind in [1, 2, 3, 4, 5] {
+    for kind in 1..=5 {
         let mut bytes = [1; 26];
         bytes[0] = kind;
         for length in [0, 1, 2, 4, 7, 9, 11, 13, 14, 25, 26usize] {
             assert!(rt; length <= bytes.len());
-            assert!(rt;
-                decode_command(&bytes[..length]).is_none(),
-                "kind {kind}, {length} bytes"
-            );
+            let command = decode_command(&bytes[..length]);
+            assert!(rt; command.is_none(), "kind {kind}, {length} bytes");
         }
     }
     // a return and a withdrawal of number 0, and a batch of such a row
-    assert!(rt; decode_command(&[1, 0, 1, 1, 0, 0, 0, 0, 0, 0, 2, 0x0d]).is_none());
-    assert!(rt; decode_command(&[2, 0, 1, 1, 0, 0, 0, 0]).is_none());
-    assert!(rt; decode_command(&[5, 0, 1, 0, 2, 3, 0, 0, 0, 0, 0, 0, 16, 0]).is_none());
+    let zeros: [&[u8]; 3] = [
+        &[1, 0, 1, 1, 0, 0, 0, 0, 0, 0, 2, 0x0d],
+        &[2, 0, 1, 1, 0, 0, 0, 0],
+        &[5, 0, 1, 0, 2, 3, 0, 0, 0, 0, 0, 0, 16, 0],
+    ];
+    for bytes in zeros {
+        assert!(rt; decode_command(bytes).is_none(), "{bytes:?}");
+    }
 }

@@ -14,7 +14,7 @@ fn rare_refusals_have_their_names(rt: HostRuntime) {
     for (refusal, text) in rows {
         let mut out = [0; 64];
         let length = write_reply(3, &Reply::Refused(refusal), &mut out);
-        assert_eq!(rt; &out[..length], text);
+        assert!(rt; &out[..length] == text);
     }
 }
 
@@ -51,9 +51,8 @@ fn all_is_written_byte_by_byte(rt: HostRuntime) -> Result<(), Fail> {
         writes: 100,
         fault: None,
     };
-    assert_eq!(rt; put(&mut out, b"1 none\n"), Ok(()));
-    assert_eq!(rt; put(&mut out, b""), Ok(()));
-    assert_eq!(rt; out.bytes.as_slice(), b"1 none\n".as_slice());
+    assert!(rt; put(&mut out, b"1 none\n").is_ok() && put(&mut out, b"").is_ok());
+    assert!(rt; out.bytes.as_slice() == b"1 none\n".as_slice());
     Ok(())
 }
 
@@ -64,8 +63,9 @@ fn the_fifth_write_fails(rt: HostRuntime) -> Result<(), Fail> {
         writes: 4,
         fault: Some(ErrorKind::Interrupted),
     };
-    assert_eq!(rt; put(&mut out, b"1 none\n"), Err(WriteFault));
-    assert_eq!(rt; out.bytes.as_slice(), b"1 no".as_slice());
+    assert!(rt;
+        put(&mut out, b"1 none\n") == Err(WriteFault) && out.bytes.as_slice() == b"1 no".as_slice()
+    );
     Ok(())
 }
 
@@ -76,7 +76,8 @@ fn the_fifth_write_takes_no_byte(rt: HostRuntime) -> Result<(), Fail> {
         writes: 4,
         fault: None,
     };
-    assert_eq!(rt; put(&mut out, b"1 none\n"), Err(WriteFault));
-    assert_eq!(rt; out.bytes.as_slice(), b"1 no".as_slice());
+    assert!(rt;
+        put(&mut out, b"1 none\n") == Err(WriteFault) && out.bytes.as_slice() == b"1 no".as_slice()
+    );
     Ok(())
 }

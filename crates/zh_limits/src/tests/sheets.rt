@@ -6,6 +6,7 @@ use std::io::Write;
 use std::process::Abort;
 use std::test::Fail;
 use zh_commands::WriteFault;
+use zh_districts::Setup;
 use zh_sheet::make;
 use zh_sheet_text::write_sheet;
 use zh_totals::Totals;
@@ -45,9 +46,8 @@ fn new_counter(fails: bool) -> Counter {
 #[test]
 fn a_fault_of_the_writer_is_reported(rt: HostRuntime) -> Result<(), Fail> {
     let setup = setup_of(rt.alloc(), 3, &[900], 1)?;
-    let totals = totals_of(&rt, rt.alloc(), &setup, &[&[300]])?;
-    let written = write_sheet_of(&totals, rt.alloc(), &mut new_counter(true))?;
-    assert_eq!(rt; written, Err(WriteFault));
+    let written = write_votes(&rt, rt.alloc(), &setup, &[&[300]], &mut new_counter(true))?;
+    assert!(rt; written == Err(WriteFault));
     Ok(())
 }
 
@@ -89,13 +89,27 @@ fn write_sheet_of(
     Ok(write_sheet(&sheet, 1, true, 1024, out))
 }
 
+/// Writes the sheet of these votes.
+fn write_votes(
+    rt: &impl Abort,
+    alloc: Global,
+    setup: &Setup,
+    votes: &[&[u32]],
+    out: &mut Counter,
+) -> Result<Result<(), WriteFault>, Fail> {
+    write_sheet_of(&totals_of(rt, alloc, setup, votes)?, alloc, out)
+}
+
 /// Writes the sheet of 400 seats, 32 constituencies and 32 groups that all take part.
 fn write_largest(rt: &impl Abort, alloc: Global, out: &mut Counter) -> Result<(), Fail> {
     let (persons, next) = persons_of_32(300_000);
     let setup = setup_of(alloc, 400, &persons, 32)?;
     let votes = votes_of_32(next);
-    let rows: Vec<&[u32]> = votes.iter().map(|row| row.as_slice()).collect(alloc)?;
-    Ok(write_sheet_of(&totals_of(rt, alloc, &setup, &rows)?, alloc, out)??)
+    let mut rows: [&[u32]; 32] = [&[]; 32];
+    for place in 0..32 {
+        rows[place] = &votes[place];
+    }
+    Ok(write_votes(rt, alloc, &setup, &rows, out)??)
 }
 
 #[test]
@@ -103,7 +117,6 @@ fn the_largest_sheet_takes_few_writes(rt: HostRuntime) -> Result<(), Fail> {
     let mut out = new_counter(false);
     write_largest(&rt, rt.alloc(), &mut out)?;
     // The head, the house and two keys, 32 constituencies, 32 groups, 1,024 lists, and the end.
-    assert_eq!(rt; out.lines, 1093);
-    assert!(rt; out.writes < 20);
+    assert!(rt; out.lines == 1093 && out.writes < 20);
     Ok(())
 }

@@ -3,14 +3,16 @@
 use super::fakes::{SlowReader, SlowWriter, run_rehearsal};
 use std::io::ErrorKind;
 
-/// How a rehearsal of these lines ends whose input fails after them where `at_end` says so, and whose output fails after
-/// so many bytes: its output, and its fault.
-fn rehearse(
+/// Whether a rehearsal of these lines fails with this output and this fault, where its input fails after them if `at_end`
+/// says so, and its output fails after so many bytes.
+fn fails(
     rt: &HostRuntime,
     text: &[u8],
     at_end: Option<ErrorKind>,
     writes: u32,
-) -> (u8, Vec<u8>, Vec<u8>) {
+    written: &[u8],
+    fault: &[u8],
+) -> bool {
     let mut input = SlowReader { text, at_end };
     let mut out = SlowWriter {
         bytes: Vec::new(rt.alloc()),
@@ -18,7 +20,7 @@ fn rehearse(
     };
     let mut faults = Vec::new(rt.alloc());
     let status = run_rehearsal(rt, &mut input, &mut out, &mut faults);
-    (status, out.bytes, faults)
+    status == 1 && out.bytes.as_slice() == written && faults.as_slice() == fault
 }
 
 #[test]
@@ -33,10 +35,10 @@ fn an_output_that_fails_gets_no_more(rt: HostRuntime) {
     ];
     let fault: &[u8] = b"zhcount: rehearsal, nothing is kept\nzhcount: write\n";
     for (writes, written) in table {
-        let (status, out, faults) = rehearse(&rt, lines, None, writes);
-        assert_eq!(rt; status, 1);
-        assert_eq!(rt; out.as_slice(), written);
-        assert_eq!(rt; faults.as_slice(), fault);
+        assert!(rt;
+            fails(&rt, lines, None, writes, written, fault),
+            "{writes} bytes"
+        );
     }
 }
 
@@ -50,9 +52,10 @@ fn a_line_that_the_input_breaks_off_is_not_answered(rt: HostRuntime) {
     ];
     let fault: &[u8] = b"zhcount: rehearsal, nothing is kept\nzhcount: read\n";
     for (text, written) in table {
-        let (status, out, faults) = rehearse(&rt, text, Some(ErrorKind::Other), 1_000);
-        assert_eq!(rt; status, 1);
-        assert_eq!(rt; out.as_slice(), written);
-        assert_eq!(rt; faults.as_slice(), fault);
+        let at_end = Some(ErrorKind::Other);
+        assert!(rt;
+            fails(&rt, text, at_end, 1_000, written, fault),
+            "after {text:?}"
+        );
     }
 }

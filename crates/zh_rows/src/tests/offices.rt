@@ -7,6 +7,11 @@ use zh_districts::Setup;
 use zh_office::{FormatFault, Office, OpenFault};
 use zh_setups::rehearsal;
 
+/// The set-up of the rehearsal, read once more where memory was refused.
+pub(crate) fn set_up(alloc: Global) -> Result<Setup, Fail> {
+    Ok(rehearsal(alloc).or_else(|_| rehearsal(alloc))?)
+}
+
 /// A disk on which nothing has been returned. What was refused memory is done again.
 pub(crate) fn formatted(alloc: Global, setup: &Setup) -> Result<MemoryDisk, Fail> {
     let mut disk = MemoryDisk::blank(alloc).or_else(|_| MemoryDisk::blank(alloc))?;
@@ -37,8 +42,16 @@ where
     F: FnOnce(&mut Office<'_>, &mut MemoryDisk) -> Result<(), Fail>,
     requires { F.IsAlwaysCallable see }
 {
-    let setup = rehearsal(alloc).or_else(|_| rehearsal(alloc))?;
-    let mut disk = formatted(alloc, &setup)?;
-    let mut office = opened(alloc, &setup, &mut disk)?;
-    see(&mut office, &mut disk)
+    let setup = set_up(alloc)?;
+    on_disk(alloc, &setup, &mut formatted(alloc, &setup)?, see)
+}
+
+/// Sees something of the office on a disk.
+fn on_disk<F>(alloc: Global, setup: &Setup, disk: &mut MemoryDisk, see: F) -> Result<(), Fail>
+where
+    F: FnOnce(&mut Office<'_>, &mut MemoryDisk) -> Result<(), Fail>,
+    requires { F.IsAlwaysCallable see }
+{
+    let mut office = opened(alloc, setup, disk)?;
+    see(&mut office, disk)
 }

@@ -2,7 +2,7 @@
 //! made. They pass whichever it is, and where none is.
 
 use super::fakes::run_rehearsal;
-use super::offices::{formatted, on_office, opened};
+use super::offices::{formatted, on_office, opened, set_up};
 use std::alloc::Global;
 use std::process::Abort;
 use std::test::Fail;
@@ -10,7 +10,6 @@ use zh_commands::{Refusal, Reply};
 use zh_disk::MemoryDisk;
 use zh_districts::Setup;
 use zh_office::{Answer, Office};
-use zh_setups::rehearsal;
 
 const MEMORY: Option<Reply> = Some(Reply::Refused(Refusal::Memory));
 
@@ -52,20 +51,16 @@ fn see_return(
     number: u64,
 ) -> Result<(), Fail> {
     let (first, faulted) = send_return(alloc, setup, disk)?;
-    assert_eq!(rt; faulted, first == DEVICE);
-    assert!(rt; first == DEVICE || first == Some(Reply::Stored(number)));
     let (again, _) = send_return(alloc, setup, disk)?;
     let stored = Some(Reply::Stored(number));
-    assert!(rt; again == Some(Reply::Same) || (first == DEVICE && again == stored));
+    let same = Some(Reply::Same);
+    let is_right = if faulted {
+        first == DEVICE && (again == stored || again == same)
+    } else {
+        first == stored && again == same
+    };
+    assert!(rt; is_right);
     Ok(())
-}
-
-#[test]
-fn a_return_is_stored_once(rt: HostRuntime) -> Result<(), Fail> {
-    let alloc = rt.alloc();
-    let setup = rehearsal(alloc).or_else(|_| rehearsal(alloc))?;
-    let mut disk = formatted(alloc, &setup)?;
-    see_return(&rt, alloc, &setup, &mut disk, 1)
 }
 
 /// Sends 1,024 commands, and says whether the disk stood them all.
@@ -83,16 +78,35 @@ fn use_all_pages(alloc: Global, setup: &Setup, disk: &mut MemoryDisk) -> Result<
     Ok(close_and_reopen(&mut office, disk))
 }
 
-#[test]
-fn a_return_that_needs_a_switch_is_stored_once(rt: HostRuntime) -> Result<(), Fail> {
-    let alloc = rt.alloc();
-    let setup = rehearsal(alloc).or_else(|_| rehearsal(alloc))?;
+/// Sees that a return is stored once, on a disk all of whose pages are used or none.
+fn see_stored_once(rt: &impl Abort, alloc: Global, is_used: bool) -> Result<(), Fail> {
+    let setup = set_up(alloc)?;
     let mut disk = formatted(alloc, &setup)?;
+    if !is_used {
+        return see_return(rt, alloc, &setup, &mut disk, 1);
+    }
     if !use_all_pages(alloc, &setup, &mut disk)? {
         // memory that is refused to a disk is a fault of the device
         return Ok(());
     }
-    see_return(&rt, alloc, &setup, &mut disk, 1_025)
+    see_return(rt, alloc, &setup, &mut disk, 1_025)
+}
+
+#[test]
+fn a_return_is_stored_once(rt: HostRuntime) -> Result<(), Fail> {
+    see_stored_once(&rt, rt.alloc(), false)
+}
+
+#[test]
+fn a_return_that_needs_a_switch_is_stored_once(rt: HostRuntime) -> Result<(), Fail> {
+    see_stored_once(&rt, rt.alloc(), true)
+}
+
+/// Whether a row is held as the batch's row of this number, and refused when it is sent again.
+fn is_held_once(office: &mut Office<'_>, disk: &mut MemoryDisk, row: &[u8], number: u32) -> bool {
+    let first = reply_at_last(office, disk, row);
+    let again = reply(office, disk, row);
+    first == Some(Reply::Held(number)) && again == Some(Reply::Refused(Refusal::Twice))
 }
 
 /// Sees that each row of a batch is held once, and that the batch is stored unless the disk fails.
@@ -106,10 +120,7 @@ fn see_rows(rt: &impl Abort, office: &mut Office<'_>, disk: &mut MemoryDisk) {
     ];
     reply(office, disk, b"1 open");
     for (row, held) in rows {
-        let first = reply_at_last(office, disk, row);
-        assert_eq!(rt; first, Some(Reply::Held(held)));
-        let again = reply(office, disk, row);
-        assert_eq!(rt; again, Some(Reply::Refused(Refusal::Twice)));
+        assert!(rt; is_held_once(office, disk, row, held), "row {held}");
     }
     let stored = reply(office, disk, b"1 commit");
     assert!(rt; stored == DEVICE || stored == Some(Reply::Stored(1)));
@@ -137,8 +148,7 @@ fn see_sheet(rt: &impl Abort, office: &mut Office<'_>, disk: &mut MemoryDisk) {
         }
     }
     let sheet = reply_at_last(office, disk, b"1 sheet");
-    assert_eq!(rt; sheet, None);
-    assert_eq!(rt; office.count().accepted(), 3);
+    assert!(rt; sheet.is_none() && office.count().accepted() == 3);
 }
 
 #[test]
@@ -183,11 +193,13 @@ fn see_load(
 ) -> Result<(), Fail> {
     let text = b"municipality,list,number,votes\n1,1,1,525\n2,1,1,240\n".as_slice();
     let reply = load(office, disk, text);
-    assert!(rt; reply == Reply::Refused(Refusal::Device) || reply == Reply::Stored(1));
-    let exported = exported(office, alloc)?;
-    if reply == Reply::Stored(1) {
-        assert_eq!(rt; exported.as_slice(), text);
-    }
+    let is_exported = exported(office, alloc)?.as_slice() == text;
+    let is_right = if is_exported {
+        reply == Reply::Stored(1) || reply == Reply::Refused(Refusal::Device)
+    } else {
+        reply == Reply::Refused(Refusal::Device)
+    };
+    assert!(rt; is_right);
     Ok(())
 }
 
