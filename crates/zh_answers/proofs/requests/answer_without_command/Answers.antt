@@ -36,3 +36,6 @@ returns-in-Show-clause-answer c =
 pub returns-in-Row-clause-answer : goal.returns-in-Row-clause-answer
 returns-in-Row-clause-answer c =
     subst (λ r. MayAnswerTo c.args.count.now c.args.desks.now c.args.line.desk r (answers.Reply c.hold.result)) (sym c.in-Row.is) c.hold.ensures.answer
+
+pub returns-in-Show-clause-held : goal.returns-in-Show-clause-held
+returns-in-Show-clause-held c = grind (arith, common_steps)

@@ -21,3 +21,6 @@ loop-rest-preserved g c =
 
 pub returns-clause-all : goal.returns-clause-all
 returns-clause-all g c = grind (arith, common_steps)
+
+pub returns-in_default-clause-nothing : goal.returns-in_default-clause-nothing
+returns-in_default-clause-nothing g c = grind (arith, common_steps)

@@ -1,4 +1,5 @@
-use Rattle.std.proofs.Common.{◌≡◌, map, subst}
+use Rattle.std.proofs.Common.{◌≡◌, map, subst, arith}
+use Rattle.std.proofs.lemmas.Grind.{common_steps}
 use Rattle.zh_districts.specs.Canton.{IsCanton}
 use Rattle.zh_districts.specs.Parts.{constituency, municipality, group}
 use Rattle.zh_districts.specs.Spelling.{setup_spelling}
@@ -32,3 +33,24 @@ returns-clause-spelling c = the_bytes c
 
 pub returns-clause-length : goal.returns-clause-length
 returns-clause-length c = rw (the_bytes c) (length-setup_spelling c.args.setup.now (subst IsCanton c.setup.view_is c.setup.invariant))
+
+pub put_groups-requires-clause-count : goal.put_groups-requires-clause-count
+put_groups-requires-clause-count c = grind (arith, common_steps)
+
+pub put_municipalities-requires-clause-count : goal.put_municipalities-requires-clause-count
+put_municipalities-requires-clause-count c = grind (arith, common_steps)
+
+pub put_constituencies-requires-clause-count : goal.put_constituencies-requires-clause-count
+put_constituencies-requires-clause-count c = grind (arith, common_steps)
+
+pub put_groups-requires-clause-stands : goal.put_groups-requires-clause-stands
+put_groups-requires-clause-stands c = grind (arith, common_steps)
+
+pub put_municipalities-requires-clause-numbers : goal.put_municipalities-requires-clause-numbers
+put_municipalities-requires-clause-numbers c = grind (arith, common_steps)
+
+pub returns-in_err-put_municipalities-clause-length : goal.returns-in_err-put_municipalities-clause-length
+returns-in_err-put_municipalities-clause-length c = grind (arith, common_steps)
+
+pub returns-in_err-put_municipalities-clause-spelling : goal.returns-in_err-put_municipalities-clause-spelling
+returns-in_err-put_municipalities-clause-spelling c = grind (arith, common_steps)

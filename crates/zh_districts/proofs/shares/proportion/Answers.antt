@@ -1,4 +1,5 @@
-use Rattle.std.proofs.Common.{◌≡◌, ◌<◌, ◌≤◌, ◌^◌, ℕ, List, sym, ◌∙◌, subst}
+use Rattle.std.proofs.Common.{◌≡◌, ◌<◌, ◌≤◌, ◌^◌, ℕ, List, sym, ◌∙◌, subst, arith}
+use Rattle.std.proofs.lemmas.Grind.{common_steps}
 use Rattle.std.specs.Prelude.{All, Any}
 use Rattle.zh_districts.specs.Seats.{persons}
 use Rattle.zh_districts.proofs.ImageLemmas.{persons_small, persons_positive}
@@ -28,3 +29,6 @@ returns c =
       tied = rw (weights, house) at given.tied;
       limits = c.in_ok-persons.ensures.limits;
     }
+
+pub new-requires-clause-not_empty : goal.new-requires-clause-not_empty
+new-requires-clause-not_empty c = grind (arith, common_steps)

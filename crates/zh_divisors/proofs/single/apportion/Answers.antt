@@ -1,4 +1,4 @@
-use Rattle.std.proofs.Common.{◌≡◌, ◌+◌, get_or, arith}
+use Rattle.std.proofs.Common.{◌≡◌, ◌+◌, ◌∙◌, ℕ, List, get_or, ap, arith}
 use Rattle.std.proofs.lemmas.Grind.{common_steps}
 use Rattle.zh_divisors.specs.Fit.{IsStrictFit, IsTied}
 use Rattle.zh_divisors.proofs.Ends.{AreApart, IsStrictFit-apart, RoundsEach-apart, IsTied-together}
@@ -18,10 +18,14 @@ tied c =
     (grind arith) c.requires.positive (grind arith) (grind arith) (grind arith)
 
 num : (c : goal.After-new) → c.new.result.num ≡ get_or c.args.weights.now c.least_last-last.result 0 + get_or c.args.weights.now c.most_next-next.result 0
-num c = grind arith
+num c =
+    c.new.ensures.num
+    ∙ ap (λ (weights : List ℕ). get_or weights c.least_last-last.result 0 + get_or weights c.most_next-next.result 0) c.as_slice-weights.ensures.value
 
 den : (c : goal.After-new) → c.new.result.den ≡ get_or c.new.result.seats c.least_last-last.result 0 + get_or c.new.result.seats c.most_next-next.result 0
-den c = grind (arith, common_steps)
+den c =
+    let held : c.index.result.now + c.index-2.result.now ≡ get_or c.new.result.seats c.least_last-last.result 0 + get_or c.new.result.seats c.most_next-next.result 0 = grind (arith, common_steps) in
+    c.new.ensures.den ∙ held
 
 pub returns-clause-seats : goal.returns-clause-seats
 returns-clause-seats c = strict c

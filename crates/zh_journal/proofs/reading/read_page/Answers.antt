@@ -1,4 +1,5 @@
 use Rattle.std.proofs.Common.{◌≡◌, ◌+◌, ◌-◌, arith, ◌∙◌, ap}
+use Rattle.std.proofs.lemmas.Grind.{common_steps}
 use Rattle.std.specs.Prelude.{slice_index}
 use Rattle.zh_journal.proofs.Payload.{on_ok_by, middle_read}
 use Rattle.zh_journal.proofs.reading.read_page.Goals as goal
@@ -13,3 +14,6 @@ returns-clause-read g c = λ h.
     let place : first + (k - from) ≡ c.args.at + 4 + k + c.args.i = omega arith in
     middle_read b c.args.buffer.now c.read_at.new.into _ first from (c.min-to.result - from) k (omega arith) c.read_at.auto.into is (omega arith) (omega arith) ∙ ap (slice_index b) place)
     (c.read_at.ensures.read h).ok
+
+pub returns-clause-rest : goal.returns-clause-rest
+returns-clause-rest g c = grind (arith, common_steps)

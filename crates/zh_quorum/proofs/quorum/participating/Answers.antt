@@ -1,4 +1,5 @@
 use Rattle.std.proofs.Common.{◌≡◌, length, ap, ◌∙◌, arith}
+use Rattle.std.proofs.lemmas.Grind.{common_steps}
 use Rattle.zh_quorum.proofs.ParticipatingLemmas.{AreParticipatingTo-more}
 use Rattle.zh_quorum.proofs.quorum.participating.Goals as goal
 
@@ -13,3 +14,9 @@ returns c =
       one_each = omega (arith, all, c.loop-place.invariant.one_each);
       each = λ g from there. c.loop-place.invariant.each g from (omega arith);
     }
+
+pub returns-in_err-push : goal.returns-in_err-push
+returns-in_err-push c = grind (arith, common_steps)
+
+pub loop-place-init : goal.loop-place-init
+loop-place-init c = grind (arith, common_steps)

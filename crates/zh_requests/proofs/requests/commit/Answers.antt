@@ -1,4 +1,5 @@
-use Rattle.std.proofs.Common.{rules}
+use Rattle.std.proofs.Common.{rules, arith}
+use Rattle.std.proofs.lemmas.Grind.{common_steps}
 use Rattle.zh_requests.proofs.requests.commit.Goals as goal
 
 pub returns-then-matches-clause-held : goal.returns-then-matches-clause-held
@@ -9,3 +10,6 @@ returns-then-matches-clause-acts g c = search rules
 
 pub returns-else-matches-clause-acts : goal.returns-else-matches-clause-acts
 returns-else-matches-clause-acts g c = search rules
+
+pub returns-else-matches-clause-held : goal.returns-else-matches-clause-held
+returns-else-matches-clause-held g c = grind (arith, common_steps)

@@ -1,4 +1,5 @@
-use Rattle.std.proofs.Common.{◌≡◌, ◌++◌, [], ◌∷◌, map, ◌∙◌, ap}
+use Rattle.std.proofs.Common.{◌≡◌, ◌++◌, [], ◌∷◌, map, ◌∙◌, ap, arith}
+use Rattle.std.proofs.lemmas.Grind.{common_steps}
 use Rattle.std.proofs.lemmas.Result.{err_from_is_err_and}
 use Rattle.std.proofs.lemmas.List.{map-append}
 use Rattle.zh_setups.specs.Document.{constituency_of}
@@ -15,3 +16,6 @@ pub loop-value-preserved : goal.loop-value-preserved
 loop-value-preserved c =
     let grown : map constituency c.push.new.self.items ≡ map constituency c.loop-value.parts.items ++ constituency c.in_ok-part.part ∷ [] = ap (map constituency) c.in_ok-push.ensures.items ∙ map-append constituency c.loop-value.parts.items (c.in_ok-part.part ∷ []) in
     rw grown (goes_on constituency_of (map constituency c.loop-value.parts.items) c.args.values.now c.loop-value.value-index c.value-item.result (constituency c.in_ok-part.part) _ c.loop-value-test.true c.value-item.is c.in_ok-part.ensures c.loop-value.invariant)
+
+pub returns : goal.returns
+returns c = grind (arith, common_steps)

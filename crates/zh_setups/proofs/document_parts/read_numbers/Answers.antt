@@ -15,3 +15,6 @@ returns c = grind (arith, common_steps)
 
 pub returns-in_err-number : goal.returns-in_err-number
 returns-in_err-number c = grind (arith, common_steps)
+
+pub returns-in_err-push : goal.returns-in_err-push
+returns-in_err-push c = grind (arith, common_steps)

@@ -1,4 +1,5 @@
-use Rattle.std.proofs.Common.{◌∙◌, sym}
+use Rattle.std.proofs.Common.{◌∙◌, sym, arith}
+use Rattle.std.proofs.lemmas.Grind.{common_steps}
 use Rattle.std.proofs.lemmas.List.{length-map}
 use Rattle.std.proofs.lemmas.Result.{err_from_is_err_and}
 use Rattle.zh_sheet.specs.Distribution.{HaveSeats}
@@ -83,3 +84,6 @@ upper-requires-clause-at_most_400 c = rw c.house.ensures.house c.house.ensures.l
 
 pub returns-clause-answer : goal.returns-clause-answer
 returns-clause-answer c = c.with_lists.ensures.answer
+
+pub returns-in_err-upper-clause-one_answer : goal.returns-in_err-upper-clause-one_answer
+returns-in_err-upper-clause-one_answer c = grind (arith, common_steps)

@@ -1,4 +1,5 @@
 use Rattle.std.proofs.Common.{◌∙◌, ℕ, ap, arith, codes, decimal, length, length-append}
+use Rattle.std.proofs.lemmas.Grind.{common_steps}
 use Rattle.zh_sheet_text.specs.SheetText.{divisor_text, field, or_dash, yes_or_no}
 use Rattle.zh_sheet_text.proofs.PageLemmas.{put_first, put_next, put_words}
 use Rattle.zh_sheet_text.proofs.lines.push_group.Goals as goal
@@ -59,3 +60,12 @@ returns-clause-short c =
       ap length c.push-6.ensures,
       ap length c.push-7.ensures,
     )
+
+pub push-requires-5 : goal.push-requires-5
+push-requires-5 c = grind (arith, common_steps)
+
+pub push-requires-4 : goal.push-requires-4
+push-requires-4 c = grind (arith, common_steps)
+
+pub push_field-requires-2 : goal.push_field-requires-2
+push_field-requires-2 c = grind (arith, common_steps)

@@ -1,4 +1,5 @@
 use Rattle.std.proofs.Common.{◌≡◌, ◌≤◌, ◌+◌, ◌-◌, ◌∙◌, ℕ, List, length, length-set, set, slice_index, ap, sym, subst, arith}
+use Rattle.std.proofs.lemmas.Grind.{common_steps}
 use Rattle.zh_totals.specs.Inside.{totals_in, AreConstituencies}
 use Rattle.std.specs.Vec.{with_items}
 use Rattle.std.proofs.lemmas.List.{with_items_is}
@@ -53,3 +54,9 @@ invariant_of-self c =
           subst (λ (n : List ℕ). AreConstituencies (record totals { votes = n }) (with_items c.self.inside.constituencies sums).items) (sym new_votes) (
           subst (AreConstituencies (record totals { votes = votes })) (sym new_sums) fields.constituencies_are);
     }
+
+pub returns : goal.returns
+returns c = grind (arith, common_steps)
+
+pub place-place-requires-clause-from_one : goal.place-place-requires-clause-from_one
+place-place-requires-clause-from_one c = grind (arith, common_steps)
