@@ -46,7 +46,7 @@ static const struct single LINE_ROWS[] = {
     {1, {100000000000000}, {1}, 1, 1000000000000000000},
 };
 
-static int is_as_wanted(const struct row *row) {
+static int is_as_expected(const struct row *row) {
     static struct outcome got;
     const struct outcome *wanted = &row->outcome;
     find(&row->question, &got);
@@ -69,11 +69,11 @@ int main(void) {
         }
     }
     for (size_t i = 0; i < sizeof ROWS / sizeof *ROWS; i++)
-        if (!is_as_wanted(&ROWS[i])) {
+        if (!is_as_expected(&ROWS[i])) {
             printf("wrong: %s\n", ROWS[i].name);
             wrong++;
         }
     if (wrong == 0)
-        printf("all worked rows are as wanted\n");
+        printf("all worked elections are as expected\n");
     return wrong > 0;
 }
