@@ -5,9 +5,9 @@ use Rattle.std.specs.Io.KnownBytes.{Appends, Consumes, Keeps, IsAtEnd}
 use Rattle.zh_ledger.specs.Submissions.{Log, nothing, followed_by, IsLogged}
 use Rattle.zh_office.specs.Office.{command_read}
 use Rattle.zh_office.specs.Runs.{OnDisk, Runs, ledger_of, logged, text_after}
-use Rattle.zh_office.specs.Text.{HasNoEnd, ended, unfinished, heard, ended_lines, last_line, lines_of}
+use Rattle.zh_office.specs.Text.{HasNoEnd, ended, unfinished, truncated, ended_lines, last_line, lines_of}
 use Rattle.zh_office.specs.Served.{BreaksOff, TakesBlock, ServesAll, ServesEnded, ServesFront}
-use Rattle.zh_office.proofs.Texts.{ended-append, unfinished-append, unfinished_has_no_end, HasNoEnd-take, ended_lines-heard, unfinished-heard, heard-heard, last_line-heard}
+use Rattle.zh_office.proofs.Texts.{ended-append, unfinished-append, unfinished_has_no_end, HasNoEnd-take, ended_lines-truncated, unfinished-truncated, truncated-truncated, last_line-truncated}
 use Rattle.zh_office.proofs.Running.{Runs-append, Runs-one, Runs-map}
 use Rattle.zh_office.proofs.Lifting.{run_is_logged}
 use Rattle.zh_office.proofs.Blocks.{Appends-append, Appends-none, Consumes-append, Consumes-none}
@@ -20,7 +20,7 @@ pub record Serving (honest : Type 0) (first reader begun writer : Option (List �
   pub read : Consumes first reader input
   pub written : Appends begun writer out
   pub run : Runs honest old (ended_lines input) out log now
-  pub held : line ≡ heard (unfinished input)
+  pub held : line ≡ truncated (unfinished input)
   pub counted : count ≡ min (length (ended_lines input)) (2 ^ 64 - 1)
 
 -- the same under a stronger hypothesis
@@ -45,21 +45,21 @@ pub Serving-clean : (honest : Type 0) (first reader begun writer : Option (List 
 Serving-clean honest first reader begun writer old now line count s =
     subst (λ l. HasNoEnd l) (sym s.held) (HasNoEnd-take 121 (unfinished s.input) (unfinished_has_no_end s.input))
 
--- the ended lines of an input and a block behind it
-more_lines : (input line block : List ℕ) → line ≡ heard (unfinished input) → ended_lines (input ++ block) ≡ ended_lines input ++ ended_lines (line ++ block)
+-- the ended lines of an input and a block after it
+more_lines : (input line block : List ℕ) → line ≡ truncated (unfinished input) → ended_lines (input ++ block) ≡ ended_lines input ++ ended_lines (line ++ block)
 more_lines input line block held =
     let rest = unfinished input in
     let clean = unfinished_has_no_end input in
-    ap (map heard) (ended-append input block) ∙ map-append heard (ended input) (ended (rest ++ block))
+    ap (map truncated) (ended-append input block) ∙ map-append truncated (ended input) (ended (rest ++ block))
     ∙ ap (λ ls. ended_lines input ++ ls)
-    (sym (ap (λ l. ended_lines (l ++ block)) held ∙ ended_lines-heard (heard rest) rest block (HasNoEnd-take 121 rest clean) clean (heard-heard rest)))
+    (sym (ap (λ l. ended_lines (l ++ block)) held ∙ ended_lines-truncated (truncated rest) rest block (HasNoEnd-take 121 rest clean) clean (truncated-truncated rest)))
 
-more_rest : (input line block : List ℕ) → line ≡ heard (unfinished input) → heard (unfinished (line ++ block)) ≡ heard (unfinished (input ++ block))
+more_rest : (input line block : List ℕ) → line ≡ truncated (unfinished input) → truncated (unfinished (line ++ block)) ≡ truncated (unfinished (input ++ block))
 more_rest input line block held =
     let rest = unfinished input in
     let clean = unfinished_has_no_end input in
-    ap (λ l. heard (unfinished (l ++ block))) held ∙ unfinished-heard (heard rest) rest block (HasNoEnd-take 121 rest clean) clean (heard-heard rest)
-    ∙ ap heard (sym (unfinished-append input block))
+    ap (λ l. truncated (unfinished (l ++ block))) held ∙ unfinished-truncated (truncated rest) rest block (HasNoEnd-take 121 rest clean) clean (truncated-truncated rest)
+    ∙ ap truncated (sym (unfinished-append input block))
 
 -- a block was read, and its lines are answered
 pub Serving-more : (honest : Type 0) (first reader reader' begun writer writer' : Option (List ℕ)) (old now new : OnDisk) (line block line' : List ℕ) (count more total : ℕ)
@@ -128,8 +128,8 @@ Serving-breaks honest first reader reader' begun writer writer' old now new line
     }
 
 -- the last line of the input by what is held of it
-last_held : (input line : List ℕ) → line ≡ heard (unfinished input) → last_line line ≡ last_line (unfinished input)
-last_held input line held = ap last_line held ∙ last_line-heard (heard (unfinished input)) (unfinished input) (heard-heard (unfinished input))
+last_held : (input line : List ℕ) → line ≡ truncated (unfinished input) → last_line line ≡ last_line (unfinished input)
+last_held input line held = ap last_line held ∙ last_line-truncated (truncated (unfinished input)) (unfinished input) (truncated-truncated (unfinished input))
 
 -- the answer to the last line was not written whole
 pub Serving-last_breaks : (honest : Type 0) (first reader reader' begun writer writer' : Option (List ℕ)) (old now new : OnDisk) (line : List ℕ) (count : ℕ)

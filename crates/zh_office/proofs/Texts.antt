@@ -8,7 +8,7 @@ use Rattle.std.proofs.lemmas.Bool.{eqb-true}
 use Rattle.std.proofs.lemmas.List.{append-nil, take-take, take_min, take_all, length-take-le, take-append-drop, get_or-take}
 use Rattle.std.proofs.Math.Seq.{take-append-add}
 use Rattle.std.proofs.Math.Nat.{min_comm}
-use Rattle.zh_office.specs.Text.{HasNoEnd, onto_first, ended, unfinished, heard, ended_lines, last_line}
+use Rattle.zh_office.specs.Text.{HasNoEnd, onto_first, ended, unfinished, truncated, ended_lines, last_line}
 
 or_false : (a b : Bool) → a || b ≡ false → (a ≡ false) × (b ≡ false)
 or_false false b h = (refl, h)
@@ -121,44 +121,44 @@ take-append_same (suc n) (x ∷ p) (y ∷ u) b h =
     rw (heads, take-append_same n p u b tails) refl
 
 -- what counts of the ended lines depends on what counts of the unfinished line before them
-pub ended_lines-heard : (p u b : List ℕ) → HasNoEnd p → HasNoEnd u → heard p ≡ heard u → ended_lines (p ++ b) ≡ ended_lines (u ++ b)
-ended_lines-heard p u [] hp hu h = rw (append-nil p, append-nil u, ended_none p hp, ended_none u hu) refl
-ended_lines-heard p u (byte ∷ b) hp hu h =
+pub ended_lines-truncated : (p u b : List ℕ) → HasNoEnd p → HasNoEnd u → truncated p ≡ truncated u → ended_lines (p ++ b) ≡ ended_lines (u ++ b)
+ended_lines-truncated p u [] hp hu h = rw (append-nil p, append-nil u, ended_none p hp, ended_none u hu) refl
+ended_lines-truncated p u (byte ∷ b) hp hu h =
     elim (byte == 10) as (λ v. byte == 10 ≡ v → ended_lines (p ++ byte ∷ b) ≡ ended_lines (u ++ byte ∷ b)) [
       | true ↦ λ is. let lf : byte ≡ 10 = eqb-true byte 10 is in rw (lf, ended_first p b hp, ended_first u b hu, h) refl
       | false ↦ λ is.
           let one : HasNoEnd (byte ∷ []) = rw is refl in
-          let more = ended_lines-heard (p ++ byte ∷ []) (u ++ byte ∷ []) b (HasNoEnd-append p (byte ∷ []) hp one) (HasNoEnd-append u (byte ∷ []) hu one) (take-append_same 121 p u (byte ∷ []) h) in
+          let more = ended_lines-truncated (p ++ byte ∷ []) (u ++ byte ∷ []) b (HasNoEnd-append p (byte ∷ []) hp one) (HasNoEnd-append u (byte ∷ []) hu one) (take-append_same 121 p u (byte ∷ []) h) in
           subst (λ xs. ended_lines xs ≡ ended_lines (u ++ byte ∷ b)) (append_assoc p (byte ∷ []) b)
           (subst (λ xs. ended_lines ((p ++ byte ∷ []) ++ b) ≡ ended_lines xs) (append_assoc u (byte ∷ []) b) more)
     ] refl
 
--- and so does what counts of the unfinished line behind them
-pub unfinished-heard : (p u b : List ℕ) → HasNoEnd p → HasNoEnd u → heard p ≡ heard u → heard (unfinished (p ++ b)) ≡ heard (unfinished (u ++ b))
-unfinished-heard p u [] hp hu h = rw (append-nil p, append-nil u, unfinished_all p hp, unfinished_all u hu) h
-unfinished-heard p u (byte ∷ b) hp hu h =
-    elim (byte == 10) as (λ v. byte == 10 ≡ v → heard (unfinished (p ++ byte ∷ b)) ≡ heard (unfinished (u ++ byte ∷ b))) [
+-- and so does what counts of the unfinished line after them
+pub unfinished-truncated : (p u b : List ℕ) → HasNoEnd p → HasNoEnd u → truncated p ≡ truncated u → truncated (unfinished (p ++ b)) ≡ truncated (unfinished (u ++ b))
+unfinished-truncated p u [] hp hu h = rw (append-nil p, append-nil u, unfinished_all p hp, unfinished_all u hu) h
+unfinished-truncated p u (byte ∷ b) hp hu h =
+    elim (byte == 10) as (λ v. byte == 10 ≡ v → truncated (unfinished (p ++ byte ∷ b)) ≡ truncated (unfinished (u ++ byte ∷ b))) [
       | true ↦ λ is. let lf : byte ≡ 10 = eqb-true byte 10 is in rw (lf, unfinished_first p b hp, unfinished_first u b hu) refl
       | false ↦ λ is.
           let one : HasNoEnd (byte ∷ []) = rw is refl in
-          let more = unfinished-heard (p ++ byte ∷ []) (u ++ byte ∷ []) b (HasNoEnd-append p (byte ∷ []) hp one) (HasNoEnd-append u (byte ∷ []) hu one) (take-append_same 121 p u (byte ∷ []) h) in
-          subst (λ xs. heard (unfinished xs) ≡ heard (unfinished (u ++ byte ∷ b))) (append_assoc p (byte ∷ []) b)
-          (subst (λ xs. heard (unfinished ((p ++ byte ∷ []) ++ b)) ≡ heard (unfinished xs)) (append_assoc u (byte ∷ []) b) more)
+          let more = unfinished-truncated (p ++ byte ∷ []) (u ++ byte ∷ []) b (HasNoEnd-append p (byte ∷ []) hp one) (HasNoEnd-append u (byte ∷ []) hu one) (take-append_same 121 p u (byte ∷ []) h) in
+          subst (λ xs. truncated (unfinished xs) ≡ truncated (unfinished (u ++ byte ∷ b))) (append_assoc p (byte ∷ []) b)
+          (subst (λ xs. truncated (unfinished ((p ++ byte ∷ []) ++ b)) ≡ truncated (unfinished xs)) (append_assoc u (byte ∷ []) b) more)
     ] refl
 
--- a last line counts by what is heard of it
-pub last_line-heard : (a b : List ℕ) → heard a ≡ heard b → last_line a ≡ last_line b
-last_line-heard [] [] h = refl
-last_line-heard [] (y ∷ b) h = cc
-last_line-heard (x ∷ a) [] h = cc
-last_line-heard (x ∷ a) (y ∷ b) h = rw h refl
+-- a last line counts by what is truncated of it
+pub last_line-truncated : (a b : List ℕ) → truncated a ≡ truncated b → last_line a ≡ last_line b
+last_line-truncated [] [] h = refl
+last_line-truncated [] (y ∷ b) h = cc
+last_line-truncated (x ∷ a) [] h = cc
+last_line-truncated (x ∷ a) (y ∷ b) h = rw h refl
 
-pub heard-heard : (a : List ℕ) → heard (heard a) ≡ heard a
-heard-heard a = take-take 121 121 a (lit≤ tt)
+pub truncated-truncated : (a : List ℕ) → truncated (truncated a) ≡ truncated a
+truncated-truncated a = take-take 121 121 a (lit≤ tt)
 
 -- a line that has room takes as many bytes as it has room for
-pub heard-room : (n room : ℕ) (line more : List ℕ) → room + length line ≡ n → take n (line ++ more) ≡ line ++ take (min (length more) room) more
-heard-room n room line more h =
+pub truncated-room : (n room : ℕ) (line more : List ℕ) → room + length line ≡ n → take n (line ++ more) ≡ line ++ take (min (length more) room) more
+truncated-room n room line more h =
     let whole : length line + room ≡ n = omega (arith, h) in
     rw (← whole, take-append-add line more room, min_comm (length more) room, take_min room more) refl
 

@@ -3,7 +3,7 @@ use Rattle.std.specs.Prelude.{◌≡◌, ◌<◌, ◌⊎◌, ◌-◌, ◌^◌, �
 use Rattle.std.specs.Io.KnownBytes.{Appends, Consumes, IsAtEnd}
 use Rattle.zh_commands.specs.declared.output.WriteFault.{WriteFault}
 use Rattle.zh_ledger.specs.Submissions.{Log, followed_by, IsLogged}
-use Rattle.zh_office.specs.Text.{lines_of, ended_lines, heard, unfinished}
+use Rattle.zh_office.specs.Text.{lines_of, ended_lines, truncated, unfinished}
 use Rattle.zh_office.specs.Office.{command_read}
 use Rattle.zh_office.specs.Runs.{OnDisk, Runs, Turn, ledger_of, logged, text_after}
 use Rattle.zh_answers.specs.declared.answer.Answer.{Answer}
@@ -72,5 +72,5 @@ pub record TakesBlock (honest : Type 0) (writer writer' : Option (List ℕ)) (ol
   pub log : Log
   pub written : Appends writer writer' out
   pub run : Runs honest old (ended_lines (line ++ block)) out log new
-  pub left : line' ≡ heard (unfinished (line ++ block))
+  pub left : line' ≡ truncated (unfinished (line ++ block))
   pub counted : count ≡ length (ended_lines (line ++ block))

@@ -22,17 +22,17 @@ unfinished [] = []
 unfinished (byte ∷ text) = if list_any (λ b. b == 10) (byte ∷ text) then unfinished text else byte ∷ text
 
 -- of a line the first 121 bytes count
-abbrev pub heard : List ℕ → List ℕ
-heard line = take 121 line
+abbrev pub truncated : List ℕ → List ℕ
+truncated line = take 121 line
 
 -- the lines that are ended, as they count
 abbrev pub ended_lines : List ℕ → List (List ℕ)
-ended_lines text = map heard (ended text)
+ended_lines text = map truncated (ended text)
 
 -- a last line that isn't ended counts where it has a byte
 abbrev pub last_line : List ℕ → List (List ℕ)
 last_line [] = []
-last_line (byte ∷ line) = heard (byte ∷ line) ∷ []
+last_line (byte ∷ line) = truncated (byte ∷ line) ∷ []
 
 -- the lines of a whole text, as they count
 abbrev pub lines_of : List ℕ → List (List ℕ)

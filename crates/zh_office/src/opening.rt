@@ -47,7 +47,7 @@ impl<'s> Office<'s> {
         Ledger::format(alloc, setup, disk)
     }
 
-    /// Opens the office that stands on a disk, as `Ledger::open` does. All memory is taken before the first call of the
+    /// Opens the office that a disk holds, as `Ledger::open` does. All memory is taken before the first call of the
     /// device.
     pub fn open<D: Disk>(
         alloc: Global,

@@ -1,20 +1,20 @@
 //! The part of a line that counts.
 
 ghost use Rattle.std.specs.Prelude.{◌≡◌, ◌++◌, ◌∷◌, MatchOption};
-ghost use Rattle.zh_office.specs.Text.{heard, HasNoEnd};
+ghost use Rattle.zh_office.specs.Text.{truncated, HasNoEnd};
 
 use arrayvec::ArrayVec;
 use memchr::memchr;
 
 /// How many bytes of a line count: one more than a line may have, so that a longer one is noticed.
-pub(crate) const HEARD: usize = 121;
+pub(crate) const LINE_BYTES: usize = 121;
 
 /// The bytes that count of a line that isn't ended yet.
-pub(crate) type Line = ArrayVec<u8, HEARD>;
+pub(crate) type PartialLine = ArrayVec<u8, LINE_BYTES>;
 
 /// Takes more bytes of a line.
-pub(crate) fn hear(line: &mut Line, more: &[u8])
-    ensures { line.new.items ≡ heard (line.old.items ++ more.now) }
+pub(crate) fn extend_line(line: &mut PartialLine, more: &[u8])
+    ensures { line.new.items ≡ truncated (line.old.items ++ more.now) }
 {
     let count = more.len().min(line.remaining_capacity());
     line.try_extend_from_slice(&more[..count]).unwrap();

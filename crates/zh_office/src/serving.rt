@@ -8,7 +8,7 @@ ghost use Rattle.zh_office.specs.Runs.{Runs, on_disk};
 ghost use Rattle.zh_office.specs.Served.{TakesBlock, BreaksOff, ServesAll, ServesEnded, ServesFront, Writes};
 
 use crate::office::Office;
-use crate::partial_line::{Line, hear, split_line};
+use crate::partial_line::{PartialLine, extend_line, split_line};
 use std::io::{Read, Write};
 use thiserror::Error;
 use zh_answers::Answer;
@@ -70,7 +70,7 @@ impl<'s> Office<'s> {
     /// Answers the lines that end in a block of bytes after those of `line`, and keeps the bytes of the line after them.
     fn take_block<W: Write, D: Disk>(
         &mut self,
-        line: &mut Line,
+        line: &mut PartialLine,
         block: &[u8],
         writer: &mut W,
         disk: &mut D,
@@ -84,20 +84,20 @@ impl<'s> Office<'s> {
         let mut rest = block;
         let mut count = 0;
         while let Some((ended, others)) = split_line(rest) {
-            hear(line, ended);
+            extend_line(line, ended);
             self.answer(line, writer, disk)?;
             line.clear();
             rest = others;
             count += 1;
         }
-        hear(line, rest);
+        extend_line(line, rest);
         Ok(count)
     }
 
-    /// Answers a last line that isn't ended, where it has a byte, and tells how many lines that is.
+    /// Answers a last line that has not ended, if it has a byte, and returns how many lines that is.
     fn finish<W: Write, D: Disk>(
         &mut self,
-        line: &Line,
+        line: &PartialLine,
         writer: &mut W,
         disk: &mut D,
     ) -> Result<u64, WriteFault>
@@ -138,7 +138,7 @@ impl<'s> Office<'s> {
             (W.contents writer.old) (W.contents writer.new) (on_disk self.old (D.failures disk.old) (D.trail disk.old)) (on_disk self.new (D.failures disk.new) (D.trail disk.new)) }
     {
         let mut block = blank_block();
-        let mut line = Line::new();
+        let mut line = PartialLine::new();
         let mut count: u64 = 0;
         for _ in 0..turns {
             let Ok(len) = reader.read(&mut block) else {

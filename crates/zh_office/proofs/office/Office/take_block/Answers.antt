@@ -16,18 +16,18 @@ returns-in_err-answer g c =
     let p = err_from_is_err_and c.from_residual.result c.from_residual.ensures.1 in
     rw p.1 (record {
       kept = λ h. c.loop-ended.invariant.kept (c.answer.ensures.kept h);
-      taken = Progress-failed _ _ _ _ _ _ _ _ _ _ _ _ _ _ _ _ _ (Progress-map _ _ c.answer.ensures.kept _ _ _ _ _ _ _ _ _ c.loop-ended.invariant.progress) c.in-Some.ensures.0 c.in-Some.ensures.1 (c.deref.ensures.0 ∙ c.hear.ensures) c.answer.ensures.written c.in_err-answer.was;
+      taken = Progress-failed _ _ _ _ _ _ _ _ _ _ _ _ _ _ _ _ _ (Progress-map _ _ c.answer.ensures.kept _ _ _ _ _ _ _ _ _ c.loop-ended.invariant.progress) c.in-Some.ensures.0 c.in-Some.ensures.1 (c.deref.ensures.0 ∙ c.extend_line.ensures) c.answer.ensures.written c.in_err-answer.was;
     })
 
 pub loop-ended-preserved : goal.loop-ended-preserved
 loop-ended-preserved g c = record {
   kept = λ h. c.loop-ended.invariant.kept (c.answer.ensures.kept h);
-  progress = rw c.clear.ensures (Progress-answered _ _ _ _ _ _ _ _ _ _ _ _ _ _ _ _ _ (Progress-map _ _ c.answer.ensures.kept _ _ _ _ _ _ _ _ _ c.loop-ended.invariant.progress) c.in-Some.ensures.0 c.in-Some.ensures.1 (c.deref.ensures.0 ∙ c.hear.ensures) c.answer.ensures.written c.in_ok-answer.was);
+  progress = rw c.clear.ensures (Progress-answered _ _ _ _ _ _ _ _ _ _ _ _ _ _ _ _ _ (Progress-map _ _ c.answer.ensures.kept _ _ _ _ _ _ _ _ _ c.loop-ended.invariant.progress) c.in-Some.ensures.0 c.in-Some.ensures.1 (c.deref.ensures.0 ∙ c.extend_line.ensures) c.answer.ensures.written c.in_ok-answer.was);
   room = omega (arith, c.loop-ended.invariant.room, simp length-append at (ap length c.in-Some.ensures.1));
 }
 
 pub returns : goal.returns
-returns g c = record { kept = c.loop-ended.invariant.kept; taken = rw c.hear-2.ensures (Progress-end _ _ _ _ _ _ _ _ _ _ c.loop-ended.invariant.progress c.in_default.ensures) }
+returns g c = record { kept = c.loop-ended.invariant.kept; taken = rw c.extend_line-2.ensures (Progress-end _ _ _ _ _ _ _ _ _ _ c.loop-ended.invariant.progress c.in_default.ensures) }
 
 pub loop-ended-smaller : goal.loop-ended-smaller
 loop-ended-smaller g c = grind (arith, common_steps)

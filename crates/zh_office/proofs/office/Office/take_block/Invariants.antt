@@ -1,5 +1,5 @@
 use Rattle.std.proofs.Common.{◌++◌, ◌+◌, ◌≤◌, length}
-use Rattle.zh_office.specs.Text.{ended_lines, heard, unfinished}
+use Rattle.zh_office.specs.Text.{ended_lines, truncated, unfinished}
 use Rattle.zh_office.specs.Runs.{on_disk}
 use Rattle.zh_office.proofs.Blocks.{Progress}
 use Rattle.zh_office.proofs.office.Office.take_block.Given as goal
@@ -12,7 +12,7 @@ invariant-loop-ended g l =
     let line = l.fn.line.items in
     record {
       kept : g.D.Disk.honest l.disk → g.D.Disk.honest l.fn.disk;
-      progress : Progress (g.D.Disk.honest l.disk) (contents l.fn.writer) (contents l.writer) (on_disk l.fn.self (failures l.fn.disk) (trail l.fn.disk)) (on_disk l.self (failures l.disk) (trail l.disk)) (ended_lines (line ++ l.block)) (heard (unfinished (line ++ l.block))) l.line.items l.rest l.count;
+      progress : Progress (g.D.Disk.honest l.disk) (contents l.fn.writer) (contents l.writer) (on_disk l.fn.self (failures l.fn.disk) (trail l.fn.disk)) (on_disk l.self (failures l.disk) (trail l.disk)) (ended_lines (line ++ l.block)) (truncated (unfinished (line ++ l.block))) l.line.items l.rest l.count;
       room : l.count + length l.rest ≤ length l.block;
     }
 
