@@ -38,15 +38,16 @@ runs_on_file h nothing r r' w w' canton bytes first last result ended limits beg
 
 -- a formatting of a disk that began as a file did
 pub formats_file : (canton : Canton) (bytes : List ℕ) (first last : Trail) (result ended : Result (Unit {0}) FormatFault) → IsCanton canton → BeginsOrFills bytes first → result ≡ ended
-    → FormatsBlank canton first last → OnOk result ((c : List ℕ) → IsImage last.now c → IsNew canton c) → OnOk result (last.now.pending ≡ []) → (IsErrOf result formatting.InUse → IsBlank first.now.bytes → ⊥)
+    → FormatsBlank canton first last → OnOk result (IsBlank first.now.bytes) → OnOk result ((c : List ℕ) → IsImage last.now c → IsNew canton c) → OnOk result (last.now.pending ≡ []) → (IsErrOf result formatting.InUse → IsBlank first.now.bytes → ⊥)
     → FormatsFile bytes last ended
-formats_file canton bytes first last result ended limits begins is moments formatted settled in_use =
+formats_file canton bytes first last result ended limits begins is moments blank formatted settled in_use =
     subst (λ (x : Result (Unit {0}) FormatFault). FormatsFile bytes last x) is (record {
       canton = canton;
       limits = limits;
       first = first;
       begins = begins;
       moments = moments;
+      blank = blank;
       formatted = formatted;
       settled = settled;
       in_use = in_use;

@@ -36,7 +36,7 @@ IsEarly (faults.Load fault) = ⊥
 IsEarly (faults.Export fault) = ⊥
 IsEarly fault = Unit {0}
 
--- the office that stood on a file which held these bytes as it was opened, and has the last trail in the end
+-- the office that was kept on a file which held these bytes as it was opened, and has the last trail in the end
 abbrev pub IsOnFile : Type 0 → List ℕ → Trail → OnDisk → OnDisk → Type 0
 IsOnFile honest bytes last start end = (canton : Canton) × IsCanton canton × IsFrom honest canton (fresh_trail bytes) last start end
 
@@ -52,6 +52,7 @@ pub record FormatsFile (bytes : List ℕ) (last : Trail) (result : Result (Unit 
   pub first : Trail
   pub begins : BeginsOrFills bytes first
   pub moments : FormatsBlank canton first last
+  pub blank : OnOk result (IsBlank first.now.bytes)
   pub formatted : OnOk result ((c : List ℕ) → IsImage last.now c → IsNew canton c)
   pub settled : OnOk result (last.now.pending ≡ [])
   pub in_use : IsErrOf result formatting.InUse → IsBlank first.now.bytes → ⊥

@@ -12,7 +12,7 @@ returns-in_err-done g c =
       c.format_blank-done.new.disk,
       c.hand_over.ensures,
       λ h. formats_file c.in_ok-setup.setup _ _ _ _ _ c.in_ok-setup.ensures.limits (c.in_ok-disk.ensures.begins (done.kept h)) ended
-          (done.any_moment h) (done.formatted h) (done.settled h) (done.in_use h),
+          (done.any_moment h) (done.blank h) (done.formatted h) (done.settled h) (done.in_use h),
     )
 
 pub returns : goal.returns
@@ -22,5 +22,5 @@ returns g c =
       c.format_blank-done.new.disk,
       c.hand_over.ensures,
       λ h. formats_file c.in_ok-setup.setup _ _ _ _ _ c.in_ok-setup.ensures.limits (c.in_ok-disk.ensures.begins (done.kept h)) ended
-          (done.any_moment h) (done.formatted h) (done.settled h) (done.in_use h),
+          (done.any_moment h) (done.blank h) (done.formatted h) (done.settled h) (done.in_use h),
     )
