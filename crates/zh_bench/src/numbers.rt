@@ -1,4 +1,4 @@
-//! Numbers without a pattern to the eye, the same ones from each start.
+//! Pseudo-random numbers, the same ones from each start.
 ghost use Rattle.std.specs.Prelude.{◌≤◌};
 
 #[derive(Drop)]

@@ -1,4 +1,4 @@
--- The words of a line: parted by one space each, 32.
+-- The words of a line, separated by one space each, 32.
 use Rattle.std.specs.Prelude.{◌==◌, ◌^◌, ◌<◌, ℕ, List, [], ◌∷◌, ◌++◌, decimal, All}
 use Rattle.std.specs.List.{before_first}
 

@@ -66,7 +66,7 @@ fn load_text<O: Write, D: Disk>(
     }
 }
 
-/// Opens the office that stands on a disk, loads the text of a file, and writes the reply.
+/// Opens the office that a disk holds, loads the text of a file, and writes the reply.
 pub fn load_on<O: Write, D: Disk>(
     rt: &HostRuntime,
     alloc: Global,
@@ -92,7 +92,7 @@ fn write_held<O: Write>(alloc: Global, office: &Office<'_>, out: &mut O) -> Resu
     Ok(())
 }
 
-/// Opens the office that stands on a disk, and writes what it holds.
+/// Opens the office that a disk holds, and writes what it holds.
 pub fn export_from<O: Write, D: Disk>(
     alloc: Global,
     setup: &Setup,

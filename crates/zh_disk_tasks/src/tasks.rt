@@ -46,7 +46,7 @@ pub fn format_blank<D: Disk>(alloc: Global, setup: &Setup, disk: &mut D) -> Resu
     }
 }
 
-/// Opens the office that stands on a disk, and serves the lines of the input.
+/// Opens the office that a disk holds, and serves the lines of the input.
 pub fn serve_on<I: Read, O: Write, D: Disk>(
     alloc: Global,
     setup: &Setup,

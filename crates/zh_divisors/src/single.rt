@@ -12,8 +12,8 @@ use std::alloc::Global;
 /// The seats of a house in proportion to weights, rounded to the nearest (GPR sections 88 and 103).
 ///
 /// The divisor is shown as the sum of two weights over the sum of their seats, not reduced: of the weight
-/// whose last seat is worth least, and of the weight whose next seat would be worth most. `Tied` stands
-/// where no divisor rounds without a half, and `Memory` can come in place of every other answer.
+/// whose last seat is worth least, and of the weight whose next seat would be worth most. `Tied` is returned
+/// if no divisor rounds without a half, and `Memory` can come in place of every other answer.
 pub fn apportion(alloc: Global, weights: &Weights, house: u32) -> Result<Shares, ShareFault>
     requires at_least_one { 1 ≤ house }
     requires at_most_400 { house ≤ 400 }
@@ -22,7 +22,7 @@ pub fn apportion(alloc: Global, weights: &Weights, house: u32) -> Result<Shares,
     ensures divisor { IfOk result (HasDivisor weights.now) }
     ensures rounds { IfOk result (RoundsEach weights.now) }
 
-    // Memory aside, the one answer stands exactly where the other does not.
+    // Memory aside, exactly one of the two answers is possible.
     ensures untied { IfOk result (λ _. ¬ IsTied weights.now house) }
     ensures tied { IsErrOf result ShareFault.Tied → IsTied weights.now house }
     ensures no_strict { IsErrOf result ShareFault.Tied →

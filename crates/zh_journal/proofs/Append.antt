@@ -22,7 +22,7 @@ pub frames_le : (base : ℕ) (c : List ℕ) (i : ℕ) (rs : List (List ℕ)) (j 
 frames_le base c i [] j frames = omega arith
 frames_le base c i (r ∷ rs) j frames = omega (arith, frames_le base c (i + pages_of (length r)) rs j frames.1.1)
 
--- records depend on nothing behind them
+-- records depend on nothing after them
 pub frames_same : (base : ℕ) (c d : List ℕ) (j : ℕ) → length c ≡ length d → base + 256 * j ≤ length c → ((k : ℕ) → base ≤ k → k < base + 256 * j → slice_index c k ≡ slice_index d k)
     → (i : ℕ) (rs : List (List ℕ)) → Frames base c i rs j → Frames base d i rs j
 frames_same base c d j long fits same i [] frames = frames

@@ -65,7 +65,7 @@ pub zeros_at : (m k : ℕ) → slice_index (zeros m) k ≡ 0
 unfolding zeros
 zeros_at m k = all_zero m k
 
--- zeros behind a list read like its end
+-- zeros after a list read like its end
 pub padded : (xs : List ℕ) (m k : ℕ) → slice_index (xs ++ zeros m) k ≡ slice_index xs k
 padded [] m k = zeros_at m k
 padded (x ∷ xs) m zero = refl

@@ -36,7 +36,7 @@ bodies_at (suc n) c at (suc x) y in_n low fits =
     get_or-append_right (slice_range c (at + 1) (at + 256)) (bodies n c (at + 256)) 255 (255 * suc x + y) 0 wide (omega arith)
     ∙ ap (slice_index (bodies n c (at + 256))) e ∙ bodies_at n c (at + 256) x y (omega arith) low (omega arith) ∙ ap (slice_index c) f
 
--- byte k of a record stands behind the three bytes of its head and the gates up to that of its page
+-- byte k of a record comes after the three bytes of its head and the gates up to that of its page
 staged_at : (b : List ℕ) (at : ℕ) (r : List ℕ) (k : ℕ) → IsStaged b at r → at + 256 * pages_of (length r) ≤ length b → k < length r → slice_index r k ≡ slice_index b (at + 4 + k + (k + 3) / 255)
 staged_at b at r k staged fits low =
     let pages = pages_of (length r) in

@@ -2,7 +2,7 @@
 use thiserror::Error;
 use zh_disk::DiskFault;
 
-/// Reading or clearing.
+/// Why an area was not read or cleared.
 #[derive(Clone, Copy, Debug, PartialEq, Eq, Error)]
 pub enum AreaFault {
     #[error("the device failed")]
@@ -20,7 +20,7 @@ impl From<DiskFault> for AreaFault {
     }
 }
 
-/// Opening.
+/// Why an area was not opened.
 #[derive(Clone, Copy, Debug, PartialEq, Eq, Error)]
 pub enum OpenFault {
     #[error("the device failed")]
@@ -41,7 +41,7 @@ impl From<DiskFault> for OpenFault {
     }
 }
 
-/// Appending.
+/// Why a record was not appended.
 #[derive(Clone, Copy, Debug, PartialEq, Eq, Error)]
 pub enum AppendFault {
     #[error("the device failed")]

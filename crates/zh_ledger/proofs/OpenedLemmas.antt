@@ -94,12 +94,12 @@ damaged_one canton bytes x j long framed wrong = record {
 pub left_there : (old new : Moment) (s : State) (rest : Rest) (x : Content) (j : ℕ) → new ≡ settled old.bytes → IsFramed x j old.bytes → Fits s x j old.bytes → Frames 0 rest.pages rest.page x.records rest.end → IsLeft s rest x new.bytes
 left_there old new s rest x j is framed fits left = subst (λ (m : Moment). IsLeft s rest x m.bytes) (sym is) (record { end = j; framed = framed; fits = fits; left = left })
 
--- what a comparison with the set-up bytes told
-pub setup_told : (equal : Bool) (setup given spelled : List ℕ) → IsTrue equal ↔ (setup ≡ given) → given ≡ spelled → equal ≡ true → setup ≡ spelled
-setup_told equal setup given spelled told is right = told.0 right ∙ is
+-- what a comparison with the set-up bytes shows
+pub setup_equal : (equal : Bool) (setup given spelled : List ℕ) → IsTrue equal ↔ (setup ≡ given) → given ≡ spelled → equal ≡ true → setup ≡ spelled
+setup_equal equal setup given spelled told is right = told.0 right ∙ is
 
-pub setup_untold : (equal : Bool) (setup given spelled : List ℕ) → IsTrue equal ↔ (setup ≡ given) → given ≡ spelled → equal ≡ false → setup ≡ spelled → ⊥
-setup_untold equal setup given spelled told is wrong same = let right = told.1 (same ∙ sym is) in cc
+pub setup_differs : (equal : Bool) (setup given spelled : List ℕ) → IsTrue equal ↔ (setup ≡ given) → given ≡ spelled → equal ≡ false → setup ≡ spelled → ⊥
+setup_differs equal setup given spelled told is wrong same = let right = told.1 (same ∙ sym is) in cc
 
 -- what was read of a disk: a content with this set-up, and its snapshot
 pub record IsRead (canton : Canton) (x : Content) (payload : List ℕ) : Type 0 where

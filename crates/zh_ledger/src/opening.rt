@@ -52,7 +52,7 @@ impl<'s> Ledger<'s> {
         Store::format(alloc, disk, &bytes, &first)
     }
 
-    /// Opens the ledger that stands on a disk: a sync, then reads alone. Memory is taken before the first of them.
+    /// Opens the ledger that a disk holds: a sync, then reads alone. Memory is taken before the first of them.
     ///
     /// `Blank` comes where the disk gate is closed; `Damaged` where header, slot or records break a rule of
     /// docs/FORMATS.md; `SetupDiffers` where they are right and the disk's set-up is another; and `Damaged` again where

@@ -68,8 +68,8 @@ fn seats_by_search(alloc: Global, question: &Question<'_>) -> Result<Lower, Lowe
 /// The seats of each group in each constituency (GPR section 104), with divisors that give them.
 ///
 /// The votes of each cell over its two divisors round to its seats, none on a half, and all totals are met.
-/// No other seats follow from any divisors, of any scale. `Tied` stands where some divisors give two
-/// different matrices, `Exhausted` where no state of the search (docs/DEFINITIONS.md) gives seats, and
+/// No other seats follow from any divisors, of any scale. `Tied` is returned if some divisors give two
+/// different matrices, `Exhausted` if no state of the search (docs/DEFINITIONS.md) gives seats, and
 /// `Memory` can come in place of every answer but `NoVotes`.
 pub fn find(
     alloc: Global,

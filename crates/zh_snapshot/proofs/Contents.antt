@@ -19,7 +19,7 @@ use Rattle.zh_snapshot.specs.Image.{Content, IsFramed, header_bytes, setup_lengt
 use Rattle.zh_snapshot.proofs.Ranges.{slice_part}
 use Rattle.zh_snapshot.proofs.SlotLemmas.{bounds, in_use_once, held}
 
--- the header tells the length
+-- the header gives the length
 length_given : (c : List ℕ) (len : ℕ) → length c ≡ 1118720 → len ≤ 65536 → slice_range c 1 15 ≡ header_bytes len → setup_length_of c ≡ len
 length_given c len long most header =
     let part : slice_range c 11 15 ≡ to_be_bytes w32 len = sym (slice_part c (slice_range c 1 15) 1 14 10 14 refl (omega arith) (omega arith) (omega arith)) ∙ ap (λ (l : List ℕ). slice_range l 10 14) header in

@@ -4,7 +4,7 @@ use thiserror::Error;
 use zh_disk::DiskFault;
 use zh_journal::AreaFault;
 
-/// Formatting.
+/// Why a disk was not formatted.
 #[derive(Clone, Copy, Debug, PartialEq, Eq, Error)]
 pub enum FormatFault {
     #[error("out of memory")]
@@ -46,7 +46,7 @@ impl From<AreaFault> for FormatFault {
     }
 }
 
-/// Opening.
+/// Why a store was not opened.
 #[derive(Clone, Copy, Debug, PartialEq, Eq, Error)]
 pub enum OpenFault {
     #[error("the device failed")]
@@ -54,7 +54,7 @@ pub enum OpenFault {
     /// The disk gate is closed.
     #[error("the disk is blank")]
     Blank,
-    /// The disk gate is open, and what stands after it breaks a rule of the format.
+    /// The disk gate is open, and what comes after it breaks a rule of the format.
     #[error("the disk is damaged")]
     Damaged,
     #[error("out of memory")]
@@ -96,7 +96,7 @@ impl From<zh_journal::OpenFault> for OpenFault {
     }
 }
 
-/// Reading.
+/// Why a store was not read.
 #[derive(Clone, Copy, Debug, PartialEq, Eq, Error)]
 pub enum StoreFault {
     #[error("the device failed")]
@@ -125,7 +125,7 @@ impl From<AreaFault> for StoreFault {
     }
 }
 
-/// Appending.
+/// Why a record was not appended.
 #[derive(Clone, Copy, Debug, PartialEq, Eq, Error)]
 pub enum AppendFault {
     #[error("the device failed")]
@@ -138,7 +138,7 @@ pub enum AppendFault {
     Broken,
 }
 
-/// Switching.
+/// Why a store did not switch slots.
 #[derive(Clone, Copy, Debug, PartialEq, Eq, Error)]
 pub enum SwitchFault {
     #[error("the device failed")]

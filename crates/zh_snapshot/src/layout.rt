@@ -1,4 +1,4 @@
-// Where what stands on a disk.
+// Where everything lies on a disk.
 ghost use Rattle.std.specs.Prelude.{◌≡◌};
 ghost use Rattle.zh_snapshot.specs.Layout.{other, slot_at, generation_at, snapshot_at, journal_at};
 

@@ -4,14 +4,14 @@ use Rattle.zh_snapshot.specs.Image.{Content, IsFramed}
 use Rattle.zh_snapshot.specs.Slots.{IsInUse}
 use Rattle.zh_ledger.specs.declared.fault.OpenFault.TheVariants as faults
 use Rattle.zh_ledger.specs.Opened.{IsLeft}
-use Rattle.zh_ledger.proofs.OpenedLemmas.{IsRead, err_of, setup_told, setup_untold, wrong_snapshot, wrong_records, found_stands}
+use Rattle.zh_ledger.proofs.OpenedLemmas.{IsRead, err_of, setup_equal, setup_differs, wrong_snapshot, wrong_records, found_stands}
 use Rattle.zh_ledger.proofs.opening.read_count.Given.{Over}
 use Rattle.zh_ledger.proofs.opening.read_count.Goals.{In_ok-snapshot}
 use Rattle.zh_ledger.proofs.opening.read_count.Goals as goal
 
 pub returns-then-not-branch-clause-differs : goal.returns-then-not-branch-clause-differs
 returns-then-not-branch-clause-differs g c = λ h is x left.
-    setup_untold c.in_ok-setup_equals.field-0 x.setup c.args.setup.now _ (c.in_ok-setup_equals.ensures.equal h x left.end left.framed left.fits.setup) refl c.if-not-branch.true
+    setup_differs c.in_ok-setup_equals.field-0 x.setup c.args.setup.now _ (c.in_ok-setup_equals.ensures.equal h x left.end left.framed left.fits.setup) refl c.if-not-branch.true
 
 -- what was read before the count
 read_all : (g : Over) (c : In_ok-snapshot g) → g.D.Disk.honest c.snapshot.new.disk → (x : Content) → IsLeft c.args.store.now c.args.reader.now x (g.D.Disk.trail c.args.disk.now).now.bytes → IsRead c.args.count.now.canton x c.in_ok-snapshot.field-0.now
@@ -21,7 +21,7 @@ read_all g c h x left =
     let framed = subst (λ (t : Trail). IsFramed x left.end t.now.bytes) (sym (c.setup_equals.ensures.same h1)) left.framed in
     let used = subst (λ (t : Trail). IsInUse c.args.store.now.slot t.now.bytes) (sym (c.setup_equals.ensures.same h1)) left.fits.slot in
     record {
-      own = setup_told c.in_ok-setup_equals.field-0 x.setup c.args.setup.now _ told c.requires.setup c.if-not-branch.false;
+      own = setup_equal c.in_ok-setup_equals.field-0 x.setup c.args.setup.now _ told c.requires.setup c.if-not-branch.false;
       snapshot = c.in_ok-snapshot.ensures.payload h x left.end framed used;
     }
 
