@@ -1,6 +1,6 @@
 //! What a case works on: a set-up, a disk, and the office that is open there.
 
-use crate::device::{Device, NO_FUSE, device};
+use crate::device::{Device, device, whole};
 use crate::fault::Fault;
 use crate::image::{disk_of, image_of, put};
 use crate::program::push_lines;
@@ -9,7 +9,7 @@ use crate::words::read_place;
 use hex::encode;
 use std::alloc::Global;
 use zh_commands::write_reply;
-use zh_disk::{DISK_LENGTH, Stop};
+use zh_disk::{DISK_LENGTH, FuseDisk, MemoryDisk, Stop};
 use zh_districts::Setup;
 use zh_office::{FormatFault, Office, OpenFault};
 
@@ -164,19 +164,35 @@ impl<'s> Bench<'s> {
         Ok(answer)
     }
 
+    /// Takes the disk out of its fuse.
+    fn take_memory(&mut self) -> Result<MemoryDisk, Fault> {
+        Ok(self.disk.take().ok_or(NO_CASE)?.inner.into_inner())
+    }
+
     /// Lets the disk fail after so many calls.
-    pub(crate) fn fuse(&mut self, calls: u64) -> Result<&'static str, Fault> {
-        let disk = self.disk.take().ok_or(NO_CASE)?;
-        self.disk = Some(device(disk.inner.into_inner(), calls));
+    pub(crate) fn fail(&mut self, calls: u64) -> Result<&'static str, Fault> {
+        self.disk = Some(device(FuseDisk::new(self.take_memory()?, calls)));
+        Ok("ok")
+    }
+
+    /// Lets the disk fail in the call after so many, and work again.
+    pub(crate) fn fail_once(&mut self, calls: u64) -> Result<&'static str, Fault> {
+        self.disk = Some(device(FuseDisk::once(self.take_memory()?, calls)));
+        Ok("ok")
+    }
+
+    /// Lets the disk work again.
+    pub(crate) fn mend(&mut self) -> Result<&'static str, Fault> {
+        self.disk = Some(whole(self.take_memory()?));
         Ok("ok")
     }
 
     /// A power failure.
     pub(crate) fn stop(&mut self, how: Stop) -> Result<&'static str, Fault> {
         self.close();
-        let mut disk = self.disk.take().ok_or(NO_CASE)?.inner.into_inner();
+        let mut disk = self.take_memory()?;
         disk.stop(how);
-        self.disk = Some(device(disk, NO_FUSE));
+        self.disk = Some(whole(disk));
         Ok("ok")
     }
 

@@ -6,7 +6,7 @@ use zh_disk::{Disk, DiskFault, FuseDisk, MemoryDisk};
 pub(crate) type Device = CountingDisk<FuseDisk<MemoryDisk>>;
 
 /// So many calls are never made.
-pub(crate) const NO_FUSE: u64 = u64::MAX;
+const NO_FUSE: u64 = u64::MAX;
 
 /// Hands each call on to the disk inside, and counts the calls of each kind.
 #[derive(Drop)]
@@ -17,14 +17,19 @@ pub(crate) struct CountingDisk<D: Disk + Drop> {
     pub(crate) syncs: u64,
 }
 
-/// A disk that fails after so many calls. Nothing is counted yet.
-pub(crate) fn device(disk: MemoryDisk, calls: u64) -> Device {
+/// A disk that fails when its fuse does. Nothing is counted yet.
+pub(crate) fn device(fuse: FuseDisk<MemoryDisk>) -> Device {
     CountingDisk {
-        inner: FuseDisk::new(disk, calls),
+        inner: fuse,
         reads: 0,
         writes: 0,
         syncs: 0,
     }
+}
+
+/// A disk that does not fail.
+pub(crate) fn whole(disk: MemoryDisk) -> Device {
+    device(FuseDisk::new(disk, NO_FUSE))
 }
 
 impl<D: Disk + Drop> Disk for CountingDisk<D> {

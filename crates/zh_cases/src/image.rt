@@ -1,6 +1,6 @@
 //! The bytes of a case's disk.
 
-use crate::device::{Device, NO_FUSE, device};
+use crate::device::{Device, whole};
 use crate::fault::Fault;
 use std::alloc::Global;
 use zh_disk::{DISK_LENGTH, Disk, MemoryDisk};
@@ -10,7 +10,7 @@ pub(crate) fn disk_of(alloc: Global, image: &[u8]) -> Result<Device, Fault> {
     if image.len() as u64 != DISK_LENGTH {
         return Err(Fault::Text("a disk has another length"));
     }
-    Ok(device(MemoryDisk::new(alloc, image)?, NO_FUSE))
+    Ok(whole(MemoryDisk::new(alloc, image)?))
 }
 
 /// The bytes of a disk.

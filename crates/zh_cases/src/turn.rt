@@ -1,7 +1,6 @@
 //! A turn: what is done, and the answer that is expected.
 
 use crate::bench::Bench;
-use crate::device::NO_FUSE;
 use crate::fault::Fault;
 use crate::files::{act_on_files, save};
 use crate::lines::Line;
@@ -59,8 +58,9 @@ fn act_on_disk(
     rest: &str,
 ) -> Result<&'static str, Fault> {
     match word {
-        "fuse" => bench.fuse(read_number(rest)?),
-        "mend" => bench.fuse(NO_FUSE),
+        "fuse" => bench.fail(read_number(rest)?),
+        "once" => bench.fail_once(read_number(rest)?),
+        "mend" => bench.mend(),
         "stop" => bench.stop(read_stop(rest)?),
         "poke" => bench.poke(rest),
         "damage" => bench.damage(rest),
