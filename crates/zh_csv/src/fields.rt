@@ -15,8 +15,8 @@ const FIELDS: usize = 4;
 
 /// A field of a record.
 fn field(record: &ByteRecord, place: usize) -> &[u8]
-    requires { place < length (fields_of record.now) }
-    ensures { result.now ≡ get_or (fields_of record.now) place [] }
+    requires { place < length (fields_of «record».now) }
+    ensures { result.now ≡ get_or (fields_of «record».now) place [] }
 {
     record.get(place).unwrap()
 }
@@ -33,7 +33,7 @@ fn are_names(municipality: &[u8], list: &[u8], number: &[u8], votes: &[u8]) -> b
 
 /// Whether a record is the names of the columns.
 pub(crate) fn is_names(record: &ByteRecord) -> bool
-    ensures { IsTrue result ↔ (fields_of record.now ≡ names) }
+    ensures { IsTrue result ↔ (fields_of «record».now ≡ names) }
 {
     record.len() == FIELDS
         && are_names(
@@ -46,10 +46,10 @@ pub(crate) fn is_names(record: &ByteRecord) -> bool
 
 /// The row whose numerals four fields are.
 fn row_in(record: &ByteRecord) -> Option<Row>
-    requires { length (fields_of record.now) ≡ FIELDS }
+    requires { length (fields_of «record».now) ≡ FIELDS }
     ensures { MatchOption result
-        ((row : Row) → IsReadable row → fields_of record.now ≢ fields row)
-        (λ row. IsReadable row × (fields_of record.now ≡ fields row)) }
+        ((row : Row) → IsReadable row → fields_of «record».now ≢ fields row)
+        (λ row. IsReadable row × (fields_of «record».now ≡ fields row)) }
 {
     let row = Row {
         municipality: numeral(field(record, 0))?,
@@ -63,8 +63,8 @@ fn row_in(record: &ByteRecord) -> Option<Row>
 /// The row of a record.
 pub(crate) fn row_of(record: &ByteRecord) -> Result<Row, LoadFault>
     ensures { MatchResult result
-        (λ row. IsReadable row × (fields_of record.now ≡ fields row))
-        (IsUnread (fields_of record.now)) }
+        (λ row. IsReadable row × (fields_of «record».now ≡ fields row))
+        (IsUnread (fields_of «record».now)) }
 {
     if record.len() != FIELDS {
         return Err(LoadFault::Csv);

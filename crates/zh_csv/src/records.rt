@@ -37,7 +37,7 @@ pub(crate) fn next_record<R: Read>(
     record: &mut ByteRecord,
 ) -> Result<bool, LoadFault>
     ensures { (text : List ℕ) (given : List Record) → HasRead R.remaining text given reader.old → MatchResult result
-        (λ found. MatchBool found (HasRead R.remaining text (given ++ fields_of record.new ∷ []) reader.new) (AreAll text given))
+        (λ found. MatchBool found (HasRead R.remaining text (given ++ fields_of «record».new ∷ []) reader.new) (AreAll text given))
         (GivesNone text given) }
 {
     match reader.read_byte_record(record) {
