@@ -1,5 +1,5 @@
 -- The order of keys.
-use Rattle.std.proofs.Common.{◌≡◌, ◌≢◌, ◌<◌, ◌≤◌, ◌+◌, ◌/◌, ◌%◌, ◌∙◌, ◌==◌, ◌&&◌, ℕ, true, false, List, length, get_or, take, sym, ap, refl, arith, inl, inr}
+use Rattle.std.proofs.Common.{◌≡◌, ◌<◌, ◌∙◌, ◌==◌, ◌&&◌, ℕ, true, false, List, length, get_or, take, sym, ap, arith, inl, inr}
 use Rattle.std.specs.Cmp.{IsTotalOrder, IsEquivalence, Equal-is, nat_cmp_total, tied_itself}
 use Rattle.std.specs.List.{IsDistinct, list_any}
 use Rattle.std.specs.Ordering.{nat_cmp, eq_by_cmp, is_eq}
