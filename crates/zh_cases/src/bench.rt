@@ -198,9 +198,7 @@ impl<'s> Bench<'s> {
 
     /// Puts bytes on the disk.
     pub(crate) fn poke(&mut self, text: &str) -> Result<&'static str, Fault> {
-        let (place, bytes) = read_place(self.alloc, text)?;
-        let mut image = self.image()?;
-        put(&mut image, place, &bytes)?;
+        let image = self.damaged(text)?;
         self.take_disk(&image)
     }
 
