@@ -2,6 +2,7 @@
 use Rattle.std.specs.Prelude.{◌≡◌, ◌⊎◌, ℕ, ◌<◌, ◌≤◌, Bool, true, false, List, length, Result, Ok, Err, IfOk}
 use Rattle.std.specs.FinSet as set
 use Rattle.zh_lower.specs.Divisors.{Divisors}
+use Rattle.zh_lower.specs.Outcomes.{IsReached}
 use Rattle.zh_lower.specs.SeatMatrix.{IsWeak}
 use Rattle.zh_returns.specs.Tally.{Tally}
 use Rattle.zh_totals.specs.Counting.{totals_of}
@@ -28,10 +29,12 @@ sheet_refusal (faults.NoVotes constituency) = refusals.NoVotes constituency
 sheet_refusal (faults.TiedLower constituency group) = refusals.TiedLower constituency group
 sheet_refusal faults.Exhausted = refusals.Exhausted
 
--- the distribution of the seats by these totals: each part follows from those before it, and no divisors lead to other seats
+-- the distribution of the seats by these totals: each part follows from those before it, no divisors lead to other seats,
+-- and those shown are the ones that the search comes to
 pub record IsSheetOf (totals : VoteTotals) (sheet : Distribution) : Type 0 where
   pub votes : sheet.totals ≡ totals
   pub meets : IsDistribution sheet
+  pub reached : IsReached (question_of sheet) sheet.lower.divisors
   pub one_answer : (divisors : Divisors) (seats : List ℕ) → IsWeak (question_of sheet) divisors seats → seats ≡ sheet.lower.seats
 
 -- a sheet of these totals, or the first reason why there is none

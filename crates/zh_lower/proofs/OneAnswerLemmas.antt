@@ -7,8 +7,10 @@ use Rattle.std.proofs.Math.Nat.{le_of_eq, le_of_lt, mul-pos, div-add-mod', mod-l
 use Rattle.zh_divisors.specs.Sums.{sum_to}
 use Rattle.zh_lower.specs.Divisors.{Divisors}
 use Rattle.zh_lower.specs.Question.{Question, cell}
-use Rattle.zh_lower.specs.SeatMatrix.{IsStrict, IsWeak}
+use Rattle.zh_lower.specs.Outcomes.{IsReached}
+use Rattle.zh_lower.specs.SeatMatrix.{IsStrict, IsWeak, SeatMatrix}
 use Rattle.zh_lower.proofs.CellLemmas.{fewer, more, chain, one_if, weighed}
+use Rattle.zh_lower.proofs.StateLemmas.{same-reached}
 use Rattle.zh_lower.proofs.SumLemmas.{total-add, same_cells, weigh_rows, weigh_columns, same_terms}
 
 -- where t is at most s in the rows of a and outside the columns of b, and at least s outside the rows and in the columns,
@@ -107,3 +109,27 @@ only_seats q x y s t S W =
 pub no_seats : (q : Question) (x : Divisors) (s t : List ℕ) → IsWeak q x s → IsWeak q x t → s ≢ t →
     (y : Divisors) (u : List ℕ) → ¬ IsStrict q y u
 no_seats q x s t S T differ y u strict = differ (only_seats q y x u s strict S ∙ sym (only_seats q y x u t strict T))
+
+weakened : (q : Question) (x : Divisors) (s : List ℕ) → IsStrict q x s → IsWeak q x s
+weakened q x s S = record {
+  one_each = S.one_each;
+  rows_add_up = S.rows_add_up;
+  columns_add_up = S.columns_add_up;
+  scale_positive = S.scale_positive;
+  row_divisors = S.row_divisors;
+  column_divisors = S.column_divisors;
+  each_rounds = λ d g dm gn. record {
+    to_upper = le_of_lt (S.each_rounds d g dm gn).below_upper;
+    from_lower = λ some. le_of_lt ((S.each_rounds d g dm gn).above_lower some);
+  };
+}
+
+-- of all divisors that the search comes to, one pair alone gives seats, and these are the only ones
+pub only_matrix : (q : Question) (one other : SeatMatrix) → IsReached q one.divisors → IsStrict q one.divisors one.seats →
+    IsReached q other.divisors → IsStrict q other.divisors other.seats → other ≡ one
+only_matrix q one other one_reached S other_reached T =
+    let divisors : other.divisors ≡ one.divisors
+    = same-reached q one.divisors other.divisors one.seats other.seats one_reached S other_reached T in
+    let seats : other.seats ≡ one.seats
+    = only_seats q one.divisors other.divisors one.seats other.seats S (weakened q other.divisors other.seats T) in
+    ap (λ x. record { seats = other.seats; divisors = x }) divisors ∙ ap (λ s. record { seats = s; divisors = one.divisors }) seats

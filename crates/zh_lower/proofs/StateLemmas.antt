@@ -1,11 +1,12 @@
 -- The states of a round.
-use Rattle.std.proofs.Common.{◌≡◌, ℕ, ◌+◌, ◌*◌, Option, Some, None, IfNone, inl, inr, refl, sym, ap, ◌∙◌, arith, add-one}
-use Rattle.std.proofs.lemmas.Bool.{cases_eq}
+use Rattle.std.proofs.Common.{◌≡◌, ℕ, ◌+◌, ◌*◌, ◌<◌, List, Option, Some, None, IfNone, inl, inr, refl, sym, ap, ◌∙◌, arith, add-one}
+use Rattle.std.proofs.lemmas.Bool.{cases_eq, cases_lt}
 use Rattle.std.proofs.Math.Nat.{mul-mod_right, mul-add-mod_self_left}
 use Rattle.zh_lower.specs.Divisors.{Divisors}
-use Rattle.zh_lower.specs.Outcomes.{GoesOn, HasNone, NoneBefore}
+use Rattle.zh_lower.specs.Outcomes.{EndsRound, GoesOn, HasNone, IsReached, NoneBefore}
 use Rattle.zh_lower.specs.Question.{Question}
-use Rattle.zh_lower.specs.States.{state, with_columns_renewed, with_rows_renewed}
+use Rattle.zh_lower.specs.SeatMatrix.{IsStrict}
+use Rattle.zh_lower.specs.States.{start, state, with_columns_renewed, with_rows_renewed}
 
 -- after an even number of half-steps come the columns
 state-columns : (q : Question) (n : ℕ) → state q (2 * n + 1) ≡ with_columns_renewed q (state q (2 * n))
@@ -53,3 +54,43 @@ goes_on q x y z None columns rows between after = record {
   none_between = rw (← columns) between;
   none_after = after;
 }
+
+-- the search comes to its start
+pub start-reached : (q : Question) (x : Divisors) → x ≡ start q → IsReached q x
+start-reached q x is = record {
+  half_steps = 0;
+  few = omega arith;
+  divisors = is;
+  none_before = λ k lt. absurd (omega (arith, lt));
+}
+
+-- and to the divisors at which a round ends, where the rounds before did not
+pub round-reached : (q : Question) (n : ℕ) (x y : Divisors) → n < 1000 → x ≡ state q (2 * n) → NoneBefore q (2 * n + 1) →
+    EndsRound q x y → IsReached q y
+round-reached q n x y few at before (inl columns) = record {
+  half_steps = 2 * n + 1;
+  few = omega (arith, few);
+  divisors = columns ∙ ap (λ z. with_columns_renewed q z) at ∙ sym (state-columns q n);
+  none_before = before;
+}
+round-reached q n x y few at before (inr (rows, none)) =
+    let between : state q (2 * n + 1) ≡ with_columns_renewed q x
+    = state-columns q n ∙ ap (λ z. with_columns_renewed q z) (sym at) in
+    record {
+      half_steps = 2 * n + 1 + 1;
+      few = omega (arith, few);
+      divisors = rows ∙ ap (λ z. with_rows_renewed q z) (sym between) ∙ sym (state-rows q n);
+      none_before = NoneBefore-more q (2 * n + 1) before (rw between none);
+    }
+
+-- of the divisors that it comes to, one pair alone gives seats
+pub same-reached : (q : Question) (x y : Divisors) (s t : List ℕ) → IsReached q x → IsStrict q x s → IsReached q y → IsStrict q y t → y ≡ x
+same-reached q x y s t X S Y T = elim (cases_lt X.half_steps Y.half_steps) [
+  | inl lt ↦ absurd (Y.none_before X.half_steps lt s (rw (← X.divisors) S))
+  | inr ge ↦ elim (cases_lt Y.half_steps X.half_steps) [
+    | inl lt ↦ absurd (X.none_before Y.half_steps lt t (rw (← Y.divisors) T))
+    | inr le ↦
+        let same : Y.half_steps ≡ X.half_steps = omega (arith, ge, le) in
+        Y.divisors ∙ ap (λ n. state q n) same ∙ sym X.divisors
+  ]
+]

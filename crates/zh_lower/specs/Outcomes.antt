@@ -1,5 +1,5 @@
 -- What the outcomes of an end test, of a round and of a search say.
-use Rattle.std.specs.Prelude.{◌≡◌, ◌≢◌, ℕ, ◌-◌, ◌*◌, ◌<◌, ◌≤◌, IsTrue, List, slice_index}
+use Rattle.std.specs.Prelude.{◌≡◌, ◌≢◌, ℕ, ◌-◌, ◌*◌, ◌<◌, ◌≤◌, ◌⊎◌, IsTrue, List, slice_index}
 use Rattle.zh_lower.specs.Divisors.{Divisors}
 use Rattle.zh_lower.specs.Question.{AreTotals, EachColumnHasVotes, EachRowHasVotes, Question, cell}
 use Rattle.zh_lower.specs.SeatMatrix.{IsStrict, IsWeak}
@@ -35,13 +35,12 @@ pub record AreTwoWays (q : Question) (x : Divisors) (seats others : List ℕ) : 
   pub other_way : IsWeak q x others
   pub differ : seats ≢ others
 
--- some divisors give two different matrices, and have their first quotient on a half in row d and column g
-pub record IsTied (q : Question) (d g : ℕ) : Type 0 where
-  pub divisors : Divisors
+-- these divisors give two different matrices, and have their first quotient on a half in row d and column g
+pub record IsTiedAt (q : Question) (x : Divisors) (d g : ℕ) : Type 0 where
   pub seats : List ℕ
   pub others : List ℕ
-  pub ways : AreTwoWays q divisors seats others
-  pub first : IsFirstHalf q divisors d g
+  pub ways : AreTwoWays q x seats others
+  pub first : IsFirstHalf q x d g
 
 -- no seats follow strictly from these divisors
 abbrev pub HasNone : Question → Divisors → Type 0
@@ -51,10 +50,29 @@ HasNone q x = (seats : List ℕ) → ¬ IsStrict q x seats
 abbrev pub NoneBefore : Question → ℕ → Type 0
 NoneBefore q n = (k : ℕ) → k < n → HasNone q (state q k)
 
+-- the search comes to these divisors: after so many of its 2,000 half-steps, and no seats follow before
+pub record IsReached (q : Question) (x : Divisors) : Type 0 where
+  pub half_steps : ℕ
+  pub few : half_steps ≤ 2000
+  pub divisors : x ≡ state q half_steps
+  pub none_before : NoneBefore q half_steps
+
+-- the search comes to divisors that are tied, first in row d and column g
+pub record IsTied (q : Question) (d g : ℕ) : Type 0 where
+  pub divisors : Divisors
+  pub reached : IsReached q divisors
+  pub tied : IsTiedAt q divisors d g
+
 -- an end with these divisors and seats
 abbrev pub Ends : Question → Divisors → List ℕ → Ending → Type 0
 Ends q x seats Found = IsStrict q x seats
-Ends q x seats (Tied d g) = IsTied q d g
+Ends q x seats (Tied d g) = IsTiedAt q x d g
+
+-- a round ends after its half-step of the columns, or after that of the rows where no seats followed between
+abbrev pub EndsRound : Question → Divisors → Divisors → Type 0
+EndsRound q before after =
+    (after ≡ with_columns_renewed q before)
+    ⊎ ((after ≡ with_rows_renewed q (with_columns_renewed q before)) × HasNone q (with_columns_renewed q before))
 
 -- a round without an end: its two half-steps led from one state to the other
 pub record GoesOn (q : Question) (before after : Divisors) : Type 0 where

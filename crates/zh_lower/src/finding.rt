@@ -2,7 +2,7 @@
 ghost use Rattle.std.specs.Prelude.{◌≡◌, ℕ, ◌↔◌, IfOk, IsErrOf, List};
 ghost use Rattle.zh_lower.specs.Asked.{asked};
 ghost use Rattle.zh_lower.specs.Divisors.{AreWithinLimits, Divisors, millionths};
-ghost use Rattle.zh_lower.specs.Outcomes.{IsProper, IsTied, NoneBefore};
+ghost use Rattle.zh_lower.specs.Outcomes.{IsProper, IsReached, IsTied, NoneBefore};
 ghost use Rattle.zh_lower.specs.Question.{AreTotals, EachColumnHasVotes, IsFirstWithoutVotes, question};
 ghost use Rattle.zh_lower.specs.SeatMatrix.{IsStrict, IsWeak};
 ghost use Rattle.zh_lower.specs.Tables.{AreStarted};
@@ -26,6 +26,7 @@ fn seats_on(mut tables: Tables, question: &Question<'_>) -> Result<Lower, LowerF
     ensures strict { IfOk result (λ lower. IsStrict (asked question.now) lower.divisors lower.seats) }
     ensures limits { IfOk result (λ lower. AreWithinLimits (asked question.now) lower.divisors.of_rows lower.divisors.of_columns) }
     ensures millionths { IfOk result (λ lower. lower.divisors ≡ millionths lower.divisors.of_rows lower.divisors.of_columns) }
+    ensures reached { IfOk result (λ lower. IsReached (asked question.now) lower.divisors) }
     ensures tied { (d g : ℕ) → IsErrOf result (LowerFault.Tied d g) → IsTied (asked question.now) d g }
     ensures exhausted { IsErrOf result LowerFault.Exhausted → NoneBefore (asked question.now) 2001 }
     ensures votes { (d : ℕ) → ¬ IsErrOf result (LowerFault.NoVotes d) }
@@ -57,6 +58,7 @@ fn seats_by_search(alloc: Global, question: &Question<'_>) -> Result<Lower, Lowe
     ensures strict { IfOk result (λ lower. IsStrict (asked question.now) lower.divisors lower.seats) }
     ensures limits { IfOk result (λ lower. AreWithinLimits (asked question.now) lower.divisors.of_rows lower.divisors.of_columns) }
     ensures millionths { IfOk result (λ lower. lower.divisors ≡ millionths lower.divisors.of_rows lower.divisors.of_columns) }
+    ensures reached { IfOk result (λ lower. IsReached (asked question.now) lower.divisors) }
     ensures tied { (d g : ℕ) → IsErrOf result (LowerFault.Tied d g) → IsTied (asked question.now) d g }
     ensures exhausted { IsErrOf result LowerFault.Exhausted → NoneBefore (asked question.now) 2001 }
     ensures votes { (d : ℕ) → ¬ IsErrOf result (LowerFault.NoVotes d) }
@@ -85,6 +87,10 @@ pub fn find(
     ensures limits { IfOk result (λ lower.
         AreWithinLimits (question matrix.now row_totals.now column_totals.now) lower.divisors.of_rows lower.divisors.of_columns) }
     ensures millionths { IfOk result (λ lower. lower.divisors ≡ millionths lower.divisors.of_rows lower.divisors.of_columns) }
+
+    // The divisors are those of the first of the 2,001 states of the search from which seats follow; a tie is that of a
+    // state before which there are none.
+    ensures reached { IfOk result (λ lower. IsReached (question matrix.now row_totals.now column_totals.now) lower.divisors) }
     ensures tied { (d g : ℕ) → IsErrOf result (LowerFault.Tied d g) → IsTied (question matrix.now row_totals.now column_totals.now) d g }
 
     // No other seats follow from any divisors, and none strictly where these are tied.

@@ -2,7 +2,7 @@
 ghost use Rattle.std.specs.Prelude.{◌≡◌, IfNone, IfSome, length};
 ghost use Rattle.zh_lower.specs.Asked.{asked};
 ghost use Rattle.zh_lower.specs.Divisors.{AreWithinLimits, millionths};
-ghost use Rattle.zh_lower.specs.Outcomes.{Ends, GoesOn, IsProper, NoneBefore};
+ghost use Rattle.zh_lower.specs.Outcomes.{Ends, EndsRound, GoesOn, IsProper, IsReached, NoneBefore};
 ghost use Rattle.zh_lower.specs.Places.{IsRoom};
 ghost use Rattle.zh_lower.specs.States.{start, started_columns};
 
@@ -26,6 +26,7 @@ fn round(
     requires room { IsRoom (asked question.now) line.old seats.old others.old }
     ensures limits { AreWithinLimits (asked question.now) of_rows.new of_columns.new }
     ensures ends { IfSome result (Ends (asked question.now) (millionths of_rows.new of_columns.new) seats.new) }
+    ensures ends_round { IfSome result (λ _. EndsRound (asked question.now) (millionths of_rows.old of_columns.old) (millionths of_rows.new of_columns.new)) }
     ensures goes_on { IfNone result (GoesOn (asked question.now) (millionths of_rows.old of_columns.old) (millionths of_rows.new of_columns.new)) }
 {
     renew_columns(question, of_rows, of_columns, line);
@@ -51,6 +52,7 @@ fn rounds(
     requires start { millionths of_rows.old of_columns.old ≡ start (asked question.now) }
     ensures limits { AreWithinLimits (asked question.now) of_rows.new of_columns.new }
     ensures ends { IfSome result (Ends (asked question.now) (millionths of_rows.new of_columns.new) seats.new) }
+    ensures reached { IfSome result (λ _. IsReached (asked question.now) (millionths of_rows.new of_columns.new)) }
     ensures none { IfNone result (NoneBefore (asked question.now) 2001) }
 {
     if let Some(ending) = end_test(question, of_rows, of_columns, seats, others) {
@@ -79,6 +81,7 @@ pub(crate) fn search(
     requires room { IsRoom (asked question.now) line.old seats.old others.old }
     ensures limits { AreWithinLimits (asked question.now) of_rows.new of_columns.new }
     ensures ends { IfSome result (Ends (asked question.now) (millionths of_rows.new of_columns.new) seats.new) }
+    ensures reached { IfSome result (λ _. IsReached (asked question.now) (millionths of_rows.new of_columns.new)) }
     ensures none { IfNone result (NoneBefore (asked question.now) 2001) }
 {
     start_rows(question, of_columns, of_rows);

@@ -3,4 +3,5 @@ pub mod TargetLemmas
 pub mod RefusalLemmas
 pub mod AskedLemmas
 pub mod MakingLemmas
+pub mod OneSheetLemmas
 pub mod SheetLemmas

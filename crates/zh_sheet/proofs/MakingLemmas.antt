@@ -8,7 +8,7 @@ use Rattle.zh_districts.specs.declared.shares.SeatFault.TheVariants as seat_faul
 use Rattle.zh_divisors.specs.Fit as fits
 use Rattle.zh_divisors.specs.Shares.{Apportionment}
 use Rattle.zh_lower.specs.Divisors.{AreWithinLimits, millionths}
-use Rattle.zh_lower.specs.Outcomes.{IsTied, NoneBefore}
+use Rattle.zh_lower.specs.Outcomes.{IsReached, IsTied, NoneBefore}
 use Rattle.zh_lower.specs.Question.{IsFirstWithoutVotes, Question}
 use Rattle.zh_lower.specs.SeatMatrix.{IsStrict, SeatMatrix}
 use Rattle.zh_lower.specs.declared.fault.LowerFault.{LowerFault}
@@ -174,14 +174,16 @@ lower_refused t a before (lower_faults.NoVotes d) found =
     (λ d g e. absurd (cc))
 lower_refused t a before (lower_faults.Tied d column) found =
     let tied = found.tied d column refl in
+    let first = tied.tied.first in
+    let ways = tied.tied.ways in
     let rows = none_of_rows t a before (λ c first. elim (found.always c first) [ inl e ↦ absurd (cc) | inr e ↦ absurd (cc) ]) in
     refused_answer t (faults.TiedLower d (group_at (seated_groups a.upper) column)) (omega arith)
     (record {
-      holds = record { targets = a; column = column; column_from_one = tied.first.column_from_1; column_there = tied.first.column; of_group = refl; tied = tied };
+      holds = record { targets = a; column = column; column_from_one = first.column_from_1; column_there = first.column; of_group = refl; tied = tied };
       first = rows;
     })
     (λ d g e b divisors seats strict.
-    no_seats (lower_question t a.seats a.upper) tied.divisors tied.seats tied.others tied.ways.one_way tied.ways.other_way tied.ways.differ divisors seats
+    no_seats (lower_question t a.seats a.upper) tied.divisors tied.tied.seats tied.tied.others ways.one_way ways.other_way ways.differ divisors seats
     (subst (λ q. IsStrict q divisors seats) (same_question t a b) strict))
 lower_refused t a before lower_faults.Exhausted found =
     let rows = none_of_rows t a before (λ c first. elim (found.always c first) [ inl e ↦ absurd (cc) | inr e ↦ absurd (cc) ]) in
@@ -199,7 +201,7 @@ lower_given t a before lower sheet found =
 pub column_there : (t : VoteTotals) (a : Targets t) → (e : LowerFault) → LowerOutcome (lower_question t a.seats a.upper) (Err e) → HasColumn e (seated_groups a.upper)
 column_there t a lower_faults.Memory found = tt
 column_there t a (lower_faults.NoVotes d) found = tt
-column_there t a (lower_faults.Tied d column) found = let tied = found.tied d column refl in (tied.first.column_from_1, tied.first.column)
+column_there t a (lower_faults.Tied d column) found = let first = (found.tied d column refl).tied.first in (first.column_from_1, first.column)
 column_there t a lower_faults.Exhausted found = tt
 
 -- memory is refused below
@@ -210,6 +212,7 @@ memory_outcome q = record {
   strict = tt;
   in_millionths = tt;
   limits = tt;
+  reached = tt;
   tied = λ d column e. absurd (cc);
   exhausted = λ e. absurd (cc);
 }
@@ -220,15 +223,17 @@ pub find_outcome : (asked q : Question) → asked ≡ q → (r : Result SeatMatr
     IfOk r (λ lower. IsStrict asked lower.divisors lower.seats) →
     IfOk r (λ lower. lower.divisors ≡ millionths lower.divisors.of_rows lower.divisors.of_columns) →
     IfOk r (λ lower. AreWithinLimits asked lower.divisors.of_rows lower.divisors.of_columns) →
+    IfOk r (λ lower. IsReached asked lower.divisors) →
     ((d g : ℕ) → IsErrOf r (lower_faults.Tied d g) → IsTied asked d g) →
     (IsErrOf r lower_faults.Exhausted → NoneBefore asked 2001) → LowerOutcome q r
-find_outcome asked q same r no_votes strict in_millionths limits tied exhausted =
+find_outcome asked q same r no_votes strict in_millionths limits reached tied exhausted =
     rw (← same) (record {
       no_votes = λ d. (no_votes d).0;
       always = λ d first. inl ((no_votes d).1 first);
       strict = strict;
       in_millionths = in_millionths;
       limits = limits;
+      reached = reached;
       tied = tied;
       exhausted = exhausted;
     })

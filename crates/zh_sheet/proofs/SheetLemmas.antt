@@ -10,7 +10,7 @@ use Rattle.zh_sheet.specs.Distribution.{Distribution, IsDistribution, Targets, s
 use Rattle.zh_sheet.specs.Readings.{column_of}
 use Rattle.zh_sheet.proofs.AskedLemmas.{few_seated}
 
-abbrev targets : (x : Distribution) → IsDistribution x → Targets x.totals
+abbrev pub targets : (x : Distribution) → IsDistribution x → Targets x.totals
 targets x is = record {
   seats = x.seats.seats;
   taking = x.taking;

@@ -5,7 +5,7 @@ use Rattle.zh_districts.specs.declared.shares.SeatFault.TheVariants as seat_faul
 use Rattle.zh_districts.specs.Seats.{persons}
 use Rattle.zh_divisors.specs.Shares.{Apportionment, HasDivisor}
 use Rattle.zh_lower.specs.Divisors.{AreWithinLimits, millionths}
-use Rattle.zh_lower.specs.Outcomes.{IsTied, NoneBefore}
+use Rattle.zh_lower.specs.Outcomes.{IsReached, IsTied, NoneBefore}
 use Rattle.zh_lower.specs.Question.{AreTotals, EachColumnHasVotes, IsFirstWithoutVotes, Question}
 use Rattle.zh_lower.specs.SeatMatrix.{IsStrict, SeatMatrix}
 use Rattle.zh_lower.specs.declared.fault.LowerFault.{LowerFault}
@@ -60,6 +60,7 @@ pub record LowerOutcome (q : Question) (result : Result SeatMatrix LowerFault) :
   pub strict : IfOk result (λ lower. IsStrict q lower.divisors lower.seats)
   pub in_millionths : IfOk result (λ lower. lower.divisors ≡ millionths lower.divisors.of_rows lower.divisors.of_columns)
   pub limits : IfOk result (λ lower. AreWithinLimits q lower.divisors.of_rows lower.divisors.of_columns)
+  pub reached : IfOk result (λ lower. IsReached q lower.divisors)
   pub tied : (d column : ℕ) → IsErrOf result (lower_faults.Tied d column) → IsTied q d column
   pub exhausted : IsErrOf result lower_faults.Exhausted → NoneBefore q 2001
 

@@ -3,11 +3,13 @@
 #![tactic(auto)]
 
 mod fault;
+mod laws;
 mod lower;
 mod making;
 mod seated;
 mod sheet;
 
 pub use fault::SheetFault;
+pub use laws::one_sheet;
 pub use making::make;
 pub use sheet::Sheet;

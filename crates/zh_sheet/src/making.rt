@@ -1,5 +1,6 @@
 ghost use Rattle.std.specs.Prelude.{◌≡◌, ℕ, IfOk, List, length, slice_index, ◌-◌};
 ghost use Rattle.zh_lower.specs.Divisors.{Divisors};
+ghost use Rattle.zh_lower.specs.Outcomes.{IsReached};
 ghost use Rattle.zh_lower.specs.SeatMatrix.{IsWeak};
 ghost use Rattle.zh_sheet.specs.Distribution.{IsDistribution, question_of};
 ghost use Rattle.zh_sheet.specs.Refusals.{IsAnswer};
@@ -44,6 +45,7 @@ fn with_lists<'s>(
     requires { StandAbove totals.now seats taking.items voters.items upper }
     ensures totals { IfOk result (λ sheet. sheet.totals ≡ totals.now) }
     ensures meets { IfOk result (λ sheet. IsDistribution sheet) }
+    ensures reached { IfOk result (λ sheet. IsReached (question_of sheet) sheet.lower.divisors) }
     ensures one_answer { IfOk result (λ sheet. (divisors : Divisors) (seats : List ℕ) →
         IsWeak (question_of sheet) divisors seats → seats ≡ sheet.lower.seats) }
     ensures answer { IsAnswer totals.now result }
@@ -73,6 +75,7 @@ fn with_lists<'s>(
 pub fn make<'s>(alloc: Global, totals: &Totals<'s>) -> Result<Sheet<'s>, SheetFault>
     ensures totals { IfOk result (λ sheet. sheet.totals ≡ totals.now) }
     ensures meets { IfOk result (λ sheet. IsDistribution sheet) }
+    ensures reached { IfOk result (λ sheet. IsReached (question_of sheet) sheet.lower.divisors) }
     ensures one_answer { IfOk result (λ sheet. (divisors : Divisors) (seats : List ℕ) →
         IsWeak (question_of sheet) divisors seats → seats ≡ sheet.lower.seats) }
     ensures answer { IsAnswer totals.now result }

@@ -7,7 +7,7 @@ pub returns-in-Ok : goal.returns-in-Ok
 returns-in-Ok c = (
   Ok c.in-Ok.sheet,
   record {
-    sheet = record { votes = c.in-Ok.ensures.totals; meets = c.in-Ok.ensures.meets; one_answer = c.in-Ok.ensures.one_answer };
+    sheet = record { votes = c.in-Ok.ensures.totals; meets = c.in-Ok.ensures.meets; reached = c.in-Ok.ensures.reached; one_answer = c.in-Ok.ensures.one_answer };
     refused = c.in-Ok.ensures.answer;
   },
   refl,

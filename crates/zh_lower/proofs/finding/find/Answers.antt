@@ -13,7 +13,9 @@ only q (Ok lower) strict = λ x seats weak. only_seats q lower.divisors x lower.
 only q (Err fault) strict = tt
 
 none : (q : Question) (d g : ℕ) → IsTied q d g → (x : Divisors) (seats : List ℕ) → ¬ IsStrict q x seats
-none q d g tied = no_seats q tied.divisors tied.seats tied.others tied.ways.one_way tied.ways.other_way tied.ways.differ
+none q d g is =
+    let ways = is.tied.ways in
+    no_seats q is.divisors is.tied.seats is.tied.others ways.one_way ways.other_way ways.differ
 
 pub returns-clause-one_answer : goal.returns-clause-one_answer
 returns-clause-one_answer c =

@@ -1,6 +1,6 @@
 use Rattle.std.proofs.Common.{◌≡◌, ◌+◌, ◌*◌, ◌∙◌, arith}
 use Rattle.zh_lower.specs.Asked.{asked}
-use Rattle.zh_lower.proofs.StateLemmas.{round-none, round-state, start-none}
+use Rattle.zh_lower.proofs.StateLemmas.{round-none, round-reached, round-state, start-none, start-reached}
 use Rattle.zh_lower.proofs.search.rounds.Goals as goal
 
 pub loop-round-preserved : goal.loop-round-preserved
@@ -44,3 +44,11 @@ pub returns-clause-none : goal.returns-clause-none
 returns-clause-none c =
     let all : 2 * c.loop-round._round + 1 ≡ 2001 = omega arith in
     rw all at c.loop-round.invariant.none
+
+pub returns-in-Some-clause-reached : goal.returns-in-Some-clause-reached
+returns-in-Some-clause-reached c = start-reached (asked c.args.question.now) _ c.requires.start
+
+pub returns-in-Some-round-clause-reached : goal.returns-in-Some-round-clause-reached
+returns-in-Some-round-clause-reached c =
+    round-reached (asked c.args.question.now) c.loop-round._round _ _ (omega (arith, c.loop-round-test.true)) c.loop-round.invariant.at
+    c.loop-round.invariant.none c.in-Some-round.ensures.ends_round

@@ -36,4 +36,4 @@ pub returns : goal.returns
 returns c =
     let same : question c.in_ok-matrix.matrix c.args.seats.now c.deref-2.result.now ≡ lower_question c.args.totals.now c.args.seats.now c.args.upper.now.seats
     = rw (c.in_ok-matrix.ensures, c.deref.ensures.value, c.deref-2.ensures.value, c.in_ok-votes.ensures.votes, c.in_ok-column_totals.ensures, c.constituencies-rows.ensures.count, c.setup.ensures.setup, c.requires.seated) refl in
-    find_outcome _ _ same c.find.result c.find.ensures.no_votes c.find.ensures.strict c.find.ensures.millionths c.find.ensures.limits c.find.ensures.tied c.find.ensures.exhausted
+    find_outcome _ _ same c.find.result c.find.ensures.no_votes c.find.ensures.strict c.find.ensures.millionths c.find.ensures.limits c.find.ensures.reached c.find.ensures.tied c.find.ensures.exhausted

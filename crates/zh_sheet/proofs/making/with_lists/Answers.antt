@@ -50,6 +50,11 @@ invariant_of-result c =
 pub returns-clause-meets : goal.returns-clause-meets
 returns-clause-meets c = (invariant_of-result c).distribution
 
+pub returns-clause-reached : goal.returns-clause-reached
+returns-clause-reached c =
+    let outcome = rw (c.in_ok-totals.ensures, c.seats-2.ensures) at c.in-Ok.ensures in
+    rw c.in_ok-totals.ensures outcome.reached
+
 pub returns-clause-one_answer : goal.returns-clause-one_answer
 returns-clause-one_answer c =
     let outcome = rw (c.in_ok-totals.ensures, c.seats-2.ensures) at c.in-Ok.ensures in
