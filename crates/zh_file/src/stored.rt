@@ -1,5 +1,5 @@
 // A disk over a file, as the trait of files has it.
-ghost use Rattle.std.specs.Prelude.{◌≡◌, ◌≤◌, ◌+◌, ℕ, List, length, slice_index, true, false, is_ok, IsTrue, IfOk, IsErr, OnErr};
+ghost use Rattle.std.specs.Prelude.{◌≡◌, ◌≤◌, ◌+◌, ℕ, List, length, slice_index, true, false, is_ok, IsTrue, IfOk, IsErr, OnErr, OnOk};
 ghost use Rattle.std.proofs.Common.{sym, ◌∙◌};
 ghost use Rattle.sqlite_disk.specs.Disk.{Only};
 ghost use Rattle.zh_disk.specs.declared.disk.TheConstants.{DISK_LENGTH};
@@ -71,6 +71,7 @@ impl<D: File + Drop> Stored<D> {
 fn reported(failures: &mut u64, done: io::Result<()>) -> Result<(), DiskFault>
     ensures ok { is_ok result ≡ is_ok done }
     ensures cause { HasCause failures.old failures.new result }
+    ensures counted { OnOk result (failures.new ≡ failures.old) }
 {
     match done {
         Ok(()) => Ok(()),
@@ -108,6 +109,7 @@ impl<D: File + Drop> Disk for Stored<D> {
         ensures kept { stored_honest D.is_clean self.new → stored_honest D.is_clean self.old }
         ensures read { stored_honest D.is_clean self.new → Reads (stored_trail D.seen self.old) (stored_trail D.seen self.new) at (length into.old) into.new result }
         ensures cause { HasCause (stored_failures self.old) (stored_failures self.new) result }
+        ensures counted { OnOk result (stored_failures self.new ≡ stored_failures self.old) }
         ensures over { is_over self.old ≡ true → StaysOver self.old self.new result }
     {
         if self.is_over {
@@ -122,6 +124,7 @@ impl<D: File + Drop> Disk for Stored<D> {
         ensures kept { stored_honest D.is_clean self.new → stored_honest D.is_clean self.old }
         ensures written { stored_honest D.is_clean self.new → Writes (stored_trail D.seen self.old) (stored_trail D.seen self.new) at from.now result }
         ensures cause { HasCause (stored_failures self.old) (stored_failures self.new) result }
+        ensures counted { OnOk result (stored_failures self.new ≡ stored_failures self.old) }
         ensures over { is_over self.old ≡ true → StaysOver self.old self.new result }
         ensures ends { OnErr result (is_over self.new ≡ true) }
     {
@@ -139,6 +142,7 @@ impl<D: File + Drop> Disk for Stored<D> {
         ensures kept { stored_honest D.is_clean self.new → stored_honest D.is_clean self.old }
         ensures synced { stored_honest D.is_clean self.new → Syncs (stored_trail D.seen self.old) (stored_trail D.seen self.new) result }
         ensures cause { HasCause (stored_failures self.old) (stored_failures self.new) result }
+        ensures counted { OnOk result (stored_failures self.new ≡ stored_failures self.old) }
         ensures over { is_over self.old ≡ true → StaysOver self.old self.new result }
         ensures ends { OnErr result (is_over self.new ≡ true) }
     {
