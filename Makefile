@@ -1,4 +1,4 @@
-# Thin names for the commands of the README.
+# Short names for the repository's commands.
 .PHONY: run example test cases refused bench fmt
 
 run:

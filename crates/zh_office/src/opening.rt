@@ -8,7 +8,7 @@ ghost use Rattle.zh_returns.specs.Tally.{empty};
 ghost use Rattle.zh_returns.specs.Payload.{payload_spelling};
 ghost use Rattle.zh_snapshot.specs.Image.{IsBlank};
 ghost use Rattle.zh_snapshot.specs.Store.{Settles};
-ghost use Rattle.zh_snapshot.specs.Format.{Formats};
+ghost use Rattle.zh_snapshot.specs.Format.{Formats, IsFormatted};
 ghost use Rattle.zh_ledger.specs.Opened.{IsNew, Differs, IsDamaged};
 ghost use Rattle.zh_office.specs.Opened.{IsReady, IsOpened};
 
@@ -38,6 +38,9 @@ impl<'s> Office<'s> {
         ensures any_moment { D.honest disk.new → Formats (setup_spelling setup.now) (payload_spelling (empty setup.now)) (D.trail disk.old) (D.trail disk.new) }
 
         ensures formatted { D.honest disk.new → OnOk result ((c : List ℕ) → IsImage (D.trail disk.new).now c → IsNew setup.now c) }
+
+        // It is of the first generation, with zeros in its journal, and nothing of an older count counts any more.
+        ensures fresh { D.honest disk.new → OnOk result (IsFormatted (setup_spelling setup.now) (payload_spelling (empty setup.now)) (D.trail disk.new).now.bytes) }
 
         ensures settled { D.honest disk.new → OnOk result ((D.trail disk.new).now.pending ≡ []) }
         ensures untouched { IsErrOf result FormatFault.Memory → disk.new ≡ disk.old }

@@ -49,3 +49,7 @@ format-requires-clause-first g c =
     let size : first.len ≡ 262391 = omega (arith, first.ok.0, c.in_ok-first.ensures) in
     let whole : length c.encode-2.new.out ≡ first.len = omega (arith, c.encode-2.auto.out, c.deref_mut.ensures.len) in
     ap length (c.deref-2.ensures.value ∙ with_items_is first c.encode-2.new.out whole) ∙ whole ∙ size
+
+pub returns-clause-fresh : goal.returns-clause-fresh
+returns-clause-fresh g c = λ h.
+    rw (← setup_is g c, ← first_is g c) (on_ok_weaker c.format.result (λ both. both.1) (c.format.ensures.formatted h))
