@@ -1,4 +1,4 @@
-// A disk over a file at a path.
+//! A disk over a file at a path.
 ghost use Rattle.std.specs.Prelude.{◌≡◌, ◌⊎◌, [], IfOk, IsTrue};
 ghost use Rattle.sqlite_disk.specs.Disk.{Only};
 ghost use Rattle.zh_disk.specs.Disk.{fresh_trail};
@@ -54,7 +54,7 @@ pub fn open_or_make<S: Start>(
     Stored::start(file)
 }
 
-/// The length of the file of the usual kind at this path, or where a link there leads.
+/// The length of the regular file at this path, or where a link there leads.
 fn length_at(rt: &HostRuntime, path: &str) -> Result<u64, OpenFault> {
     match fs::metadata(rt, path) {
         Ok(found) if found.is_file() => Ok(found.len()),

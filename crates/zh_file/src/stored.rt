@@ -1,4 +1,4 @@
-// A disk over a file, as the trait of files has it.
+//! A disk over a file, as the trait of files has it.
 ghost use Rattle.std.specs.Prelude.{◌≡◌, ◌≤◌, ◌+◌, ℕ, List, length, slice_index, true, false, is_ok, IsTrue, IfOk, IsErr, OnErr, OnOk};
 ghost use Rattle.std.proofs.Common.{sym, ◌∙◌};
 ghost use Rattle.sqlite_disk.specs.Disk.{Only};
@@ -67,7 +67,7 @@ impl<D: File + Drop> Stored<D> {
     }
 }
 
-// The answer of a call, which is counted where it failed.
+/// The answer of a call, which is counted where it failed.
 fn reported(failures: &mut u64, done: io::Result<()>) -> Result<(), DiskFault>
     ensures ok { is_ok result ≡ is_ok done }
     ensures cause { HasCause failures.old failures.new result }
@@ -82,7 +82,7 @@ fn reported(failures: &mut u64, done: io::Result<()>) -> Result<(), DiskFault>
     }
 }
 
-// The answer of a call of which nothing is asked of the file.
+/// The answer of a call of which nothing is asked of the file.
 fn refused() -> io::Result<()>
     ensures { IsErr result }
 {

@@ -1,4 +1,4 @@
-// An area of records.
+//! An area of records.
 ghost use Rattle.std.specs.Prelude.{◌≡◌, ◌+◌, ◌*◌, ◌↔◌, ◌<◌, ◌≤◌, ℕ, List, None, Some, [], ◌∷◌, ◌++◌, length, slice_get, slice_index, IfOk, OnOk, OnErr, IsErrOf};
 ghost use Rattle.zh_disk.specs.Disk.{Leaves, Moves, SameOutside};
 ghost use Rattle.zh_disk.specs.declared.disk.TheConstants.{DISK_LENGTH};

@@ -1,4 +1,4 @@
-// Why a call of an area is refused.
+//! Why a call of an area is refused.
 use thiserror::Error;
 use zh_disk::DiskFault;
 

@@ -1,4 +1,4 @@
-// A byte that says whether what stands behind it counts.
+//! A byte that says whether what stands behind it counts.
 ghost use Rattle.std.specs.Prelude.{◌≡◌, ◌<◌, [], ◌∷◌, OnOk};
 ghost use Rattle.zh_disk.specs.Disk.{Leaves, HasCause, settled, splice};
 ghost use Rattle.zh_disk.specs.declared.disk.TheConstants.{DISK_LENGTH};

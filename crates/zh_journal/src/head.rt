@@ -1,4 +1,4 @@
-// The head of a page: gate, page count, payload length.
+//! The head of a page: gate, page count, payload length.
 ghost use Rattle.std.specs.Prelude.{◌≡◌, ◌+◌, ◌*◌, ◌≤◌, ℕ, List, length, slice_range, IfOk};
 ghost use Rattle.zh_disk.specs.Disk.{HasCause};
 ghost use Rattle.zh_disk.specs.declared.disk.TheConstants.{DISK_LENGTH};
@@ -16,7 +16,7 @@ pub(crate) enum Head {
     Damaged,
 }
 
-// What the first four bytes of a page say, with so many pages left.
+/// What the first four bytes of a page say, with so many pages left.
 fn judge_head(head: &[u8], left: u32) -> Head
     requires size { length head.now ≡ 4 }
     requires left { 1 ≤ left }
@@ -35,7 +35,7 @@ fn judge_head(head: &[u8], left: u32) -> Head
     Head::Record(len)
 }
 
-// What the head of the page at this place of a disk says, with so many pages left.
+/// What the head of the page at this place of a disk says, with so many pages left.
 pub(crate) fn read_head<D: Disk>(disk: &mut D, at: u64, left: u32) -> Result<Head, DiskFault>
     requires room { at + 256 * left ≤ DISK_LENGTH }
     requires left { 1 ≤ left }
@@ -51,7 +51,7 @@ pub(crate) fn read_head<D: Disk>(disk: &mut D, at: u64, left: u32) -> Result<Hea
     Ok(judge_head(&head, left))
 }
 
-// What the head of the page at this place of some pages says, with so many of them left.
+/// What the head of the page at this place of some pages says, with so many of them left.
 pub(crate) fn head_at(pages: &[u8], at: usize, left: u32) -> Head
     requires room { at + 256 * left ≤ length pages.now }
     requires left { 1 ≤ left }

@@ -1,4 +1,4 @@
-// What stands on the pages of a record.
+//! What stands on the pages of a record.
 ghost use Rattle.std.specs.Prelude.{◌≡◌, ◌+◌, ◌<◌, ◌≤◌, length};
 ghost use Rattle.zh_disk.specs.Disk.{splice};
 ghost use Rattle.zh_journal.specs.Pages.{body_of, zeros, pages_of};
@@ -22,7 +22,7 @@ pub fn pages_of(len: u32) -> u32
     1 + len.saturating_sub(252).div_ceil(255)
 }
 
-// Puts these bytes in the place of those that are there.
+/// Puts these bytes in the place of those that are there.
 pub(crate) fn overwrite(page: &mut [u8], at: usize, from: &[u8])
     requires { at + length from.now ≤ length page.old }
     ensures { page.new ≡ splice at from.now page.old }
@@ -36,7 +36,7 @@ fn blank_page() -> [u8; 255]
     [0; 255]
 }
 
-// What stands on page i of a record behind its gate.
+/// What stands on page i of a record behind its gate.
 pub(crate) fn page_of(payload: &[u8], i: u32) -> [u8; 255]
     requires len { length payload.now ≤ LONGEST_PAYLOAD }
     requires i { i < pages_of (length payload.now) }

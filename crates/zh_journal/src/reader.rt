@@ -1,4 +1,4 @@
-// The records of an area, one after the other, from the pages that an opening read.
+//! The records of an area, one after the other, from the pages that an opening read.
 ghost use Rattle.std.specs.Prelude.{◌≡◌, ◌+◌, ◌-◌, ◌*◌, ◌<◌, ◌≤◌, ◌↔◌, ℕ, List, ◌∷◌, length, take, slice_index, OnSome, IsNone};
 ghost use Rattle.std.specs.Option.{option_copied};
 ghost use Rattle.zh_journal.specs.declared.page.TheConstants.{AREA_LENGTH, AREA_PAGES, LONGEST_PAYLOAD};
@@ -30,7 +30,7 @@ impl Model for Reader {
 }
 
 impl Reader {
-    // Those of these pages, which end at this page.
+    /// Those of these pages, which end at this page.
     pub(crate) fn new(pages: Vec<u8>, end: u32) -> Reader
         requires size { length pages.items ≡ AREA_LENGTH }
         requires end { end ≤ AREA_PAGES }
@@ -68,7 +68,7 @@ impl Reader {
     }
 }
 
-// The length of the payload of the record at this place.
+/// The length of the payload of the record at this place.
 fn length_at(pages: &[u8], at: usize) -> u32
     requires { at + 4 ≤ length pages.now }
     ensures { (r : List ℕ) → IsStaged pages.now at r → result ≡ length r }
@@ -76,7 +76,7 @@ fn length_at(pages: &[u8], at: usize) -> u32
     256 * (pages[at + 2] as u32) + (pages[at + 3] as u32)
 }
 
-// Copies the payload of the record at this place, whose head gives this length.
+/// Copies the payload of the record at this place, whose head gives this length.
 fn copy_payload(pages: &[u8], at: usize, len: u32, buffer: &mut [u8])
     requires len { len ≤ LONGEST_PAYLOAD }
     requires room { at + 256 * pages_of len ≤ length pages.now }
@@ -89,8 +89,8 @@ fn copy_payload(pages: &[u8], at: usize, len: u32, buffer: &mut [u8])
     }
 }
 
-// Copies what page i of a record has of its payload. Byte k of a payload on page i stands at place 4 + k + i of
-// the record: after three bytes of the head and the gates up to that of its page.
+/// Copies what page i of a record has of its payload. Byte k of a payload on page i stands at place 4 + k + i of
+/// the record: after three bytes of the head and the gates up to that of its page.
 fn copy_page(pages: &[u8], at: usize, len: u32, i: u32, buffer: &mut [u8])
     requires len { len ≤ LONGEST_PAYLOAD }
     requires i { i < pages_of len }

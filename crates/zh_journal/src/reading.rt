@@ -1,4 +1,4 @@
-// Reading a record to the caller's buffer.
+//! Reading a record to the caller's buffer.
 ghost use Rattle.std.specs.Prelude.{◌≡◌, ◌+◌, ◌-◌, ◌*◌, ◌<◌, ◌≤◌, ℕ, List, length, take, drop, slice_index, IfOk, OnOk};
 ghost use Rattle.zh_disk.specs.Disk.{HasCause};
 ghost use Rattle.zh_disk.specs.declared.disk.TheConstants.{DISK_LENGTH};
@@ -8,8 +8,8 @@ use crate::head::{Head, read_head};
 use crate::page::{AREA_LENGTH, AREA_PAGES, LONGEST_PAYLOAD, PAGE_LENGTH, pages_of};
 use zh_disk::{Disk, DiskFault};
 
-// Reads what page i of a record has of its payload. Byte k of a payload on page i stands at place
-// 4 + k + i of the record: after three bytes of the head and the gates up to that of its page.
+/// Reads what page i of a record has of its payload. Byte k of a payload on page i stands at place
+/// 4 + k + i of the record: after three bytes of the head and the gates up to that of its page.
 fn read_page<D: Disk>(
     disk: &mut D,
     at: u64,
@@ -38,7 +38,7 @@ fn read_page<D: Disk>(
     )
 }
 
-// Reads the payload of the record at this place, whose head gives this length.
+/// Reads the payload of the record at this place, whose head gives this length.
 fn read_payload<D: Disk>(
     disk: &mut D,
     at: u64,
@@ -61,8 +61,8 @@ fn read_payload<D: Disk>(
     Ok(())
 }
 
-// Reads the record at this place, with so many pages left, and gives its length: 0 where no record stands
-// there.
+/// Reads the record at this place, with so many pages left, and gives its length: 0 where no record stands
+/// there.
 pub(crate) fn read_record<D: Disk>(
     disk: &mut D,
     at: u64,
@@ -89,8 +89,8 @@ pub(crate) fn read_record<D: Disk>(
     Ok(len)
 }
 
-// The page at which record i of the area at this base begins, by the heads of those before it. Where they are
-// not heads of records, it is the end of the area.
+/// The page at which record i of the area at this base begins, by the heads of those before it. Where they are
+/// not heads of records, it is the end of the area.
 pub(crate) fn find_page<D: Disk>(disk: &mut D, base: u64, i: u32) -> Result<u32, DiskFault>
     requires { base + AREA_LENGTH ≤ DISK_LENGTH }
 

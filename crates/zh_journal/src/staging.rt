@@ -1,4 +1,4 @@
-// Writing a record behind its gates.
+//! Writing a record behind its gates.
 ghost use Rattle.std.specs.Prelude.{◌≡◌, ◌+◌, ◌*◌, ◌<◌, ◌≤◌, length, OnOk};
 ghost use Rattle.zh_disk.specs.Disk.{Leaves, SameOutside, HasCause, splice};
 ghost use Rattle.zh_disk.specs.declared.disk.TheConstants.{DISK_LENGTH};
@@ -24,7 +24,7 @@ fn write_page<D: Disk>(disk: &mut D, at: u64, payload: &[u8], i: u32) -> Result<
     disk.write_at(at + PAGE_LENGTH * (i as u64) + 1, &page)
 }
 
-// Writes a record behind the gates of the pages from this place on, one write a page.
+/// Writes a record behind the gates of the pages from this place on, one write a page.
 pub(crate) fn stage<D: Disk>(disk: &mut D, at: u64, payload: &[u8]) -> Result<(), DiskFault>
     requires len { length payload.now ≤ LONGEST_PAYLOAD }
     requires room { at + 256 * pages_of (length payload.now) ≤ DISK_LENGTH }

@@ -89,7 +89,7 @@ impl<'s> Ledger<'s> {
     }
 
     /// Stores a command that was judged acceptable, if the count has a number left for it and the disk has room, and then
-    /// puts it over the count.
+    /// applies it to the count.
     fn keep<D: Disk>(&mut self, disk: &mut D, command: &Command<'_>) -> Outcome
         requires accept { judge self.old.tally command.now ≡ Verdict.Accept }
         requires whole { self.old.store.broken ≡ false }
@@ -146,7 +146,7 @@ impl<'s> Ledger<'s> {
         pages_of(len as u32) <= self.store.pages_left()
     }
 
-    /// Appends the record of a command for which there is room, and then puts the command over the count.
+    /// Appends the record of a command for which there is room, and then applies the command to the count.
     fn append<D: Disk>(&mut self, disk: &mut D, command: &Command<'_>) -> Outcome
         requires accept { judge self.old.tally command.now ≡ Verdict.Accept }
         requires whole { self.old.store.broken ≡ false }

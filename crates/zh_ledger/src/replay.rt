@@ -12,7 +12,7 @@ use zh_journal::Reader;
 use zh_returns::{Command, Verdict, decode_command};
 use zh_totals::RunningCount;
 
-/// Puts the commands of the records that a reader has left over the count, in order, and reports whether each is
+/// Applies the commands of the records that a reader has left to the count, in order, and reports whether each is
 /// accepted.
 pub(crate) fn replay(reader: &mut Reader, buffer: &mut [u8], count: &mut RunningCount<'_>) -> bool
     requires { LONGEST_PAYLOAD ≤ length buffer.old }
@@ -29,7 +29,7 @@ pub(crate) fn replay(reader: &mut Reader, buffer: &mut [u8], count: &mut Running
     true
 }
 
-/// Puts the command of a record over the count, if the record has one that is accepted, and reports whether it has.
+/// Applies the command of a record to the count, if the record has one that is accepted, and reports whether it has.
 fn replay_record(payload: &[u8], count: &mut RunningCount<'_>) -> bool
     ensures replayed { result ≡ true → Replays count.old (payload.now ∷ []) count.new }
     ensures refused { result ≡ false → (command : Command) → IsSpeakable command → command_spelling command ≡ payload.now → judge count.old command ≡ Verdict.Accept → count.old.accepted < 2 ^ 64 - 1 → ⊥ }

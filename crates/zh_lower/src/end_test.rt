@@ -17,7 +17,7 @@ use crate::two_ways::look_for_two_ways;
 pub(crate) enum Ending {
     /// The seats at hand follow strictly from the divisors at hand.
     Found,
-    /// Two different matrices stand under some divisors, and their first quotient on a half is in this row
+    /// Two different matrices follow from the divisors at hand, whose first quotient on a half is in this row
     /// and this column, both counted from 1.
     Tied(u32, u32),
 }

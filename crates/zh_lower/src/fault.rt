@@ -13,7 +13,7 @@ pub enum LowerFault {
     /// This row, the first such, has no vote.
     #[error("row {0} has no votes")]
     NoVotes(u32),
-    /// Two different matrices stand under the same divisors, and this row and column have the first
+    /// Two different matrices follow from the same divisors, and this row and column have the first
     /// quotient on a half.
     #[error("tied, with the first half in row {0} and column {1}")]
     Tied(u32, u32),

@@ -18,8 +18,6 @@ use crate::votes::first_without_votes;
 use std::alloc::Global;
 
 /// Seats with divisors, by the search on these tables.
-///
-/// Where the search ends without an answer, at `None`, a second one could go on.
 fn seats_on(mut tables: Tables, question: &Question<'_>) -> Result<Lower, LowerFault>
     requires proper { IsProper (asked question.now) }
     requires started { AreStarted (asked question.now) tables }
@@ -70,9 +68,9 @@ fn seats_by_search(alloc: Global, question: &Question<'_>) -> Result<Lower, Lowe
 /// The seats of each group in each constituency (GPR section 104), with divisors that give them.
 ///
 /// The votes of each cell over its two divisors round to its seats, none on a half, and all totals are met.
-/// No other seats follow from any divisors, of any scale. `Tied` is returned if some divisors give two
-/// different matrices, `Exhausted` if no state of the search (docs/DEFINITIONS.md) gives seats, and
-/// `Memory` can come in place of every answer but `NoVotes`.
+/// No other seats follow from any divisors, of any scale, and the divisors are those of the first state of the
+/// search (docs/DEFINITIONS.md) that gives seats. `Tied` is returned if a state gives two different matrices,
+/// `Exhausted` if no state gives seats, and `Memory` can come in place of every answer but `NoVotes`.
 pub fn find(
     alloc: Global,
     matrix: &Matrix,

@@ -69,9 +69,10 @@ fn with_lists<'s>(
 
 /// The sheet of these totals, or why there is none: the first case that holds decides, in the order of `SheetFault`.
 ///
-/// No other seats follow from any divisors, of any scale; where the seats of the lists are tied, no divisors give seats
-/// without a quotient on a half. `Memory` can come in place of every answer, and `Exhausted` where the search
-/// (docs/DEFINITIONS.md) finds no divisors.
+/// No other seats follow from any divisors, of any scale, and the divisors are those of the first state of the search
+/// (docs/DEFINITIONS.md) that gives seats: the same votes have one sheet. Where the seats of the lists are tied, no divisors
+/// give seats without a quotient on a half. `Memory` can come in place of every answer, and `Exhausted` where no state of
+/// the search gives seats.
 pub fn make<'s>(alloc: Global, totals: &Totals<'s>) -> Result<Sheet<'s>, SheetFault>
     ensures totals { IfOk result (λ sheet. sheet.totals ≡ totals.now) }
     ensures meets { IfOk result (λ sheet. IsDistribution sheet) }

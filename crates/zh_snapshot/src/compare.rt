@@ -1,11 +1,11 @@
-// Bytes of a disk beside those of a caller.
+//! Bytes of a disk beside those of a caller.
 ghost use Rattle.std.specs.Prelude.{◌≡◌, ◌+◌, ◌≤◌, ◌↔◌, length, slice_range, IsTrue, IfOk};
 ghost use Rattle.zh_disk.specs.Disk.{HasCause};
 ghost use Rattle.zh_disk.specs.declared.disk.TheConstants.{DISK_LENGTH};
 
 use zh_disk::{Disk, DiskFault};
 
-// Whether these bytes stand from this place on.
+/// Whether these bytes stand from this place on.
 pub(crate) fn stand_at<D: Disk>(disk: &mut D, at: u64, bytes: &[u8]) -> Result<bool, DiskFault>
     requires { at + length bytes.now ≤ DISK_LENGTH }
 
@@ -28,7 +28,7 @@ pub(crate) fn stand_at<D: Disk>(disk: &mut D, at: u64, bytes: &[u8]) -> Result<b
     Ok(true)
 }
 
-// Lends the n bytes from this place on from the caller's buffer.
+/// Lends the n bytes from this place on from the caller's buffer.
 pub(crate) fn lend<'b, D: Disk>(
     disk: &mut D,
     at: u64,

@@ -1,4 +1,4 @@
-// Why a call of a store is refused.
+//! Why a call of a store is refused.
 use std::alloc::AllocError;
 use thiserror::Error;
 use zh_disk::DiskFault;

@@ -1,4 +1,4 @@
-// Formatting a disk.
+//! Formatting a disk.
 ghost use Rattle.std.specs.Prelude.{◌≡◌, ◌≢◌, ◌≤◌, ℕ, [], length, slice_index, OnOk, IsErrOf};
 ghost use Rattle.zh_disk.specs.Disk.{Leaves, SameOutside, HasCause};
 ghost use Rattle.zh_journal.specs.Cause.{HasRisen};
@@ -16,7 +16,7 @@ use std::alloc::Global;
 use zh_disk::{Disk, DiskFault};
 use zh_journal::{AREA_LENGTH, Area, OPEN_GATE, open_gate};
 
-// Closes the disk gate, where it is open.
+/// Closes the disk gate, where it is open.
 fn close_disk<D: Disk>(disk: &mut D) -> Result<(), DiskFault>
     ensures kept { D.honest disk.new → D.honest disk.old }
     ensures any_moment { D.honest disk.new → Leaves KeptOrBlank (D.trail disk.old) (D.trail disk.new) }
@@ -33,7 +33,7 @@ fn close_disk<D: Disk>(disk: &mut D) -> Result<(), DiskFault>
     Ok(())
 }
 
-// Writes the header, the set-up bytes, and the first slot's head and snapshot.
+/// Writes the header, the set-up bytes, and the first slot's head and snapshot.
 fn write_parts<D: Disk>(disk: &mut D, setup: &[u8], first: &[u8]) -> Result<(), DiskFault>
     requires setup { length setup.now ≤ SETUP_LIMIT }
     requires first { length first.now ≡ SNAPSHOT_LENGTH }
@@ -49,7 +49,7 @@ fn write_parts<D: Disk>(disk: &mut D, setup: &[u8], first: &[u8]) -> Result<(), 
     disk.write_at(Slot::First.snapshot(), first)
 }
 
-// Writes zeros over the first slot's journal, and over the second slot's head.
+/// Writes zeros over the first slot's journal, and over the second slot's head.
 fn empty_slots<D: Disk>(disk: &mut D, zeros: &[u8]) -> Result<(), FormatFault>
     requires size { length zeros.now ≡ AREA_LENGTH }
     requires zero { (k : ℕ) → slice_index zeros.now k ≡ 0 }

@@ -1,4 +1,4 @@
-// What stands at the heads of a disk and of a slot.
+//! What stands at the heads of a disk and of a slot.
 ghost use Rattle.std.specs.Prelude.{◌≡◌, ◌≢◌, ◌≤◌, ℕ, List, Some, slice_index, slice_range, IfOk, IsErrOf};
 ghost use Rattle.zh_disk.specs.Disk.{HasCause};
 ghost use Rattle.zh_journal.specs.Cause.{HasRisen};
@@ -13,7 +13,7 @@ use crate::layout::Slot;
 use zh_disk::{Disk, DiskFault};
 use zh_journal::OPEN_GATE;
 
-// The length of the set-up bytes.
+/// The length of the set-up bytes.
 pub(crate) fn open_header<D: Disk>(disk: &mut D) -> Result<u32, OpenFault>
     ensures kept { D.honest disk.new → D.honest disk.old }
     ensures right { D.honest disk.new → IfOk result (λ len. (slice_index (D.trail disk.old).now.bytes 0 ≡ 165) × (len ≤ SETUP_LIMIT) × (slice_range (D.trail disk.old).now.bytes 1 15 ≡ header_bytes len)) }
@@ -39,7 +39,7 @@ pub(crate) fn open_header<D: Disk>(disk: &mut D) -> Result<u32, OpenFault>
     Ok(len)
 }
 
-// The generation of a slot, where its gate is open.
+/// The generation of a slot, where its gate is open.
 fn read_head<D: Disk>(disk: &mut D, slot: Slot) -> Result<Option<u64>, DiskFault>
     ensures kept { D.honest disk.new → D.honest disk.old }
     ensures head { D.honest disk.new → IfOk result (λ found. HasHead slot found (D.trail disk.old).now.bytes) }
@@ -61,11 +61,11 @@ fn read_head<D: Disk>(disk: &mut D, slot: Slot) -> Result<Option<u64>, DiskFault
 pub(crate) struct InUse {
     pub(crate) slot: Slot,
     pub(crate) generation: u64,
-    // whether the gate of the other slot is open too
+    /// whether the gate of the other slot is open too
     pub(crate) other_open: bool,
 }
 
-// Of two slots with open gates the one with the greater generation.
+/// Of two slots with open gates the one with the greater generation.
 fn newer(first: u64, second: u64) -> Option<InUse>
     ensures { (c : List ℕ) → HasHead First (Some first) c → HasHead Second (Some second) c → IsFound result c }
 {
@@ -83,7 +83,7 @@ fn newer(first: u64, second: u64) -> Option<InUse>
     })
 }
 
-// The one with an open gate, and of two the newer.
+/// The one with an open gate, and of two the newer.
 fn in_use(first: Option<u64>, second: Option<u64>) -> Option<InUse>
     ensures { (c : List ℕ) → HasHead First first c → HasHead Second second c → IsFound result c }
 {
@@ -100,7 +100,7 @@ fn in_use(first: Option<u64>, second: Option<u64>) -> Option<InUse>
     })
 }
 
-// The slot in use, where there is one.
+/// The slot in use, where there is one.
 pub(crate) fn find_slot<D: Disk>(disk: &mut D) -> Result<Option<InUse>, DiskFault>
     ensures kept { D.honest disk.new → D.honest disk.old }
     ensures found { D.honest disk.new → IfOk result (λ found. IsFound found (D.trail disk.old).now.bytes) }

@@ -1,4 +1,4 @@
-// Writing a slot anew.
+//! Writing a slot anew.
 ghost use Rattle.std.specs.Prelude.{◌≡◌, ◌≤◌, ℕ, [], length, slice_index, IfOk, OnOk, IsErrOf};
 ghost use Rattle.zh_disk.specs.Disk.{Leaves, Moves, SameOutside, HasCause};
 ghost use Rattle.zh_journal.specs.Cause.{HasRisen};
@@ -10,7 +10,7 @@ use crate::layout::Slot;
 use zh_disk::{Disk, DiskFault};
 use zh_journal::{AREA_LENGTH, Area, AreaFault, open_gate};
 
-// Closes the slot's gate, where it is open.
+/// Closes the slot's gate, where it is open.
 fn close_slot<D: Disk>(disk: &mut D, slot: Slot, is_open: bool) -> Result<(), DiskFault>
     ensures kept { D.honest disk.new → D.honest disk.old }
     ensures any_moment { D.honest disk.new → Leaves (Closes slot is_open) (D.trail disk.old) (D.trail disk.new) }
@@ -26,7 +26,7 @@ fn close_slot<D: Disk>(disk: &mut D, slot: Slot, is_open: bool) -> Result<(), Di
     Ok(())
 }
 
-// Writes what stands after the slot's gate: the generation, the snapshot, and a journal without records.
+/// Writes what stands after the slot's gate: the generation, the snapshot, and a journal without records.
 fn fill_slot<D: Disk>(
     disk: &mut D,
     slot: Slot,
@@ -52,7 +52,7 @@ fn fill_slot<D: Disk>(
     Area::clear(disk, slot.journal(), zeros)
 }
 
-// Writes a slot anew under its closed gate, which is opened at the end. The caller says whether it is open before.
+/// Writes a slot anew under its closed gate, which is opened at the end. The caller says whether it is open before.
 pub(crate) fn refill<D: Disk>(
     disk: &mut D,
     slot: Slot,

@@ -1,4 +1,4 @@
-// A store: the set-up bytes, a snapshot, and the records since.
+//! A store: the set-up bytes, a snapshot, and the records since.
 mod switch;
 
 ghost use Rattle.std.specs.Prelude.{◌≡◌, ◌≢◌, ◌+◌, ◌<◌, ◌≤◌, ◌↔◌, ℕ, Bool, true, false, List, [], ◌∷◌, ◌++◌, length, slice_get, slice_index, IsTrue, Some, None, IfOk, OnOk, OnErr, IsErrOf};
@@ -85,7 +85,7 @@ impl Store {
         Store::read(disk, zeros, pages)
     }
 
-    // What stands on the disk, by reads alone.
+    /// What stands on the disk, by reads alone.
     fn read<D: Disk>(
         disk: &mut D,
         zeros: Vec<u8>,

@@ -1,4 +1,4 @@
-// From the slot in use to the other.
+//! From the slot in use to the other.
 ghost use Rattle.std.specs.Prelude.{◌≡◌, ◌≢◌, ◌≤◌, ◌↔◌, ◌-◌, ◌^◌, ℕ, true, false, [], length, OnOk, IsErrOf};
 ghost use Rattle.zh_disk.specs.Disk.{Leaves, Moves, SameOutside};
 ghost use Rattle.zh_journal.specs.Cause.{HasRisen};
