@@ -1,0 +1,55 @@
+# The program, and what a check asks of a run.
+
+format() { timeout 20 "$program" format --setup "$setup" --disk "$1"; }
+run() { timeout 20 "$program" run --setup "$setup" --disk "$1"; }
+
+# A new disk at this path, and nothing else.
+new_disk() {
+    rm -rf -- "$1"
+    format "$1" > replies 2> faults
+    same "the status of format" 0 $?
+    same "what format writes" "" "$(cat replies faults)"
+}
+
+# ends STATUS FAULT REPLIES COMMAND..: the command ends with this status, this fault on standard error
+# (without its 'zhcount: '; none if it is empty) and these replies.
+ends() {
+    local status=$1 fault=$2 replies=$3
+    shift 3
+    "$@" > replies 2> faults
+    same "the status of $*" "$status" $?
+    same "the fault of $*" "${fault:+zhcount: $fault}" "$(cat faults)"
+    same "the replies of $*" "$replies" "$(cat replies)"
+}
+
+# serves DISK LINES REPLIES: a run on the disk ends with status 0, and gives these replies to these lines.
+serves() {
+    printf '%s\n' "$2" > lines
+    ends 0 "" "$3" run "$1" < lines
+}
+
+# Waits until the file has this many lines, for 10 seconds at most.
+await_lines() {
+    local tries
+    for ((tries = 0; tries < 2000; tries++)); do
+        [ "$(wc -l < "$1")" -ge "$2" ] && return
+        pause 5000
+    done
+}
+
+# Sleeps for so many microseconds, fewer than a million, with no process of its own.
+pause() { read -rt "$(printf '0.%06d' "$1")" -u 9; }
+
+now() { echo "${EPOCHREALTIME/./}"; }
+
+# Draws a moment: a part of so many microseconds. (In a subshell RANDOM would not follow the seed.)
+draw() { moment=$(((RANDOM * 32768 + RANDOM) * $1 >> 30)); }
+
+# returns MUNICIPALITY FIRST LAST: returns of list 1 with these replacement numbers, and 7 votes more each time.
+returns() {
+    local n
+    for ((n = $2; n <= $3; n++)); do echo "1 return $1 1 $n $((7 * n))"; done
+}
+
+# What a run shows for list 1 of a municipality after n returns.
+shows() { if [ "$1" -eq 0 ]; then echo "1 none"; else echo "1 shows $1 $((7 * $1))"; fi; }

@@ -1,0 +1,69 @@
+# Formatting and running, and the arguments.
+
+a_night() {
+    mkdir night
+    new_disk night/d
+    same "the length" $DISK "$(stat -c %s night/d)"
+    serves night/d "$(returns 1 1 3)" $'1 stored 1\n1 stored 2\n1 stored 3'
+    serves night/d "1 show 1 1" "$(shows 3)"
+    same "the folder" d "$(ls night)"
+}
+
+# The election of examples/zurich2006, and its sheet.
+known_election() {
+    local setup=$election/setup.toml
+    new_disk election
+    run election < "$election/lines" > replies 2> faults
+    same "the status of run" 0 $?
+    same "the faults of run" "" "$(cat faults)"
+    sed -n '/ sheet /,$p' replies > found
+    same_bytes "$election/sheet" found
+}
+
+in_use() {
+    new_disk d
+    cp d before
+    ends 1 "disk inuse" "" format d
+    same_bytes d before
+    serves d "$(returns 1 1 1)" "1 stored 1"
+    cp d before
+    ends 1 "disk inuse" "" format d
+    same_bytes d before
+}
+
+another_setup() {
+    new_disk d
+    sed 's/persons = 3000/persons = 3001/' "$setup" > other.toml
+    cp d before
+    ends 1 "disk differs" "" timeout 20 "$program" run --setup other.toml --disk d < /dev/null
+    ends 1 "disk inuse" "" timeout 20 "$program" format --setup other.toml --disk d
+    same_bytes d before
+}
+
+blank_and_damaged() {
+    rm -f d
+    truncate -s $DISK d
+    cp d before
+    ends 1 "disk blank" "" run d < /dev/null
+    same_bytes d before
+    ends 0 "" "" format d
+    printf X | dd of=d bs=1 seek=1 conv=notrunc status=none
+    cp d before
+    ends 1 "disk damaged" "" run d < /dev/null
+    same_bytes d before
+}
+
+no_arguments() {
+    echo "1 show 1 1" > lines
+    ends 0 "rehearsal, nothing is kept" "1 none" timeout 20 "$program" < lines
+}
+
+refused_arguments() {
+    timeout 20 "$program" run --setup "$setup" > replies 2> faults < /dev/null
+    same "the status without a disk" 2 $?
+    same "the replies" "" "$(cat replies)"
+    same "the fault" "error: the following required arguments were not provided:" "$(head -n 1 faults)"
+    timeout 20 "$program" run --setup "$setup" --disk $'\xff' > replies 2> faults < /dev/null
+    same "the status of an argument that is not UTF-8" 2 $?
+    same "the fault" "error: an argument is not UTF-8" "$(cat faults)"
+}

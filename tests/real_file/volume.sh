@@ -1,0 +1,85 @@
+# A full volume, and little memory.
+
+# limited KIBIBYTES COMMAND..: no file grows beyond so many, and a write there fails.
+limited() {
+    (
+        trap '' XFSZ
+        ulimit -f "$1"
+        shift
+        "$@"
+    )
+}
+
+full_run() {
+    local pages=$(((340 * 1024 - JOURNAL) / PAGE))
+    new_disk d
+    returns 1 1 $((pages + 5)) > lines
+    ends 1 "disk device" "$(seq -f '1 stored %.0f' $pages; echo "1 refused device"; yes "1 refused reopen-disk" | head -n 4)" \
+        limited 340 run d < lines
+    serves d "1 show 1 1" "$(shows $pages)"
+    serves d "$(returns 1 $pages $((pages + 1)))" $'1 same\n'"1 stored $((pages + 1))"
+    note="$pages returns stored, the next refused"
+}
+
+# The disk fails under a return, and later the output, where its file may not grow either: `write` is reported.
+full_disk_and_output() {
+    local pages=$(((340 * 1024 - JOURNAL) / PAGE))
+    new_disk d
+    {
+        returns 1 1 $((pages + 1))
+        yes "1 show 1 1" | head -n 20000
+    } > lines
+    limited 340 run d < lines > replies 2> faults
+    same "the status" 1 $?
+    same "the fault" "zhcount: write" "$(cat faults)"
+    same "the length of the replies" $((340 * 1024)) "$(stat -c %s replies)"
+    same "the replies at the fault of the disk" $'1 refused device\n1 refused reopen-disk' \
+        "$(sed -n "$((pages + 1)),$((pages + 2))p" replies)"
+    serves d "1 show 1 1" "$(shows $pages)"
+}
+
+full_format() {
+    rm -f d
+    ends 1 "disk device" "" limited 500 format d
+    ends 1 "disk size" "" run d < /dev/null
+    new_disk_over d
+    # With its full length already, a disk is cut short within the snapshot.
+    rm -f d
+    truncate -s $DISK d
+    ends 1 "disk device" "" limited 200 format d
+    ends 1 "disk blank" "" run d < /dev/null
+    new_disk_over d
+}
+
+# What a format left that did not end is taken by the next one.
+new_disk_over() {
+    ends 0 "" "" format "$1"
+    serves "$1" $'1 show 1 1\n1 return 1 1 1 7' $'1 none\n1 stored 1'
+}
+
+# In as much memory as the program can be loaded in, but not run, the fault is memory, and the disk is as it was.
+little_memory() {
+    local kibibytes status fault refused=0
+    new_disk d
+    cp d before
+    echo "1 show 1 1" > lines
+    for ((kibibytes = 1000; kibibytes < 20000; kibibytes += 100)); do
+        (
+            ulimit -v $kibibytes
+            exec "$program" run --setup "$setup" --disk d
+        ) < lines > replies 2> faults
+        status=$?
+        case $status in
+            0) break ;;
+            1) refused=$((refused + 1)) fault=$(cat faults) ;;
+            127) continue ;; # it could not be loaded
+            *) fault="status $status" ;;
+        esac
+        same "the fault in $kibibytes KiB" "zhcount: memory" "$fault"
+        same "the replies" "" "$(cat replies)"
+    done
+    same "the reply" "1 none" "$(cat replies)"
+    that "runs without memory" "refused > 0"
+    same_bytes d before
+    note="$refused runs were refused memory"
+}
