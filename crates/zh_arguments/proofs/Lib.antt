@@ -1,1 +1,1 @@
-pub mod ArgumentLemmas
+mod ArgumentLemmas

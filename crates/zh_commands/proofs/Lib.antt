@@ -1,7 +1,7 @@
-pub mod WriteLemmas
-pub mod DecimalLemmas
-pub mod SplitLemmas
-pub mod RequestLemmas
-pub mod LineLemmas
-pub mod ReplyLemmas
 pub mod CallerLemmas
+mod DecimalLemmas
+mod LineLemmas
+mod ReplyLemmas
+mod RequestLemmas
+mod SplitLemmas
+mod WriteLemmas

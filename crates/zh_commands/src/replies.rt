@@ -22,24 +22,41 @@ pub enum Reply {
 /// Why a line was refused, in the order of `docs/FORMATS.md`, "Replies".
 #[derive(Clone, Copy, Debug, PartialEq, Eq)]
 pub enum Refusal {
+    /// The line has none of the forms.
     Syntax,
+    /// The first word is a numeral, but not 1 to 8.
     Desk,
+    /// The set-up has no such municipality.
     Municipality,
+    /// The list does not stand in the municipality's constituency.
     List,
+    /// More than 1,000,000,000 votes.
     Votes,
+    /// The municipality is closed.
     Closed,
+    /// The number is below the one held.
     Stale,
+    /// The number is above the next one.
     Gap,
+    /// The number is held, with other content.
     Conflict,
+    /// The batch has a row of this municipality and list.
     Twice,
+    /// The desk has no batch.
     NoBatch,
+    /// The batch has 1,000 rows.
     BatchFull,
     /// This municipality is open.
     NotClosed(u32),
+    /// Memory was refused.
     Memory,
+    /// The disk failed; it may have the command or not.
     Device,
+    /// The disk failed at an earlier line.
     ReopenDisk,
+    /// No command can be counted any more, or no snapshot written.
     Spent,
+    /// The desk has a batch already.
     BatchOpen,
     /// The text that was to be loaded has not the form of docs/FORMATS.md.
     Csv,

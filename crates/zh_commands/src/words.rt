@@ -19,14 +19,14 @@ pub(crate) fn split_word(bytes: &[u8]) -> (&[u8], &[u8])
     bytes.split_at(first_space(bytes).unwrap_or(bytes.len()))
 }
 
-// Whether a numeral may begin so: `parse` takes a sign and zeros in front.
+/// Whether a numeral may begin like this: `parse` also takes a sign and leading zeros.
 fn is_plain(word: &[u8]) -> bool
     ensures { IsTrue result ↔ (1 < length word.now → IsInRange 49 57 (slice_index word.now 0)) }
 {
     word.len() <= 1 || matches!(word[0], b'1'..=b'9')
 }
 
-/// The number of 32 bits with this numeral, which has no sign and no zero in front.
+/// The number of 32 bits with this numeral, which has no sign and no leading zero.
 pub fn numeral(word: &[u8]) -> Option<u32>
     ensures { MatchOption result ((n : ℕ) → n < 2 ^ 32 → word.now ≢ decimal n)
         (λ n. (n < 2 ^ 32) × (word.now ≡ decimal n)) }

@@ -1,4 +1,4 @@
-mod ReadLemmas
+mod ExportLemmas
 mod FieldLemmas
 mod LoadLemmas
-mod ExportLemmas
+mod ReadLemmas

@@ -25,7 +25,7 @@ pub enum ExportFault {
     Write,
 }
 
-/// The fault that an error of the writer is.
+/// The fault for an error of the writer.
 fn fault_by(error: &Error) -> ExportFault {
     match error.kind() {
         ErrorKind::OutOfMemory => ExportFault::Memory,

@@ -20,7 +20,7 @@ pub(crate) fn reader_of<R: Read>(alloc: Global, text: R) -> Reader<R>
         .from_reader(alloc, text)
 }
 
-/// The fault that an error of the reader is.
+/// The fault for an error of the reader.
 fn fault_by(error: &Error) -> LoadFault
     ensures { result ≡ fault_by (error_kind error.now) }
 {

@@ -1,2 +1,2 @@
-pub mod BatchLemmas
 pub mod CallerLemmas
+mod BatchLemmas

@@ -59,7 +59,7 @@ impl Desks {
         self.batches[desk as usize - 1] = Some(Batch::new(alloc));
     }
 
-    /// Takes its batch from a desk.
+    /// Ends a desk's batch, if it has one.
     pub fn close(&mut self, desk: u8)
         requires from_one { 1 ≤ desk }
         requires there { desk ≤ 8 }

@@ -1,7 +1,7 @@
-pub mod ImageLemmas
-pub mod MaskLemmas
-pub mod LengthLemmas
-pub mod SpellingLemmas
-pub mod OneSpellingLemmas
-pub mod CantonLemmas
 pub mod CallerLemmas
+mod CantonLemmas
+mod ImageLemmas
+mod LengthLemmas
+mod MaskLemmas
+mod OneSpellingLemmas
+mod SpellingLemmas

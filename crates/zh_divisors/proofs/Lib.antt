@@ -1,13 +1,14 @@
 pub mod CallerLemmas
-pub mod Divisor
-pub mod Ends
-pub mod Giving
-pub mod LineLemmas
-pub mod LineRuleLemmas
-pub mod LineSeatsLemmas
-pub mod LineTotalsLemmas
-pub mod OneFit
-pub mod PassingLemmas
-pub mod Ratios
-pub mod Sums
-pub mod WorthLemmas
+mod DivisorLemmas
+mod FiniteSumLemmas
+mod LastSeatLemmas
+mod LineLemmas
+mod LineRuleLemmas
+mod LineSeatsLemmas
+mod LineTotalsLemmas
+mod NextSeatLemmas
+mod OneFitLemmas
+mod PassingLemmas
+mod RatioLemmas
+mod SumLemmas
+mod WorthLemmas

@@ -4,7 +4,7 @@ use Rattle.std.proofs.lemmas.Bool.{cases_lt, leb-true, leb-false}
 use Rattle.std.proofs.Math.Nat.{mul-le-mul_left, mul-le-mul_right, le_antisymm}
 use Rattle.zh_divisors.specs.Sums.{sum_to}
 use Rattle.zh_divisors.specs.Line.{IsLeastDivisor, IsGreatestDivisor, half_up, half_down, half_up_total, half_down_total, least_divisor, greatest_divisor, limit_of}
-use Rattle.zh_divisors.proofs.CallerLemmas.{half_up-at_most, half_down-at_most, sum_to-zero, term-le-sum_to}
+use Rattle.zh_divisors.proofs.FiniteSumLemmas.{half_up-at_most, half_down-at_most, sum_to-zero, term-le-sum_to}
 use Rattle.zh_divisors.proofs.PassingLemmas.{least_passing-from_1, least_passing-at, least_passing-below, greatest_passing-at, greatest_passing-above}
 
 -- beyond the limit each quotient is below a half

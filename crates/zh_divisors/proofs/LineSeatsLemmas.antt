@@ -5,10 +5,10 @@ use Rattle.std.proofs.lemmas.List.{length-set, get_or-set_other, get_or-set_same
 use Rattle.std.proofs.lemmas.Nat.{mul-le}
 use Rattle.std.proofs.Math.Nat.{mul-le-mul_left, le_refl, le_trans}
 use Rattle.zh_divisors.specs.Sums.{sum_to}
-use Rattle.zh_divisors.proofs.CallerLemmas.{sum_to-ext, term-le-sum_to}
+use Rattle.zh_divisors.proofs.FiniteSumLemmas.{sum_to-ext, term-le-sum_to}
 use Rattle.zh_divisors.specs.Line.{IsLine}
 use Rattle.zh_divisors.specs.LineSeats.{AreGiven, IsLastCell, IsNextCell, next_signpost, last_signpost}
-use Rattle.zh_divisors.proofs.Ratios.{le_by_le}
+use Rattle.zh_divisors.proofs.RatioLemmas.{le_by_le}
 
 pub positive_other : (votes others : List ℕ) (k : ℕ) → IsLine votes others → k < length votes → 1 ≤ get_or others k 0
 positive_other votes others k line kw = line.each_positive k 0 (omega (arith, line.same_length))

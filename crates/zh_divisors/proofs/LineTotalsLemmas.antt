@@ -4,8 +4,8 @@ use Rattle.std.proofs.lemmas.Nat.{mul-le}
 use Rattle.zh_divisors.specs.Sums.{sum_to}
 use Rattle.zh_divisors.specs.Line.{IsLine, half_up, half_down}
 use Rattle.zh_divisors.specs.LineSeats.{AreGiven, IsLastCell, IsNextCell, next_signpost, last_signpost}
-use Rattle.zh_divisors.proofs.CallerLemmas.{half_up-at_most, half_up-at_least, half_down-at_most, half_down-at_least, sum_to-le, sum_to-lt}
-use Rattle.zh_divisors.proofs.Ratios.{lt_by_le_lt, lt_by_lt_le, le_by_le}
+use Rattle.zh_divisors.proofs.FiniteSumLemmas.{half_up-at_most, half_up-at_least, half_down-at_most, half_down-at_least, sum_to-le, sum_to-lt}
+use Rattle.zh_divisors.proofs.RatioLemmas.{lt_by_le_lt, lt_by_lt_le, le_by_le}
 use Rattle.zh_divisors.proofs.LineSeatsLemmas.{positive_next, positive_last}
 
 -- a cell's votes times the unit, over the product of its divisors, rounded; D against its votes over a signpost

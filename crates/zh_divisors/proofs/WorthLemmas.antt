@@ -2,7 +2,7 @@
 use Rattle.std.proofs.Common.{◌≡◌, ℕ, ◌+◌, ◌-◌, ◌*◌, ◌<◌, ◌≤◌, List, get_or, arith, below_more}
 use Rattle.std.proofs.Math.Nat.{le_refl}
 use Rattle.zh_divisors.specs.Worth.{IsLeastLast, IsMostNext}
-use Rattle.zh_divisors.proofs.Ratios.{lt_by_le_lt, lt_by_lt_le}
+use Rattle.zh_divisors.proofs.RatioLemmas.{lt_by_le_lt, lt_by_lt_le}
 
 pub IsMostNext-first : (weights seats : List ℕ) → IsMostNext weights seats 1 0
 IsMostNext-first weights seats = record {

@@ -12,8 +12,8 @@ use crate::fault::{AppendFault, AreaFault, OpenFault};
 use crate::gate::open_gate;
 use crate::page::{AREA_LENGTH, AREA_PAGES, LONGEST_PAYLOAD, PAGE_LENGTH, pages_of};
 use crate::reader::Reader;
-use crate::reading::{find_page, read_record};
-use crate::staging::stage;
+use crate::record_reader::{find_page, read_record};
+use crate::record_writer::stage;
 use std::marker::Model;
 use zh_disk::{Disk, DiskFault};
 

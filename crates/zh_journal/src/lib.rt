@@ -11,8 +11,8 @@ mod gate;
 mod head;
 mod page;
 mod reader;
-mod reading;
-mod staging;
+mod record_reader;
+mod record_writer;
 
 pub use area::Area;
 pub use fault::{AppendFault, AreaFault, OpenFault};

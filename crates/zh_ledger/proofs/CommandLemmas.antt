@@ -4,7 +4,7 @@ use Rattle.std.specs.Prelude.{IfSome}
 use Rattle.std.proofs.lemmas.List.{take_all}
 use Rattle.std.proofs.Math.Seq.{take-append-add}
 use Rattle.zh_disk.specs.Disk.{Moment, Trail, IsImage}
-use Rattle.zh_disk.proofs.Runs.{leaves_none}
+use Rattle.zh_disk.proofs.CallerLemmas.{leaves_none}
 use Rattle.zh_districts.specs.Canton.{Canton}
 use Rattle.zh_returns.specs.Step.{after}
 use Rattle.zh_returns.specs.Tally.{Tally, empty}

@@ -5,7 +5,7 @@ use Rattle.std.proofs.lemmas.List.{map-append}
 use Rattle.std.proofs.lemmas.List.Elements.{All-append}
 use Rattle.std.proofs.lemmas.Grind.{common_steps}
 use Rattle.zh_disk.specs.Disk.{Trail, Moves, Leaves}
-use Rattle.zh_disk.proofs.Runs.{leaves_weaken}
+use Rattle.zh_disk.proofs.CallerLemmas.{leaves_weaken}
 use Rattle.zh_journal.specs.Pages.{pages_of}
 use Rattle.zh_returns.specs.Judgement.{judge}
 use Rattle.zh_records.specs.Spelling.{command_spelling, IsSpeakable}

@@ -1,14 +1,15 @@
-pub mod BufferLemmas
-pub mod StandsLemmas
-pub mod RoomLemmas
-pub mod KeptLemmas
-pub mod ReplayLemmas
-pub mod SwitchLemmas
-pub mod ReadyLemmas
-pub mod OpenedLemmas
-pub mod SubmissionLemmas
-pub mod JudgedLemmas
-pub mod StretchLemmas
-pub mod CommandLemmas
-pub mod ReopeningLemmas
-pub mod NightLemmas
+pub mod CallerLemmas
+mod BufferLemmas
+mod CommandLemmas
+mod JudgedLemmas
+mod KeptLemmas
+mod NightLemmas
+mod OpenedLemmas
+mod ReadyLemmas
+mod ReopeningLemmas
+mod ReplayLemmas
+mod RoomLemmas
+mod StandsLemmas
+mod StretchLemmas
+mod SubmissionLemmas
+mod SwitchLemmas

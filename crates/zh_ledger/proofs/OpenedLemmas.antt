@@ -8,7 +8,7 @@ use Rattle.zh_districts.specs.Spelling.{setup_spelling}
 use Rattle.zh_disk.specs.Disk.{Moment, Trail, IsImage, IsSettled, settled}
 use Rattle.zh_journal.specs.Pages.{Frames}
 use Rattle.zh_journal.specs.Place.{Rest}
-use Rattle.zh_disk.proofs.Runs.{synced_image}
+use Rattle.zh_disk.proofs.CallerLemmas.{synced_image}
 use Rattle.zh_returns.specs.Limits.{IsTally}
 use Rattle.zh_returns.specs.Payload.{payload_spelling}
 use Rattle.zh_returns.specs.Tally.{Tally, empty}
@@ -18,7 +18,7 @@ use Rattle.zh_snapshot.specs.Image.{Content, IsBlank, IsFramed, IsClean}
 use Rattle.zh_snapshot.specs.Store.{State, Fits}
 use Rattle.zh_snapshot.specs.declared.fault.OpenFault as store
 use Rattle.zh_snapshot.specs.declared.fault.OpenFault.TheVariants as of_store
-use Rattle.zh_snapshot.proofs.Contents.{framed_once}
+use Rattle.zh_snapshot.proofs.CallerLemmas.{framed_once}
 use Rattle.zh_ledger.specs.Opened.{IsNew, IsDamaged, IsLeft, IsWrong, OpenedAs}
 use Rattle.zh_ledger.specs.Stands.{StandsFor, Replays}
 use Rattle.zh_ledger.specs.declared.fault.OpenFault.TheVariants as faults

@@ -1,7 +1,7 @@
 -- What a ledger stores once it is ready.
 use Rattle.std.proofs.Common.{inl, ⊎_elim, ℕ, sym, ◌∙◌, subst}
 use Rattle.zh_disk.specs.Disk.{Trail, Moves, Leaves}
-use Rattle.zh_disk.proofs.Runs.{leaves_join, leaves_weaken}
+use Rattle.zh_disk.proofs.CallerLemmas.{leaves_join, leaves_weaken}
 use Rattle.zh_records.specs.declared.command.Command.{Command}
 use Rattle.zh_records.specs.Spelling.{IsSpeakable}
 use Rattle.zh_ledger.specs.declared.outcome.Outcome.{Outcome}

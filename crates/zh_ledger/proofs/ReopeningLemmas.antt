@@ -2,7 +2,7 @@
 use Rattle.std.proofs.Common.{◌≡◌, ◌⊎◌, inl, inr, ℕ, ◌+◌, List, [], ◌++◌, length, take, refl, sym, ◌∙◌, ap, subst, arith, length-append, Some, None}
 use Rattle.std.proofs.lemmas.List.{append-nil}
 use Rattle.zh_disk.specs.Disk.{Moment, Trail, IsImage, Leaves, settled}
-use Rattle.zh_disk.proofs.Runs.{image_now, leaves_now, leaves_weaken}
+use Rattle.zh_disk.proofs.CallerLemmas.{image_now, leaves_now, leaves_weaken}
 use Rattle.zh_districts.specs.Canton.{Canton}
 use Rattle.zh_districts.specs.Spelling.{setup_spelling}
 use Rattle.zh_returns.specs.Step.{after}
@@ -18,7 +18,7 @@ use Rattle.zh_ledger.specs.Submissions.{nothing}
 use Rattle.zh_ledger.specs.Night.{Stretch, after_stop, IsLeft, IsCause, Finds}
 use Rattle.zh_ledger.specs.declared.fault.OpenFault.{OpenFault}
 use Rattle.zh_ledger.specs.declared.fault.OpenFault.TheVariants as faults
-use Rattle.zh_snapshot.proofs.Contents.{framed_alike}
+use Rattle.zh_snapshot.proofs.CallerLemmas.{framed_alike}
 use Rattle.zh_ledger.proofs.StandsLemmas.{stands_alike, after_canton, after-append, holds_kept}
 use Rattle.zh_ledger.proofs.SubmissionLemmas.{has_none}
 use Rattle.zh_ledger.proofs.JudgedLemmas.{judged_number, judged_take}

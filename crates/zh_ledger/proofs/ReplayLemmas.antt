@@ -5,7 +5,7 @@ use Rattle.std.specs.Prelude.{IsNone, ◌↔◌}
 use Rattle.std.specs.Option.{option_copied}
 use Rattle.std.proofs.lemmas.List.Elements.{All-cons, All-nil, All-head, All-tail}
 use Rattle.zh_journal.specs.Pages.{Frames}
-use Rattle.zh_journal.proofs.Walk.{frames_room}
+use Rattle.zh_journal.proofs.CallerLemmas.{frames_room}
 use Rattle.zh_returns.specs.Judgement.{judge}
 use Rattle.zh_records.specs.Spelling.{command_spelling, IsSpeakable}
 use Rattle.zh_returns.specs.Step.{step, after}

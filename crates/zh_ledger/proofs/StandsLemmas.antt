@@ -12,7 +12,7 @@ use Rattle.zh_returns.specs.declared.verdict.Verdict.TheVariants as verdicts
 use Rattle.zh_returns.proofs.CallerLemmas.{tally_once}
 use Rattle.zh_records.proofs.CallerLemmas.{command_once}
 use Rattle.zh_snapshot.specs.Image.{Content, IsFramed}
-use Rattle.zh_snapshot.proofs.Contents.{framed_alike}
+use Rattle.zh_snapshot.proofs.CallerLemmas.{framed_alike}
 use Rattle.zh_ledger.specs.Ledger.{Ledger}
 use Rattle.zh_ledger.specs.Stands.{StandsFor, Holds, IsKept}
 

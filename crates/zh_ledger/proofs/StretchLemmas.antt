@@ -3,7 +3,7 @@ use Rattle.std.proofs.Common.{◌≡◌, ℕ, ◌+◌, ◌≤◌, List, [], ◌�
 use Rattle.std.proofs.lemmas.List.{append_cancel_right}
 use Rattle.std.proofs.Math.Seq.{take-append-add}
 use Rattle.zh_disk.specs.Disk.{Moment, Trail, IsImage, Leaves, AllMove, settled}
-use Rattle.zh_disk.proofs.Runs.{synced_image, leaves_now}
+use Rattle.zh_disk.proofs.CallerLemmas.{synced_image, leaves_now}
 use Rattle.zh_districts.specs.Canton.{Canton}
 use Rattle.zh_returns.specs.Step.{after}
 use Rattle.zh_returns.specs.Tally.{Tally, empty}

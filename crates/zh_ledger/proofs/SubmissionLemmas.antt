@@ -2,7 +2,7 @@
 use Rattle.std.proofs.Common.{◌≡◌, inl, ⊎_elim, ℕ, suc, ◌+◌, List, [], ◌∷◌, take, refl, sym, ◌∙◌, ap, subst, arith, one-add, zero-add, add-zero, Bool, true}
 use Rattle.std.proofs.lemmas.List.{append-nil}
 use Rattle.zh_disk.specs.Disk.{Trail, Leaves, Moves, IsImage}
-use Rattle.zh_disk.proofs.Runs.{leaves_none, leaves_now, leaves_join, leaves_weaken}
+use Rattle.zh_disk.proofs.CallerLemmas.{leaves_none, leaves_now, leaves_join, leaves_weaken}
 use Rattle.zh_returns.specs.Step.{after}
 use Rattle.zh_returns.specs.Tally.{Tally}
 use Rattle.zh_records.specs.declared.command.Command.{Command}

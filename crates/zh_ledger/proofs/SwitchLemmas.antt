@@ -1,7 +1,7 @@
 -- How an image that the ledger knows comes to hold the count in its other slot.
 use Rattle.std.proofs.Common.{◌≡◌, ⊎_elim, ℕ, List, false, refl, sym, subst}
 use Rattle.zh_disk.specs.Disk.{Trail, Moves, Leaves}
-use Rattle.zh_disk.proofs.Runs.{leaves_weaken}
+use Rattle.zh_disk.proofs.CallerLemmas.{leaves_weaken}
 use Rattle.zh_returns.specs.Limits.{IsTally}
 use Rattle.zh_returns.specs.Payload.{payload_spelling}
 use Rattle.zh_returns.specs.Tally.{Tally}

@@ -1,7 +1,8 @@
+pub mod CallerLemmas
 mod CellLemmas
 mod FilledLemmas
 mod LineLemmas
-pub mod OneAnswerLemmas
+mod OneAnswerLemmas
 mod PlaceLemmas
 mod StateLemmas
 mod SumLemmas

@@ -1,8 +1,8 @@
-pub mod Texts
-pub mod Others
-pub mod Running
-pub mod Lifting
-pub mod NightLemmas
-pub mod Blocks
-pub mod Inputs
-pub mod LoadLemmas
+mod BlockLemmas
+mod InputLemmas
+mod LiftingLemmas
+mod LoadLemmas
+mod NightLemmas
+mod OtherDeskLemmas
+mod RunLemmas
+mod TextLemmas

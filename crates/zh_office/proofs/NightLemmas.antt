@@ -2,7 +2,7 @@
 use Rattle.std.proofs.Common.{◌≡◌, ℕ, List, [], ◌∷◌, refl, sym, ap, ◌∙◌, subst, Option, Some, None}
 use Rattle.std.specs.Prelude.{option_map}
 use Rattle.zh_disk.specs.Disk.{Moment, IsImage}
-use Rattle.zh_disk.proofs.Runs.{leaves_none}
+use Rattle.zh_disk.proofs.CallerLemmas.{leaves_none}
 use Rattle.zh_districts.specs.Canton.{Canton}
 use Rattle.zh_records.specs.declared.command.Command.{Command}
 use Rattle.zh_ledger.specs.Night as ledger
@@ -10,8 +10,7 @@ use Rattle.zh_ledger.specs.Night.{IsLeft, unacknowledged}
 use Rattle.zh_ledger.specs.Night.Event.{submitted as ledger_submitted, stopped_within as ledger_stopped_within, stopped as ledger_stopped, opened as ledger_opened, refused as ledger_refused, stopped_opening as ledger_stopped_opening}
 use Rattle.zh_ledger.specs.Submissions as submissions
 use Rattle.zh_ledger.specs.Submissions.{Log, nothing, followed_by}
-use Rattle.zh_ledger.proofs.StretchLemmas.{IsSure, left_by}
-use Rattle.zh_ledger.proofs.NightLemmas.{one_event, fresh_sure}
+use Rattle.zh_ledger.proofs.CallerLemmas.{IsSure, left_by, one_event, fresh_sure}
 use Rattle.zh_office.specs.Office.{State, MayAnswer, command_read}
 use Rattle.zh_office.specs.Runs as runs
 use Rattle.zh_requests.specs.Requests.{Acts}
@@ -21,8 +20,8 @@ use Rattle.zh_office.specs.Load.{load_command, load_reply}
 use Rattle.zh_office.specs.Night.Event.{answered, stopped_within, loaded, stopped_within_load, stopped, opened, refused, stopped_opening}
 use Rattle.zh_answers.specs.declared.answer.Answer.{Answer}
 use Rattle.zh_answers.specs.declared.answer.Answer.TheVariants as answers
-use Rattle.zh_office.proofs.Running.{followed_by-nothing}
-use Rattle.zh_office.proofs.Lifting.{logged_alike}
+use Rattle.zh_office.proofs.RunLemmas.{followed_by-nothing}
+use Rattle.zh_office.proofs.LiftingLemmas.{logged_alike}
 
 -- a line of an open office, as what it does to the ledger: what is sure before it is sure after it, and where it is stopped
 module _ (canton : Canton) (kept : List Command) (s : ledger.Stretch) (sure : IsSure canton kept s) (old new : submissions.OnDisk) (begins : ledger.Begins s old) where

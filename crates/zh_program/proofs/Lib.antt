@@ -1,1 +1,1 @@
-pub mod EndingLemmas
+mod EndingLemmas

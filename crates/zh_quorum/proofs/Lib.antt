@@ -1,1 +1,1 @@
-pub mod ParticipatingLemmas
+mod ParticipatingLemmas

@@ -1,8 +1,8 @@
-pub mod KeyLemmas
-pub mod MarkLemmas
-pub mod NumeralLemmas
-pub mod BlockLemmas
-pub mod RowBytesLemmas
-pub mod PushLemmas
-pub mod CommandLemmas
 pub mod CallerLemmas
+mod BlockLemmas
+mod CommandLemmas
+mod KeyLemmas
+mod MarkLemmas
+mod NumeralLemmas
+mod PushLemmas
+mod RowBytesLemmas

@@ -1,17 +1,17 @@
-pub mod PlaceLemmas
-pub mod EntryTableLemmas
-pub mod FlagLemmas
-pub mod LimitsLemmas
-pub mod TableWriteLemmas
-pub mod ZeroLemmas
-pub mod BitLemmas
-pub mod VerdictLemmas
-pub mod JudgementLemmas
-pub mod EntryBytesLemmas
-pub mod NumbersLemmas
-pub mod ClosedBytesLemmas
-pub mod TallyTableLemmas
-pub mod PayloadLemmas
-pub mod AcceptedLemmas
-pub mod OnePayloadLemmas
 pub mod CallerLemmas
+mod AcceptedLemmas
+mod BitLemmas
+mod ClosedBytesLemmas
+mod EntryBytesLemmas
+mod EntryTableLemmas
+mod FlagLemmas
+mod JudgementLemmas
+mod LimitsLemmas
+mod NumbersLemmas
+mod OnePayloadLemmas
+mod PayloadLemmas
+mod PlaceLemmas
+mod TableWriteLemmas
+mod TallyTableLemmas
+mod VerdictLemmas
+mod ZeroLemmas

@@ -12,7 +12,7 @@ use crate::entry::Entry;
 use zh_records::{Command, Row, Rows};
 
 impl<'s> Count<'s> {
-    /// Puts what a command says over the count, and counts it. It has been judged, and is accepted.
+    /// Applies a command, which has been judged and is accepted, to the count, and counts it.
     pub fn apply(&mut self, command: &Command<'_>)
         requires accept { judge self.old command.now ≡ Accept }
         requires room { self.old.accepted < 2 ^ 64 - 1 }

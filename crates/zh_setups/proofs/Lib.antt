@@ -1,8 +1,8 @@
-pub mod AsciiLemmas
-pub mod ArrayLemmas
-pub mod EachLemmas
-pub mod ValueLemmas
-pub mod SetupLemmas
-pub mod SetupTextLemmas
-pub mod RehearsalTextLemmas
-pub mod TableLemmas
+mod ArrayLemmas
+mod AsciiLemmas
+mod EachLemmas
+mod RehearsalTextLemmas
+mod SetupLemmas
+mod SetupTextLemmas
+mod TableLemmas
+mod ValueLemmas

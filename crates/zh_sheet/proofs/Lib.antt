@@ -1,7 +1,8 @@
-pub mod SeatedLemmas
-pub mod TargetLemmas
-pub mod RefusalLemmas
-pub mod AskedLemmas
-pub mod MakingLemmas
-pub mod OneSheetLemmas
-pub mod SheetLemmas
+pub mod CallerLemmas
+mod AskedLemmas
+mod MakingLemmas
+mod OneSheetLemmas
+mod RefusalLemmas
+mod SeatedLemmas
+mod SheetLemmas
+mod TargetLemmas

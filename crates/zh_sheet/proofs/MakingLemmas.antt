@@ -13,7 +13,7 @@ use Rattle.zh_lower.specs.Question.{IsFirstWithoutVotes, Question}
 use Rattle.zh_lower.specs.SeatMatrix.{IsStrict, SeatMatrix}
 use Rattle.zh_lower.specs.declared.fault.LowerFault.{LowerFault}
 use Rattle.zh_lower.specs.declared.fault.LowerFault.TheVariants as lower_faults
-use Rattle.zh_lower.proofs.OneAnswerLemmas.{no_seats}
+use Rattle.zh_lower.proofs.CallerLemmas.{no_seats}
 use Rattle.zh_quorum.specs.Quorum.{AreParticipating, TakesPart}
 use Rattle.zh_totals.specs.Totals.{VoteTotals}
 use Rattle.zh_upper.specs.UpperSeats.{AreTied, HasNoGroup, HasNoVoters, IsReportedWhere, of_participants}

@@ -4,7 +4,7 @@ use Rattle.std.proofs.lemmas.Bool.{cases_order}
 use Rattle.zh_districts.specs.Seats.{persons}
 use Rattle.zh_divisors.specs.Shares.{Apportionment, HasDivisor}
 use Rattle.zh_divisors.specs.Worth.{IsLeastLast, IsMostNext}
-use Rattle.zh_lower.proofs.OneAnswerLemmas.{only_matrix}
+use Rattle.zh_lower.proofs.CallerLemmas.{only_matrix}
 use Rattle.zh_lower.specs.Outcomes.{IsReached}
 use Rattle.zh_upper.specs.UpperSeats.{of_participants, shares_of_participants}
 use Rattle.zh_sheet.specs.Distribution.{Distribution, IsDistribution, Targets, lower_question, question_of}

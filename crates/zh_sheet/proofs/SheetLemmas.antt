@@ -5,7 +5,7 @@ use Rattle.std.specs.Prelude.{◌==◌}
 use Rattle.std.proofs.lemmas.List.Quantifiers.{position-Some}
 use Rattle.std.proofs.lemmas.Option.{get_or_from_slice_get, slice_get-map, slice_get_within}
 use Rattle.zh_districts.specs.Canton.{AreNames, is_name}
-use Rattle.zh_districts.proofs.LengthLemmas.{is_name-short}
+use Rattle.zh_districts.proofs.CallerLemmas.{is_name-short}
 use Rattle.zh_sheet.specs.Distribution.{Distribution, IsDistribution, Targets, seated_groups}
 use Rattle.zh_sheet.specs.Readings.{column_of}
 use Rattle.zh_sheet.proofs.AskedLemmas.{few_seated}

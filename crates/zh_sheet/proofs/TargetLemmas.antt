@@ -5,7 +5,7 @@ use Rattle.std.proofs.lemmas.Bool.{cases_order}
 use Rattle.std.proofs.lemmas.List.{ext_get_or}
 use Rattle.zh_districts.specs.Seats.{AreSeats, IsFirstWithout, persons}
 use Rattle.zh_divisors.specs.Fit as fits
-use Rattle.zh_divisors.proofs.OneFit.{only_fit, no_strict_fit}
+use Rattle.zh_divisors.proofs.CallerLemmas.{only_fit, no_strict_fit}
 use Rattle.zh_divisors.specs.Fit.{IsFit, IsStrictFit}
 use Rattle.zh_lower.specs.Question.{IsFirstWithoutVotes, Question}
 use Rattle.zh_quorum.specs.Quorum.{AreParticipating}

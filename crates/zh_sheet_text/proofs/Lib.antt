@@ -1,3 +1,3 @@
-pub mod PageLemmas
-pub mod PrintingLemmas
-pub mod StandingLemmas
+mod PageLemmas
+mod PrintingLemmas
+mod StandingLemmas

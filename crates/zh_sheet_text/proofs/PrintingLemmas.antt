@@ -8,7 +8,7 @@ use Rattle.std.proofs.lemmas.Bool.{cases_lt}
 use Rattle.std.proofs.lemmas.List.{take-append-le}
 use Rattle.std.proofs.lemmas.List.Concat.{flat_map-append}
 use Rattle.zh_sheet_text.specs.Printing.{Prints, WritesFront}
-use Rattle.zh_sheet.proofs.SeatedLemmas.{numbers_more}
+use Rattle.zh_sheet.proofs.CallerLemmas.{numbers_more}
 
 -- what is put on the page
 pub Prints-put : (held : Option (List ℕ)) (page next text : List ℕ) → next ≡ page ++ text → Prints held page held next text

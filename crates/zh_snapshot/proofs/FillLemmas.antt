@@ -5,13 +5,12 @@ use Rattle.std.specs.Int.{w64, to_be_bytes, from_be_bytes}
 use Rattle.std.proofs.lemmas.Nat.{from_be_bytes-to_be_bytes_8}
 use Rattle.zh_disk.specs.declared.disk.DiskFault.{DiskFault}
 use Rattle.zh_disk.specs.Disk.{Moment, Trail, IsImage, SameOutside, Writes, Syncs, Moves, Leaves, splice, synced}
-use Rattle.zh_disk.proofs.Images.{splice_same, splice_in}
-use Rattle.zh_disk.proofs.Runs.{image_now, synced_image, same_refl, leaves_now, leaves_weaken, leaves_more, write_leaves, sync_more}
+use Rattle.zh_disk.proofs.CallerLemmas.{splice_same, splice_in, image_now, synced_image, same_refl, leaves_now, leaves_weaken, leaves_more, write_leaves, sync_more}
 use Rattle.zh_journal.specs.Pages.{IsCleared}
 use Rattle.zh_snapshot.specs.declared.layout.Slot.{Slot}
 use Rattle.zh_snapshot.specs.Layout.{slot_at, generation_at, snapshot_at, journal_at}
 use Rattle.zh_snapshot.specs.Slots.{Closes, IsClosed, HasNew, generation_of}
-use Rattle.zh_snapshot.proofs.Ranges.{same_trans, same_wider, slice_kept, placed}
+use Rattle.zh_snapshot.proofs.RangeLemmas.{same_trans, same_wider, slice_kept, placed}
 use Rattle.zh_snapshot.proofs.SlotLemmas.{bounds}
 
 -- a write at a place that was named otherwise

@@ -1,10 +1,11 @@
-pub mod Ranges
-pub mod SlotLemmas
-pub mod FillLemmas
-pub mod RefillLemmas
-pub mod SwitchLemmas
-pub mod Closing
-pub mod Parts
-pub mod Phases
-pub mod Framed
-pub mod Contents
+pub mod CallerLemmas
+mod ClosingLemmas
+mod ContentLemmas
+mod FillLemmas
+mod FormatLemmas
+mod FrameLemmas
+mod PhaseLemmas
+mod RangeLemmas
+mod RefillLemmas
+mod SlotLemmas
+mod SwitchLemmas

@@ -2,13 +2,12 @@
 use Rattle.std.proofs.Common.{◌≡◌, inl, inr, ℕ, ◌+◌, ◌-◌, ◌≤◌, Bool, List, [], ◌∷◌, length, sym, ◌∙◌, ap, subst, arith}
 use Rattle.std.specs.Prelude.{slice_index}
 use Rattle.zh_disk.specs.Disk.{Moment, Trail, IsImage, SameOutside, Moves, Leaves, splice, settled}
-use Rattle.zh_disk.proofs.Images.{splice_same, splice_in}
-use Rattle.zh_disk.proofs.Runs.{image_now, synced_image, same_refl, leaves_now, leaves_weaken, leaves_join}
+use Rattle.zh_disk.proofs.CallerLemmas.{splice_same, splice_in, image_now, synced_image, same_refl, leaves_now, leaves_weaken, leaves_join}
 use Rattle.zh_journal.specs.Gate.{FromBytes}
 use Rattle.zh_snapshot.specs.declared.layout.Slot.{Slot}
 use Rattle.zh_snapshot.specs.Layout.{slot_at, generation_at, snapshot_at, journal_at}
 use Rattle.zh_snapshot.specs.Slots.{Closes, IsClosed, HasNew, Refills, IsRefilled}
-use Rattle.zh_snapshot.proofs.Ranges.{same_trans, same_wider, slice_kept}
+use Rattle.zh_snapshot.proofs.RangeLemmas.{same_trans, same_wider, slice_kept}
 use Rattle.zh_snapshot.proofs.SlotLemmas.{bounds, generation_kept}
 
 -- what was written after the gate, when the gate alone has changed since

@@ -3,17 +3,16 @@ use Rattle.std.proofs.Common.{◌≡◌, ◌⊎◌, inl, inr, ⊎_elim, ℕ, ◌
 use Rattle.std.specs.Prelude.{slice_index, slice_range}
 use Rattle.std.proofs.lemmas.Bool.{cases_eq}
 use Rattle.zh_disk.specs.Disk.{Trail, SameOutside, Moves, Leaves}
-use Rattle.zh_disk.proofs.Runs.{leaves_weaken}
+use Rattle.zh_disk.proofs.CallerLemmas.{leaves_weaken}
 use Rattle.zh_journal.specs.Pages.{HoldsArea}
-use Rattle.zh_journal.proofs.Areas.{reads_same, holds_reads}
-use Rattle.zh_journal.proofs.Clearing.{zero_holds}
+use Rattle.zh_journal.proofs.CallerLemmas.{reads_same, holds_reads, zero_holds}
 use Rattle.zh_snapshot.specs.declared.layout.Slot.{Slot}
 use Rattle.zh_snapshot.specs.declared.layout.Slot.TheVariants.{First}
 use Rattle.zh_snapshot.specs.Layout.{other, slot_at, snapshot_at, journal_at}
 use Rattle.zh_snapshot.specs.Slots.{IsOpen, IsInUse, HasNew, Refills, IsRefilled, generation_of}
 use Rattle.zh_snapshot.specs.Image.{Content, IsFramed, IsClean, with_snapshot}
 use Rattle.zh_snapshot.specs.Store.{State, Fits, StoreSwitches, StoreSwitchesOrNot}
-use Rattle.zh_snapshot.proofs.Ranges.{slice_kept}
+use Rattle.zh_snapshot.proofs.RangeLemmas.{slice_kept}
 use Rattle.zh_snapshot.proofs.SlotLemmas.{bounds, apart, other_other, head_kept, held, closed_there}
 
 -- writes in the other slot alone

@@ -7,7 +7,7 @@ use Rattle.zh_disk_tasks.specs.Csv.{Exports, Loads}
 use Rattle.zh_disk_tasks.specs.Tasks.{IsFrom, IsRefused}
 use Rattle.zh_disk_tasks.specs.declared.csv_fault.ExportFault.{ExportFault}
 use Rattle.zh_disk_tasks.specs.declared.csv_fault.LoadFault.{LoadFault}
-use Rattle.zh_disk_tasks.proofs.CsvLemmas.{exports_as, loads_as}
+use Rattle.zh_disk_tasks.proofs.CallerLemmas.{exports_as, loads_as}
 use Rattle.zh_tasks.proofs.EndingLemmas.{begun_on}
 use Rattle.zh_tasks.specs.Tasks.{IsOnFile, IsRefusedFile}
 

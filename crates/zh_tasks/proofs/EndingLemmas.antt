@@ -6,10 +6,10 @@ use Rattle.zh_disk.specs.Disk.{Moment, Trail, IsImage, fresh_trail}
 use Rattle.zh_file.specs.Held.{BeginsOrFills}
 use Rattle.zh_returns.specs.Tally.{empty}
 use Rattle.zh_snapshot.specs.Image.{Content, IsBlank}
-use Rattle.zh_snapshot.proofs.Contents.{framed_alike}
+use Rattle.zh_snapshot.proofs.CallerLemmas.{framed_alike}
 use Rattle.zh_ledger.specs.Opened.{IsNew}
 use Rattle.zh_ledger.specs.Stands.{StandsFor}
-use Rattle.zh_ledger.proofs.StandsLemmas.{stands_alike}
+use Rattle.zh_ledger.proofs.CallerLemmas.{stands_alike}
 use Rattle.zh_ledger.specs.declared.fault.OpenFault.{OpenFault}
 use Rattle.zh_office.specs.Office.{State}
 use Rattle.zh_office.specs.Opened.{IsOpened}
@@ -18,7 +18,7 @@ use Rattle.zh_disk_tasks.specs.Tasks.{FormatsBlank, IsFrom, IsRefused, IsStart, 
 use Rattle.zh_disk_tasks.specs.declared.fault.FormatFault.{FormatFault}
 use Rattle.zh_disk_tasks.specs.declared.fault.FormatFault.TheVariants as formatting
 use Rattle.zh_disk_tasks.specs.declared.fault.RunFault.{RunFault}
-use Rattle.zh_disk_tasks.proofs.EndingLemmas.{begun_as}
+use Rattle.zh_disk_tasks.proofs.CallerLemmas.{begun_as}
 use Rattle.zh_tasks.specs.Tasks.{FormatsFile, IsOnFile, IsRefusedFile, IsRehearsal}
 
 -- an office that began on a disk of this trail

@@ -1,2 +1,2 @@
-pub mod CsvLemmas
-pub mod EndingLemmas
+mod CsvLemmas
+mod EndingLemmas

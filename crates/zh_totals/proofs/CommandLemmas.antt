@@ -23,11 +23,9 @@ use Rattle.zh_records.specs.Spelling.{HasNumbers}
 use Rattle.zh_returns.specs.Step.{entry_of, with_rows, changed}
 use Rattle.zh_returns.specs.Tally.{Tally, held}
 use Rattle.zh_records.specs.Keys.{key_cmp}
-use Rattle.zh_returns.proofs.CallerLemmas.{passes, rows_kept}
+use Rattle.zh_returns.proofs.CallerLemmas.{passes, rows_kept, IsTally-insert, rows_more}
 use Rattle.zh_districts.proofs.CallerLemmas.{placed}
-use Rattle.zh_returns.proofs.CallerLemmas.{IsTally-insert}
 use Rattle.zh_records.proofs.CallerLemmas.{keys_total, fresh_from_distinct}
-use Rattle.zh_returns.proofs.CallerLemmas.{rows_more}
 use Rattle.zh_totals.specs.Totals.{VoteTotals}
 use Rattle.zh_totals.specs.Counting.{votes_of, totals_of}
 use Rattle.zh_totals.specs.Changes.{IsChange, noted, all_noted, change_to, row_change, changes_of}

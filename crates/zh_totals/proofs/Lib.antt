@@ -1,10 +1,10 @@
-mod SumLemmas
-mod PlaceLemmas
-mod EntryLemmas
-mod NotingLemmas
-mod RestrictingLemmas
-mod TotalsLemmas
+pub mod CallerLemmas
 mod BoundLemmas
 mod ChangeLemmas
 mod CommandLemmas
-pub mod CallerLemmas
+mod EntryLemmas
+mod NotingLemmas
+mod PlaceLemmas
+mod RestrictingLemmas
+mod SumLemmas
+mod TotalsLemmas

@@ -82,7 +82,7 @@ impl<'s> RunningCount<'s> {
         is_read
     }
 
-    /// Puts what a command says over the count, and counts it. It has been judged, and is accepted.
+    /// Applies a command, which has been judged and is accepted, to the count and its totals, and counts it.
     pub fn apply(&mut self, command: &Command<'_>)
         requires accept { judge self.old command.now ≡ Accept }
         requires room { self.old.accepted < 2 ^ 64 - 1 }

@@ -1,5 +1,5 @@
 pub mod CallerLemmas
-pub mod FaultLemmas
-pub mod ParticipantLemmas
-pub mod SpreadLemmas
-pub mod VoterSumLemmas
+mod FaultLemmas
+mod ParticipantLemmas
+mod SpreadLemmas
+mod VoterSumLemmas

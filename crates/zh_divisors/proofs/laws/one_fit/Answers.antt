@@ -1,5 +1,5 @@
-use Rattle.zh_divisors.proofs.Divisor.{divisor_of}
-use Rattle.zh_divisors.proofs.OneFit.{only_fit, no_strict_fit, IsStrictFit-rounds}
+use Rattle.zh_divisors.proofs.DivisorLemmas.{divisor_of}
+use Rattle.zh_divisors.proofs.OneFitLemmas.{only_fit, no_strict_fit, IsStrictFit-rounds}
 use Rattle.zh_divisors.proofs.laws.one_fit.Goals as goal
 
 pub returns-clause-only : goal.returns-clause-only

@@ -1,7 +1,7 @@
 use Rattle.std.proofs.Common.{◌+◌, ◌-◌, ◌*◌, ◌/◌, ◌^◌, ◌∙◌, arith, length, get_or, replicate, ap}
 use Rattle.std.proofs.lemmas.List.{get_or-replicate}
 use Rattle.zh_divisors.proofs.LineSeatsLemmas.{each-le-given, positive_last}
-use Rattle.zh_divisors.proofs.CallerLemmas.{sum_to-zero}
+use Rattle.zh_divisors.proofs.FiniteSumLemmas.{sum_to-zero}
 use Rattle.zh_divisors.proofs.LineLemmas.{line_divisor-is}
 use Rattle.zh_divisors.proofs.lines.line.Goals as goal
 

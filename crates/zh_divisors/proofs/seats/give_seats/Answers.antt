@@ -1,6 +1,6 @@
 use Rattle.std.proofs.Common.{◌≡◌, arith}
 use Rattle.std.proofs.lemmas.Grind.{common_steps}
-use Rattle.zh_divisors.proofs.Giving.{IsFit-give, IsFit-none}
+use Rattle.zh_divisors.proofs.NextSeatLemmas.{IsFit-give, IsFit-none}
 use Rattle.zh_divisors.proofs.seats.give_seats.Goals as goal
 
 pub loop-given-preserved : goal.loop-given-preserved

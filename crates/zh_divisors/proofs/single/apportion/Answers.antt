@@ -1,8 +1,8 @@
 use Rattle.std.proofs.Common.{◌≡◌, ◌+◌, ◌∙◌, ℕ, List, get_or, ap, arith}
 use Rattle.std.proofs.lemmas.Grind.{common_steps}
 use Rattle.zh_divisors.specs.Fit.{IsStrictFit, IsTied}
-use Rattle.zh_divisors.proofs.Ends.{AreApart, IsStrictFit-apart, RoundsEach-apart, IsTied-together}
-use Rattle.zh_divisors.proofs.OneFit.{no_strict_fit}
+use Rattle.zh_divisors.proofs.LastSeatLemmas.{AreApart, IsStrictFit-apart, RoundsEach-apart, IsTied-together}
+use Rattle.zh_divisors.proofs.OneFitLemmas.{no_strict_fit}
 use Rattle.zh_divisors.proofs.single.apportion.Goals as goal
 
 -- the weights and seats of the calls are those of the result

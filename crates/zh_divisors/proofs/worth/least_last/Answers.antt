@@ -1,6 +1,6 @@
 use Rattle.std.proofs.Common.{◌≡◌, length, get_or, inl, inr, arith}
 use Rattle.std.proofs.lemmas.Bool.{cases_lt}
-use Rattle.zh_divisors.proofs.Sums.{sum-zeros}
+use Rattle.zh_divisors.proofs.SumLemmas.{sum-zeros}
 use Rattle.zh_divisors.proofs.WorthLemmas.{IsLeastLast-keep, IsLeastLast-seat, IsLeastLast-take}
 use Rattle.zh_divisors.proofs.worth.least_last.Goals as goal
 use Rattle.zh_divisors.proofs.worth.least_last.Goals.{then-last_is_worth_less, else-last_is_worth_less}

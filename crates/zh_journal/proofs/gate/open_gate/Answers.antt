@@ -1,5 +1,5 @@
 use Rattle.std.proofs.Common.{refl, arith, [], ◌∷◌}
-use Rattle.zh_journal.proofs.Opening.{behind_write, behind_sync}
+use Rattle.zh_journal.proofs.GateLemmas.{behind_write, behind_sync}
 use Rattle.zh_journal.proofs.gate.open_gate.Goals as goal
 
 pub returns-in_err-write_at-clause-any_moment : goal.returns-in_err-write_at-clause-any_moment

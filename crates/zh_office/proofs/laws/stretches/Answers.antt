@@ -1,4 +1,4 @@
-use Rattle.zh_office.proofs.Lifting.{run_is_logged}
+use Rattle.zh_office.proofs.LiftingLemmas.{run_is_logged}
 use Rattle.zh_office.proofs.laws.stretches.Goals as goal
 
 pub returns : goal.returns

@@ -1,5 +1,5 @@
 use Rattle.std.proofs.Common.{◌++◌, take, sym, ap, ◌∙◌}
-use Rattle.zh_office.proofs.Texts.{truncated-room}
+use Rattle.zh_office.proofs.TextLemmas.{truncated-room}
 use Rattle.zh_office.proofs.partial_line.extend_line.Goals as goal
 
 pub returns : goal.returns

@@ -1,5 +1,5 @@
 use Rattle.std.proofs.Common.{arith}
-use Rattle.zh_office.proofs.Texts.{none_found, parted}
+use Rattle.zh_office.proofs.TextLemmas.{none_found, parted}
 use Rattle.zh_office.proofs.partial_line.split_line.Goals as goal
 
 pub returns-in_err-end : goal.returns-in_err-end

@@ -2,7 +2,7 @@ use Rattle.std.proofs.Common.{◌≡◌, ◌+◌, arith, sym, ◌∙◌, ap}
 use Rattle.std.proofs.lemmas.Grind.{common_steps}
 use Rattle.std.specs.Prelude.{slice_range}
 use Rattle.zh_disk.specs.Disk.{Trail}
-use Rattle.zh_snapshot.proofs.Ranges.{part_differs, part_equal, bytes_differ, bytes_agree}
+use Rattle.zh_snapshot.proofs.RangeLemmas.{part_differs, part_equal, bytes_differ, bytes_agree}
 use Rattle.zh_snapshot.proofs.compare.stand_at.Goals as goal
 
 pub returns-then-ne-clause-equal : goal.returns-then-ne-clause-equal

@@ -1,6 +1,6 @@
 use Rattle.std.proofs.Common.{◌≡◌, ◌∙◌, sym, arith}
 use Rattle.std.specs.Prelude.{slice_index}
-use Rattle.zh_snapshot.proofs.Closing.{now_settled, at_read, at_write, at_last, gate_read}
+use Rattle.zh_snapshot.proofs.ClosingLemmas.{now_settled, at_read, at_write, at_last, gate_read}
 use Rattle.zh_snapshot.proofs.format.close_disk.Goals as goal
 
 pub returns-in_err-read_at-clause-any_moment : goal.returns-in_err-read_at-clause-any_moment

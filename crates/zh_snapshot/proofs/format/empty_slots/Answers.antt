@@ -1,9 +1,9 @@
 use Rattle.std.proofs.Common.{ℕ, [], ◌∷◌, ◌∙◌, arith, ap, subst}
 use Rattle.zh_disk.specs.Disk.{Trail, splice}
-use Rattle.zh_disk.proofs.Runs.{leaves_weaken}
+use Rattle.zh_disk.proofs.CallerLemmas.{leaves_weaken}
 use Rattle.zh_journal.specs.Pages.{IsCleared}
-use Rattle.zh_snapshot.proofs.Ranges.{same_wider}
-use Rattle.zh_snapshot.proofs.Parts.{after_gate, one_more, emptied}
+use Rattle.zh_snapshot.proofs.RangeLemmas.{same_wider}
+use Rattle.zh_snapshot.proofs.FormatLemmas.{after_gate, one_more, emptied}
 use Rattle.zh_snapshot.proofs.format.empty_slots.Goals as goal
 
 pub returns-in_err-clear-clause-any_moment : goal.returns-in_err-clear-clause-any_moment

@@ -1,8 +1,8 @@
 use Rattle.std.proofs.Common.{◌≡◌, ◌∷◌, List, ℕ, length, arith, ◌∙◌, ap}
 use Rattle.std.specs.Int.{w64, to_be_bytes}
 use Rattle.zh_disk.specs.Disk.{Trail, splice}
-use Rattle.zh_journal.proofs.Payload.{on_ok_by}
-use Rattle.zh_snapshot.proofs.Parts.{after_gate, one_more, parts}
+use Rattle.zh_journal.proofs.CallerLemmas.{on_ok_by}
+use Rattle.zh_snapshot.proofs.FormatLemmas.{after_gate, one_more, parts}
 use Rattle.zh_snapshot.proofs.format.write_parts.Goals as goal
 
 pub returns-in_err-write_at-clause-any_moment : goal.returns-in_err-write_at-clause-any_moment

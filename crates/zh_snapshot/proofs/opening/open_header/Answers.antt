@@ -1,7 +1,7 @@
 use Rattle.std.proofs.Common.{◌≡◌, ◌≤◌, List, ℕ, length, take, arith, sym, ◌∙◌, ap}
 use Rattle.std.specs.Prelude.{slice_index, slice_range}
-use Rattle.zh_journal.proofs.Bodies.{slice_at}
-use Rattle.zh_snapshot.proofs.Ranges.{slice_part}
+use Rattle.zh_journal.proofs.CallerLemmas.{slice_at}
+use Rattle.zh_snapshot.proofs.RangeLemmas.{slice_part}
 use Rattle.zh_snapshot.proofs.opening.open_header.Goals as goal
 
 -- the header without the disk gate, as it was read

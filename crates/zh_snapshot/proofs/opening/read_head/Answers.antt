@@ -2,10 +2,10 @@ use Rattle.std.proofs.Common.{◌≡◌, ◌≤◌, ◌+◌, ◌*◌, ℕ, List,
 use Rattle.std.proofs.lemmas.Grind.{common_steps}
 use Rattle.std.specs.Prelude.{slice_index, slice_range}
 use Rattle.std.specs.Int.{w64, from_be_bytes}
-use Rattle.zh_journal.proofs.Bodies.{slice_at}
+use Rattle.zh_journal.proofs.CallerLemmas.{slice_at}
 use Rattle.zh_snapshot.specs.Layout.{slot_at}
 use Rattle.zh_snapshot.specs.Slots.{generation_of}
-use Rattle.zh_snapshot.proofs.Ranges.{slice_part}
+use Rattle.zh_snapshot.proofs.RangeLemmas.{slice_part}
 use Rattle.zh_snapshot.proofs.SlotLemmas.{bounds}
 use Rattle.zh_snapshot.proofs.opening.read_head.Goals as goal
 

@@ -1,7 +1,7 @@
 use Rattle.std.proofs.Common.{◌≡◌, ℕ, length, arith, ◌∙◌, ap, subst}
 use Rattle.zh_disk.specs.Disk.{Trail, Leaves, SameOutside, splice}
 use Rattle.zh_journal.specs.Pages.{IsCleared}
-use Rattle.zh_journal.proofs.Payload.{on_ok_by}
+use Rattle.zh_journal.proofs.CallerLemmas.{on_ok_by}
 use Rattle.zh_snapshot.proofs.FillLemmas.{after_gate, cleared_after, one_more, filled}
 use Rattle.zh_snapshot.proofs.refill.fill_slot.Goals as goal
 

@@ -1,6 +1,6 @@
 use Rattle.std.proofs.Common.{length, arith}
 use Rattle.std.specs.Prelude.{IsTrue}
-use Rattle.zh_file.proofs.Calls.{reads}
+use Rattle.zh_file.proofs.CallLemmas.{reads}
 use Rattle.zh_file.proofs.stored.StoredDisk.read_at.Goals as goal
 
 pub returns-clause-read : goal.returns-clause-read

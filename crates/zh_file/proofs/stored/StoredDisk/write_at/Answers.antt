@@ -3,7 +3,7 @@ use Rattle.std.proofs.lemmas.Grind.{common_steps}
 use Rattle.std.specs.Prelude.{map}
 use Rattle.zh_file.specs.Past.{items}
 use Rattle.zh_file.specs.Held.{moment}
-use Rattle.zh_file.proofs.Calls.{writes}
+use Rattle.zh_file.proofs.CallLemmas.{writes}
 use Rattle.zh_file.proofs.stored.StoredDisk.write_at.Goals as goal
 
 pub returns-clause-written : goal.returns-clause-written

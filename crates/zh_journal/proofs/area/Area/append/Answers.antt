@@ -2,7 +2,7 @@ use Rattle.std.proofs.Common.{rules, ap, arith, subst}
 use Rattle.zh_disk.specs.Disk.{Moment, Leaves, Moves}
 use Rattle.zh_journal.specs.Pages.{AddsOrNot, Adds}
 use Rattle.zh_journal.specs.Place.{Place}
-use Rattle.zh_journal.proofs.Joined.{at_staging, at_opening, at_end}
+use Rattle.zh_journal.proofs.AppendMomentLemmas.{at_staging, at_opening, at_end}
 use Rattle.zh_journal.proofs.area.Area.append.Goals as goal
 
 pub returns-in_err-stage-clause-any_moment : goal.returns-in_err-stage-clause-any_moment

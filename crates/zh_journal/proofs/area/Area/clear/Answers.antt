@@ -1,7 +1,7 @@
 use Rattle.std.proofs.Common.{ℕ, arith, subst}
 use Rattle.zh_disk.specs.Disk.{Leaves, SameOutside}
-use Rattle.zh_disk.proofs.Runs.{write_leaves}
-use Rattle.zh_journal.proofs.Clearing.{cleared}
+use Rattle.zh_disk.proofs.CallerLemmas.{write_leaves}
+use Rattle.zh_journal.proofs.ClearingLemmas.{cleared}
 use Rattle.zh_journal.proofs.area.Area.clear.Goals as goal
 
 pub returns-in_err-write_at-clause-any_moment : goal.returns-in_err-write_at-clause-any_moment

@@ -2,8 +2,8 @@ use Rattle.std.proofs.Common.{◌≡◌, ◌+◌, ◌≤◌, ℕ, List, length, 
 use Rattle.std.specs.Prelude.{slice_range}
 use Rattle.zh_journal.specs.Pages.{Frames}
 use Rattle.zh_journal.specs.Place.{Rest}
-use Rattle.zh_journal.proofs.Areas.{reads_once}
-use Rattle.zh_journal.proofs.Records.{records_none, reads_records}
+use Rattle.zh_journal.proofs.AreaLemmas.{reads_once}
+use Rattle.zh_journal.proofs.RecordLemmas.{records_none, reads_records}
 use Rattle.zh_journal.proofs.MovedLemmas.{reads_on_disk, reads_in_pages, filled}
 use Rattle.zh_journal.proofs.area.Area.open.Given.{Over}
 use Rattle.zh_journal.proofs.area.Area.open.Goals.{After-extent_of}

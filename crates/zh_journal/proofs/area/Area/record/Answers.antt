@@ -2,7 +2,7 @@ use Rattle.std.proofs.Common.{◌∷◌, ◌+◌, drop, arith, sym, ◌∙◌, a
 use Rattle.zh_disk.specs.Disk.{Trail}
 use Rattle.zh_journal.specs.Pages.{Frames, Reads}
 use Rattle.zh_journal.specs.Place.{Place}
-use Rattle.zh_journal.proofs.Walk.{frames_cut, frames_room}
+use Rattle.zh_journal.proofs.WalkLemmas.{frames_cut, frames_room}
 use Rattle.zh_journal.proofs.area.Area.record.Goals as goal
 
 pub returns-clause-payload : goal.returns-clause-payload

@@ -5,7 +5,7 @@ use Rattle.zh_districts.specs.Spelling.{setup_spelling}
 use Rattle.zh_returns.specs.Limits.{IsTally}
 use Rattle.zh_returns.specs.Payload.{payload_spelling}
 use Rattle.zh_returns.specs.Tally.{empty}
-use Rattle.zh_snapshot.proofs.Phases.{before}
+use Rattle.zh_snapshot.proofs.CallerLemmas.{before}
 use Rattle.zh_ledger.proofs.OpenedLemmas.{filled, formats_as, new_image}
 use Rattle.zh_ledger.proofs.ledger.Ledger.format.Given.{Over}
 use Rattle.zh_ledger.proofs.ledger.Ledger.format.Goals as goal

@@ -1,6 +1,6 @@
 use Rattle.std.proofs.Common.{ℕ, ◌≤◌, List, length, subst, rules}
 use Rattle.std.proofs.lemmas.Result.{err_from_is_err_and}
-use Rattle.zh_office.proofs.Blocks.{last_none, last_failed, last_answered}
+use Rattle.zh_office.proofs.BlockLemmas.{last_none, last_failed, last_answered}
 use Rattle.zh_office.proofs.office.Office.finish.Goals as goal
 
 pub returns-then-is_empty : goal.returns-then-is_empty

@@ -2,7 +2,7 @@ use Rattle.std.proofs.Common.{rules, ◌∙◌, ap, arith}
 use Rattle.std.proofs.lemmas.Grind.{common_steps}
 use Rattle.zh_answers.specs.Answers.{held_after}
 use Rattle.zh_office.specs.Office.{State}
-use Rattle.zh_office.proofs.Others.{others_after}
+use Rattle.zh_office.proofs.OtherDeskLemmas.{others_after}
 use Rattle.zh_office.proofs.office.Office.line.Goals as goal
 
 pub returns-in-Ok-clause-others : goal.returns-in-Ok-clause-others

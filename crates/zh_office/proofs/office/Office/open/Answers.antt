@@ -1,6 +1,6 @@
 use Rattle.std.proofs.Common.{sym, ap, Err}
 use Rattle.zh_ledger.specs.declared.fault.OpenFault.{OpenFault}
-use Rattle.zh_ledger.proofs.OpenedLemmas.{err_of}
+use Rattle.zh_ledger.proofs.CallerLemmas.{err_of}
 use Rattle.zh_office.proofs.office.Office.open.Goals as goal
 
 pub returns-in_err-ledger-clause-differs : goal.returns-in_err-ledger-clause-differs

@@ -1,6 +1,6 @@
 use Rattle.std.proofs.Common.{arith}
-use Rattle.zh_office.proofs.Blocks.{Consumes-none}
-use Rattle.zh_office.proofs.Inputs.{Serving-map, Serving-start, Serving-clean, Serving-more, Serving-breaks, Serving-last_breaks, Serving-stops, Serving-ends, Consumes-kept}
+use Rattle.zh_office.proofs.BlockLemmas.{Consumes-none}
+use Rattle.zh_office.proofs.InputLemmas.{Serving-map, Serving-start, Serving-clean, Serving-more, Serving-breaks, Serving-last_breaks, Serving-stops, Serving-ends, Consumes-kept}
 use Rattle.zh_office.proofs.office.Office.serve.Goals as goal
 
 pub loop-init : goal.loop-init

@@ -1,5 +1,5 @@
 use Rattle.zh_office.specs.Runs.{on_disk}
-use Rattle.zh_office.proofs.Inputs.{Serving}
+use Rattle.zh_office.proofs.InputLemmas.{Serving}
 use Rattle.zh_office.proofs.office.Office.serve.Given as goal
 
 abbrev pub invariant-loop : goal.invariant-loop

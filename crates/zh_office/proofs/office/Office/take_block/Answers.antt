@@ -1,6 +1,6 @@
 use Rattle.std.proofs.Common.{length, length-append, ap, arith, ◌∙◌}
 use Rattle.std.proofs.lemmas.Grind.{common_steps}
-use Rattle.zh_office.proofs.Blocks.{Progress-map, Progress-start, Progress-answered, Progress-failed, Progress-end}
+use Rattle.zh_office.proofs.BlockLemmas.{Progress-map, Progress-start, Progress-answered, Progress-failed, Progress-end}
 use Rattle.std.proofs.lemmas.Result.{err_from_is_err_and}
 use Rattle.zh_office.proofs.office.Office.take_block.Goals as goal
 

@@ -1,7 +1,7 @@
 use Rattle.std.proofs.Common.{◌++◌, ◌+◌, ◌≤◌, length}
 use Rattle.zh_office.specs.Text.{ended_lines, truncated, unfinished}
 use Rattle.zh_office.specs.Runs.{on_disk}
-use Rattle.zh_office.proofs.Blocks.{Progress}
+use Rattle.zh_office.proofs.BlockLemmas.{Progress}
 use Rattle.zh_office.proofs.office.Office.take_block.Given as goal
 
 abbrev pub invariant-loop-ended : goal.invariant-loop-ended

@@ -1,9 +1,9 @@
 use Rattle.std.proofs.Common.{rules, ◌∙◌, ap, subst}
 use Rattle.zh_disk.specs.Disk.{Leaves, SameOutside}
-use Rattle.zh_disk.proofs.Runs.{leaves_weaken}
+use Rattle.zh_disk.proofs.CallerLemmas.{leaves_weaken}
 use Rattle.zh_snapshot.specs.Layout.{journal_at}
 use Rattle.zh_snapshot.specs.Store.{State}
-use Rattle.zh_snapshot.proofs.Framed.{at_moments, at_ok}
+use Rattle.zh_snapshot.proofs.FrameLemmas.{at_moments, at_ok}
 use Rattle.zh_snapshot.proofs.store.Store.append.Goals as goal
 
 pub returns-in-Ok-clause-any_moment : goal.returns-in-Ok-clause-any_moment

@@ -1,8 +1,8 @@
 use Rattle.std.proofs.Common.{◌≡◌, Result, Err, arith, refl, ap}
 use Rattle.zh_snapshot.specs.declared.fault.FormatFault.{FormatFault}
 use Rattle.zh_snapshot.specs.declared.fault.FormatFault.TheVariants.{Memory, Device}
-use Rattle.zh_snapshot.proofs.Parts.{opened}
-use Rattle.zh_snapshot.proofs.Phases.{before, at_closing, at_parts, at_emptying, at_opening, risen_since}
+use Rattle.zh_snapshot.proofs.FormatLemmas.{opened}
+use Rattle.zh_snapshot.proofs.PhaseLemmas.{before, at_closing, at_parts, at_emptying, at_opening, risen_since}
 use Rattle.zh_snapshot.proofs.store.Store.format.Goals as goal
 
 pub returns-in_err-zeros-clause-moments : goal.returns-in_err-zeros-clause-moments

@@ -4,8 +4,8 @@ use Rattle.std.proofs.lemmas.Result.{IfOk-weaker}
 use Rattle.zh_journal.specs.Pages.{Frames}
 use Rattle.zh_snapshot.specs.Image.{Content, IsFramed, IsBlank}
 use Rattle.zh_snapshot.specs.Store.{Fits}
-use Rattle.zh_snapshot.proofs.Closing.{settles, same_bytes}
-use Rattle.zh_snapshot.proofs.Contents.{framed_content, no_content}
+use Rattle.zh_snapshot.proofs.ClosingLemmas.{settles, same_bytes}
+use Rattle.zh_snapshot.proofs.ContentLemmas.{framed_content, no_content}
 use Rattle.zh_snapshot.proofs.store.Store.open.Goals as goal
 
 pub returns-clause-any_moment : goal.returns-clause-any_moment

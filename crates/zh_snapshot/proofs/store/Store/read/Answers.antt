@@ -11,7 +11,7 @@ use Rattle.zh_snapshot.specs.declared.opening.InUse.{InUse}
 use Rattle.zh_snapshot.specs.Faults.{OpenedAs}
 use Rattle.zh_snapshot.specs.Layout.{journal_at}
 use Rattle.zh_snapshot.specs.Slots.{IsFound}
-use Rattle.zh_snapshot.proofs.Framed.{no_header, no_slot, no_journal, framed_all}
+use Rattle.zh_snapshot.proofs.FrameLemmas.{no_header, no_slot, no_journal, framed_all}
 use Rattle.zh_snapshot.proofs.SlotLemmas.{held}
 use Rattle.zh_snapshot.proofs.store.Store.read.Goals as goal
 

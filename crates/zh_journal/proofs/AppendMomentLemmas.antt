@@ -1,0 +1,38 @@
+-- The moments of a whole append: the pages behind their gates, then the gate of the first.
+use Rattle.std.proofs.Common.{◌≡◌, ℕ, ◌+◌, ◌*◌, ◌≤◌, List, [], ◌∷◌, length, sym, ◌∙◌, ap, subst, arith}
+use Rattle.std.specs.Prelude.{slice_index}
+use Rattle.zh_disk.specs.Disk.{Moment, Trail, IsImage, SameOutside, Moves, Leaves, splice}
+use Rattle.zh_disk.proofs.CallerLemmas.{splice_inside, splice_same, image_now, leaves_now, leaves_weaken, leaves_join, synced_image}
+use Rattle.zh_journal.specs.Pages.{pages_of, HasSize, IsWritten, SameButBodies, AddsOrNot, Adds}
+use Rattle.zh_journal.specs.Gate.{FromBytes}
+use Rattle.zh_journal.proofs.PageLemmas.{but_refl}
+use Rattle.zh_journal.proofs.AppendLemmas.{still, opening, opened}
+
+module _ (base j : ℕ) (r : List ℕ) (sized : HasSize r) (room : j + pages_of (length r) ≤ 1024) (t0 t1 : Trail) (long : base + 262144 ≤ length t0.now.bytes)
+    (staging : Leaves (SameButBodies (base + 256 * j) (pages_of (length r))) t0 t1) where
+  -- of an image at the start
+  long_image : (d : List ℕ) → IsImage t0.now d → base + 262144 ≤ length d
+  long_image d image = omega (arith, image.size)
+
+  pub at_staging : Leaves (AddsOrNot base j r) t0 t1
+  at_staging = leaves_weaken _ _ t0 t1 (λ d c image by. still base j r sized room d c (long_image d image) by) staging
+
+  came : (d : List ℕ) × IsImage t0.now d × SameButBodies (base + 256 * j) (pages_of (length r)) d t1.now.bytes
+  came = leaves_now _ t0 t1 (but_refl (base + 256 * j) (pages_of (length r))) staging t1.now.bytes (image_now t1.now)
+
+  pub at_opening : (t2 : Trail) → IsWritten t1.now.bytes (base + 256 * j) r → Leaves (FromBytes (base + 256 * j) t1) t1 t2 → Leaves (AddsOrNot base j r) t0 t2
+  at_opening t2 staged seal = leaves_join _ _ (AddsOrNot base j r) t0 t1 t2 staging seal
+      (λ d c image by. still base j r sized room d c (long_image d image) by)
+      (λ x f image by.
+      let same : SameOutside (base + 256 * j) 1 t1.now.bytes f = subst (λ (b : List ℕ). SameOutside (base + 256 * j) 1 b f) by.0 by.1 in
+      (came.0, came.1, opening base j r sized room came.0 t1.now.bytes (long_image came.0 came.1) came.2 staged f same))
+
+  pub at_end : (t2 : Trail) → IsWritten t1.now.bytes (base + 256 * j) r → t2.now ≡ record { bytes = splice (base + 256 * j) (165 ∷ []) t1.now.bytes; pending = [] } → Moves (Adds base j r) t0.now t2.now
+  at_end t2 staged is = λ c image.
+      let b = t1.now.bytes in
+      let fits : base + 256 * j + 1 ≤ length b = omega (arith, came.2.size, long_image came.0 came.1) in
+      let only : c ≡ splice (base + 256 * j) (165 ∷ []) b = synced_image (record { bytes = splice (base + 256 * j) (165 ∷ []) b; pending = [] }) c (subst (λ (m : Moment). IsImage m c) is image) in
+      let same : SameOutside (base + 256 * j) 1 b c = subst (λ (l : List ℕ). SameOutside (base + 256 * j) 1 b l) (sym only) (splice_same (base + 256 * j) (165 ∷ []) b fits) in
+      let here : base + 256 * j + 0 ≡ base + 256 * j = omega arith in
+      let gate : slice_index c (base + 256 * j) ≡ 165 = ap (λ (l : List ℕ). slice_index l (base + 256 * j)) only ∙ ap (slice_index (splice (base + 256 * j) (165 ∷ []) b)) (sym here) ∙ splice_inside (base + 256 * j) (165 ∷ []) b 0 fits (omega arith) in
+      (came.0, came.1, opened base j r sized room came.0 b (long_image came.0 came.1) came.2 staged c same gate)
