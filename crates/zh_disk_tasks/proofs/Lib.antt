@@ -1,2 +1,3 @@
 pub mod CsvLemmas
 pub mod EndingLemmas
+pub mod StartLemmas

@@ -4,11 +4,12 @@ use Rattle.zh_districts.specs.Canton.{Canton}
 use Rattle.zh_districts.specs.Spelling.{setup_spelling}
 use Rattle.zh_returns.specs.Tally.{empty}
 use Rattle.zh_returns.specs.Payload.{payload_spelling}
-use Rattle.zh_disk.specs.Disk.{Trail, Leaves, settled}
-use Rattle.zh_snapshot.specs.Image.{IsBlank}
+use Rattle.zh_disk.specs.Disk.{Trail, IsImage, Leaves, settled}
+use Rattle.zh_snapshot.specs.Image.{Content, IsBlank, IsClean}
 use Rattle.zh_snapshot.specs.Store.{Settles}
 use Rattle.zh_snapshot.specs.Format.{Formats}
 use Rattle.zh_ledger.specs.Opened.{Differs, IsDamaged}
+use Rattle.zh_ledger.specs.Stands.{IsKept}
 use Rattle.zh_ledger.specs.declared.fault.OpenFault.{OpenFault}
 use Rattle.zh_ledger.specs.declared.fault.OpenFault.TheVariants as opening
 use Rattle.zh_office.specs.Opened.{IsOpened, IsReady}
@@ -24,6 +25,8 @@ pub record IsStart (honest : Type 0) (canton : Canton) (trail : Trail) (start : 
   pub opening : honest → Leaves (Settles trail.now.bytes) trail start.trail
   pub opened : honest → IsOpened canton trail.now.bytes start.office
   pub settled : honest → start.trail.now ≡ settled trail.now.bytes
+  -- what it was opened from was clean, as a formatting and each run leave it: then it knows each image of its disk
+  pub kept : honest → (x : Content) (j : ℕ) → IsClean x j trail.now.bytes → (c : List ℕ) → IsImage start.trail.now c → IsKept start.office.ledger c
 
 -- it began there, and its disk has this trail at the end
 abbrev pub IsFrom : Type 0 → Canton → Trail → Trail → OnDisk → OnDisk → Type 0

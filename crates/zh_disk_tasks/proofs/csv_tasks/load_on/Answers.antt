@@ -5,6 +5,7 @@ use Rattle.zh_disk_tasks.specs.Tasks.{IsFrom, IsStart}
 use Rattle.zh_disk_tasks.specs.declared.csv_fault.LoadFault.TheVariants as loading
 use Rattle.zh_disk_tasks.proofs.CsvLemmas.{loads_as, unread}
 use Rattle.zh_disk_tasks.proofs.EndingLemmas.{refused}
+use Rattle.zh_disk_tasks.proofs.StartLemmas.{starts}
 use Rattle.zh_disk_tasks.proofs.csv_tasks.load_on.Goals as goal
 
 pub returns-in_err-office-clause-loaded : goal.returns-in_err-office-clause-loaded
@@ -17,7 +18,7 @@ pub returns-in_err-text-clause-loaded : goal.returns-in_err-text-clause-loaded
 returns-in_err-text-clause-loaded g c =
     let is : c.from_residual-in_err-text.result ≡ Err c.in_err-text.field-0.0 = search rules in
     let start = on_disk c.in_ok-office.office (g.D.Disk.failures c.open.new.disk) (g.D.Disk.trail c.open.new.disk) in
-    let begins : IsFrom (g.D.Disk.honest c.open.new.disk) c.args.setup.now (g.D.Disk.trail c.args.disk.now) (g.D.Disk.trail c.open.new.disk) start start = (record { ready = c.in_ok-office.ensures.ready; opening = c.open.ensures.any_moment; opened = c.in_ok-office.ensures.opened; settled = c.in_ok-office.ensures.settled }, refl) in
+    let begins : IsFrom (g.D.Disk.honest c.open.new.disk) c.args.setup.now (g.D.Disk.trail c.args.disk.now) (g.D.Disk.trail c.open.new.disk) start start = (starts _ _ _ _ c.in_ok-office.ensures.ready c.open.ensures.any_moment c.in_ok-office.ensures.opened c.in_ok-office.ensures.settled, refl) in
     rw is (unread (g.D.Disk.honest c.open.new.disk) _ _ (g.O.Write.contents c.args.out.now) (g.O.Write.contents c.args.out.now) (IsFrom (g.D.Disk.honest c.open.new.disk) c.args.setup.now (g.D.Disk.trail c.args.disk.now) (g.D.Disk.trail c.open.new.disk)) start c.in_err-text.field-0.0 c.in_err-text.ensures refl begins)
 
 pub returns-clause-kept : goal.returns-clause-kept
@@ -29,12 +30,10 @@ returns-clause-loaded g c =
     let first = g.D.Disk.trail c.args.disk.now in
     let last = g.D.Disk.trail c.load_text.new.disk in
     let start = on_disk c.in_ok-office.office (g.D.Disk.failures c.open.new.disk) (g.D.Disk.trail c.open.new.disk) in
-    let is_start : IsStart honest c.args.setup.now first start = record {
-      ready = c.in_ok-office.ensures.ready;
-      opening = λ h. c.open.ensures.any_moment (c.load_text.ensures.kept h);
-      opened = λ h. c.in_ok-office.ensures.opened (c.load_text.ensures.kept h);
-      settled = λ h. c.in_ok-office.ensures.settled (c.load_text.ensures.kept h);
-    } in
+    let is_start : IsStart honest c.args.setup.now first start = starts honest c.args.setup.now first start c.in_ok-office.ensures.ready
+    (λ h. c.open.ensures.any_moment (c.load_text.ensures.kept h))
+    (λ h. c.in_ok-office.ensures.opened (c.load_text.ensures.kept h))
+    (λ h. c.in_ok-office.ensures.settled (c.load_text.ensures.kept h)) in
     loads_as honest _ _ _ _ _ (IsThis start last) (IsFrom honest c.args.setup.now first last) c.load_text.result
     (λ fault none. absurd none)
     (λ s end this. (subst (λ (o : OnDisk). IsStart honest c.args.setup.now first o) (sym this.0) is_start, this.1))

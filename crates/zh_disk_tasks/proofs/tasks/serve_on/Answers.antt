@@ -4,6 +4,7 @@ use Rattle.zh_disk_tasks.specs.Csv.{IsThis}
 use Rattle.zh_disk_tasks.specs.Tasks.{IsFrom, IsStart}
 use Rattle.zh_disk_tasks.specs.declared.fault.RunFault.TheVariants as runs
 use Rattle.zh_disk_tasks.proofs.EndingLemmas.{begun_as, refused}
+use Rattle.zh_disk_tasks.proofs.StartLemmas.{starts}
 use Rattle.zh_disk_tasks.proofs.tasks.serve_on.Goals as goal
 
 pub returns-in_err-office-clause-served : goal.returns-in_err-office-clause-served
@@ -21,12 +22,10 @@ returns-clause-served g c =
     let first = g.D.Disk.trail c.args.disk.now in
     let last = g.D.Disk.trail c.serve_lines.new.disk in
     let start = on_disk c.in_ok-office.office (g.D.Disk.failures c.open.new.disk) (g.D.Disk.trail c.open.new.disk) in
-    let is_start : IsStart honest c.args.setup.now first start = record {
-      ready = c.in_ok-office.ensures.ready;
-      opening = λ h. c.open.ensures.any_moment (c.serve_lines.ensures.kept h);
-      opened = λ h. c.in_ok-office.ensures.opened (c.serve_lines.ensures.kept h);
-      settled = λ h. c.in_ok-office.ensures.settled (c.serve_lines.ensures.kept h);
-    } in
+    let is_start : IsStart honest c.args.setup.now first start = starts honest c.args.setup.now first start c.in_ok-office.ensures.ready
+    (λ h. c.open.ensures.any_moment (c.serve_lines.ensures.kept h))
+    (λ h. c.in_ok-office.ensures.opened (c.serve_lines.ensures.kept h))
+    (λ h. c.in_ok-office.ensures.settled (c.serve_lines.ensures.kept h)) in
     begun_as honest _ _ _ _ _ _ (IsThis start last) (IsFrom honest c.args.setup.now first last) c.serve_lines.result
     (λ fault none. absurd none)
     (λ s end this. (subst (λ (o : OnDisk). IsStart honest c.args.setup.now first o) (sym this.0) is_start, this.1))
