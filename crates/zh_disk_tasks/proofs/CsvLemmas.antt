@@ -38,11 +38,11 @@ put_front (Ok done) w w' text text' is front = tt
 put_front (Err fault) w w' text text' is front = writes_front w w' text text' is front
 
 -- what an office replied to the text that it was given
-pub replied_to : (honest : Type 0) (start end : OnDisk) (text : List ℕ) (reply : Reply) → LoadTurn honest start (Some text) reply end → Replied honest (IsThis start end.trail) reply
-replied_to honest start end text reply turn = record { start = start; end = end; text = text; spans = (refl, refl); turn = turn }
+pub replied_to : (honest : Type 0) (start end : OnDisk) (text : List ℕ) (reply : Reply) → LoadTurn honest start (Some text) reply end → Replied honest (IsThis start end.failures end.trail) reply
+replied_to honest start end text reply turn = record { start = start; end = end; text = text; spans = (refl, refl, refl); turn = turn }
 
 -- a reply that it wrote
-pub loaded_to : (honest : Type 0) (w w' : Option (List ℕ)) (start end : OnDisk) (text : List ℕ) (reply : Reply) (faulted : Bool) → LoadTurn honest start (Some text) reply end → Appends w w' (printed reply) → end.office.ledger.store.broken ≡ faulted → Loaded honest w w' (IsThis start end.trail) reply faulted
+pub loaded_to : (honest : Type 0) (w w' : Option (List ℕ)) (start end : OnDisk) (text : List ℕ) (reply : Reply) (faulted : Bool) → LoadTurn honest start (Some text) reply end → Appends w w' (printed reply) → end.office.ledger.store.broken ≡ faulted → Loaded honest w w' (IsThis start end.failures end.trail) reply faulted
 unfolding replied_to
 loaded_to honest w w' start end text reply faulted turn written device = record { replied = replied_to honest start end text reply turn; written = written; device = device }
 

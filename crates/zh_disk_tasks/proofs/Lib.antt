@@ -1,3 +1,4 @@
 pub mod CsvLemmas
+pub mod DeviceLemmas
 pub mod EndingLemmas
 pub mod StartLemmas

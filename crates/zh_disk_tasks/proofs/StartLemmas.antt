@@ -1,5 +1,5 @@
 -- How an office begins on the disk that it was opened from.
-use Rattle.std.proofs.Common.{◌≡◌, ℕ, List, sym, subst}
+use Rattle.std.proofs.Common.{◌≡◌, ◌≤◌, ℕ, List, sym, subst}
 use Rattle.zh_districts.specs.Canton.{Canton}
 use Rattle.zh_disk.specs.Disk.{Moment, Trail, IsImage, Leaves, settled}
 use Rattle.zh_snapshot.specs.Image.{Content, IsClean}
@@ -31,10 +31,11 @@ knows_images bytes m s rests found x j clean c image =
     subst (IsKept s) (sym (only_image bytes c (subst (λ (n : Moment). IsImage n c) rests image))) (knows_bytes bytes s found x j clean)
 
 -- an office that was opened has begun
-pub starts : (honest : Type 0) (canton : Canton) (trail : Trail) (start : OnDisk) → IsReady canton start.office → (honest → Leaves (Settles trail.now.bytes) trail start.trail)
-    → (honest → IsOpened canton trail.now.bytes start.office) → (honest → start.trail.now ≡ settled trail.now.bytes) → IsStart honest canton trail start
-starts honest canton trail start ready opening opened rests = record {
+pub starts : (honest : Type 0) (canton : Canton) (failures : ℕ) (trail : Trail) (start : OnDisk) → IsReady canton start.office → failures ≤ start.failures → (honest → Leaves (Settles trail.now.bytes) trail start.trail)
+    → (honest → IsOpened canton trail.now.bytes start.office) → (honest → start.trail.now ≡ settled trail.now.bytes) → IsStart honest canton failures trail start
+starts honest canton failures trail start ready later opening opened rests = record {
   ready = ready;
+  later = later;
   opening = opening;
   opened = opened;
   settled = rests;
