@@ -9,8 +9,9 @@ use Rattle.zh_csv.specs.Export.{export_text}
 use Rattle.zh_disk.specs.Disk.{Trail}
 use Rattle.zh_ledger.specs.declared.fault.OpenFault.{OpenFault}
 use Rattle.zh_ledger.specs.declared.fault.OpenFault.TheVariants as opening
-use Rattle.zh_office.specs.Load.{LoadTurn}
-use Rattle.zh_office.specs.Runs.{OnDisk}
+use Rattle.zh_ledger.specs.Submissions.{IsLogged}
+use Rattle.zh_office.specs.Load.{LoadTurn, load_logged}
+use Rattle.zh_office.specs.Runs.{OnDisk, ledger_of}
 use Rattle.zh_disk_tasks.specs.declared.csv_fault.ExportFault.{ExportFault}
 use Rattle.zh_disk_tasks.specs.declared.csv_fault.ExportFault.TheVariants as exporting
 use Rattle.zh_disk_tasks.specs.declared.csv_fault.LoadFault.{LoadFault}
@@ -24,13 +25,14 @@ printed reply = answer reply ++ 10 ∷ []
 abbrev pub IsThis : OnDisk → ℕ → Trail → OnDisk → OnDisk → Type 0
 IsThis first failures last start end = (start ≡ first) × (end.trail ≡ last) × (end.failures ≡ failures)
 
--- an office that began so was given a text, and replied so
+-- an office that began so was given a text, and replied so; on an honest disk the batch is kept as one command of a run
 pub record Replied (honest : Type 0) (Spans : OnDisk → OnDisk → Type 0) (reply : Reply) : Type 0 where
   pub start : OnDisk
   pub end : OnDisk
   pub text : List ℕ
   pub spans : Spans start end
   pub turn : LoadTurn honest start (Some text) reply end
+  pub kept : honest → IsLogged (ledger_of start) (load_logged start turn.loaded reply) (ledger_of end)
 
 -- the reply is written, and the device failed under it or not
 pub record Loaded (honest : Type 0) (writer writer' : Option (List ℕ)) (Spans : OnDisk → OnDisk → Type 0) (reply : Reply) (faulted : Bool) : Type 0 where

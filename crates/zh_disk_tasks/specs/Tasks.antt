@@ -1,15 +1,17 @@
 -- What a task on a disk leaves of the streams and of the disk.
-use Rattle.std.specs.Prelude.{◌≡◌, ◌≤◌, ◌⊎◌, ℕ, Bool, true, false, List, Option, Result, Ok, Err}
+use Rattle.std.specs.Prelude.{◌≡◌, ◌≤◌, ◌+◌, ◌⊎◌, ℕ, Bool, true, false, List, length, Option, Result, Ok, Err}
 use Rattle.zh_districts.specs.Canton.{Canton}
 use Rattle.zh_districts.specs.Spelling.{setup_spelling}
-use Rattle.zh_returns.specs.Tally.{empty}
+use Rattle.zh_returns.specs.Tally.{Tally, empty}
 use Rattle.zh_returns.specs.Payload.{payload_spelling}
 use Rattle.zh_disk.specs.Disk.{Trail, IsImage, Leaves, settled}
 use Rattle.zh_snapshot.specs.Image.{Content, IsBlank, IsClean}
 use Rattle.zh_snapshot.specs.Store.{Settles}
 use Rattle.zh_snapshot.specs.Format.{Formats}
 use Rattle.zh_ledger.specs.Opened.{Differs, IsDamaged}
+use Rattle.zh_ledger.specs.Images.{HasSome}
 use Rattle.zh_ledger.specs.Stands.{IsKept}
+use Rattle.zh_ledger.specs.Submissions.{Log}
 use Rattle.zh_ledger.specs.declared.fault.OpenFault.{OpenFault}
 use Rattle.zh_ledger.specs.declared.fault.OpenFault.TheVariants as opening
 use Rattle.zh_office.specs.Opened.{IsOpened, IsReady}
@@ -64,6 +66,14 @@ Serves honest Refused reader reader' writer writer' Spans (Err (runs.Serve servi
 Serves honest Refused reader reader' writer writer' Spans (Err (runs.Serve serving.Turns)) = ServedEnded honest reader reader' writer writer' Spans
 Serves honest Refused reader reader' writer writer' Spans (Err (runs.Serve serving.Write)) = ServedFront honest reader reader' writer writer' Spans
 Serves honest Refused reader reader' writer writer' Spans (Err (runs.Open fault)) = Refused fault
+
+-- What commands with this log leave of a disk that was opened and goes from the one trail to the other: at each moment an
+-- image stands for this count and the first of those accepted, in order; in the end with all that were acknowledged, which
+-- are all but one at most.
+pub record KeepsAll (tally : Tally) (log : Log) (first last : Trail) : Type 0 where
+  pub each_moment : Leaves (λ old new. HasSome tally log.accepted 0 new) first last
+  pub in_the_end : (c : List ℕ) → IsImage last.now c → HasSome tally log.accepted log.acknowledged c
+  pub all_but_one : length log.accepted ≤ log.acknowledged + 1
 
 -- a run reports a fault of the device, under the opening or under a line
 abbrev pub IsOfDevice : RunFault → Type 0
