@@ -1,3 +1,6 @@
 pub mod CallerLemmas
 mod CsvLemmas
+mod DeviceLemmas
 mod EndingLemmas
+mod KeptLemmas
+mod StartLemmas

@@ -8,8 +8,10 @@ use Rattle.zh_commands.specs.declared.replies.Refusal.{Refusal}
 use Rattle.zh_csv.specs.Export.{export_text}
 use Rattle.zh_disk.specs.Disk.{Trail}
 use Rattle.zh_ledger.specs.declared.fault.OpenFault.{OpenFault}
-use Rattle.zh_office.specs.Load.{LoadTurn}
-use Rattle.zh_office.specs.Runs.{OnDisk}
+use Rattle.zh_ledger.specs.declared.fault.OpenFault.TheVariants as opening
+use Rattle.zh_ledger.specs.Submissions.{IsLogged}
+use Rattle.zh_office.specs.Load.{LoadTurn, load_logged}
+use Rattle.zh_office.specs.Runs.{OnDisk, ledger_of}
 use Rattle.zh_disk_tasks.specs.declared.csv_fault.ExportFault.{ExportFault}
 use Rattle.zh_disk_tasks.specs.declared.csv_fault.ExportFault.TheVariants as exporting
 use Rattle.zh_disk_tasks.specs.declared.csv_fault.LoadFault.{LoadFault}
@@ -19,17 +21,18 @@ use Rattle.zh_disk_tasks.specs.declared.csv_fault.LoadFault.TheVariants as loadi
 abbrev pub printed : Reply → List ℕ
 printed reply = answer reply ++ 10 ∷ []
 
--- the office that was this one at the start, and has this trail in the end
-abbrev pub IsThis : OnDisk → Trail → OnDisk → OnDisk → Type 0
-IsThis first last start end = (start ≡ first) × (end.trail ≡ last)
+-- the office that was this one at the start, and whose disk has failed so often and has this trail in the end
+abbrev pub IsThis : OnDisk → ℕ → Trail → OnDisk → OnDisk → Type 0
+IsThis first failures last start end = (start ≡ first) × (end.trail ≡ last) × (end.failures ≡ failures)
 
--- an office that began so was given a text, and replied so
+-- an office that began so was given a text, and replied so; on an honest disk the batch is kept as one command of a run
 pub record Replied (honest : Type 0) (Spans : OnDisk → OnDisk → Type 0) (reply : Reply) : Type 0 where
   pub start : OnDisk
   pub end : OnDisk
   pub text : List ℕ
   pub spans : Spans start end
   pub turn : LoadTurn honest start (Some text) reply end
+  pub kept : honest → IsLogged (ledger_of start) (load_logged start turn.loaded reply) (ledger_of end)
 
 -- the reply is written, and the device failed under it or not
 pub record Loaded (honest : Type 0) (writer writer' : Option (List ℕ)) (Spans : OnDisk → OnDisk → Type 0) (reply : Reply) (faulted : Bool) : Type 0 where
@@ -52,6 +55,17 @@ abbrev pub IsUnreadable : LoadFault → Type 0
 IsUnreadable loading.File = Unit {0}
 IsUnreadable loading.Memory = Unit {0}
 IsUnreadable fault = ⊥
+
+-- a loading reports a fault of the device, under the opening or under the batch
+abbrev pub IsLoadOfDevice : LoadFault → Type 0
+IsLoadOfDevice (loading.Open opening.Device) = Unit {0}
+IsLoadOfDevice loading.Faulted = Unit {0}
+IsLoadOfDevice fault = ⊥
+
+-- an export reports one, under the opening
+abbrev pub IsExportOfDevice : ExportFault → Type 0
+IsExportOfDevice (exporting.Open opening.Device) = Unit {0}
+IsExportOfDevice fault = ⊥
 
 -- What the loading of a CSV file with this result has done. The file is looked for once an office is opened.
 abbrev pub Loads : Type 0 → (OpenFault → Type 0) → Type 0 → Option (List ℕ) → Option (List ℕ) → (OnDisk → OnDisk → Type 0) → Result (Unit {0}) LoadFault → Type 0

@@ -1,14 +1,17 @@
 -- What a task on a disk leaves of the streams and of the disk.
-use Rattle.std.specs.Prelude.{◌≡◌, ◌⊎◌, ℕ, Bool, true, false, List, Option, Result, Ok, Err}
+use Rattle.std.specs.Prelude.{◌≡◌, ◌≤◌, ◌+◌, ◌⊎◌, ℕ, Bool, true, false, List, length, Option, Result, Ok, Err}
 use Rattle.zh_districts.specs.Canton.{Canton}
 use Rattle.zh_districts.specs.Spelling.{setup_spelling}
-use Rattle.zh_returns.specs.Tally.{empty}
+use Rattle.zh_returns.specs.Tally.{Tally, empty}
 use Rattle.zh_returns.specs.Payload.{payload_spelling}
-use Rattle.zh_disk.specs.Disk.{Trail, Leaves, settled}
-use Rattle.zh_snapshot.specs.Image.{IsBlank}
+use Rattle.zh_disk.specs.Disk.{Trail, IsImage, Leaves, settled}
+use Rattle.zh_snapshot.specs.Image.{Content, IsBlank, IsClean}
 use Rattle.zh_snapshot.specs.Store.{Settles}
 use Rattle.zh_snapshot.specs.Format.{Formats}
 use Rattle.zh_ledger.specs.Opened.{Differs, IsDamaged}
+use Rattle.zh_ledger.specs.Images.{HasSome}
+use Rattle.zh_ledger.specs.Stands.{IsKept}
+use Rattle.zh_ledger.specs.Submissions.{Log}
 use Rattle.zh_ledger.specs.declared.fault.OpenFault.{OpenFault}
 use Rattle.zh_ledger.specs.declared.fault.OpenFault.TheVariants as opening
 use Rattle.zh_office.specs.Opened.{IsOpened, IsReady}
@@ -18,16 +21,19 @@ use Rattle.zh_office.specs.declared.serving.ServeFault.TheVariants as serving
 use Rattle.zh_disk_tasks.specs.declared.fault.RunFault.{RunFault}
 use Rattle.zh_disk_tasks.specs.declared.fault.RunFault.TheVariants as runs
 
--- the office that stood on the disk of this trail, once it is opened there
-pub record IsStart (honest : Type 0) (canton : Canton) (trail : Trail) (start : OnDisk) : Type 0 where
+-- the office that stood on the disk of this trail, once it is opened there; before that the disk had failed so often
+pub record IsStart (honest : Type 0) (canton : Canton) (failures : ℕ) (trail : Trail) (start : OnDisk) : Type 0 where
   pub ready : IsReady canton start.office
+  pub later : failures ≤ start.failures
   pub opening : honest → Leaves (Settles trail.now.bytes) trail start.trail
   pub opened : honest → IsOpened canton trail.now.bytes start.office
   pub settled : honest → start.trail.now ≡ settled trail.now.bytes
+  -- what it was opened from was clean, as a formatting and each run leave it: then it knows each image of its disk
+  pub kept : honest → (x : Content) (j : ℕ) → IsClean x j trail.now.bytes → (c : List ℕ) → IsImage start.trail.now c → IsKept start.office.ledger c
 
--- it began there, and its disk has this trail at the end
-abbrev pub IsFrom : Type 0 → Canton → Trail → Trail → OnDisk → OnDisk → Type 0
-IsFrom honest canton first last start end = IsStart honest canton first start × (end.trail ≡ last)
+-- it began there, and at the end its disk has failed so often and has this trail
+abbrev pub IsFrom : Type 0 → Canton → ℕ → Trail → ℕ → Trail → OnDisk → OnDisk → Type 0
+IsFrom honest canton failures first failures' last start end = IsStart honest canton failures first start × (end.trail ≡ last) × (end.failures ≡ failures')
 
 -- all lines of the input were answered by an office that began so, and the device failed under it or not
 pub record Served (honest : Type 0) (reader reader' writer writer' : Option (List ℕ)) (Spans : OnDisk → OnDisk → Type 0) (faulted : Bool) : Type 0 where
@@ -60,6 +66,20 @@ Serves honest Refused reader reader' writer writer' Spans (Err (runs.Serve servi
 Serves honest Refused reader reader' writer writer' Spans (Err (runs.Serve serving.Turns)) = ServedEnded honest reader reader' writer writer' Spans
 Serves honest Refused reader reader' writer writer' Spans (Err (runs.Serve serving.Write)) = ServedFront honest reader reader' writer writer' Spans
 Serves honest Refused reader reader' writer writer' Spans (Err (runs.Open fault)) = Refused fault
+
+-- What commands with this log leave of a disk that was opened and goes from the one trail to the other: at each moment an
+-- image stands for this count and the first of those accepted, in order; in the end with all that were acknowledged, which
+-- are all but one at most.
+pub record KeepsAll (tally : Tally) (log : Log) (first last : Trail) : Type 0 where
+  pub each_moment : Leaves (λ old new. HasSome tally log.accepted 0 new) first last
+  pub in_the_end : (c : List ℕ) → IsImage last.now c → HasSome tally log.accepted log.acknowledged c
+  pub all_but_one : length log.accepted ≤ log.acknowledged + 1
+
+-- a run reports a fault of the device, under the opening or under a line
+abbrev pub IsOfDevice : RunFault → Type 0
+IsOfDevice (runs.Open opening.Device) = Unit {0}
+IsOfDevice runs.Faulted = Unit {0}
+IsOfDevice fault = ⊥
 
 -- why no office is opened on a disk that held these bytes; memory and the device say nothing of them
 abbrev pub Refuses : Canton → List ℕ → OpenFault → Type 0

@@ -1,9 +1,10 @@
 //! Loading a CSV file into the office on a disk, and writing what it holds as CSV.
 
-ghost use Rattle.std.specs.Prelude.{◌≡◌, IfErr, OnErr, OnOk};
+ghost use Rattle.std.specs.Prelude.{◌≡◌, ◌≤◌, IfErr, OnErr, OnOk};
 ghost use Rattle.std.specs.Io.KnownBytes.{Appends};
+ghost use Rattle.zh_journal.specs.Cause.{HasRisen};
 ghost use Rattle.zh_office.specs.Runs.{OnDisk, on_disk};
-ghost use Rattle.zh_disk_tasks.specs.Csv.{Exports, IsThis, IsUnreadable, Loads, WritesFront, printed};
+ghost use Rattle.zh_disk_tasks.specs.Csv.{Exports, IsExportOfDevice, IsLoadOfDevice, IsThis, IsUnreadable, Loads, WritesFront, printed};
 ghost use Rattle.zh_disk_tasks.specs.Tasks.{IsFrom, IsRefused};
 
 use crate::csv_fault::{ExportFault, LoadFault};
@@ -52,7 +53,7 @@ fn load_text<O: Write, D: Disk>(
     out: &mut O,
 ) -> Result<(), LoadFault>
     ensures kept { D.honest disk.new → D.honest disk.old }
-    ensures loaded { Loads (D.honest disk.new) (λ fault. ⊥) (out.new ≡ out.old) (O.contents out.old) (O.contents out.new) (IsThis (on_disk office.old (D.failures disk.old) (D.trail disk.old)) (D.trail disk.new)) result }
+    ensures loaded { Loads (D.honest disk.new) (λ fault. ⊥) (out.new ≡ out.old) (O.contents out.old) (O.contents out.new) (IsThis (on_disk office.old (D.failures disk.old) (D.trail disk.old)) (D.failures disk.new) (D.trail disk.new)) result }
 {
     let mut reader = text;
     let reply = office.load(disk, &mut reader);
@@ -76,7 +77,9 @@ pub fn load_on<O: Write, D: Disk>(
     out: &mut O,
 ) -> Result<(), LoadFault>
     ensures kept { D.honest disk.new → D.honest disk.old }
-    ensures loaded { Loads (D.honest disk.new) (λ fault. (out.new ≡ out.old) × (D.honest disk.new → IsRefused setup.now (D.trail disk.old) (D.trail disk.new) fault)) (out.new ≡ out.old) (O.contents out.old) (O.contents out.new) (IsFrom (D.honest disk.new) setup.now (D.trail disk.old) (D.trail disk.new)) result }
+    ensures loaded { Loads (D.honest disk.new) (λ fault. (out.new ≡ out.old) × (D.honest disk.new → IsRefused setup.now (D.trail disk.old) (D.trail disk.new) fault)) (out.new ≡ out.old) (O.contents out.old) (O.contents out.new) (IsFrom (D.honest disk.new) setup.now (D.failures disk.old) (D.trail disk.old) (D.failures disk.new) (D.trail disk.new)) result }
+    ensures later { D.failures disk.old ≤ D.failures disk.new }
+    ensures cause { IfErr result (λ fault. IsLoadOfDevice fault → HasRisen (D.failures disk.old) (D.failures disk.new)) }
 {
     let mut office = Office::open(alloc, setup, disk)?;
     let text = text_at(rt, alloc, csv)?;
@@ -100,7 +103,9 @@ pub fn export_from<O: Write, D: Disk>(
     out: &mut O,
 ) -> Result<(), ExportFault>
     ensures kept { D.honest disk.new → D.honest disk.old }
-    ensures written { Exports (λ fault. (out.new ≡ out.old) × (D.honest disk.new → IsRefused setup.now (D.trail disk.old) (D.trail disk.new) fault)) (out.new ≡ out.old) (O.contents out.old) (O.contents out.new) (IsFrom (D.honest disk.new) setup.now (D.trail disk.old) (D.trail disk.new)) result }
+    ensures written { Exports (λ fault. (out.new ≡ out.old) × (D.honest disk.new → IsRefused setup.now (D.trail disk.old) (D.trail disk.new) fault)) (out.new ≡ out.old) (O.contents out.old) (O.contents out.new) (IsFrom (D.honest disk.new) setup.now (D.failures disk.old) (D.trail disk.old) (D.failures disk.new) (D.trail disk.new)) result }
+    ensures later { D.failures disk.old ≤ D.failures disk.new }
+    ensures cause { IfErr result (λ fault. IsExportOfDevice fault → HasRisen (D.failures disk.old) (D.failures disk.new)) }
 {
     let office = Office::open(alloc, setup, disk)?;
     write_held(alloc, &office, out)

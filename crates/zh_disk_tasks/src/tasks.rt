@@ -1,13 +1,13 @@
 //! Formatting a disk, and serving on it.
 
-ghost use Rattle.std.specs.Prelude.{◌≡◌, ◌≤◌, ◌^◌, List, ℕ, [], IsErrOf, OnOk};
+ghost use Rattle.std.specs.Prelude.{◌≡◌, ◌≤◌, ◌^◌, List, ℕ, [], IfErr, IsErrOf, OnOk};
 ghost use Rattle.zh_disk.specs.Disk.{IsImage};
 ghost use Rattle.zh_journal.specs.Cause.{HasRisen};
 ghost use Rattle.zh_snapshot.specs.Image.{IsBlank};
 ghost use Rattle.zh_ledger.specs.Opened.{IsNew};
 ghost use Rattle.zh_office.specs.Runs.{on_disk};
 ghost use Rattle.zh_disk_tasks.specs.Csv.{IsThis};
-ghost use Rattle.zh_disk_tasks.specs.Tasks.{FormatsBlank, IsFrom, IsRefused, Serves};
+ghost use Rattle.zh_disk_tasks.specs.Tasks.{FormatsBlank, IsFrom, IsOfDevice, IsRefused, Serves};
 
 use crate::fault::{FormatFault, RunFault};
 use std::alloc::Global;
@@ -55,7 +55,9 @@ pub fn serve_on<I: Read, O: Write, D: Disk>(
     out: &mut O,
 ) -> Result<(), RunFault>
     ensures kept { D.honest disk.new → D.honest disk.old }
-    ensures served { Serves (D.honest disk.new) (λ fault. ((input.new ≡ input.old) × (out.new ≡ out.old)) × (D.honest disk.new → IsRefused setup.now (D.trail disk.old) (D.trail disk.new) fault)) (I.remaining input.old) (I.remaining input.new) (O.contents out.old) (O.contents out.new) (IsFrom (D.honest disk.new) setup.now (D.trail disk.old) (D.trail disk.new)) result }
+    ensures served { Serves (D.honest disk.new) (λ fault. ((input.new ≡ input.old) × (out.new ≡ out.old)) × (D.honest disk.new → IsRefused setup.now (D.trail disk.old) (D.trail disk.new) fault)) (I.remaining input.old) (I.remaining input.new) (O.contents out.old) (O.contents out.new) (IsFrom (D.honest disk.new) setup.now (D.failures disk.old) (D.trail disk.old) (D.failures disk.new) (D.trail disk.new)) result }
+    ensures later { D.failures disk.old ≤ D.failures disk.new }
+    ensures cause { IfErr result (λ fault. IsOfDevice fault → HasRisen (D.failures disk.old) (D.failures disk.new)) }
 {
     let mut office = Office::open(alloc, setup, disk)?;
     serve_lines(&mut office, disk, input, out)
@@ -69,7 +71,7 @@ fn serve_lines<I: Read, O: Write, D: Disk>(
     out: &mut O,
 ) -> Result<(), RunFault>
     ensures kept { D.honest disk.new → D.honest disk.old }
-    ensures served { Serves (D.honest disk.new) (λ fault. ⊥) (I.remaining input.old) (I.remaining input.new) (O.contents out.old) (O.contents out.new) (IsThis (on_disk office.old (D.failures disk.old) (D.trail disk.old)) (D.trail disk.new)) result }
+    ensures served { Serves (D.honest disk.new) (λ fault. ⊥) (I.remaining input.old) (I.remaining input.new) (O.contents out.old) (O.contents out.new) (IsThis (on_disk office.old (D.failures disk.old) (D.trail disk.old)) (D.failures disk.new) (D.trail disk.new)) result }
 {
     office.serve(input, out, disk, most_reads())?;
     if office.faulted() {

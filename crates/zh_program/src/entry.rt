@@ -74,11 +74,11 @@ pub fn program<I: Read, O: Write, F: Write, S: Start>(
 ) -> u8
     ensures status { result ≤ 2 }
     ensures done { result ≡ 0 → (task : Task) × Asks (map string_bytes arguments.now) task
-        × Does ⟦<FileDisk<S> as Disk>⟧.honest ⟦<FileDisk<S> as Disk>⟧.trail S.Start.db used.old used.new (input.new ≡ input.old) (out.new ≡ out.old) (I.remaining input.old) (I.remaining input.new) (O.contents out.old) (O.contents out.new) task (Ok tt)
+        × Does ⟦<FileDisk<S> as Disk>⟧.honest ⟦<FileDisk<S> as Disk>⟧.trail ⟦<FileDisk<S> as Disk>⟧.failures S.Start.db used.old used.new (input.new ≡ input.old) (out.new ≡ out.old) (I.remaining input.old) (I.remaining input.new) (O.contents out.old) (O.contents out.new) task (Ok tt)
         × UnlessRehearsal task (faults.new ≡ faults.old) }
     // Memory may be refused before the arguments are read, and then nothing is done.
     ensures fault { result ≡ 1 → ((input.new ≡ input.old) × (out.new ≡ out.old) × (used.new ≡ used.old)) ⊎ ((task : Task) × (fault : Fault) × Asks (map string_bytes arguments.now) task
-        × Does ⟦<FileDisk<S> as Disk>⟧.honest ⟦<FileDisk<S> as Disk>⟧.trail S.Start.db used.old used.new (input.new ≡ input.old) (out.new ≡ out.old) (I.remaining input.old) (I.remaining input.new) (O.contents out.old) (O.contents out.new) task (Err fault)
+        × Does ⟦<FileDisk<S> as Disk>⟧.honest ⟦<FileDisk<S> as Disk>⟧.trail ⟦<FileDisk<S> as Disk>⟧.failures S.Start.db used.old used.new (input.new ≡ input.old) (out.new ≡ out.old) (I.remaining input.old) (I.remaining input.new) (O.contents out.old) (O.contents out.new) task (Err fault)
         × UnlessRehearsal task (fault ≡ ProgramFault.Load LoadFault.Refused → faults.new ≡ faults.old)) }
     ensures refused { result ≡ 2 → (refusals (map string_bytes arguments.now) ≢ []) × ((input.new ≡ input.old) × (out.new ≡ out.old) × (used.new ≡ used.old)) }
 {

@@ -1,5 +1,5 @@
 -- What a task leaves of the streams and of its disk.
-use Rattle.std.specs.Prelude.{◌≡◌, ℕ, [], false, List, Option, Some, Result, Ok, Err, IsErrOf, OnOk}
+use Rattle.std.specs.Prelude.{◌≡◌, ◌≤◌, ℕ, [], false, List, Option, Some, Result, Ok, Err, IfErr, IsErrOf, OnOk}
 use Rattle.zh_districts.specs.Canton.{Canton, IsCanton}
 use Rattle.zh_setups.specs.Rehearsal.{rehearsal}
 use Rattle.zh_returns.specs.Tally.{empty}
@@ -10,8 +10,8 @@ use Rattle.zh_desks.specs.Batches.{no_batches}
 use Rattle.zh_ledger.specs.Opened.{IsNew}
 use Rattle.zh_ledger.specs.declared.fault.OpenFault.{OpenFault}
 use Rattle.zh_office.specs.Runs.{OnDisk}
-use Rattle.zh_disk_tasks.specs.Csv.{Exports, Loads}
-use Rattle.zh_disk_tasks.specs.Tasks.{FormatsBlank, IsFrom, IsRefused, Serves}
+use Rattle.zh_disk_tasks.specs.Csv.{Exports, IsExportOfDevice, IsLoadOfDevice, Loads}
+use Rattle.zh_disk_tasks.specs.Tasks.{FormatsBlank, IsFrom, IsOfDevice, IsRefused, Serves}
 use Rattle.zh_disk_tasks.specs.declared.csv_fault.ExportFault.{ExportFault}
 use Rattle.zh_disk_tasks.specs.declared.csv_fault.LoadFault.{LoadFault}
 use Rattle.zh_disk_tasks.specs.declared.fault.FormatFault.{FormatFault}
@@ -36,9 +36,10 @@ IsEarly (faults.Load fault) = ⊥
 IsEarly (faults.Export fault) = ⊥
 IsEarly fault = Unit {0}
 
--- the office that was kept on a file which held these bytes as it was opened, and has the last trail in the end
-abbrev pub IsOnFile : Type 0 → List ℕ → Trail → OnDisk → OnDisk → Type 0
-IsOnFile honest bytes last start end = (canton : Canton) × IsCanton canton × IsFrom honest canton (fresh_trail bytes) last start end
+-- The office that was kept on a file which held these bytes as it was opened; in the end its disk has failed so often and
+-- has the last trail.
+abbrev pub IsOnFile : Type 0 → List ℕ → ℕ → Trail → OnDisk → OnDisk → Type 0
+IsOnFile honest bytes failures last start end = (canton : Canton) × IsCanton canton × IsFrom honest canton 0 (fresh_trail bytes) failures last start end
 
 -- no office was opened on such a file
 abbrev pub IsRefusedFile : List ℕ → Trail → OpenFault → Type 0
@@ -82,24 +83,27 @@ module _ {D : Type 0} where
   HasExported before new Uses (Err (faults.Export fault)) = (d : D) × (new ≡ Some d) × Uses d (Err fault)
   HasExported before new Uses (Err fault) = before
 
-  -- a formatting of a file that held these bytes
-  abbrev pub FormatsOnFile : (D → Type 0) → (D → Trail) → List ℕ → D → Result (Unit {0}) FormatFault → Type 0
-  FormatsOnFile honest trail bytes d result = honest d → FormatsFile bytes (trail d) result
+  -- a formatting of a file that held these bytes, which reports a fault of the device only where a call of the disk failed
+  abbrev pub FormatsOnFile : (D → Type 0) → (D → Trail) → (D → ℕ) → List ℕ → D → Result (Unit {0}) FormatFault → Type 0
+  FormatsOnFile honest trail failures bytes d result = (honest d → FormatsFile bytes (trail d) result) × (IsErrOf result formatting.Device → 1 ≤ failures d)
 
-  -- a run on a file that held these bytes
-  abbrev pub RunsOnFile : (D → Type 0) → (D → Trail) → List ℕ → Type 0 → Option (List ℕ) → Option (List ℕ) → Option (List ℕ) → Option (List ℕ) → D → Result (Unit {0}) RunFault → Type 0
-  RunsOnFile honest trail bytes nothing reader reader' writer writer' d result =
-      Serves (honest d) (λ fault. nothing × (honest d → IsRefusedFile bytes (trail d) fault)) reader reader' writer writer' (IsOnFile (honest d) bytes (trail d)) result
+  -- a run on a file that held these bytes, which reports one only so too
+  abbrev pub RunsOnFile : (D → Type 0) → (D → Trail) → (D → ℕ) → List ℕ → Type 0 → Option (List ℕ) → Option (List ℕ) → Option (List ℕ) → Option (List ℕ) → D → Result (Unit {0}) RunFault → Type 0
+  RunsOnFile honest trail failures bytes nothing reader reader' writer writer' d result =
+      Serves (honest d) (λ fault. nothing × (honest d → IsRefusedFile bytes (trail d) fault)) reader reader' writer writer' (IsOnFile (honest d) bytes (failures d) (trail d)) result
+      × IfErr result (λ fault. IsOfDevice fault → 1 ≤ failures d)
 
   -- the loading of a CSV file on such a file
-  abbrev pub LoadsOnFile : (D → Type 0) → (D → Trail) → List ℕ → Type 0 → Option (List ℕ) → Option (List ℕ) → D → Result (Unit {0}) LoadFault → Type 0
-  LoadsOnFile honest trail bytes nothing writer writer' d result =
-      Loads (honest d) (λ fault. nothing × (honest d → IsRefusedFile bytes (trail d) fault)) nothing writer writer' (IsOnFile (honest d) bytes (trail d)) result
+  abbrev pub LoadsOnFile : (D → Type 0) → (D → Trail) → (D → ℕ) → List ℕ → Type 0 → Option (List ℕ) → Option (List ℕ) → D → Result (Unit {0}) LoadFault → Type 0
+  LoadsOnFile honest trail failures bytes nothing writer writer' d result =
+      Loads (honest d) (λ fault. nothing × (honest d → IsRefusedFile bytes (trail d) fault)) nothing writer writer' (IsOnFile (honest d) bytes (failures d) (trail d)) result
+      × IfErr result (λ fault. IsLoadOfDevice fault → 1 ≤ failures d)
 
   -- an export from such a file
-  abbrev pub ExportsFromFile : (D → Type 0) → (D → Trail) → List ℕ → Type 0 → Option (List ℕ) → Option (List ℕ) → D → Result (Unit {0}) ExportFault → Type 0
-  ExportsFromFile honest trail bytes nothing writer writer' d result =
-      Exports (λ fault. nothing × (honest d → IsRefusedFile bytes (trail d) fault)) nothing writer writer' (IsOnFile (honest d) bytes (trail d)) result
+  abbrev pub ExportsFromFile : (D → Type 0) → (D → Trail) → (D → ℕ) → List ℕ → Type 0 → Option (List ℕ) → Option (List ℕ) → D → Result (Unit {0}) ExportFault → Type 0
+  ExportsFromFile honest trail failures bytes nothing writer writer' d result =
+      Exports (λ fault. nothing × (honest d → IsRefusedFile bytes (trail d) fault)) nothing writer writer' (IsOnFile (honest d) bytes (failures d) (trail d)) result
+      × IfErr result (λ fault. IsExportOfDevice fault → 1 ≤ failures d)
 
 -- a rehearsal served, or the fault came before
 abbrev pub Rehearsed : Type 0 → (Result (Unit {0}) RunFault → Type 0) → Result (Unit {0}) ProgramFault → Type 0
@@ -113,9 +117,9 @@ Rehearses nothing reader reader' writer writer' = Rehearsed nothing (Serves (Uni
 
 -- What a task with this result has done, where the file of its disk held these bytes: `old` is what was handed over
 -- before, `unread` and `unwritten` say that nothing was read from the input, and nothing written.
-abbrev pub Does : {D : Type 0} → (D → Type 0) → (D → Trail) → List ℕ → Option D → Option D → Type 0 → Type 0 → Option (List ℕ) → Option (List ℕ) → Option (List ℕ) → Option (List ℕ) → Task → Result (Unit {0}) ProgramFault → Type 0
-Does honest trail bytes old new unread unwritten reader reader' writer writer' Rehearse result = (new ≡ old) × Rehearses (unread × unwritten) reader reader' writer writer' result
-Does honest trail bytes old new unread unwritten reader reader' writer writer' (Format paths) result = unread × unwritten × Formatted (new ≡ old) new (FormatsOnFile honest trail bytes) result
-Does honest trail bytes old new unread unwritten reader reader' writer writer' (Run paths) result = Ran ((unread × unwritten) × (new ≡ old)) new (RunsOnFile honest trail bytes (unread × unwritten) reader reader' writer writer') result
-Does honest trail bytes old new unread unwritten reader reader' writer writer' (Load paths csv) result = unread × HasLoaded (unwritten × (new ≡ old)) new (LoadsOnFile honest trail bytes unwritten writer writer') result
-Does honest trail bytes old new unread unwritten reader reader' writer writer' (Export paths) result = unread × HasExported (unwritten × (new ≡ old)) new (ExportsFromFile honest trail bytes unwritten writer writer') result
+abbrev pub Does : {D : Type 0} → (D → Type 0) → (D → Trail) → (D → ℕ) → List ℕ → Option D → Option D → Type 0 → Type 0 → Option (List ℕ) → Option (List ℕ) → Option (List ℕ) → Option (List ℕ) → Task → Result (Unit {0}) ProgramFault → Type 0
+Does honest trail failures bytes old new unread unwritten reader reader' writer writer' Rehearse result = (new ≡ old) × Rehearses (unread × unwritten) reader reader' writer writer' result
+Does honest trail failures bytes old new unread unwritten reader reader' writer writer' (Format paths) result = unread × unwritten × Formatted (new ≡ old) new (FormatsOnFile honest trail failures bytes) result
+Does honest trail failures bytes old new unread unwritten reader reader' writer writer' (Run paths) result = Ran ((unread × unwritten) × (new ≡ old)) new (RunsOnFile honest trail failures bytes (unread × unwritten) reader reader' writer writer') result
+Does honest trail failures bytes old new unread unwritten reader reader' writer writer' (Load paths csv) result = unread × HasLoaded (unwritten × (new ≡ old)) new (LoadsOnFile honest trail failures bytes unwritten writer writer') result
+Does honest trail failures bytes old new unread unwritten reader reader' writer writer' (Export paths) result = unread × HasExported (unwritten × (new ≡ old)) new (ExportsFromFile honest trail failures bytes unwritten writer writer') result

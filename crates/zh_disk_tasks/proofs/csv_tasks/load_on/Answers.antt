@@ -4,38 +4,60 @@ use Rattle.zh_disk_tasks.specs.Csv.{IsThis}
 use Rattle.zh_disk_tasks.specs.Tasks.{IsFrom, IsStart}
 use Rattle.zh_disk_tasks.specs.declared.csv_fault.LoadFault.TheVariants as loading
 use Rattle.zh_disk_tasks.proofs.CsvLemmas.{loads_as, unread}
+use Rattle.zh_disk_tasks.proofs.DeviceLemmas.{load_refused, load_unread, loads_end, opened_by}
 use Rattle.zh_disk_tasks.proofs.EndingLemmas.{refused}
+use Rattle.zh_disk_tasks.proofs.StartLemmas.{starts}
 use Rattle.zh_disk_tasks.proofs.csv_tasks.load_on.Goals as goal
 
-pub returns-in_err-office-clause-loaded : goal.returns-in_err-office-clause-loaded
-returns-in_err-office-clause-loaded g c =
+pub returns-in_err-office : goal.returns-in_err-office
+returns-in_err-office g c =
     let is : c.from_residual.result ≡ Err (loading.Open c.in_err-office.field-0.0) = search rules in
-    let why = λ (h : g.D.Disk.honest c.open.new.disk). refused c.args.setup.now (g.D.Disk.trail c.args.disk.now).now.bytes c.open.result c.in_err-office.field-0.0 (search rules) (c.open.ensures.blank h) (c.open.ensures.differs h) (c.open.ensures.damaged h) in
-    rw is ((refl, λ h. record { moments = c.open.ensures.any_moment h; cause = why h }))
+    let met : c.open.result ≡ Err c.in_err-office.field-0.0 = search rules in
+    let why = λ (h : g.D.Disk.honest c.open.new.disk). refused c.args.setup.now (g.D.Disk.trail c.args.disk.now).now.bytes c.open.result c.in_err-office.field-0.0 met (c.open.ensures.blank h) (c.open.ensures.differs h) (c.open.ensures.damaged h) in
+    let ends = load_refused (g.D.Disk.failures c.args.disk.now) (g.D.Disk.failures c.open.new.disk) c.in_err-office.field-0.0 (opened_by _ _ c.open.result c.in_err-office.field-0.0 met c.open.ensures.later c.open.ensures.cause) in
+    rw is (record {
+      kept = c.open.ensures.kept;
+      loaded = (refl, λ h. record { moments = c.open.ensures.any_moment h; cause = why h });
+      later = c.open.ensures.later;
+      cause = ends.cause;
+    })
 
-pub returns-in_err-text-clause-loaded : goal.returns-in_err-text-clause-loaded
-returns-in_err-text-clause-loaded g c =
+pub returns-in_err-text : goal.returns-in_err-text
+returns-in_err-text g c =
     let is : c.from_residual-in_err-text.result ≡ Err c.in_err-text.field-0.0 = search rules in
-    let start = on_disk c.in_ok-office.office (g.D.Disk.failures c.open.new.disk) (g.D.Disk.trail c.open.new.disk) in
-    let begins : IsFrom (g.D.Disk.honest c.open.new.disk) c.args.setup.now (g.D.Disk.trail c.args.disk.now) (g.D.Disk.trail c.open.new.disk) start start = (record { ready = c.in_ok-office.ensures.ready; opening = c.open.ensures.any_moment; opened = c.in_ok-office.ensures.opened; settled = c.in_ok-office.ensures.settled }, refl) in
-    rw is (unread (g.D.Disk.honest c.open.new.disk) _ _ (g.O.Write.contents c.args.out.now) (g.O.Write.contents c.args.out.now) (IsFrom (g.D.Disk.honest c.open.new.disk) c.args.setup.now (g.D.Disk.trail c.args.disk.now) (g.D.Disk.trail c.open.new.disk)) start c.in_err-text.field-0.0 c.in_err-text.ensures refl begins)
+    let honest = g.D.Disk.honest c.open.new.disk in
+    let after = g.D.Disk.failures c.open.new.disk in
+    let last = g.D.Disk.trail c.open.new.disk in
+    let From = IsFrom honest c.args.setup.now (g.D.Disk.failures c.args.disk.now) (g.D.Disk.trail c.args.disk.now) after last in
+    let start = on_disk c.in_ok-office.office after last in
+    let begins : From start start = (starts _ _ _ _ _ c.in_ok-office.ensures.ready c.open.ensures.later c.open.ensures.any_moment c.in_ok-office.ensures.opened c.in_ok-office.ensures.settled, refl, refl) in
+    let ends = load_unread (g.D.Disk.failures c.args.disk.now) after c.in_err-text.field-0.0 c.in_err-text.ensures c.open.ensures.later in
+    rw is (record {
+      kept = c.open.ensures.kept;
+      loaded = unread honest _ _ (g.O.Write.contents c.args.out.now) (g.O.Write.contents c.args.out.now) From start c.in_err-text.field-0.0 c.in_err-text.ensures refl begins;
+      later = c.open.ensures.later;
+      cause = ends.cause;
+    })
 
-pub returns-clause-kept : goal.returns-clause-kept
-returns-clause-kept g c = λ h. c.open.ensures.kept (c.load_text.ensures.kept h)
-
-pub returns-clause-loaded : goal.returns-clause-loaded
-returns-clause-loaded g c =
+pub returns : goal.returns
+returns g c =
     let honest = g.D.Disk.honest c.load_text.new.disk in
+    let before = g.D.Disk.failures c.args.disk.now in
+    let after = g.D.Disk.failures c.load_text.new.disk in
     let first = g.D.Disk.trail c.args.disk.now in
     let last = g.D.Disk.trail c.load_text.new.disk in
     let start = on_disk c.in_ok-office.office (g.D.Disk.failures c.open.new.disk) (g.D.Disk.trail c.open.new.disk) in
-    let is_start : IsStart honest c.args.setup.now first start = record {
-      ready = c.in_ok-office.ensures.ready;
-      opening = λ h. c.open.ensures.any_moment (c.load_text.ensures.kept h);
-      opened = λ h. c.in_ok-office.ensures.opened (c.load_text.ensures.kept h);
-      settled = λ h. c.in_ok-office.ensures.settled (c.load_text.ensures.kept h);
-    } in
-    loads_as honest _ _ _ _ _ (IsThis start last) (IsFrom honest c.args.setup.now first last) c.load_text.result
-    (λ fault none. absurd none)
-    (λ s end this. (subst (λ (o : OnDisk). IsStart honest c.args.setup.now first o) (sym this.0) is_start, this.1))
-    c.load_text.ensures.loaded
+    let is_start : IsStart honest c.args.setup.now before first start = starts honest c.args.setup.now before first start c.in_ok-office.ensures.ready c.open.ensures.later
+    (λ h. c.open.ensures.any_moment (c.load_text.ensures.kept h))
+    (λ h. c.in_ok-office.ensures.opened (c.load_text.ensures.kept h))
+    (λ h. c.in_ok-office.ensures.settled (c.load_text.ensures.kept h)) in
+    let From = IsFrom honest c.args.setup.now before first after last in
+    let begins : (s e : OnDisk) → IsThis start after last s e → From s e = λ s e this. (subst (λ (o : OnDisk). IsStart honest c.args.setup.now before first o) (sym this.0) is_start, this.1, this.2) in
+    let ends = loads_end honest c.args.setup.now before first after last _ _ _ c.load_text.result
+    (loads_as honest _ _ (λ fault. ⊥) _ _ (IsThis start after last) From c.load_text.result (λ fault none. none) begins c.load_text.ensures.loaded) in
+    record {
+      kept = λ h. c.open.ensures.kept (c.load_text.ensures.kept h);
+      loaded = loads_as honest _ _ _ _ _ (IsThis start after last) From c.load_text.result (λ fault none. absurd none) begins c.load_text.ensures.loaded;
+      later = ends.later;
+      cause = ends.cause;
+    }

@@ -18,7 +18,7 @@ returns-then-faulted-clause-loaded g c = (c.load-reply.result, loaded_to _ _ _ _
 pub returns-in-Refused-clause-loaded : goal.returns-in-Refused-clause-loaded
 returns-in-Refused-clause-loaded g c =
     let is : c.load-reply.result ≡ replies.Refused c.in-Refused.field-0 = search rules in
-    let spans = IsThis (on_disk c.args.office.now (g.D.Disk.failures c.args.disk.now) (g.D.Disk.trail c.args.disk.now)) (g.D.Disk.trail c.load-reply.new.disk) in
+    let spans = IsThis (on_disk c.args.office.now (g.D.Disk.failures c.args.disk.now) (g.D.Disk.trail c.args.disk.now)) (g.D.Disk.failures c.load-reply.new.disk) (g.D.Disk.trail c.load-reply.new.disk) in
     (c.in-Refused.field-0, subst (λ (r : Reply). Loaded (g.D.Disk.honest c.load-reply.new.disk) (g.O.Write.contents c.args.out.now) (g.O.Write.contents c.print_reply.new.out) spans r false) is (loaded_to _ _ _ _ _ _ _ _ c.load-reply.ensures.turn c.in_ok-print_reply.ensures.all (search rules)))
 
 pub returns-in_default : goal.returns-in_default

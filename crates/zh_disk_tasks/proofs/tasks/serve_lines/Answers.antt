@@ -10,15 +10,15 @@ returns-in_err-serve-clause-served g c =
     let is : c.from_residual.result ≡ Err (runs.Serve c.in_err-serve.field-0.0) = search rules in
     let start = on_disk c.args.office.now (g.D.Disk.failures c.args.disk.now) (g.D.Disk.trail c.args.disk.now) in
     let end = on_disk c.serve.new.self (g.D.Disk.failures c.serve.new.disk) (g.D.Disk.trail c.serve.new.disk) in
-    let this : IsThis start (g.D.Disk.trail c.serve.new.disk) start end = (refl, refl) in
-    rw is (broke_off (g.D.Disk.honest c.serve.new.disk) (λ fault. ⊥) _ _ _ _ (IsThis start (g.D.Disk.trail c.serve.new.disk)) start end c.serve.result c.in_err-serve.field-0.0 this (search rules) c.serve.ensures.read c.serve.ensures.write c.serve.ensures.turns)
+    let this : IsThis start (g.D.Disk.failures c.serve.new.disk) (g.D.Disk.trail c.serve.new.disk) start end = (refl, refl, refl) in
+    rw is (broke_off (g.D.Disk.honest c.serve.new.disk) (λ fault. ⊥) _ _ _ _ (IsThis start (g.D.Disk.failures c.serve.new.disk) (g.D.Disk.trail c.serve.new.disk)) start end c.serve.result c.in_err-serve.field-0.0 this (search rules) c.serve.ensures.read c.serve.ensures.write c.serve.ensures.turns)
 
 pub returns-then-faulted-clause-served : goal.returns-then-faulted-clause-served
 returns-then-faulted-clause-served g c = record {
   start = on_disk c.args.office.now (g.D.Disk.failures c.args.disk.now) (g.D.Disk.trail c.args.disk.now);
   end = on_disk c.serve.new.self (g.D.Disk.failures c.serve.new.disk) (g.D.Disk.trail c.serve.new.disk);
   count = c.in_ok-serve.field-0;
-  spans = (refl, refl);
+  spans = (refl, refl, refl);
   all = c.in_ok-serve.ensures.ok;
   device = search rules;
 }
@@ -28,7 +28,7 @@ returns-clause-served g c = record {
   start = on_disk c.args.office.now (g.D.Disk.failures c.args.disk.now) (g.D.Disk.trail c.args.disk.now);
   end = on_disk c.serve.new.self (g.D.Disk.failures c.serve.new.disk) (g.D.Disk.trail c.serve.new.disk);
   count = c.in_ok-serve.field-0;
-  spans = (refl, refl);
+  spans = (refl, refl, refl);
   all = c.in_ok-serve.ensures.ok;
   device = search rules;
 }

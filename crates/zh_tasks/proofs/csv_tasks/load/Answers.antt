@@ -1,6 +1,8 @@
 use Rattle.std.proofs.Common.{rules, ◌≡◌, Ok, Err}
+use Rattle.zh_disk_tasks.specs.Csv.{IsLoadOfDevice}
 use Rattle.zh_tasks.specs.declared.fault.ProgramFault.TheVariants as faults
 use Rattle.zh_tasks.proofs.CsvLemmas.{loads_on_file}
+use Rattle.zh_tasks.proofs.EndingLemmas.{device_on_file}
 use Rattle.zh_tasks.proofs.csv_tasks.load.Goals as goal
 
 pub returns-in_err-done : goal.returns-in_err-done
@@ -10,7 +12,10 @@ returns-in_err-done g c =
     rw is (
       c.load_on-done.new.disk,
       c.hand_over.ensures,
-      loads_on_file _ _ _ _ c.in_ok-setup.setup _ _ _ _ _ c.in_ok-setup.ensures.limits c.in_ok-disk.ensures.begins ended c.load_on-done.ensures.loaded,
+      (
+        loads_on_file _ _ _ _ c.in_ok-setup.setup _ _ _ _ _ _ _ c.in_ok-setup.ensures.limits c.in_ok-disk.ensures.begins c.in_ok-disk.ensures.failures ended c.load_on-done.ensures.loaded,
+        device_on_file IsLoadOfDevice _ _ _ _ c.in_ok-disk.ensures.failures ended c.load_on-done.ensures.cause,
+      ),
     )
 
 pub returns : goal.returns
@@ -18,5 +23,8 @@ returns g c =
     let ended : c.load_on-done.result ≡ Ok tt = search rules in (
       c.load_on-done.new.disk,
       c.hand_over.ensures,
-      loads_on_file _ _ _ _ c.in_ok-setup.setup _ _ _ _ _ c.in_ok-setup.ensures.limits c.in_ok-disk.ensures.begins ended c.load_on-done.ensures.loaded,
+      (
+        loads_on_file _ _ _ _ c.in_ok-setup.setup _ _ _ _ _ _ _ c.in_ok-setup.ensures.limits c.in_ok-disk.ensures.begins c.in_ok-disk.ensures.failures ended c.load_on-done.ensures.loaded,
+        device_on_file IsLoadOfDevice _ _ _ _ c.in_ok-disk.ensures.failures ended c.load_on-done.ensures.cause,
+      ),
     )

@@ -1,6 +1,6 @@
 use Rattle.std.proofs.Common.{rules, ◌≡◌, Ok, Err}
 use Rattle.zh_tasks.specs.declared.fault.ProgramFault.TheVariants as faults
-use Rattle.zh_tasks.proofs.EndingLemmas.{formats_file}
+use Rattle.zh_tasks.proofs.EndingLemmas.{format_device, formats_file}
 use Rattle.zh_tasks.proofs.tasks.format.Goals as goal
 
 pub returns-in_err-done : goal.returns-in_err-done
@@ -11,8 +11,11 @@ returns-in_err-done g c =
     rw is (
       c.format_blank-done.new.disk,
       c.hand_over.ensures,
-      λ h. formats_file c.in_ok-setup.setup _ _ _ _ _ c.in_ok-setup.ensures.limits (c.in_ok-disk.ensures.begins (done.kept h)) ended
-          (done.any_moment h) (done.blank h) (done.formatted h) (done.settled h) (done.in_use h),
+      (
+        λ h. formats_file c.in_ok-setup.setup _ _ _ _ _ c.in_ok-setup.ensures.limits (c.in_ok-disk.ensures.begins (done.kept h)) ended
+            (done.any_moment h) (done.blank h) (done.formatted h) (done.settled h) (done.in_use h),
+        format_device _ _ _ _ c.in_ok-disk.ensures.failures ended done.cause,
+      ),
     )
 
 pub returns : goal.returns
@@ -21,6 +24,9 @@ returns g c =
     let done = c.format_blank-done.ensures in (
       c.format_blank-done.new.disk,
       c.hand_over.ensures,
-      λ h. formats_file c.in_ok-setup.setup _ _ _ _ _ c.in_ok-setup.ensures.limits (c.in_ok-disk.ensures.begins (done.kept h)) ended
-          (done.any_moment h) (done.blank h) (done.formatted h) (done.settled h) (done.in_use h),
+      (
+        λ h. formats_file c.in_ok-setup.setup _ _ _ _ _ c.in_ok-setup.ensures.limits (c.in_ok-disk.ensures.begins (done.kept h)) ended
+            (done.any_moment h) (done.blank h) (done.formatted h) (done.settled h) (done.in_use h),
+        format_device _ _ _ _ c.in_ok-disk.ensures.failures ended done.cause,
+      ),
     )

@@ -1,6 +1,7 @@
 use Rattle.std.proofs.Common.{rules, ◌≡◌, Ok, Err}
+use Rattle.zh_disk_tasks.specs.Tasks.{IsOfDevice}
 use Rattle.zh_tasks.specs.declared.fault.ProgramFault.TheVariants as faults
-use Rattle.zh_tasks.proofs.EndingLemmas.{runs_on_file}
+use Rattle.zh_tasks.proofs.EndingLemmas.{device_on_file, runs_on_file}
 use Rattle.zh_tasks.proofs.tasks.run.Goals as goal
 
 pub returns-in_err-done : goal.returns-in_err-done
@@ -10,7 +11,10 @@ returns-in_err-done g c =
     rw is (
       c.serve_on-done.new.disk,
       c.hand_over.ensures,
-      runs_on_file _ _ _ _ _ _ c.in_ok-setup.setup _ _ _ _ _ c.in_ok-setup.ensures.limits c.in_ok-disk.ensures.begins ended c.serve_on-done.ensures.served,
+      (
+        runs_on_file _ _ _ _ _ _ c.in_ok-setup.setup _ _ _ _ _ _ _ c.in_ok-setup.ensures.limits c.in_ok-disk.ensures.begins c.in_ok-disk.ensures.failures ended c.serve_on-done.ensures.served,
+        device_on_file IsOfDevice _ _ _ _ c.in_ok-disk.ensures.failures ended c.serve_on-done.ensures.cause,
+      ),
     )
 
 pub returns : goal.returns
@@ -18,5 +22,8 @@ returns g c =
     let ended : c.serve_on-done.result ≡ Ok tt = search rules in (
       c.serve_on-done.new.disk,
       c.hand_over.ensures,
-      runs_on_file _ _ _ _ _ _ c.in_ok-setup.setup _ _ _ _ _ c.in_ok-setup.ensures.limits c.in_ok-disk.ensures.begins ended c.serve_on-done.ensures.served,
+      (
+        runs_on_file _ _ _ _ _ _ c.in_ok-setup.setup _ _ _ _ _ _ _ c.in_ok-setup.ensures.limits c.in_ok-disk.ensures.begins c.in_ok-disk.ensures.failures ended c.serve_on-done.ensures.served,
+        device_on_file IsOfDevice _ _ _ _ c.in_ok-disk.ensures.failures ended c.serve_on-done.ensures.cause,
+      ),
     )
