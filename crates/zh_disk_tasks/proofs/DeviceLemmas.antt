@@ -7,7 +7,7 @@ use Rattle.zh_returns.specs.declared.verdict.Verdict.TheVariants as verdicts
 use Rattle.zh_disk.specs.Disk.{Trail}
 use Rattle.zh_districts.specs.Canton.{Canton}
 use Rattle.zh_journal.specs.Cause.{HasRisen}
-use Rattle.zh_snapshot.proofs.Phases.{risen_since}
+use Rattle.zh_snapshot.proofs.CallerLemmas.{risen_since}
 use Rattle.zh_ledger.specs.Ledger.{Ledger, Becomes, MayFollow, MayResultWhere, MayStoreWhere, has_room, is_spent, stored}
 use Rattle.zh_ledger.specs.Submissions as ledger
 use Rattle.zh_ledger.specs.Submissions.{Log, Submission}
@@ -15,7 +15,7 @@ use Rattle.zh_ledger.specs.declared.fault.OpenFault.{OpenFault}
 use Rattle.zh_ledger.specs.declared.fault.OpenFault.TheVariants as opening
 use Rattle.zh_ledger.specs.declared.outcome.Outcome.{Outcome}
 use Rattle.zh_ledger.specs.declared.outcome.Outcome.TheVariants as outcomes
-use Rattle.zh_ledger.proofs.RoomLemmas.{ready_already, ready_switched}
+use Rattle.zh_ledger.proofs.CallerLemmas.{ready_already, ready_switched}
 use Rattle.zh_answers.specs.declared.answer.Answer.{Answer}
 use Rattle.zh_commands.specs.declared.replies.Reply.{Reply}
 use Rattle.zh_requests.specs.Requests.{Acts}

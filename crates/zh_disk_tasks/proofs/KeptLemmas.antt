@@ -1,28 +1,27 @@
 -- What is kept of the commands of a run, or of a load.
 use Rattle.std.proofs.Common.{◌≡◌, ◌∙◌, ℕ, List, Option, Some, None, sym, ap, subst}
 use Rattle.zh_districts.specs.Canton.{Canton, IsCanton}
-use Rattle.zh_districts.proofs.OneSpellingLemmas.{same_setup}
+use Rattle.zh_districts.proofs.CallerLemmas.{same_setup}
 use Rattle.zh_districts.specs.Spelling.{setup_spelling}
 use Rattle.zh_disk.specs.Disk.{Trail, IsImage, Leaves}
-use Rattle.zh_disk.proofs.Runs.{image_now, leaves_join}
+use Rattle.zh_disk.proofs.CallerLemmas.{image_now, leaves_join}
 use Rattle.zh_returns.specs.Tally.{Tally}
 use Rattle.zh_records.specs.declared.command.Command.{Command}
 use Rattle.zh_snapshot.specs.Image.{Content}
 use Rattle.zh_snapshot.specs.Store.{Settles}
-use Rattle.zh_snapshot.proofs.Contents.{framed_alike}
+use Rattle.zh_snapshot.proofs.CallerLemmas.{framed_alike}
 use Rattle.zh_ledger.specs.Images.{ComesToHave, HasSome}
 use Rattle.zh_ledger.specs.Opened as ledger
 use Rattle.zh_ledger.specs.Stands.{Holds}
 use Rattle.zh_ledger.specs.Submissions as submissions
 use Rattle.zh_ledger.specs.Submissions.{IsLogged, Log}
-use Rattle.zh_ledger.proofs.StandsLemmas.{one_count}
-use Rattle.zh_ledger.proofs.SubmissionLemmas.{has_none, none_logged, submission_logged}
+use Rattle.zh_ledger.proofs.CallerLemmas.{one_count, has_none, none_logged, submission_logged}
 use Rattle.zh_answers.specs.declared.answer.Answer.{Answer}
 use Rattle.zh_requests.specs.Requests.{Acts}
 use Rattle.zh_commands.specs.declared.replies.Reply.{Reply}
 use Rattle.zh_office.specs.Load.{LoadTurn, load_command, load_logged}
 use Rattle.zh_office.specs.Runs.{OnDisk, ledger_of, logged}
-use Rattle.zh_office.proofs.Lifting.{logged_alike}
+use Rattle.zh_office.proofs.CallerLemmas.{logged_alike}
 use Rattle.zh_disk_tasks.specs.Tasks.{IsFrom, KeepsAll}
 
 acts_logged : (honest : Type 0) → honest → (old : submissions.OnDisk) (command : Option Command) (May : Answer → Type 0) (answer : Answer) (new : submissions.OnDisk) → Acts honest old command May answer new → IsLogged old (logged command answer) new

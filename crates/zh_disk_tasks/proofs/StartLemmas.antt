@@ -4,11 +4,11 @@ use Rattle.zh_districts.specs.Canton.{Canton}
 use Rattle.zh_disk.specs.Disk.{Moment, Trail, IsImage, Leaves, settled}
 use Rattle.zh_snapshot.specs.Image.{Content, IsClean}
 use Rattle.zh_snapshot.specs.Store.{Fits, Settles}
-use Rattle.zh_snapshot.proofs.Contents.{framed_alike}
+use Rattle.zh_snapshot.proofs.CallerLemmas.{framed_alike}
 use Rattle.zh_ledger.specs.Ledger.{Ledger}
 use Rattle.zh_ledger.specs.Opened as ledger
 use Rattle.zh_ledger.specs.Stands.{IsKept, StandsFor}
-use Rattle.zh_ledger.proofs.StretchLemmas.{only_image}
+use Rattle.zh_ledger.proofs.CallerLemmas.{only_image}
 use Rattle.zh_office.specs.Opened.{IsOpened, IsReady}
 use Rattle.zh_office.specs.Runs.{OnDisk}
 use Rattle.zh_disk_tasks.specs.Tasks.{IsStart}

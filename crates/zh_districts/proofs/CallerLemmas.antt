@@ -2,3 +2,4 @@
 pub use Rattle.zh_districts.proofs.CantonLemmas.{municipality_within, list_within, placed, not_misplaced}
 pub use Rattle.zh_districts.proofs.MaskLemmas.{mask_of-more, mask_of-lt}
 pub use Rattle.zh_districts.proofs.LengthLemmas.{is_name-short}
+pub use Rattle.zh_districts.proofs.OneSpellingLemmas.{same_setup}

@@ -1,6 +1,7 @@
 -- What the crates above may use.
-pub use Rattle.zh_ledger.proofs.SubmissionLemmas.{submits_logged}
-pub use Rattle.zh_ledger.proofs.StretchLemmas.{left_by, IsSure}
+pub use Rattle.zh_ledger.proofs.SubmissionLemmas.{has_none, none_logged, submits_logged, submission_logged}
+pub use Rattle.zh_ledger.proofs.StretchLemmas.{left_by, only_image, IsSure}
 pub use Rattle.zh_ledger.proofs.NightLemmas.{one_event, fresh_sure}
 pub use Rattle.zh_ledger.proofs.OpenedLemmas.{err_of}
-pub use Rattle.zh_ledger.proofs.StandsLemmas.{stands_alike}
+pub use Rattle.zh_ledger.proofs.StandsLemmas.{stands_alike, one_count}
+pub use Rattle.zh_ledger.proofs.RoomLemmas.{ready_already, ready_switched}

@@ -1,3 +1,4 @@
+pub mod CallerLemmas
 mod BlockLemmas
 mod InputLemmas
 mod LiftingLemmas
