@@ -25,7 +25,7 @@ printed reply = answer reply ++ 10 ∷ []
 abbrev pub IsThis : OnDisk → ℕ → Trail → OnDisk → OnDisk → Type 0
 IsThis first failures last start end = (start ≡ first) × (end.trail ≡ last) × (end.failures ≡ failures)
 
--- an office that began so was given a text, and replied so; on an honest disk the batch is kept as one command of a run
+-- an office that began so was given a text, and replied so; on an honest disk its batch is kept as a command of a run is
 pub record Replied (honest : Type 0) (Spans : OnDisk → OnDisk → Type 0) (reply : Reply) : Type 0 where
   pub start : OnDisk
   pub end : OnDisk

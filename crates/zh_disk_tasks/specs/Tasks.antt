@@ -28,7 +28,7 @@ pub record IsStart (honest : Type 0) (canton : Canton) (failures : ℕ) (trail :
   pub opening : honest → Leaves (Settles trail.now.bytes) trail start.trail
   pub opened : honest → IsOpened canton trail.now.bytes start.office
   pub settled : honest → start.trail.now ≡ settled trail.now.bytes
-  -- what it was opened from was clean, as a formatting and each run leave it: then it knows each image of its disk
+  -- where those bytes were clean, as a formatting and each run leave them, it knows each image of its disk
   pub kept : honest → (x : Content) (j : ℕ) → IsClean x j trail.now.bytes → (c : List ℕ) → IsImage start.trail.now c → IsKept start.office.ledger c
 
 -- it began there, and at the end its disk has failed so often and has this trail
@@ -67,9 +67,9 @@ Serves honest Refused reader reader' writer writer' Spans (Err (runs.Serve servi
 Serves honest Refused reader reader' writer writer' Spans (Err (runs.Serve serving.Write)) = ServedFront honest reader reader' writer writer' Spans
 Serves honest Refused reader reader' writer writer' Spans (Err (runs.Open fault)) = Refused fault
 
--- What commands with this log leave of a disk that was opened and goes from the one trail to the other: at each moment an
--- image stands for this count and the first of those accepted, in order; in the end with all that were acknowledged, which
--- are all but one at most.
+-- What commands with this log leave of a disk that was opened, from its one trail to the other: at each moment each image
+-- stands for this count with the first of those accepted, in order; in the end with all that were acknowledged, which are
+-- all but one at most.
 pub record KeepsAll (tally : Tally) (log : Log) (first last : Trail) : Type 0 where
   pub each_moment : Leaves (λ old new. HasSome tally log.accepted 0 new) first last
   pub in_the_end : (c : List ℕ) → IsImage last.now c → HasSome tally log.accepted log.acknowledged c

@@ -9,8 +9,8 @@ ghost use Rattle.zh_ledger.specs.Submissions.{IsLogged, Log};
 ghost use Rattle.zh_office.specs.Runs.{OnDisk, ledger_of};
 ghost use Rattle.zh_disk_tasks.specs.Tasks.{IsFrom, KeepsAll};
 
-/// What a run, or a load, leaves of an honest disk that was clean and stood for a count: its image at each moment stands for
-/// that count and the first of the accepted commands, in order, and in the end for all that were acknowledged.
+/// What a run, or a load, leaves of an honest disk that was clean and stood for a count: at each moment each image stands
+/// for that count with the first of the accepted commands, in order; in the end with all that were acknowledged.
 ///
 /// Each of these images is clean again, so this holds from one opening to the next.
 pub fn kept_commands()
