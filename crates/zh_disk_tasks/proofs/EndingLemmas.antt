@@ -1,15 +1,15 @@
 -- What a task on a disk has done, by how it ended.
-use Rattle.std.proofs.Common.{◌≡◌, ℕ, List, Option, Result, Ok, Err, IsErrOf}
+use Rattle.std.proofs.Common.{◌≡◌, ℕ, List, Option, Result, Ok, Err, IsErrOf, subst}
 use Rattle.zh_districts.specs.Canton.{Canton}
 use Rattle.zh_snapshot.specs.Image.{IsBlank}
 use Rattle.zh_ledger.specs.Opened.{Differs, IsDamaged}
 use Rattle.zh_ledger.specs.declared.fault.OpenFault.{OpenFault}
 use Rattle.zh_ledger.specs.declared.fault.OpenFault.TheVariants as opening
 use Rattle.zh_office.specs.Runs.{OnDisk}
-use Rattle.zh_office.specs.Served.{ServesEnded, ServesFront}
+use Rattle.zh_office.specs.Served.{ServesEnded, ServesFront, TakesFewerReads, TakesReads, TakesReadsUpTo}
 use Rattle.zh_office.specs.declared.serving.ServeFault.{ServeFault}
 use Rattle.zh_office.specs.declared.serving.ServeFault.TheVariants as serving
-use Rattle.zh_disk_tasks.specs.Tasks.{Refuses, Serves}
+use Rattle.zh_disk_tasks.specs.Tasks.{IsReadWithin, Refuses, Serves}
 use Rattle.zh_disk_tasks.specs.declared.fault.RunFault.{RunFault}
 use Rattle.zh_disk_tasks.specs.declared.fault.RunFault.TheVariants as runs
 
@@ -22,6 +22,24 @@ pub broke_off : (honest : Type 0) (Refused : OpenFault → Type 0) (r r' w w' : 
 broke_off honest Refused r r' w w' Spans start end result serving.Read begins is read write turns = record { start = start; end = end; spans = begins; ended = read is }
 broke_off honest Refused r r' w w' Spans start end result serving.Write begins is read write turns = record { start = start; end = end; spans = begins; front = write is }
 broke_off honest Refused r r' w w' Spans start end result serving.Turns begins is read write turns = record { start = start; end = end; spans = begins; ended = turns is }
+
+-- and how many reads were made before it
+read_before : (r r' : Option (List ℕ)) (limit : ℕ) (result : Result ℕ ServeFault) (fault : ServeFault) → result ≡ Err fault
+    → (IsErrOf result serving.Read → TakesFewerReads r r' limit)
+    → (IsErrOf result serving.Write → TakesReadsUpTo r r' limit)
+    → (IsErrOf result serving.Turns → TakesReads r r' limit)
+    → IsReadWithin r r' limit (Err (runs.Serve fault))
+read_before r r' limit result serving.Read is read write turns = read is
+read_before r r' limit result serving.Write is read write turns = write is
+read_before r r' limit result serving.Turns is read write turns = turns is
+
+pub read_off : (r r' : Option (List ℕ)) (limit allowed : ℕ) (result : Result ℕ ServeFault) (fault : ServeFault) → result ≡ Err fault → allowed ≡ limit
+    → (IsErrOf result serving.Read → TakesFewerReads r r' allowed)
+    → (IsErrOf result serving.Write → TakesReadsUpTo r r' allowed)
+    → (IsErrOf result serving.Turns → TakesReads r r' allowed)
+    → IsReadWithin r r' limit (Err (runs.Serve fault))
+read_off r r' limit allowed result fault is same read write turns =
+    subst (λ n. IsReadWithin r r' n (Err (runs.Serve fault))) same (read_before r r' allowed result fault is read write turns)
 
 -- the same of an office that began in another way too, or was refused
 pub begun_as : (honest : Type 0) (Refused Refused' : OpenFault → Type 0) (r r' w w' : Option (List ℕ)) (Spans Spans' : OnDisk → OnDisk → Type 0) (result : Result (Unit {0}) RunFault)

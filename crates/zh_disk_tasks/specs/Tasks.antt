@@ -16,7 +16,7 @@ use Rattle.zh_ledger.specs.declared.fault.OpenFault.{OpenFault}
 use Rattle.zh_ledger.specs.declared.fault.OpenFault.TheVariants as opening
 use Rattle.zh_office.specs.Opened.{IsOpened, IsReady}
 use Rattle.zh_office.specs.Runs.{OnDisk}
-use Rattle.zh_office.specs.Served.{ServesAll, ServesEnded, ServesFront}
+use Rattle.zh_office.specs.Served.{ServesAll, ServesEnded, ServesFront, TakesFewerReads, TakesReads, TakesReadsUpTo}
 use Rattle.zh_office.specs.declared.serving.ServeFault.TheVariants as serving
 use Rattle.zh_disk_tasks.specs.declared.fault.RunFault.{RunFault}
 use Rattle.zh_disk_tasks.specs.declared.fault.RunFault.TheVariants as runs
@@ -74,6 +74,15 @@ pub record KeepsAll (tally : Tally) (log : Log) (first last : Trail) : Type 0 wh
   pub each_moment : Leaves (λ old new. HasSome tally log.accepted 0 new) first last
   pub in_the_end : (c : List ℕ) → IsImage last.now c → HasSome tally log.accepted log.acknowledged c
   pub all_but_one : length log.accepted ≤ log.acknowledged + 1
+
+-- of the input a run makes so many reads at most, and ends with `turns` only after as many
+abbrev pub IsReadWithin : Option (List ℕ) → Option (List ℕ) → ℕ → Result (Unit {0}) RunFault → Type 0
+IsReadWithin reader reader' limit (Ok done) = TakesFewerReads reader reader' limit
+IsReadWithin reader reader' limit (Err runs.Faulted) = TakesFewerReads reader reader' limit
+IsReadWithin reader reader' limit (Err (runs.Serve serving.Read)) = TakesFewerReads reader reader' limit
+IsReadWithin reader reader' limit (Err (runs.Serve serving.Write)) = TakesReadsUpTo reader reader' limit
+IsReadWithin reader reader' limit (Err (runs.Serve serving.Turns)) = TakesReads reader reader' limit
+IsReadWithin reader reader' limit (Err (runs.Open fault)) = Unit {0}
 
 -- a run reports a fault of the device, under the opening or under a line
 abbrev pub IsOfDevice : RunFault → Type 0

@@ -7,7 +7,7 @@ ghost use Rattle.zh_snapshot.specs.Image.{IsBlank};
 ghost use Rattle.zh_ledger.specs.Opened.{IsNew};
 ghost use Rattle.zh_office.specs.Runs.{on_disk};
 ghost use Rattle.zh_disk_tasks.specs.Csv.{IsThis};
-ghost use Rattle.zh_disk_tasks.specs.Tasks.{FormatsBlank, IsFrom, IsOfDevice, IsRefused, Serves};
+ghost use Rattle.zh_disk_tasks.specs.Tasks.{FormatsBlank, IsFrom, IsOfDevice, IsReadWithin, IsRefused, Serves};
 
 use crate::fault::{FormatFault, RunFault};
 use std::alloc::Global;
@@ -56,6 +56,7 @@ pub fn serve_on<I: Read, O: Write, D: Disk>(
 ) -> Result<(), RunFault>
     ensures kept { D.honest disk.new → D.honest disk.old }
     ensures served { Serves (D.honest disk.new) (λ fault. ((input.new ≡ input.old) × (out.new ≡ out.old)) × (D.honest disk.new → IsRefused setup.now (D.trail disk.old) (D.trail disk.new) fault)) (I.remaining input.old) (I.remaining input.new) (O.contents out.old) (O.contents out.new) (IsFrom (D.honest disk.new) setup.now (D.failures disk.old) (D.trail disk.old) (D.failures disk.new) (D.trail disk.new)) result }
+    ensures reads { IsReadWithin (I.remaining input.old) (I.remaining input.new) (2 ^ 32) result }
     ensures later { D.failures disk.old ≤ D.failures disk.new }
     ensures cause { IfErr result (λ fault. IsOfDevice fault → HasRisen (D.failures disk.old) (D.failures disk.new)) }
 {
@@ -72,6 +73,7 @@ fn serve_lines<I: Read, O: Write, D: Disk>(
 ) -> Result<(), RunFault>
     ensures kept { D.honest disk.new → D.honest disk.old }
     ensures served { Serves (D.honest disk.new) (λ fault. ⊥) (I.remaining input.old) (I.remaining input.new) (O.contents out.old) (O.contents out.new) (IsThis (on_disk office.old (D.failures disk.old) (D.trail disk.old)) (D.failures disk.new) (D.trail disk.new)) result }
+    ensures reads { IsReadWithin (I.remaining input.old) (I.remaining input.new) (2 ^ 32) result }
 {
     office.serve(input, out, disk, most_reads())?;
     if office.faulted() {

@@ -5,5 +5,6 @@ mod LiftingLemmas
 mod LoadLemmas
 mod NightLemmas
 mod OtherDeskLemmas
+mod ReadCountLemmas
 mod RunLemmas
 mod TextLemmas

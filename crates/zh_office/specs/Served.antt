@@ -1,5 +1,5 @@
 -- What was served of a reader's bytes.
-use Rattle.std.specs.Prelude.{◌≡◌, ◌<◌, ◌⊎◌, ◌-◌, ◌^◌, ℕ, List, ◌∷◌, ◌++◌, take, min, length, Option, Result, OnOk, OnErr}
+use Rattle.std.specs.Prelude.{◌≡◌, ◌<◌, ◌≤◌, ◌⊎◌, ◌-◌, ◌*◌, ◌^◌, ℕ, List, ◌∷◌, ◌++◌, take, min, length, Option, Result, OnOk, OnErr}
 use Rattle.std.specs.Io.KnownBytes.{Appends, Consumes, IsAtEnd}
 use Rattle.zh_commands.specs.declared.output.WriteFault.{WriteFault}
 use Rattle.zh_ledger.specs.Submissions.{Log, followed_by, IsLogged}
@@ -74,3 +74,18 @@ pub record TakesBlock (honest : Type 0) (writer writer' : Option (List ℕ)) (ol
   pub run : Runs honest old (ended_lines (line ++ block)) out log new
   pub left : line' ≡ truncated (unfinished (line ++ block))
   pub counted : count ≡ length (ended_lines (line ++ block))
+
+-- what the reader lost was taken by so many reads, of a byte at least and 8,192 bytes at most
+pub record TakesReads (reader reader' : Option (List ℕ)) (reads : ℕ) : Type 0 where
+  pub bytes : List ℕ
+  pub taken : Consumes reader reader' bytes
+  pub least : reads ≤ length bytes
+  pub most : length bytes ≤ 8192 * reads
+
+-- it was taken by fewer such reads than this
+abbrev pub TakesFewerReads : Option (List ℕ) → Option (List ℕ) → ℕ → Type 0
+TakesFewerReads reader reader' bound = (reads : ℕ) × (reads < bound) × TakesReads reader reader' reads
+
+-- it was taken by this many such reads at most
+abbrev pub TakesReadsUpTo : Option (List ℕ) → Option (List ℕ) → ℕ → Type 0
+TakesReadsUpTo reader reader' bound = (reads : ℕ) × (reads ≤ bound) × TakesReads reader reader' reads

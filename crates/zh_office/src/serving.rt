@@ -1,11 +1,11 @@
 //! Serving the lines of a reader.
 
-ghost use Rattle.std.specs.Prelude.{◌≡◌, ◌++◌, ℕ, List, length, MatchResult, IfOk, IsErrOf};
+ghost use Rattle.std.specs.Prelude.{◌≡◌, ◌++◌, ℕ, List, length, MatchResult, IfOk, IsErrOf, OnOk};
 ghost use Rattle.std.specs.Io.KnownBytes.{Appends};
 ghost use Rattle.zh_office.specs.Text.{HasNoEnd, ended_lines, last_line};
 ghost use Rattle.zh_ledger.specs.Submissions.{Log};
 ghost use Rattle.zh_office.specs.Runs.{Runs, on_disk};
-ghost use Rattle.zh_office.specs.Served.{TakesBlock, BreaksOff, ServesAll, ServesEnded, ServesFront, Writes};
+ghost use Rattle.zh_office.specs.Served.{TakesBlock, BreaksOff, ServesAll, ServesEnded, ServesFront, TakesFewerReads, TakesReads, TakesReadsUpTo, Writes};
 
 use crate::office::Office;
 use crate::partial_line::{PartialLine, extend_line, split_line};
@@ -136,6 +136,11 @@ impl<'s> Office<'s> {
             (W.contents writer.old) (W.contents writer.new) (on_disk self.old (D.failures disk.old) (D.trail disk.old)) (on_disk self.new (D.failures disk.new) (D.trail disk.new)) }
         ensures turns { IsErrOf result ServeFault.Turns → ServesEnded (D.honest disk.new) (R.remaining reader.old) (R.remaining reader.new)
             (W.contents writer.old) (W.contents writer.new) (on_disk self.old (D.failures disk.old) (D.trail disk.old)) (on_disk self.new (D.failures disk.new) (D.trail disk.new)) }
+        // Each read but the last took a byte at least. So as many bytes as turns were there, where the turns are used up.
+        ensures enough { IsErrOf result ServeFault.Turns → TakesReads (R.remaining reader.old) (R.remaining reader.new) turns }
+        ensures most { OnOk result (TakesFewerReads (R.remaining reader.old) (R.remaining reader.new) turns) }
+        ensures most_at_read { IsErrOf result ServeFault.Read → TakesFewerReads (R.remaining reader.old) (R.remaining reader.new) turns }
+        ensures most_at_write { IsErrOf result ServeFault.Write → TakesReadsUpTo (R.remaining reader.old) (R.remaining reader.new) turns }
     {
         let mut block = blank_block();
         let mut line = PartialLine::new();

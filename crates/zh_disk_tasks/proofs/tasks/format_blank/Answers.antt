@@ -11,6 +11,15 @@ returns-clause-formatted g c honest = elim c.match-open.branch [
   | in-Err-Damaged-2 w ↦ rw w.result-is tt
 ]
 
+pub returns-clause-blank : goal.returns-clause-blank
+returns-clause-blank g c honest = elim c.match-open.branch [
+  | in-Err-Blank+in_ok-format-in-Err-Blank w ↦ rw w.result-is (c.open.ensures.blank (w.format.ensures.kept (rw w.disk-is at honest)) (search rules))
+  | in-Err-Device w ↦ rw w.result-is tt
+  | in-Err-Memory w ↦ rw w.result-is tt
+  | in-Err-Damaged w ↦ rw w.result-is tt
+  | in-Err-Damaged-2 w ↦ rw w.result-is tt
+]
+
 pub returns-clause-kept : goal.returns-clause-kept
 returns-clause-kept g c honest = elim c.match-open.branch [
   | in-Err-Blank+in_ok-format-in-Err-Blank w ↦ c.open.ensures.kept (w.format.ensures.kept (rw w.disk-is at honest))

@@ -2,7 +2,7 @@ use Rattle.std.proofs.Common.{rules, refl, ◌≡◌, Err}
 use Rattle.zh_office.specs.Runs.{on_disk}
 use Rattle.zh_disk_tasks.specs.Csv.{IsThis}
 use Rattle.zh_disk_tasks.specs.declared.fault.RunFault.TheVariants as runs
-use Rattle.zh_disk_tasks.proofs.EndingLemmas.{broke_off}
+use Rattle.zh_disk_tasks.proofs.EndingLemmas.{broke_off, read_off}
 use Rattle.zh_disk_tasks.proofs.tasks.serve_lines.Goals as goal
 
 pub returns-in_err-serve-clause-served : goal.returns-in_err-serve-clause-served
@@ -32,3 +32,14 @@ returns-clause-served g c = record {
   all = c.in_ok-serve.ensures.ok;
   device = search rules;
 }
+
+pub returns-in_err-serve-clause-reads : goal.returns-in_err-serve-clause-reads
+returns-in_err-serve-clause-reads g c =
+    let is : c.from_residual.result ≡ Err (runs.Serve c.in_err-serve.field-0.0) = search rules in
+    rw is (read_off _ _ _ _ c.serve.result c.in_err-serve.field-0.0 (search rules) c.most_reads.ensures c.serve.ensures.most_at_read c.serve.ensures.most_at_write c.serve.ensures.enough)
+
+pub returns-then-faulted-clause-reads : goal.returns-then-faulted-clause-reads
+returns-then-faulted-clause-reads g c = rw (← c.most_reads.ensures) c.in_ok-serve.ensures.most
+
+pub returns-clause-reads : goal.returns-clause-reads
+returns-clause-reads g c = rw (← c.most_reads.ensures) c.in_ok-serve.ensures.most

@@ -17,6 +17,7 @@ returns-in_err-office g c =
     rw is (record {
       kept = c.open.ensures.kept;
       served = ((refl, refl), λ h. record { moments = c.open.ensures.any_moment h; cause = why h });
+      reads = tt;
       later = c.open.ensures.later;
       cause = ends.cause;
     })
@@ -40,6 +41,7 @@ returns g c =
     record {
       kept = λ h. c.open.ensures.kept (c.serve_lines.ensures.kept h);
       served = begun_as honest _ _ _ _ _ _ (IsThis start after last) From c.serve_lines.result (λ fault none. absurd none) begins c.serve_lines.ensures.served;
+      reads = c.serve_lines.ensures.reads;
       later = ends.later;
       cause = ends.cause;
     }

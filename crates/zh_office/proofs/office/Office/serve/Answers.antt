@@ -1,10 +1,11 @@
-use Rattle.std.proofs.Common.{arith}
+use Rattle.std.proofs.Common.{◌+◌, arith}
 use Rattle.zh_office.proofs.BlockLemmas.{Consumes-none}
 use Rattle.zh_office.proofs.InputLemmas.{Serving-map, Serving-start, Serving-clean, Serving-more, Serving-breaks, Serving-last_breaks, Serving-stops, Serving-ends, Consumes-kept}
+use Rattle.zh_office.proofs.ReadCountLemmas.{TakesReads-start, TakesReads-more, TakesReads-same, TakesReads-stops}
 use Rattle.zh_office.proofs.office.Office.serve.Goals as goal
 
 pub loop-init : goal.loop-init
-loop-init g c = record { kept = λ h. h; serving = Serving-start _ _ _ _ _ c.new-line.ensures }
+loop-init g c = record { kept = λ h. h; serving = Serving-start _ _ _ _ _ c.new-line.ensures; reads = TakesReads-start _ }
 
 pub returns-in_default-clause-read : goal.returns-in_default-clause-read
 returns-in_default-clause-read g c = λ _. Serving-stops _ _ _ _ _ _ _ _ _ _ c.loop.invariant.serving (Consumes-kept _ _ c.in_default.ensures.bytes)
@@ -25,7 +26,7 @@ pub returns-in_err-lines-clause-write : goal.returns-in_err-lines-clause-write
 returns-in_err-lines-clause-write g c = λ _. Serving-breaks _ _ _ _ _ _ _ _ _ _ _ _ _ (Serving-map _ _ c.take_block.ensures.kept _ _ _ _ _ _ _ _ c.loop.invariant.serving) c.in-Ok.ensures.bytes.0 (rw c.in_err-lines.was at c.take_block.ensures.taken)
 
 pub loop-preserved : goal.loop-preserved
-loop-preserved g c = record { kept = λ h. c.loop.invariant.kept (c.take_block.ensures.kept h); serving = Serving-more _ _ _ _ _ _ _ _ _ _ _ _ _ _ _ _ (Serving-map _ _ c.take_block.ensures.kept _ _ _ _ _ _ _ _ c.loop.invariant.serving) c.in-Ok.ensures.bytes.0 (rw c.in_ok-lines.was at c.take_block.ensures.taken) c.saturating_add-count.ensures }
+loop-preserved g c = record { kept = λ h. c.loop.invariant.kept (c.take_block.ensures.kept h); serving = Serving-more _ _ _ _ _ _ _ _ _ _ _ _ _ _ _ _ (Serving-map _ _ c.take_block.ensures.kept _ _ _ _ _ _ _ _ c.loop.invariant.serving) c.in-Ok.ensures.bytes.0 (rw c.in_ok-lines.was at c.take_block.ensures.taken) c.saturating_add-count.ensures; reads = TakesReads-more _ _ _ _ _ _ c.loop.invariant.reads c.in-Ok.ensures.bytes.0 (omega arith) c.in-Ok.ensures.bound.0 (omega (arith, c.read.auto.buf)) }
 
 pub returns-clause-turns : goal.returns-clause-turns
 returns-clause-turns g c = λ _. Serving-stops _ _ _ _ _ _ _ _ _ _ c.loop.invariant.serving (Consumes-none _)
@@ -38,3 +39,21 @@ returns-clause-read g c = λ is. absurd (cc)
 
 pub returns-clause-write : goal.returns-clause-write
 returns-clause-write g c = λ is. absurd (cc)
+
+pub returns-clause-enough : goal.returns-clause-enough
+returns-clause-enough g c = λ _. TakesReads-same _ _ _ _ c.loop.invariant.reads (omega arith)
+
+pub returns-then-len-eq0-clause-most : goal.returns-then-len-eq0-clause-most
+returns-then-len-eq0-clause-most g c = (c.loop.counter, c.loop-test.true, TakesReads-stops _ _ _ _ c.loop.invariant.reads (rw c.if-len-eq0.true at c.in-Ok.ensures.bytes.0))
+
+pub returns-in_default-clause-most_at_read : goal.returns-in_default-clause-most_at_read
+returns-in_default-clause-most_at_read g c =
+    λ _. (c.loop.counter, c.loop-test.true, TakesReads-stops _ _ _ _ c.loop.invariant.reads (Consumes-kept _ _ c.in_default.ensures.bytes))
+
+pub returns-in_err-last-clause-most_at_write : goal.returns-in_err-last-clause-most_at_write
+returns-in_err-last-clause-most_at_write g c =
+    λ _. (c.loop.counter, omega arith, TakesReads-stops _ _ _ _ c.loop.invariant.reads (rw c.if-len-eq0.true at c.in-Ok.ensures.bytes.0))
+
+pub returns-in_err-lines-clause-most_at_write : goal.returns-in_err-lines-clause-most_at_write
+returns-in_err-lines-clause-most_at_write g c =
+    λ _. (c.loop.counter + 1, omega arith, TakesReads-more _ _ _ _ _ _ c.loop.invariant.reads c.in-Ok.ensures.bytes.0 (omega arith) c.in-Ok.ensures.bound.0 (omega (arith, c.read.auto.buf)))
