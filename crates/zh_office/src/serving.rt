@@ -28,7 +28,7 @@ pub enum ServeFault {
     /// The writer failed, or took no byte.
     #[error("write")]
     Write,
-    /// So many reads as were allowed were made, and the end of the input was not met.
+    /// The allowed number of reads was made before the input ended.
     #[error("turns")]
     Turns,
 }
