@@ -1,5 +1,5 @@
 # Short names for the repository's commands.
-.PHONY: run example test cases refused bench fmt
+.PHONY: run example test cases refused wrong-bodies bench fmt
 
 run:
 	@cd crates/zhcount && rt run
@@ -20,6 +20,9 @@ cases:
 
 refused:
 	@tests/refused_allocations.sh
+
+wrong-bodies:
+	@tests/wrong_bodies.sh $(CRATES)
 
 bench:
 	@bench/run
