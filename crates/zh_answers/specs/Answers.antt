@@ -115,7 +115,7 @@ abbrev pub MayAnswerTo : Tally → desks.Held → ℕ → Request → Answer →
 MayAnswerTo tally batches desk requests.Sheet answer = MayGive tally false answer
 MayAnswerTo tally batches desk requests.Final answer = MayAnswerFinal tally answer
 MayAnswerTo tally batches desk request (answers.Reply reply) = MayReplyTo tally batches desk request reply
-MayAnswerTo tally batches desk request (answers.Sheet sheet closing) = ⊥
+MayAnswerTo tally batches desk request (answers.Sheet sheet is_final) = ⊥
 
 -- the command that a commit gives
 abbrev pub batch_of : Option (List Row) → Option Command
@@ -140,4 +140,4 @@ batch_after rows request reply = rows
 -- the batches after a line that was answered so: only that of its desk can be another
 abbrev pub held_after : desks.Held → Line → Answer → desks.Held
 held_after held line (answers.Reply reply) = with_batch held line.desk (batch_after (rows_of held line.desk) line.request reply)
-held_after held line (answers.Sheet sheet closing) = held
+held_after held line (answers.Sheet sheet is_final) = held

@@ -44,16 +44,16 @@ pub record IsMade (totals : VoteTotals) (made : Result Distribution SheetFault) 
 
 -- the answer with this sheet, or with why there is none
 abbrev pub answer_with : Bool → Result Distribution SheetFault → Answer
-answer_with closing (Ok sheet) = answers.Sheet sheet closing
-answer_with closing (Err fault) = answers.Reply (Refused (sheet_refusal fault))
+answer_with is_final (Ok sheet) = answers.Sheet sheet is_final
+answer_with is_final (Err fault) = answers.Reply (Refused (sheet_refusal fault))
 
 -- totals are answered with their sheet
 abbrev pub MayGiveFor : VoteTotals → Bool → Answer → Type 0
-MayGiveFor totals closing answer = (made : Result Distribution SheetFault) × IsMade totals made × (answer ≡ answer_with closing made)
+MayGiveFor totals is_final answer = (made : Result Distribution SheetFault) × IsMade totals made × (answer ≡ answer_with is_final made)
 
 -- and a count with that of its totals
 abbrev pub MayGive : Tally → Bool → Answer → Type 0
-MayGive tally closing answer = MayGiveFor (totals_of tally) closing answer
+MayGive tally is_final answer = MayGiveFor (totals_of tally) is_final answer
 
 -- each municipality is closed
 abbrev pub AreClosed : Tally → Type 0

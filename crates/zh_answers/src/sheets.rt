@@ -41,11 +41,15 @@ fn first_open(count: &Count<'_>) -> Option<u32>
 }
 
 /// The sheet of these totals, or why there is none.
-pub(crate) fn answer_with_sheet<'s>(alloc: Global, totals: &Totals<'s>, closing: bool) -> Answer<'s>
-    ensures { MayGiveFor totals.now closing result }
+pub(crate) fn answer_with_sheet<'s>(
+    alloc: Global,
+    totals: &Totals<'s>,
+    is_final: bool,
+) -> Answer<'s>
+    ensures { MayGiveFor totals.now is_final result }
 {
     match make(alloc, totals) {
-        Ok(sheet) => Answer::Sheet(sheet, closing),
+        Ok(sheet) => Answer::Sheet(sheet, is_final),
         Err(fault) => Answer::Reply(Reply::Refused(sheet_refusal(fault))),
     }
 }

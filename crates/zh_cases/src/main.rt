@@ -1,10 +1,10 @@
 //! Runs the cases of the count office that stand in files, and says where an answer is not the one that the file has.
 #![tactic(auto)]
 
-mod bench;
 mod device;
 mod fault;
 mod files;
+mod fixture;
 mod image;
 mod lines;
 mod program;
@@ -14,8 +14,8 @@ mod sweep;
 mod turn;
 mod words;
 
-use bench::Bench;
 use fault::Fault;
+use fixture::Fixture;
 use lines::{Line, lines_of};
 use setups::{Named, setups_of};
 use std::process::ExitCode;
@@ -34,12 +34,12 @@ struct Progress {
 /// Runs a turn, and counts it.
 fn run_line(
     rt: &HostRuntime,
-    bench: &mut Bench<'_>,
+    fixture: &mut Fixture<'_>,
     line: &Line,
     progress: &mut Progress,
 ) -> Result<(), Fault> {
     progress.line = line.number;
-    run_turn(rt, bench, line)?;
+    run_turn(rt, fixture, line)?;
     progress.turns = progress.turns.saturating_add(1);
     if line.text.as_str().starts_with("case ") {
         progress.cases = progress.cases.saturating_add(1);
@@ -50,12 +50,12 @@ fn run_line(
 /// Runs lines.
 fn run_lines(
     rt: &HostRuntime,
-    bench: &mut Bench<'_>,
+    fixture: &mut Fixture<'_>,
     lines: &[Line],
     progress: &mut Progress,
 ) -> Result<(), Fault> {
     for line in lines {
-        run_line(rt, bench, line, progress)?;
+        run_line(rt, fixture, line, progress)?;
     }
     Ok(())
 }
@@ -67,8 +67,8 @@ fn run_with(
     lines: &[Line],
     progress: &mut Progress,
 ) -> Result<(), Fault> {
-    let mut bench = Bench::new(rt.alloc(), setups)?;
-    run_lines(rt, &mut bench, lines, progress)
+    let mut fixture = Fixture::new(rt.alloc(), setups)?;
+    run_lines(rt, &mut fixture, lines, progress)
 }
 
 /// Runs the cases of a text.

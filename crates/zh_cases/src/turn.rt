@@ -1,8 +1,8 @@
 //! A turn: what is done, and the answer that is expected.
 
-use crate::bench::Bench;
 use crate::fault::Fault;
 use crate::files::{act_on_files, save};
+use crate::fixture::Fixture;
 use crate::lines::Line;
 use crate::program::run_program;
 use crate::words::{read_bytes, read_number, read_stop};
@@ -17,55 +17,55 @@ fn line_in<'t>(text: &'t str) -> Option<&'t str> {
 }
 
 /// Makes a turn, and gives the answer.
-fn act(rt: &HostRuntime, bench: &mut Bench<'_>, text: &str) -> Result<String, Fault> {
+fn act(rt: &HostRuntime, fixture: &mut Fixture<'_>, text: &str) -> Result<String, Fault> {
     if let Some(line) = line_in(text) {
-        return bench.send(line.as_bytes());
+        return fixture.send(line.as_bytes());
     }
     let (word, rest) = text.split_once(' ').unwrap_or((text, ""));
     match word {
-        "hex" => bench.send(&read_bytes(rt.alloc(), rest)?),
-        "holds" => bench.holds(rest),
-        "calls" => bench.calls(),
-        "csv" => bench.load(&fs::read(rt, rest)?),
+        "hex" => fixture.send(&read_bytes(rt.alloc(), rest)?),
+        "holds" => fixture.holds(rest),
+        "calls" => fixture.calls(),
+        "csv" => fixture.load(&fs::read(rt, rest)?),
         "zhcount" => run_program(rt, rest),
-        _ => Ok(String::from_str(rt.alloc(), act_on_office(rt, bench, word, rest)?)?),
+        _ => Ok(String::from_str(rt.alloc(), act_on_office(rt, fixture, word, rest)?)?),
     }
 }
 
 /// Makes a turn on the office, on the disk or on a file.
 fn act_on_office(
     rt: &HostRuntime,
-    bench: &mut Bench<'_>,
+    fixture: &mut Fixture<'_>,
     word: &str,
     rest: &str,
 ) -> Result<&'static str, Fault> {
     match word {
-        "case" => bench.begin(),
-        "setup" => bench.take_setup(rest),
-        "format" => bench.format(),
-        "open" => bench.open(),
-        "mark" => bench.mark(),
-        "back" => bench.back(rest),
-        _ => act_on_disk(rt, bench, word, rest),
+        "case" => fixture.begin(),
+        "setup" => fixture.take_setup(rest),
+        "format" => fixture.format(),
+        "open" => fixture.open(),
+        "mark" => fixture.mark(),
+        "back" => fixture.back(rest),
+        _ => act_on_disk(rt, fixture, word, rest),
     }
 }
 
 /// Makes a turn on the disk or on a file.
 fn act_on_disk(
     rt: &HostRuntime,
-    bench: &mut Bench<'_>,
+    fixture: &mut Fixture<'_>,
     word: &str,
     rest: &str,
 ) -> Result<&'static str, Fault> {
     match word {
-        "fuse" => bench.fail(read_number(rest)?),
-        "once" => bench.fail_once(read_number(rest)?),
-        "mend" => bench.mend(),
-        "stop" => bench.stop(read_stop(rest)?),
-        "poke" => bench.poke(rest),
-        "damage" => bench.damage(rest),
-        "load" => bench.take_disk(&fs::read(rt, rest)?),
-        "save" => save(rt, rest, &bench.image()?),
+        "fuse" => fixture.fail(read_number(rest)?),
+        "once" => fixture.fail_once(read_number(rest)?),
+        "mend" => fixture.mend(),
+        "stop" => fixture.stop(read_stop(rest)?),
+        "poke" => fixture.poke(rest),
+        "damage" => fixture.damage(rest),
+        "load" => fixture.take_disk(&fs::read(rt, rest)?),
+        "save" => save(rt, rest, &fixture.image()?),
         _ => act_on_files(rt, word, rest),
     }
 }
@@ -79,17 +79,21 @@ fn is_expected(expected: &str, found: &str) -> bool {
 }
 
 /// Makes a turn, `TURN -> ANSWER`. Without an arrow the answer is to be `ok`.
-pub(crate) fn run_turn(rt: &HostRuntime, bench: &mut Bench<'_>, line: &Line) -> Result<(), Fault> {
+pub(crate) fn run_turn(
+    rt: &HostRuntime,
+    fixture: &mut Fixture<'_>,
+    line: &Line,
+) -> Result<(), Fault> {
     let text = line.text.as_str();
     let (turn, expected) = match text.rsplit_once("->") {
         Some((turn, expected)) => (turn.trim_end(), expected.trim_start()),
         None => (text, "ok"),
     };
-    let found = act(rt, bench, turn)?;
+    let found = act(rt, fixture, turn)?;
     if is_expected(expected, found.as_str()) {
         return Ok(());
     }
-    let place = bench.place.as_str();
+    let place = fixture.place.as_str();
     let wrong = format!(in rt.alloc(); "'{turn}'{place}: expected '{expected}', found '{found}'")?;
     Err(Fault::Wrong(wrong))
 }

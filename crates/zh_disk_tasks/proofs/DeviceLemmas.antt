@@ -23,7 +23,7 @@ use Rattle.zh_office.specs.Load.{LoadTurn, load_command}
 use Rattle.zh_office.specs.Office.{command_read}
 use Rattle.zh_office.specs.Runs.{OnDisk, Runs, Turn, ledger_of}
 use Rattle.zh_office.specs.Served.{BreaksOff}
-use Rattle.zh_office.specs.declared.serving.ServeFault.TheVariants as serving
+use Rattle.zh_office.specs.declared.service.ServeFault.TheVariants as serving
 use Rattle.zh_disk_tasks.specs.Csv.{Exports, IsExportOfDevice, IsLoadOfDevice, IsUnreadable, Loads, Replied}
 use Rattle.zh_disk_tasks.specs.Tasks.{IsFrom, IsOfDevice, Serves}
 use Rattle.zh_disk_tasks.specs.declared.csv_fault.ExportFault.{ExportFault}

@@ -17,7 +17,7 @@ use Rattle.zh_ledger.specs.declared.fault.OpenFault.TheVariants as opening
 use Rattle.zh_office.specs.Opened.{IsOpened, IsReady}
 use Rattle.zh_office.specs.Runs.{OnDisk}
 use Rattle.zh_office.specs.Served.{ServesAll, ServesEnded, ServesFront, TakesFewerReads, TakesReads, TakesReadsUpTo}
-use Rattle.zh_office.specs.declared.serving.ServeFault.TheVariants as serving
+use Rattle.zh_office.specs.declared.service.ServeFault.TheVariants as serving
 use Rattle.zh_disk_tasks.specs.declared.fault.RunFault.{RunFault}
 use Rattle.zh_disk_tasks.specs.declared.fault.RunFault.TheVariants as runs
 

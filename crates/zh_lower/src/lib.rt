@@ -7,21 +7,21 @@
 
 pub use certificates::{is_strict, is_weak};
 pub use fault::LowerFault;
-pub use finding::find;
 pub use laws::one_answer;
 pub use lower::Lower;
 pub use matrix::Matrix;
+pub use outcome::find;
 
 mod cells;
 mod certificates;
 mod cycles;
 mod end_test;
 mod fault;
-mod finding;
 mod half_step;
 mod laws;
 mod lower;
 mod matrix;
+mod outcome;
 mod paths;
 mod question;
 mod quotient;

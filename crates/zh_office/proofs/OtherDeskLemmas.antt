@@ -22,4 +22,4 @@ others_held bytes line old new batch reads is desk from_one other =
 pub others_after : (bytes : List ℕ) (line : Line) (old new : Held) (answer : Answer) → ParsesAs bytes (Ok line) → new ≡ held_after old line answer
     → (desk : ℕ) → 1 ≤ desk → desk ≢ desk_of bytes → rows_of new desk ≡ rows_of old desk
 others_after bytes line old new (answers.Reply reply) reads is = others_held bytes line old new (batch_after (rows_of old line.desk) line.request reply) reads is
-others_after bytes line old new (answers.Sheet sheet closing) reads is = λ desk from_one other. ap (λ (held : Held). rows_of held desk) is
+others_after bytes line old new (answers.Sheet sheet is_final) reads is = λ desk from_one other. ap (λ (held : Held). rows_of held desk) is

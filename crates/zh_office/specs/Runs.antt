@@ -47,7 +47,7 @@ logged command answer = nothing
 -- the text of an answer under a desk, where so many commands are accepted
 abbrev pub answer_text : ℕ → ℕ → Answer → List ℕ
 answer_text desk accepted (answers.Reply reply) = reply_text desk reply
-answer_text desk accepted (answers.Sheet sheet closing) = sheet_text sheet desk closing accepted
+answer_text desk accepted (answers.Sheet sheet is_final) = sheet_text sheet desk is_final accepted
 
 -- the text of the answer to a line by an office that holds this after it
 abbrev pub text_after : List ℕ → Answer → OnDisk → List ℕ

@@ -7,11 +7,11 @@ mod load;
 mod office;
 mod opening;
 mod partial_line;
-mod serving;
+mod service;
 
 pub use laws::{nights, stretches};
 pub use office::Office;
-pub use serving::ServeFault;
+pub use service::ServeFault;
 pub use zh_answers::Answer;
 pub use zh_csv::ExportFault;
 pub use zh_ledger::{FormatFault, OpenFault};

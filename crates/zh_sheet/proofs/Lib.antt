@@ -1,6 +1,6 @@
 pub mod CallerLemmas
 mod AskedLemmas
-mod MakingLemmas
+mod DistributionLemmas
 mod OneSheetLemmas
 mod RefusalLemmas
 mod SeatedLemmas

@@ -2,14 +2,14 @@
 //! check each seat (GPR sections 88 and 102 to 104).
 #![tactic(auto)]
 
+mod apportionment;
 mod fault;
 mod laws;
 mod lower;
-mod making;
 mod seated;
 mod sheet;
 
+pub use apportionment::make;
 pub use fault::SheetFault;
 pub use laws::one_sheet;
-pub use making::make;
 pub use sheet::Sheet;

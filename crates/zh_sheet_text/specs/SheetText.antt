@@ -37,7 +37,7 @@ yes_or_no true = codes "yes"
 yes_or_no false = codes "no"
 
 abbrev pub head_line : ℕ → Bool → ℕ → List ℕ
-head_line desk closing accepted = decimal desk ++ codes " sheet " ++ kind closing ++ field (codes " ") accepted ++ 10 ∷ []
+head_line desk is_final accepted = decimal desk ++ codes " sheet " ++ kind is_final ++ field (codes " ") accepted ++ 10 ∷ []
 
 abbrev pub house_line : Distribution → List ℕ
 house_line x = field (codes "house ") x.totals.canton.house ++ 10 ∷ []
@@ -94,8 +94,8 @@ list_lines x = flat_map (list_lines_in x) (range_with_len 1 (length x.totals.can
 
 -- the whole text, for a desk, final or provisional, after so many accepted commands
 abbrev pub sheet_text : Distribution → ℕ → Bool → ℕ → List ℕ
-sheet_text x desk closing accepted =
-    head_line desk closing accepted ++ house_line x ++ key_lines x
+sheet_text x desk is_final accepted =
+    head_line desk is_final accepted ++ house_line x ++ key_lines x
     ++ constituency_lines x
     ++ group_lines x
     ++ list_lines x

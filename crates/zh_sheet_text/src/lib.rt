@@ -3,6 +3,6 @@
 
 mod lines;
 mod page;
-mod writing;
+mod sheet_writer;
 
-pub use writing::write_sheet;
+pub use sheet_writer::write_sheet;

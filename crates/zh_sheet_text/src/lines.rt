@@ -6,11 +6,11 @@ use crate::page::{LINE, Page, ROOM};
 use zh_sheet::Sheet;
 
 /// Whether a sheet is final, in a word.
-fn kind(closing: bool) -> &'static str
-    ensures kind { result.now ≡ kind closing }
+fn kind(is_final: bool) -> &'static str
+    ensures kind { result.now ≡ kind is_final }
     ensures short { length result.now ≤ 11 }
 {
-    if closing { "final" } else { "provisional" }
+    if is_final { "final" } else { "provisional" }
 }
 
 fn yes_or_no(yes: bool) -> &'static str
@@ -21,14 +21,14 @@ fn yes_or_no(yes: bool) -> &'static str
 }
 
 /// The first line: the desk, whether the sheet is final, and how many commands were accepted.
-pub(crate) fn push_head(page: &mut Page, desk: u8, closing: bool, accepted: u64)
+pub(crate) fn push_head(page: &mut Page, desk: u8, is_final: bool, accepted: u64)
     requires { length page.old + LINE ≤ ROOM }
-    ensures text { page.new ≡ page.old ++ head_line desk closing accepted }
+    ensures text { page.new ≡ page.old ++ head_line desk is_final accepted }
     ensures short { length page.new ≤ length page.old + LINE }
 {
     page.push_number(u64::from(desk));
     page.push(b" sheet ");
-    page.push(kind(closing).as_bytes());
+    page.push(kind(is_final).as_bytes());
     page.push_field(b" ", accepted);
     page.push(b"\n");
 }

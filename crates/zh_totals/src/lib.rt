@@ -5,10 +5,10 @@ mod change;
 mod commands;
 mod entries;
 mod laws;
-mod running;
+mod running_count;
 mod totals;
 
 pub use change::Change;
 pub use laws::{changes_are_noted, totals_are_few};
-pub use running::RunningCount;
+pub use running_count::RunningCount;
 pub use totals::Totals;

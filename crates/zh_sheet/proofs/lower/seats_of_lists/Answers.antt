@@ -2,7 +2,7 @@ use Rattle.std.proofs.Common.{◌≡◌, length, refl}
 use Rattle.std.proofs.lemmas.Result.{err_from_is_err_and}
 use Rattle.zh_lower.specs.Question.{question}
 use Rattle.zh_sheet.specs.Distribution.{lower_question}
-use Rattle.zh_sheet.proofs.MakingLemmas.{find_outcome, memory_outcome}
+use Rattle.zh_sheet.proofs.DistributionLemmas.{find_outcome, memory_outcome}
 use Rattle.zh_sheet.proofs.SeatedLemmas.{length-seated_votes, seated_within}
 use Rattle.zh_sheet.proofs.lower.seats_of_lists.Goals as goal
 

@@ -11,14 +11,14 @@ use Rattle.zh_office.proofs.office.Office.answer.Goals as goal
 pub returns-in-Sheet-clause-written : goal.returns-in-Sheet-clause-written
 returns-in-Sheet-clause-written g c =
     let sheet = c.in-Sheet.sheet in
-    let closing = c.in-Sheet.closing in
+    let is_final = c.in-Sheet.is_final in
     let old = g.W.Write.contents c.args.writer.now in
     let new = g.W.Write.contents c.write_sheet.new.out in
     let accepted = c.accepted.ensures.accepted ∙ ap (λ (tally : Tally). tally.accepted) c.count.ensures in
-    let text : sheet_text sheet c.desk_of-desk.result closing c.accepted.result ≡ text_after c.args.bytes.now (answers.Sheet sheet closing) (on_disk c.line.new.self (g.D.Disk.failures c.line.new.disk) (g.D.Disk.trail c.line.new.disk)) =
-    λ i. sheet_text sheet (c.desk_of-desk.ensures i) closing (accepted i) in
+    let text : sheet_text sheet c.desk_of-desk.result is_final c.accepted.result ≡ text_after c.args.bytes.now (answers.Sheet sheet is_final) (on_disk c.line.new.self (g.D.Disk.failures c.line.new.disk) (g.D.Disk.trail c.line.new.disk)) =
+    λ i. sheet_text sheet (c.desk_of-desk.ensures i) is_final (accepted i) in
     record {
-      answer = answers.Sheet sheet closing;
+      answer = answers.Sheet sheet is_final;
       turn = c.in-Sheet.ensures.turn;
       ok = subst (λ (written : List ℕ). OnOk c.write_sheet.result (Appends old new written)) text c.write_sheet.ensures.all;
       err = subst (λ (written : List ℕ). OnErr c.write_sheet.result ((n : ℕ) × (n < length written) × Appends old new (take n written))) text c.write_sheet.ensures.front;
