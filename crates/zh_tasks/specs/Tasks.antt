@@ -28,7 +28,7 @@ pub record IsRehearsal (start : OnDisk) : Type 0 where
   pub held : start.office.held ≡ no_batches
   pub whole : start.office.ledger.store.broken ≡ false
 
--- the fault comes before the task has a disk
+-- the fault is one of memory, of the set-up or of opening the file of the disk, which come before the task has a disk
 abbrev pub IsEarly : ProgramFault → Type 0
 IsEarly (faults.Format fault) = ⊥
 IsEarly (faults.Run fault) = ⊥
@@ -59,29 +59,29 @@ pub record FormatsFile (bytes : List ℕ) (last : Trail) (result : Result (Unit 
   pub in_use : IsErrOf result formatting.InUse → IsBlank first.now.bytes → ⊥
 
 module _ {D : Type 0} where
-  -- A formatting used this disk and handed it over, and ended so; or the fault came before it had one.
+  -- A formatting used this disk and handed it over, and ended so; or its fault is one that comes before it has a disk.
   abbrev pub Formatted : Type 0 → Option D → (D → Result (Unit {0}) FormatFault → Type 0) → Result (Unit {0}) ProgramFault → Type 0
   Formatted before new Uses (Ok done) = (d : D) × (new ≡ Some d) × Uses d (Ok done)
   Formatted before new Uses (Err (faults.Format fault)) = (d : D) × (new ≡ Some d) × Uses d (Err fault)
-  Formatted before new Uses (Err fault) = before
+  Formatted before new Uses (Err fault) = IsEarly fault × before
 
   -- the same of a run
   abbrev pub Ran : Type 0 → Option D → (D → Result (Unit {0}) RunFault → Type 0) → Result (Unit {0}) ProgramFault → Type 0
   Ran before new Uses (Ok done) = (d : D) × (new ≡ Some d) × Uses d (Ok done)
   Ran before new Uses (Err (faults.Run fault)) = (d : D) × (new ≡ Some d) × Uses d (Err fault)
-  Ran before new Uses (Err fault) = before
+  Ran before new Uses (Err fault) = IsEarly fault × before
 
   -- the same of the loading of a CSV file
   abbrev pub HasLoaded : Type 0 → Option D → (D → Result (Unit {0}) LoadFault → Type 0) → Result (Unit {0}) ProgramFault → Type 0
   HasLoaded before new Uses (Ok done) = (d : D) × (new ≡ Some d) × Uses d (Ok done)
   HasLoaded before new Uses (Err (faults.Load fault)) = (d : D) × (new ≡ Some d) × Uses d (Err fault)
-  HasLoaded before new Uses (Err fault) = before
+  HasLoaded before new Uses (Err fault) = IsEarly fault × before
 
   -- the same of an export
   abbrev pub HasExported : Type 0 → Option D → (D → Result (Unit {0}) ExportFault → Type 0) → Result (Unit {0}) ProgramFault → Type 0
   HasExported before new Uses (Ok done) = (d : D) × (new ≡ Some d) × Uses d (Ok done)
   HasExported before new Uses (Err (faults.Export fault)) = (d : D) × (new ≡ Some d) × Uses d (Err fault)
-  HasExported before new Uses (Err fault) = before
+  HasExported before new Uses (Err fault) = IsEarly fault × before
 
   -- a formatting of a file that held these bytes, which reports a fault of the device only where a call of the disk failed
   abbrev pub FormatsOnFile : (D → Type 0) → (D → Trail) → (D → ℕ) → List ℕ → D → Result (Unit {0}) FormatFault → Type 0
@@ -105,11 +105,12 @@ module _ {D : Type 0} where
       Exports (λ fault. nothing × (honest d → IsRefusedFile bytes (trail d) fault)) nothing writer writer' (IsOnFile (honest d) bytes (failures d) (trail d)) result
       × IfErr result (λ fault. IsExportOfDevice fault → 1 ≤ failures d)
 
--- a rehearsal served, or the fault came before
+-- a rehearsal served, or its fault is one of formatting its disk, or one that comes before it has a disk
 abbrev pub Rehearsed : Type 0 → (Result (Unit {0}) RunFault → Type 0) → Result (Unit {0}) ProgramFault → Type 0
 Rehearsed before Serves (Ok done) = Serves (Ok done)
 Rehearsed before Serves (Err (faults.Run fault)) = Serves (Err fault)
-Rehearsed before Serves (Err fault) = before
+Rehearsed before Serves (Err (faults.Format fault)) = before
+Rehearsed before Serves (Err fault) = IsEarly fault × before
 
 -- what a rehearsal has done; its disk is in memory
 abbrev pub Rehearses : Type 0 → Option (List ℕ) → Option (List ℕ) → Option (List ℕ) → Option (List ℕ) → Result (Unit {0}) ProgramFault → Type 0
