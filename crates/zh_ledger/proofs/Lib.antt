@@ -5,6 +5,7 @@ mod JudgedLemmas
 mod KeptLemmas
 mod NightLemmas
 mod OpenedLemmas
+mod OutsideLemmas
 mod ReadyLemmas
 mod ReopeningLemmas
 mod ReplayLemmas

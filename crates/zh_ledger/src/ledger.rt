@@ -8,7 +8,7 @@ ghost use Rattle.zh_totals.specs.Counting.{totals_of};
 ghost use Rattle.zh_returns.specs.Limits.{IsTally};
 ghost use Rattle.zh_records.specs.Spelling.{HasNumbers, IsSpeakable};
 ghost use Rattle.zh_ledger.specs.Ledger.{MayStore, StoredOrDevice, Becomes, IsFaulted, ready, has_room, lacks_room};
-ghost use Rattle.zh_ledger.specs.Images.{LeavesBy, Keeps, Readies};
+ghost use Rattle.zh_ledger.specs.Images.{LeavesBy, Keeps, Readies, SameOutsideSlots};
 ghost use Rattle.zh_ledger.specs.Submissions.{Submission, UnlessStored, on_disk};
 
 use crate::outcome::Outcome;
@@ -76,6 +76,9 @@ impl<'s> Ledger<'s> {
         // While the disk is honest this also says what each image holds at each moment since the call began.
         ensures submission { Submission (D.honest disk.new) (on_disk self.old (D.failures disk.old) (D.trail disk.old)) command.now result (on_disk self.new (D.failures disk.new) (D.trail disk.new)) }
 
+        // Outside the two slots nothing is changed, whatever the images were.
+        ensures outside { D.honest disk.new → Leaves SameOutsideSlots (D.trail disk.old) (D.trail disk.new) }
+
         ensures untouched { UnlessStored result disk.old disk.new }
     {
         if self.is_broken() {
@@ -99,6 +102,7 @@ impl<'s> Ledger<'s> {
         ensures later { D.failures disk.old ≤ D.failures disk.new }
         ensures kept { D.honest disk.new → D.honest disk.old }
         ensures leaves { D.honest disk.new → LeavesBy self.old command.now result (D.trail disk.old) (D.trail disk.new) }
+        ensures outside { D.honest disk.new → Leaves SameOutsideSlots (D.trail disk.old) (D.trail disk.new) }
         ensures untouched { UnlessStored result disk.old disk.new }
     {
         if self.count().accepted() == u64::MAX {
@@ -127,6 +131,7 @@ impl<'s> Ledger<'s> {
         ensures cause { IsErrOf result SwitchFault.Device → HasRisen (D.failures disk.old) (D.failures disk.new) }
         ensures kept { D.honest disk.new → D.honest disk.old }
         ensures any_moment { D.honest disk.new → Leaves (Keeps self.old) (D.trail disk.old) (D.trail disk.new) }
+        ensures outside { D.honest disk.new → Leaves SameOutsideSlots (D.trail disk.old) (D.trail disk.new) }
         ensures readied { D.honest disk.new → OnOk result (Moves (Readies self.old command.now) (D.trail disk.old).now (D.trail disk.new).now) }
     {
         if self.has_room(command) {
@@ -158,6 +163,7 @@ impl<'s> Ledger<'s> {
         ensures later { D.failures disk.old ≤ D.failures disk.new }
         ensures kept { D.honest disk.new → D.honest disk.old }
         ensures leaves { D.honest disk.new → LeavesBy self.old command.now result (D.trail disk.old) (D.trail disk.new) }
+        ensures outside { D.honest disk.new → Leaves SameOutsideSlots (D.trail disk.old) (D.trail disk.new) }
     {
         let len = encode_command(command, &mut self.buffer);
         match self.store.append(disk, &self.buffer[..len]) {

@@ -7,6 +7,7 @@ ghost use Rattle.zh_journal.specs.Cause.{HasRisen};
 ghost use Rattle.zh_journal.specs.Pages.{pages_of, Frames};
 ghost use Rattle.zh_journal.specs.Place.{pages_left};
 ghost use Rattle.zh_snapshot.specs.Image.{Content, IsBlank, IsFramed, content_of};
+ghost use Rattle.zh_snapshot.specs.Layout.{journal_at};
 ghost use Rattle.zh_snapshot.specs.Slots.{IsInUse};
 ghost use Rattle.zh_snapshot.specs.Store.{State, Fits, Settles, StoreAdds, StoreAddsOrNot, longer};
 
@@ -219,7 +220,7 @@ impl Store {
         ensures any_moment { D.honest disk.new → Leaves (StoreAddsOrNot self.old payload.now) (D.trail disk.old) (D.trail disk.new) }
 
         // And nothing outside the journal is changed, whatever the images were.
-        ensures outside { D.honest disk.new → Leaves (SameOutside self.old.area.base AREA_LENGTH) (D.trail disk.old) (D.trail disk.new) }
+        ensures outside { D.honest disk.new → Leaves (SameOutside (journal_at self.old.slot) AREA_LENGTH) (D.trail disk.old) (D.trail disk.new) }
 
         ensures added { D.honest disk.new → OnOk result (Moves (StoreAdds self.old payload.now) (D.trail disk.old).now (D.trail disk.new).now) }
         ensures settled { D.honest disk.new → OnOk result ((D.trail disk.new).now.pending ≡ []) }

@@ -10,6 +10,7 @@ use Rattle.zh_ledger.specs.Ledger.{Ledger}
 use Rattle.zh_ledger.specs.declared.outcome.Outcome.TheVariants.{Stored}
 use Rattle.zh_ledger.proofs.BufferLemmas.{front_of}
 use Rattle.zh_ledger.proofs.KeptLemmas.{each_moment, last_moment}
+use Rattle.zh_ledger.proofs.OutsideLemmas.{outside_appended}
 use Rattle.zh_ledger.proofs.ledger.Ledger.append.Goals as goal
 
 pub encode_command-len-requires-clause-room : goal.encode_command-len-requires-clause-room
@@ -69,3 +70,9 @@ returns-in-Ok-clause-results g c =
 
 pub returns-in-Ok-clause-after : goal.returns-in-Ok-clause-after
 returns-in-Ok-clause-after g c = search rules
+
+pub returns-in-Ok-clause-outside : goal.returns-in-Ok-clause-outside
+returns-in-Ok-clause-outside g c = λ honest. outside_appended _ _ _ (c.append.ensures.outside honest)
+
+pub returns-in-Err-Device-clause-outside : goal.returns-in-Err-Device-clause-outside
+returns-in-Err-Device-clause-outside g c = λ honest. outside_appended _ _ _ (c.append.ensures.outside honest)

@@ -6,6 +6,7 @@ use Rattle.zh_ledger.specs.Ledger.{Ledger, Becomes, has_room}
 use Rattle.zh_ledger.specs.Images.{LeavesBy}
 use Rattle.zh_ledger.proofs.RoomLemmas.{room_ready}
 use Rattle.zh_ledger.proofs.ReadyLemmas.{becomes_ready, while_made_ready, leaves_ready}
+use Rattle.zh_ledger.proofs.OutsideLemmas.{outside_then, outside_untouched}
 use Rattle.zh_ledger.proofs.ledger.Ledger.keep.Goals as goal
 
 pub make_room-requires-clause-speakable : goal.make_room-requires-clause-speakable
@@ -62,3 +63,9 @@ returns-in-Ok-clause-results g c = grind (arith, common_steps)
 
 pub returns-in-Err-Device-clause-results : goal.returns-in-Err-Device-clause-results
 returns-in-Err-Device-clause-results g c = grind (arith, common_steps)
+
+pub returns-in-Ok-clause-outside : goal.returns-in-Ok-clause-outside
+returns-in-Ok-clause-outside g c = λ honest. outside_then _ _ _ (c.make_room.ensures.outside (c.append.ensures.kept honest)) (c.append.ensures.outside honest)
+
+pub returns-in-Err-Spent-clause-outside : goal.returns-in-Err-Spent-clause-outside
+returns-in-Err-Spent-clause-outside g c = λ honest. outside_untouched _ _ (ap g.D.Disk.trail (c.in-Err-Spent.ensures.untouched (cc)).0)

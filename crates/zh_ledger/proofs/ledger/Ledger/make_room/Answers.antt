@@ -7,6 +7,7 @@ use Rattle.zh_ledger.specs.Ledger.{Ledger, has_room}
 use Rattle.zh_ledger.proofs.OpenedLemmas.{filled}
 use Rattle.zh_ledger.proofs.SwitchLemmas.{while_switching, once_switched}
 use Rattle.zh_ledger.proofs.ledger.Ledger.make_room.Given.{Over}
+use Rattle.zh_ledger.proofs.OutsideLemmas.{outside_switched}
 use Rattle.zh_ledger.proofs.ledger.Ledger.make_room.Goals as goal
 
 same : (g : Over) (c : goal.After-switch g) → record { tally = c.self.inside.count; store = c.self.inside.store } ≡ c.args.self.now
@@ -43,3 +44,6 @@ returns-clause-readied g c = λ honest.
     (subst (λ (y : Ledger). Moves (StoreSwitches y.store (payload_spelling s.tally)) t.now u.now) (same g c)
     (subst (λ (r : List ℕ). Moves (StoreSwitches c.self.inside.store r) t.now u.now) (payload_is g c) moves)))
     (c.switch.ensures.replaced honest)
+
+pub returns-clause-outside : goal.returns-clause-outside
+returns-clause-outside g c = λ honest. outside_switched _ _ _ (c.switch.ensures.outside honest)

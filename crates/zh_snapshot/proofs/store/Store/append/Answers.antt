@@ -1,4 +1,4 @@
-use Rattle.std.proofs.Common.{rules, ◌∙◌, ap, subst}
+use Rattle.std.proofs.Common.{rules, ◌∙◌, ℕ, ap, subst}
 use Rattle.zh_disk.specs.Disk.{Leaves, SameOutside}
 use Rattle.zh_disk.proofs.CallerLemmas.{leaves_weaken}
 use Rattle.zh_snapshot.specs.Layout.{journal_at}
@@ -20,12 +20,12 @@ returns-in-Err-Device-clause-any_moment g c = λ h.
 
 pub returns-in-Ok-clause-outside : goal.returns-in-Ok-clause-outside
 returns-in-Ok-clause-outside g c = λ h.
-    subst (λ (s : State). Leaves (SameOutside s.area.base 262144) (g.D.Disk.trail c.args.disk.now) (g.D.Disk.trail c.append.new.disk)) c.self.view_is
+    subst (λ (at : ℕ). Leaves (SameOutside at 262144) (g.D.Disk.trail c.args.disk.now) (g.D.Disk.trail c.append.new.disk)) (c.self.invariant.1 ∙ ap (λ (s : State). journal_at s.slot) c.self.view_is)
     (leaves_weaken _ _ _ _ (λ x f image by. by.around) (c.append.ensures.any_moment h))
 
 pub returns-in-Err-Device-clause-outside : goal.returns-in-Err-Device-clause-outside
 returns-in-Err-Device-clause-outside g c = λ h.
-    subst (λ (s : State). Leaves (SameOutside s.area.base 262144) (g.D.Disk.trail c.args.disk.now) (g.D.Disk.trail c.append.new.disk)) c.self.view_is
+    subst (λ (at : ℕ). Leaves (SameOutside at 262144) (g.D.Disk.trail c.args.disk.now) (g.D.Disk.trail c.append.new.disk)) (c.self.invariant.1 ∙ ap (λ (s : State). journal_at s.slot) c.self.view_is)
     (leaves_weaken _ _ _ _ (λ x f image by. by.around) (c.append.ensures.any_moment h))
 
 pub returns-in-Ok-clause-kept : goal.returns-in-Ok-clause-kept
