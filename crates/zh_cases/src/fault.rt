@@ -4,6 +4,7 @@ use std::alloc::AllocError;
 use std::io;
 use thiserror::Error;
 use zh_disk::DiskFault;
+use zh_transcripts::TranscriptFault;
 
 #[derive(Debug, Drop, Error)]
 pub(crate) enum Fault {
@@ -14,6 +15,9 @@ pub(crate) enum Fault {
     #[error("{0}")]
     Disk(#[from] DiskFault),
     /// The text is not one of cases.
+    #[error("{0}")]
+    Transcript(#[from] TranscriptFault),
+    /// A turn cannot be made.
     #[error("{0}")]
     Text(&'static str),
     /// Another answer was found than was expected.

@@ -6,21 +6,18 @@ mod fault;
 mod files;
 mod fixture;
 mod image;
-mod lines;
 mod program;
-mod repeat;
 mod setups;
-mod sweep;
 mod turn;
 mod words;
 
 use fault::Fault;
 use fixture::Fixture;
-use lines::{Line, lines_of};
 use setups::{Named, setups_of};
 use std::process::ExitCode;
 use std::{env, fs};
 use turn::run_turn;
+use zh_transcripts::{Line, lines_of};
 
 /// How far the cases of a file went.
 #[derive(Clone, Copy, Default)]

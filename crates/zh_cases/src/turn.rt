@@ -3,10 +3,10 @@
 use crate::fault::Fault;
 use crate::files::{act_on_files, save};
 use crate::fixture::Fixture;
-use crate::lines::Line;
 use crate::program::run_program;
-use crate::words::{read_bytes, read_number, read_stop};
+use crate::words::read_stop;
 use std::fs;
+use zh_transcripts::{Line, read_bytes, read_number};
 
 /// A line of a desk: it begins with a digit, or stands in quotes.
 fn line_in<'t>(text: &'t str) -> Option<&'t str> {

@@ -1,6 +1,6 @@
 //! Sweeps: turns that are made once for each place of a table, which says what they are answered there.
 
-use crate::fault::Fault;
+use crate::fault::TranscriptFault;
 use crate::lines::Line;
 use crate::repeat::with_value;
 use crate::words::read_number;
@@ -14,7 +14,11 @@ struct Place<'t> {
 }
 
 /// The answers to which the lines `answers NAME: ANSWER; ..` give this name.
-fn answers_of<'t>(alloc: Global, turns: &'t [Line], name: &str) -> Result<Vec<&'t str>, Fault> {
+fn answers_of<'t>(
+    alloc: Global,
+    turns: &'t [Line],
+    name: &str,
+) -> Result<Vec<&'t str>, TranscriptFault> {
     let mut answers = Vec::new(alloc);
     for line in turns {
         match line.text.as_str().split_once(':') {
@@ -35,14 +39,14 @@ fn turn_at(
     turn: &str,
     place: Place<'_>,
     answers: &mut &[&str],
-) -> Result<String, Fault> {
+) -> Result<String, TranscriptFault> {
     let turn = with_value(alloc, turn, "calls", place.calls)?;
     let turn = with_value(alloc, turn.as_str(), "stop", place.stop)?;
     let Some(front) = turn.as_str().strip_suffix('?') else {
         return Ok(turn);
     };
     let [answer, rest @ ..] = *answers else {
-        return Err(Fault::Text("a name has too few answers"));
+        return Err(TranscriptFault::Text("a name has too few answers"));
     };
     *answers = rest;
     Ok(format!(in alloc; "{front}{answer}")?)
@@ -55,7 +59,7 @@ fn push_turns(
     turns: &[Line],
     place: Place<'_>,
     name: &str,
-) -> Result<(), Fault> {
+) -> Result<(), TranscriptFault> {
     let answers = answers_of(alloc, turns, name)?;
     let mut answers = answers.as_slice();
     for line in turns {
@@ -70,7 +74,7 @@ fn push_turns(
     if answers.is_empty() {
         Ok(())
     } else {
-        Err(Fault::Text("a name has too many answers"))
+        Err(TranscriptFault::Text("a name has too many answers"))
     }
 }
 
@@ -82,7 +86,7 @@ fn push_row(
     stops: &str,
     row: &Line,
     calls: u64,
-) -> Result<(), Fault> {
+) -> Result<(), TranscriptFault> {
     let calls = format!(in alloc; "{calls}")?;
     let names = row.text.as_str().split_whitespace().skip(1);
     for (stop, name) in stops.split_whitespace().skip(1).zip(names) {
@@ -100,14 +104,18 @@ fn push_row(
 }
 
 /// Appends the turns of a sweep, for each place of its table.
-pub(crate) fn sweep(alloc: Global, lines: &mut Vec<Line>, body: &[Line]) -> Result<(), Fault> {
+pub(crate) fn sweep(
+    alloc: Global,
+    lines: &mut Vec<Line>,
+    body: &[Line],
+) -> Result<(), TranscriptFault> {
     let table = body
         .iter()
         .position(|line| line.text.as_str().starts_with("table "))
         .unwrap_or(body.len());
     let (turns, table) = body.split_at(table);
     let [head, rows @ ..] = table else {
-        return Err(Fault::Text("a sweep has a table"));
+        return Err(TranscriptFault::Text("a sweep has a table"));
     };
     lines.push(Line {
         number: head.number,
@@ -118,7 +126,7 @@ pub(crate) fn sweep(alloc: Global, lines: &mut Vec<Line>, body: &[Line]) -> Resu
     for row in rows {
         let (from, to) = numbers_in(stops, row)?;
         if from != next {
-            return Err(Fault::Text("rows go from 0 on, without a gap"));
+            return Err(TranscriptFault::Text("rows go from 0 on, without a gap"));
         }
         for calls in from..=to {
             push_row(alloc, lines, turns, stops, row, calls)?;
@@ -129,10 +137,10 @@ pub(crate) fn sweep(alloc: Global, lines: &mut Vec<Line>, body: &[Line]) -> Resu
 }
 
 /// The first and the last number of calls that a row stands for.
-fn numbers_in(stops: &str, row: &Line) -> Result<(u64, u64), Fault> {
+fn numbers_in(stops: &str, row: &Line) -> Result<(u64, u64), TranscriptFault> {
     let text = row.text.as_str();
     if text.split_whitespace().count() != stops.split_whitespace().count() {
-        return Err(Fault::Text("a row has a name for each stop"));
+        return Err(TranscriptFault::Text("a row has a name for each stop"));
     }
     let (calls, _) = text.split_once(' ').unwrap_or((text, ""));
     let (from, to) = calls.split_once('-').unwrap_or((calls, calls));
