@@ -5,3 +5,4 @@ pub use Rattle.zh_ledger.proofs.NightLemmas.{one_event, fresh_sure}
 pub use Rattle.zh_ledger.proofs.OpenedLemmas.{err_of}
 pub use Rattle.zh_ledger.proofs.StandsLemmas.{stands_alike, one_count}
 pub use Rattle.zh_ledger.proofs.RoomLemmas.{ready_already, ready_switched}
+pub use Rattle.zh_ledger.proofs.OutsideLemmas.{outside_untouched}

@@ -10,9 +10,10 @@ use Rattle.zh_ledger.specs.declared.outcome.Outcome.{Outcome}
 use Rattle.zh_ledger.specs.declared.outcome.Outcome.TheVariants.{Stored, Device, Broken}
 use Rattle.zh_ledger.specs.Ledger.{Ledger, MayResultWhere, Becomes, stored}
 use Rattle.zh_ledger.specs.Stands.{Holds}
-use Rattle.zh_ledger.specs.Images.{KeepsOrSteps, Stores, LeavesBy, HasSome, ComesToHave}
+use Rattle.zh_ledger.specs.Images.{KeepsOrSteps, Stores, LeavesBy, HasSome, ComesToHave, SameOutsideSlots}
 use Rattle.zh_ledger.specs.Submissions.{OnDisk, on_disk, Submission, Log, nothing, followed_by, logged, Submits, IsLogged}
 use Rattle.zh_ledger.proofs.StandsLemmas.{holds_kept}
+use Rattle.zh_ledger.proofs.OutsideLemmas.{outside_then, outside_untouched}
 
 -- an image for a count has none of any commands
 pub has_none : (tally : Tally) (commands : List Command) (c : List ℕ) → Holds tally c → HasSome tally commands 0 c
@@ -38,7 +39,7 @@ keeps_or_has s command commands x f by = λ kept. ⊎_elim
 same_start : (old mid : OnDisk) (log : Log) (new : OnDisk) → mid.ledger ≡ old.ledger → mid.trail ≡ old.trail → IsLogged mid log new → IsLogged old log new
 same_start old mid log new ledger trail logs =
     let moved : IsLogged (on_disk old.ledger mid.failures old.trail) log new = subst (λ (o : OnDisk). IsLogged o log new) (λ i. on_disk (ledger i) mid.failures (trail i)) logs in
-    record { each_moment = moved.each_moment; last_moment = moved.last_moment; last = moved.last; within = moved.within; count = moved.count }
+    record { each_moment = moved.each_moment; last_moment = moved.last_moment; last = moved.last; within = moved.within; count = moved.count; outside = moved.outside }
 
 -- commands that change nothing
 pub none_logged : (old new : OnDisk) → new.ledger ≡ old.ledger → new.trail ≡ old.trail → IsLogged old nothing new
@@ -48,10 +49,11 @@ none_logged old new ledger trail = record {
   last = omega arith;
   within = omega arith;
   count = ap (λ (s : Ledger). s.tally) ledger;
+  outside = outside_untouched old.trail new.trail trail;
 }
 
 -- a command is stored, and then come others
-module _ (old mid new : OnDisk) (command : Command) (log : Log) (ledger : mid.ledger ≡ stored old.ledger command) (leaves : Leaves (KeepsOrSteps old.ledger command) old.trail mid.trail) (moves : Moves (Stores old.ledger command) old.trail.now mid.trail.now) (logs : IsLogged mid log new) where
+module _ (old mid new : OnDisk) (command : Command) (log : Log) (ledger : mid.ledger ≡ stored old.ledger command) (leaves : Leaves (KeepsOrSteps old.ledger command) old.trail mid.trail) (moves : Moves (Stores old.ledger command) old.trail.now mid.trail.now) (outside : Leaves SameOutsideSlots old.trail mid.trail) (logs : IsLogged mid log new) where
   go_on : (least : ℕ) (x f : List ℕ) → IsImage mid.trail.now x → ComesToHave mid.ledger log.accepted least x f → (d : List ℕ) × IsImage old.trail.now d × ComesToHave old.ledger (command ∷ log.accepted) (1 + least) d f
   go_on least x f image by =
       let from = moves x image in
@@ -78,11 +80,12 @@ module _ (old mid new : OnDisk) (command : Command) (log : Log) (ledger : mid.le
     last = omega (arith, logs.last);
     within = omega (arith, logs.within);
     count = count_on;
+    outside = outside_then old.trail mid.trail new.trail outside logs.outside;
   }
 
 -- the device failed at a command, and nothing more is done
-device_logged : (old new : OnDisk) (command : Command) → new.ledger.tally ≡ old.ledger.tally → Leaves (KeepsOrSteps old.ledger command) old.trail new.trail → IsLogged old (record { accepted = command ∷ []; acknowledged = 0 }) new
-device_logged old new command tally leaves = record {
+device_logged : (old new : OnDisk) (command : Command) → new.ledger.tally ≡ old.ledger.tally → Leaves (KeepsOrSteps old.ledger command) old.trail new.trail → Leaves SameOutsideSlots old.trail new.trail → IsLogged old (record { accepted = command ∷ []; acknowledged = 0 }) new
+device_logged old new command tally leaves outside = record {
   each_moment = leaves_weaken (KeepsOrSteps old.ledger command) (ComesToHave old.ledger (command ∷ []) 0) old.trail new.trail (λ x f image by. keeps_or_has old.ledger command [] x f by) leaves;
   last_moment = λ f image.
       let from = leaves_now (KeepsOrSteps old.ledger command) old.trail new.trail (λ c kept. inl (holds_kept old.ledger c kept)) leaves f image in
@@ -90,6 +93,7 @@ device_logged old new command tally leaves = record {
   last = omega arith;
   within = omega arith;
   count = tally;
+  outside = outside;
 }
 
 -- a command that leaves ledger, moments and log as they were
@@ -127,23 +131,24 @@ quiet_logged : (old mid new : OnDisk) (log : Log) → mid.ledger ≡ old.ledger 
 quiet_logged old mid new log ledger trail logs = subst (λ (l : Log). IsLogged old l new) (sym (quiet_log log)) (same_start old mid log new ledger trail logs)
 
 -- what a command adds, whatever its outcome
-command_logged : (old mid new : OnDisk) (log : Log) (command : Command) (outcome : Outcome) → Becomes old.ledger command outcome mid.ledger → LeavesBy old.ledger command outcome old.trail mid.trail
+command_logged : (old mid new : OnDisk) (log : Log) (command : Command) (outcome : Outcome) → Becomes old.ledger command outcome mid.ledger → LeavesBy old.ledger command outcome old.trail mid.trail → Leaves SameOutsideSlots old.trail mid.trail
     → (mid.ledger.store.broken ≡ true → (new.ledger ≡ mid.ledger) × (new.trail ≡ mid.trail) × (log ≡ nothing))
     → IsLogged mid log new → IsLogged old (followed_by (logged command outcome) log) new
-command_logged old mid new log command (Stored accepted) ledger leaves then logs = stored_logged old mid new command log ledger leaves.0 leaves.1 logs
-command_logged old mid new log command Device ledger leaves then logs =
+command_logged old mid new log command (Stored accepted) ledger leaves outside then logs = stored_logged old mid new command log ledger leaves.0 leaves.1 outside logs
+command_logged old mid new log command Device ledger leaves outside then logs =
     let still = then ledger.broken in
     let same : Leaves (KeepsOrSteps old.ledger command) old.trail new.trail = subst (Leaves (KeepsOrSteps old.ledger command) old.trail) (sym still.1) leaves in
+    let around : Leaves SameOutsideSlots old.trail new.trail = subst (Leaves SameOutsideSlots old.trail) (sym still.1) outside in
     subst (λ (l : Log). IsLogged old (followed_by (logged command Device) l) new) (sym still.2)
-    (device_logged old new command (ap (λ (s : Ledger). s.tally) still.0 ∙ ledger.tally) same)
-command_logged old mid new log command outcome ledger leaves then logs = quiet_logged old mid new log ledger leaves logs
+    (device_logged old new command (ap (λ (s : Ledger). s.tally) still.0 ∙ ledger.tally) same around)
+command_logged old mid new log command outcome ledger leaves outside then logs = quiet_logged old mid new log ledger leaves logs
 
 pub submits_logged : (old : OnDisk) (xs : List (Command × Outcome)) (log : Log) (new : OnDisk) → Submits old xs log new → IsLogged old log new
 submits_logged old [] log new (none, same) =
     subst (λ (l : Log). IsLogged old l new) (sym none) (none_logged old new (ap (λ (o : OnDisk). o.ledger) same) (ap (λ (o : OnDisk). o.trail) same))
 submits_logged old (x ∷ xs) log new (mid, others, by, log_is, run) =
     subst (λ (l : Log). IsLogged old l new) (sym log_is)
-    (command_logged old mid new others x.0 x.1 by.after (by.leaves tt)
+    (command_logged old mid new others x.0 x.1 by.after (by.leaves tt) (by.outside tt)
     (λ broken. broken_run mid xs others new broken run)
     (submits_logged mid xs others new run))
 
@@ -154,4 +159,4 @@ log_none log = λ i. record { accepted = append-nil log.accepted i; acknowledged
 pub submission_logged : (honest : Type 0) → honest → (old : OnDisk) (command : Command) (outcome : Outcome) (new : OnDisk) → Submission honest old command outcome new → IsLogged old (logged command outcome) new
 submission_logged honest sure old command outcome new by =
     subst (λ (l : Log). IsLogged old l new) (log_none (logged command outcome))
-    (command_logged old new new nothing command outcome by.after (by.leaves sure) (λ broken. (refl, refl, refl)) (none_logged new new refl refl))
+    (command_logged old new new nothing command outcome by.after (by.leaves sure) (by.outside sure) (λ broken. (refl, refl, refl)) (none_logged new new refl refl))

@@ -6,7 +6,7 @@ use Rattle.zh_records.specs.declared.command.Command.{Command}
 use Rattle.zh_ledger.specs.declared.outcome.Outcome.{Outcome}
 use Rattle.zh_ledger.specs.declared.outcome.Outcome.TheVariants.{Stored, Device}
 use Rattle.zh_ledger.specs.Ledger.{Ledger, MayResult, Becomes}
-use Rattle.zh_ledger.specs.Images.{LeavesBy, ComesToHave}
+use Rattle.zh_ledger.specs.Images.{LeavesBy, ComesToHave, SameOutsideSlots}
 
 -- a ledger and its disk: how often the disk has failed, what it holds and has held
 pub record OnDisk : Type 0 where
@@ -23,6 +23,7 @@ pub record Submission (honest : Type 0) (old : OnDisk) (command : Command) (outc
   pub after : Becomes old.ledger command outcome new.ledger
   pub later : old.failures ≤ new.failures
   pub leaves : honest → LeavesBy old.ledger command outcome old.trail new.trail
+  pub outside : honest → Leaves SameOutsideSlots old.trail new.trail
 
 -- the disk is as it was, unless the outcome is `Stored` or `Device`
 abbrev pub UnlessStored : {D : Type 0} → Outcome → D → D → Type 0
@@ -54,10 +55,12 @@ Submits old (x ∷ xs) log new =
     (mid : OnDisk) × (others : Log) × Submission (Unit {0}) old x.0 x.1 mid × (log ≡ followed_by (logged x.0 x.1) others) × Submits mid xs others new
 
 -- What commands leave: at each moment an image has those accepted up to some, in order, none skipped; at the end it has
--- all that were acknowledged, which are all but one at most, and the ledger counts these.
+-- all that were acknowledged, which are all but one at most, and the ledger counts these. Whatever the images were,
+-- nothing outside the two slots is changed.
 pub record IsLogged (old : OnDisk) (log : Log) (new : OnDisk) : Type 0 where
   pub each_moment : Leaves (ComesToHave old.ledger log.accepted 0) old.trail new.trail
   pub last_moment : Moves (ComesToHave old.ledger log.accepted log.acknowledged) old.trail.now new.trail.now
   pub last : length log.accepted ≤ log.acknowledged + 1
   pub within : log.acknowledged ≤ length log.accepted
   pub count : new.ledger.tally ≡ after old.ledger.tally (take log.acknowledged log.accepted)
+  pub outside : Leaves SameOutsideSlots old.trail new.trail

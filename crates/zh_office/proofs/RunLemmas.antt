@@ -61,7 +61,7 @@ Runs-one honest old new line answer turn = (
 pub Acts-map : (P Q : Type 0) → (Q → P) → (old : ledger.OnDisk) (command : Option Command) (May : Answer → Type 0) (answer : Answer) (new : ledger.OnDisk) → Acts P old command May answer new → Acts Q old command May answer new
 Acts-map P Q weaker old None May answer new acts = acts
 Acts-map P Q weaker old (Some command) May answer new (outcome, by, is) =
-    (outcome, record { results = by.results; after = by.after; later = by.later; leaves = λ q. by.leaves (weaker q) }, is)
+    (outcome, record { results = by.results; after = by.after; later = by.later; leaves = λ q. by.leaves (weaker q); outside = λ q. by.outside (weaker q) }, is)
 
 -- so a turn
 abbrev pub Turn-map : (P Q : Type 0) → (Q → P) → (old : OnDisk) (line : List ℕ) (answer : Answer) (new : OnDisk) → Turn P old line answer new → Turn Q old line answer new

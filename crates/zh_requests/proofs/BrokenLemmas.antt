@@ -6,6 +6,7 @@ use Rattle.zh_commands.specs.declared.replies.Reply.TheVariants.{Refused}
 use Rattle.zh_commands.specs.declared.replies.Refusal.TheVariants as refusals
 use Rattle.zh_ledger.specs.Ledger.{MayResultWhere}
 use Rattle.zh_ledger.specs.Submissions as ledger
+use Rattle.zh_ledger.proofs.CallerLemmas.{outside_untouched}
 use Rattle.zh_ledger.specs.declared.outcome.Outcome.TheVariants as outcomes
 use Rattle.zh_desks.specs.Batches.{Held}
 use Rattle.zh_returns.specs.Tally.{Tally}
@@ -24,6 +25,7 @@ broken_acts honest old (Some command) tally held line broken = (
     after = refl;
     later = omega arith;
     leaves = λ _. refl;
+    outside = λ _. outside_untouched old.trail old.trail refl;
   },
   refl,
 )
