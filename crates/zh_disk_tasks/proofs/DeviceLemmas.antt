@@ -56,7 +56,7 @@ stored_broken s c = by_room (has_room s c) refl
 -- the device is the outcome only after a failure
 device_stored : (spent : Bool) (accepted failures failures' : ℕ) → MayStoreWhere spent accepted failures failures' outcomes.Device → HasRisen failures failures'
 device_stored true accepted failures failures' is = absurd (cc)
-device_stored false accepted failures failures' is = ⊎_elim (λ wrong. absurd (cc)) (λ both. both.1) is
+device_stored false accepted failures failures' is = ⊎_elim (λ wrong. let stored = wrong.0 in absurd (cc)) (λ both. both.1) is
 
 device_follows : (verdict : Verdict) (s : Ledger) (c : Command) (failures failures' : ℕ) → MayFollow verdict s c failures failures' outcomes.Device → HasRisen failures failures'
 device_follows verdicts.Accept s c failures failures' is = device_stored (is_spent s c) s.tally.accepted failures failures' is

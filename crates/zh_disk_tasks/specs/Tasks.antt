@@ -75,7 +75,7 @@ pub record KeepsAll (tally : Tally) (log : Log) (first last : Trail) : Type 0 wh
   pub in_the_end : (c : List ℕ) → IsImage last.now c → HasSome tally log.accepted log.acknowledged c
   pub all_but_one : length log.accepted ≤ log.acknowledged + 1
 
--- of the input a run makes so many reads at most, and ends with `turns` only after as many
+-- a run takes no more of its input than so many reads can, and ends with `turns` only after what so many can have taken
 abbrev pub IsReadWithin : Option (List ℕ) → Option (List ℕ) → ℕ → Result (Unit {0}) RunFault → Type 0
 IsReadWithin reader reader' limit (Ok done) = TakesFewerReads reader reader' limit
 IsReadWithin reader reader' limit (Err runs.Faulted) = TakesFewerReads reader reader' limit

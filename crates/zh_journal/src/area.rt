@@ -146,6 +146,7 @@ impl Area {
         ensures untouched { IsErrOf result AppendFault.Full → disk.new ≡ disk.old }
         ensures later { D.failures disk.old ≤ D.failures disk.new }
         ensures cause { IsErrOf result AppendFault.Device → HasRisen (D.failures disk.old) (D.failures disk.new) }
+        ensures counted { OnOk result (D.failures disk.new ≡ D.failures disk.old) }
     {
         let pages = pages_of(payload.len() as u32);
         if self.pages_left() < pages {
@@ -174,6 +175,7 @@ impl Area {
         ensures empty { IfOk result (λ a. a ≡ record { base = base; end = 0; count = 0 }) }
         ensures later { D.failures disk.old ≤ D.failures disk.new }
         ensures cause { IsErrOf result AreaFault.Device → HasRisen (D.failures disk.old) (D.failures disk.new) }
+        ensures counted { OnOk result (D.failures disk.new ≡ D.failures disk.old) }
     {
         disk.write_at(base, zeros)?;
         Ok(Area {

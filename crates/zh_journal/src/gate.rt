@@ -1,4 +1,4 @@
-//! A byte that says whether what stands behind it counts.
+//! A byte that says whether what follows it counts.
 ghost use Rattle.std.specs.Prelude.{◌≡◌, ◌<◌, [], ◌∷◌, OnOk};
 ghost use Rattle.zh_disk.specs.Disk.{Leaves, HasCause, settled, splice};
 ghost use Rattle.zh_disk.specs.declared.disk.TheConstants.{DISK_LENGTH};
@@ -9,8 +9,8 @@ use zh_disk::{Disk, DiskFault};
 /// The one byte at which a gate is open.
 pub const OPEN_GATE: u8 = 0xA5;
 
-/// Opens a gate: a sync, a write of the one byte, a sync. So what stands behind the gate is on the disk
-/// before it, and the gate is on the disk at `Ok`.
+/// Opens a gate: a sync, a write of the one byte, a sync. So what follows the gate is on the disk before it is
+/// open, and the gate is on the disk at `Ok`.
 pub fn open_gate<D: Disk>(disk: &mut D, gate: u64) -> Result<(), DiskFault>
     requires { gate < DISK_LENGTH }
 
@@ -20,6 +20,7 @@ pub fn open_gate<D: Disk>(disk: &mut D, gate: u64) -> Result<(), DiskFault>
     ensures ok { D.honest disk.new → OnOk result ((D.trail disk.new).now ≡ settled (splice gate (OPEN_GATE ∷ []) (D.trail disk.old).now.bytes)) }
 
     ensures cause { HasCause (D.failures disk.old) (D.failures disk.new) result }
+    ensures counted { OnOk result (D.failures disk.new ≡ D.failures disk.old) }
 {
     disk.sync()?;
     disk.write_at(gate, &[OPEN_GATE])?;

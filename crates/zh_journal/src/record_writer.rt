@@ -1,4 +1,4 @@
-//! Writing a record behind its gates.
+//! Writing a record, all but its gates.
 ghost use Rattle.std.specs.Prelude.{◌≡◌, ◌+◌, ◌*◌, ◌<◌, ◌≤◌, length, OnOk};
 ghost use Rattle.zh_disk.specs.Disk.{Leaves, SameOutside, HasCause, splice};
 ghost use Rattle.zh_disk.specs.declared.disk.TheConstants.{DISK_LENGTH};
@@ -19,12 +19,13 @@ fn write_page<D: Disk>(disk: &mut D, at: u64, payload: &[u8], i: u32) -> Result<
     ensures ok { D.honest disk.new → OnOk result ((D.trail disk.new).now.bytes ≡ splice (at + 256 * i + 1) (body_of payload.now i) (D.trail disk.old).now.bytes) }
 
     ensures cause { HasCause (D.failures disk.old) (D.failures disk.new) result }
+    ensures counted { OnOk result (D.failures disk.new ≡ D.failures disk.old) }
 {
     let page = page_of(payload, i);
     disk.write_at(at + PAGE_LENGTH * (i as u64) + 1, &page)
 }
 
-/// Writes a record behind the gates of the pages from this place on, one write a page.
+/// Writes a record on the pages from this place on, all but their gates, one write a page.
 pub(crate) fn stage<D: Disk>(disk: &mut D, at: u64, payload: &[u8]) -> Result<(), DiskFault>
     requires len { length payload.now ≤ LONGEST_PAYLOAD }
     requires room { at + 256 * pages_of (length payload.now) ≤ DISK_LENGTH }
@@ -35,6 +36,7 @@ pub(crate) fn stage<D: Disk>(disk: &mut D, at: u64, payload: &[u8]) -> Result<()
     ensures ok { D.honest disk.new → OnOk result (IsWritten (D.trail disk.new).now.bytes at payload.now) }
 
     ensures cause { HasCause (D.failures disk.old) (D.failures disk.new) result }
+    ensures counted { OnOk result (D.failures disk.new ≡ D.failures disk.old) }
 {
     for i in 0..pages_of(payload.len() as u32) {
         write_page(disk, at, payload, i)?;

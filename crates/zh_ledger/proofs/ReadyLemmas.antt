@@ -13,7 +13,7 @@ use Rattle.zh_ledger.proofs.RoomLemmas.{stored_ready}
 -- what it becomes
 pub becomes_ready : (s : Ledger) (c : Command) (accepted failures failures' : ℕ) (outcome : Outcome) (new : Ledger) → IsSpeakable c → StoredOrDevice accepted failures failures' outcome → Becomes (ready s c) c outcome new → Becomes s c outcome new
 becomes_ready s c accepted failures failures' outcome new speakable results by = ⊎_elim
-    (λ is. subst (λ (o : Outcome). Becomes s c o new) (sym is) (subst (λ (o : Outcome). Becomes (ready s c) c o new) is by ∙ stored_ready s c speakable))
+    (λ is. subst (λ (o : Outcome). Becomes s c o new) (sym is.0) (subst (λ (o : Outcome). Becomes (ready s c) c o new) is.0 by ∙ stored_ready s c speakable))
     (λ is.
     let faulted : IsFaulted (ready s c) new = subst (λ (o : Outcome). Becomes (ready s c) c o new) is.0 by in
     subst (λ (o : Outcome). Becomes s c o new) (sym is.0) (record { tally = faulted.tally; broken = faulted.broken })) results
@@ -38,6 +38,6 @@ module _ (s : Ledger) (c : Command) (speakable : IsSpeakable c) (t0 t1 t2 : Trai
   pub leaves_ready : (accepted failures failures' : ℕ) (outcome : Outcome) → StoredOrDevice accepted failures failures' outcome → LeavesBy (ready s c) c outcome t1 t2 → LeavesBy s c outcome t0 t2
   leaves_ready accepted failures failures' outcome results leaves = ⊎_elim
       (λ is.
-      let both = subst (λ (o : Outcome). LeavesBy (ready s c) c o t1 t2) is leaves in
-      subst (λ (o : Outcome). LeavesBy s c o t0 t2) (sym is) (each_moment both.0, last_moment both.1))
+      let both = subst (λ (o : Outcome). LeavesBy (ready s c) c o t1 t2) is.0 leaves in
+      subst (λ (o : Outcome). LeavesBy s c o t0 t2) (sym is.0) (each_moment both.0, last_moment both.1))
       (λ is. subst (λ (o : Outcome). LeavesBy s c o t0 t2) (sym is.0) (each_moment (subst (λ (o : Outcome). LeavesBy (ready s c) c o t1 t2) is.0 leaves))) results

@@ -35,9 +35,9 @@ lacks_room ledger command = not (has_room ledger command) && (ledger.store.gener
 abbrev pub is_spent : Ledger → Command → Bool
 is_spent ledger command = (ledger.tally.accepted == 2 ^ 64 - 1) || lacks_room ledger command
 
--- it is stored as the next one, or the device failed, and then the disk's failure count rose
+-- it is stored as the next one, and no call of the disk failed; or the device failed, and then the disk's failure count rose
 abbrev pub StoredOrDevice : ℕ → ℕ → ℕ → Outcome → Type 0
-StoredOrDevice accepted failures failures' outcome = (outcome ≡ Stored (accepted + 1)) ⊎ ((outcome ≡ Device) × HasRisen failures failures')
+StoredOrDevice accepted failures failures' outcome = ((outcome ≡ Stored (accepted + 1)) × (failures' ≡ failures)) ⊎ ((outcome ≡ Device) × HasRisen failures failures')
 
 -- the outcomes for a command that is judged acceptable: spent exactly where it is, and else one of those two
 abbrev pub MayStoreWhere : Bool → ℕ → ℕ → ℕ → Outcome → Type 0

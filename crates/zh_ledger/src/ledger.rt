@@ -127,6 +127,7 @@ impl<'s> Ledger<'s> {
         ensures untouched { IsErrOf result SwitchFault.Spent → (disk.new ≡ disk.old) × (self.new ≡ self.old) }
         ensures later { D.failures disk.old ≤ D.failures disk.new }
         ensures cause { IsErrOf result SwitchFault.Device → HasRisen (D.failures disk.old) (D.failures disk.new) }
+        ensures counted { OnOk result (D.failures disk.new ≡ D.failures disk.old) }
         ensures kept { D.honest disk.new → D.honest disk.old }
         ensures any_moment { D.honest disk.new → Leaves (Keeps self.old) (D.trail disk.old) (D.trail disk.new) }
         ensures outside { D.honest disk.new → Leaves SameOutsideSlots (D.trail disk.old) (D.trail disk.new) }

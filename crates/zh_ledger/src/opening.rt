@@ -48,6 +48,7 @@ impl<'s> Ledger<'s> {
         ensures untouched { IsErrOf result FormatFault.Memory → disk.new ≡ disk.old }
         ensures later { D.failures disk.old ≤ D.failures disk.new }
         ensures cause { IsErrOf result FormatFault.Device → HasRisen (D.failures disk.old) (D.failures disk.new) }
+        ensures counted { OnOk result (D.failures disk.new ≡ D.failures disk.old) }
     {
         let bytes = setup_bytes(alloc, setup)?;
         let mut first = buffer(alloc)?;

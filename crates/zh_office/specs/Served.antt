@@ -75,17 +75,17 @@ pub record TakesBlock (honest : Type 0) (writer writer' : Option (List ℕ)) (ol
   pub left : line' ≡ truncated (unfinished (line ++ block))
   pub counted : count ≡ length (ended_lines (line ++ block))
 
--- what the reader lost was taken by so many reads, of a byte at least and 8,192 bytes at most
+-- so many reads, of a byte at least and 8,192 bytes at most, can have taken what the reader lost
 pub record TakesReads (reader reader' : Option (List ℕ)) (reads : ℕ) : Type 0 where
   pub bytes : List ℕ
   pub taken : Consumes reader reader' bytes
   pub least : reads ≤ length bytes
   pub most : length bytes ≤ 8192 * reads
 
--- it was taken by fewer such reads than this
+-- fewer such reads than this can have taken it
 abbrev pub TakesFewerReads : Option (List ℕ) → Option (List ℕ) → ℕ → Type 0
 TakesFewerReads reader reader' bound = (reads : ℕ) × (reads < bound) × TakesReads reader reader' reads
 
--- it was taken by this many such reads at most
+-- this many such reads at most can have taken it
 abbrev pub TakesReadsUpTo : Option (List ℕ) → Option (List ℕ) → ℕ → Type 0
 TakesReadsUpTo reader reader' bound = (reads : ℕ) × (reads ≤ bound) × TakesReads reader reader' reads

@@ -22,6 +22,7 @@ fn close_disk<D: Disk>(disk: &mut D) -> Result<(), DiskFault>
     ensures any_moment { D.honest disk.new → Leaves KeptOrBlank (D.trail disk.old) (D.trail disk.new) }
     ensures closed { D.honest disk.new → OnOk result (((D.trail disk.new).now.pending ≡ []) × IsBlank (D.trail disk.new).now.bytes) }
     ensures cause { HasCause (D.failures disk.old) (D.failures disk.new) result }
+    ensures counted { OnOk result (D.failures disk.new ≡ D.failures disk.old) }
 {
     disk.sync()?;
     let mut gate = [0];
@@ -42,6 +43,7 @@ fn write_parts<D: Disk>(disk: &mut D, setup: &[u8], first: &[u8]) -> Result<(), 
     ensures any_moment { D.honest disk.new → Leaves (SameOutside 1 1118719) (D.trail disk.old) (D.trail disk.new) }
     ensures written { D.honest disk.new → OnOk result (HasParts setup.now first.now (D.trail disk.new).now.bytes) }
     ensures cause { HasCause (D.failures disk.old) (D.failures disk.new) result }
+    ensures counted { OnOk result (D.failures disk.new ≡ D.failures disk.old) }
 {
     disk.write_at(HEADER, &header_bytes(setup.len() as u32))?;
     disk.write_at(SETUP, setup)?;
@@ -60,6 +62,7 @@ fn empty_slots<D: Disk>(disk: &mut D, zeros: &[u8]) -> Result<(), FormatFault>
     ensures memory { result ≢ Err FormatFault.Memory }
     ensures later { D.failures disk.old ≤ D.failures disk.new }
     ensures cause { IsErrOf result FormatFault.Device → HasRisen (D.failures disk.old) (D.failures disk.new) }
+    ensures counted { OnOk result (D.failures disk.new ≡ D.failures disk.old) }
 {
     Area::clear(disk, Slot::First.journal(), zeros)?;
     disk.write_at(Slot::Second.head(), &[0; 9])?;
@@ -85,6 +88,7 @@ impl Store {
         ensures untouched { IsErrOf result FormatFault.Memory → disk.new ≡ disk.old }
         ensures later { D.failures disk.old ≤ D.failures disk.new }
         ensures cause { IsErrOf result FormatFault.Device → HasRisen (D.failures disk.old) (D.failures disk.new) }
+        ensures counted { OnOk result (D.failures disk.new ≡ D.failures disk.old) }
     {
         let zeros = zeros(alloc, AREA_LENGTH as usize)?;
         close_disk(disk)?;

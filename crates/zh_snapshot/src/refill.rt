@@ -18,6 +18,7 @@ fn close_slot<D: Disk>(disk: &mut D, slot: Slot, is_open: bool) -> Result<(), Di
     ensures closed { D.honest disk.new → OnOk result (Moves (IsClosed slot is_open) (D.trail disk.old).now (D.trail disk.new).now) }
 
     ensures cause { HasCause (D.failures disk.old) (D.failures disk.new) result }
+    ensures counted { OnOk result (D.failures disk.new ≡ D.failures disk.old) }
 {
     if is_open {
         disk.write_at(slot.head(), &[0])?;
@@ -46,6 +47,7 @@ fn fill_slot<D: Disk>(
     ensures empty { IfOk result (λ a. a ≡ record { base = journal_at slot; end = 0; count = 0 }) }
     ensures later { D.failures disk.old ≤ D.failures disk.new }
     ensures cause { IsErrOf result AreaFault.Device → HasRisen (D.failures disk.old) (D.failures disk.new) }
+    ensures counted { OnOk result (D.failures disk.new ≡ D.failures disk.old) }
 {
     disk.write_at(slot.generation(), &generation.to_be_bytes())?;
     disk.write_at(slot.snapshot(), payload)?;
@@ -75,6 +77,7 @@ pub(crate) fn refill<D: Disk>(
     ensures empty { IfOk result (λ a. a ≡ record { base = journal_at slot; end = 0; count = 0 }) }
     ensures later { D.failures disk.old ≤ D.failures disk.new }
     ensures cause { IsErrOf result AreaFault.Device → HasRisen (D.failures disk.old) (D.failures disk.new) }
+    ensures counted { OnOk result (D.failures disk.new ≡ D.failures disk.old) }
 {
     close_slot(disk, slot, is_open)?;
     let area = fill_slot(disk, slot, generation, payload, zeros)?;

@@ -227,13 +227,13 @@ impl Store {
 
         ensures ok { OnOk result (self.new ≡ longer self.old (length payload.now)) }
         ensures device { IsErrOf result AppendFault.Device → self.new ≡ record self.old { broken = true } }
-
         ensures broken { (result ≡ Err AppendFault.Broken) ↔ (self.old.broken ≡ true) }
         ensures full { (result ≡ Err AppendFault.Full) ↔ ((self.old.broken ≡ false) × (pages_left self.old.area < pages_of (length payload.now))) }
         ensures untouched { (IsErrOf result AppendFault.Broken → (disk.new ≡ disk.old) × (self.new ≡ self.old)) × (IsErrOf result AppendFault.Full → (disk.new ≡ disk.old) × (self.new ≡ self.old)) }
 
         ensures later { D.failures disk.old ≤ D.failures disk.new }
         ensures cause { IsErrOf result AppendFault.Device → HasRisen (D.failures disk.old) (D.failures disk.new) }
+        ensures counted { OnOk result (D.failures disk.new ≡ D.failures disk.old) }
     {
         if self.broken {
             return Err(AppendFault::Broken);

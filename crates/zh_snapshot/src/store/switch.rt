@@ -36,6 +36,7 @@ impl Store {
 
         ensures later { D.failures disk.old ≤ D.failures disk.new }
         ensures cause { IsErrOf result SwitchFault.Device → HasRisen (D.failures disk.old) (D.failures disk.new) }
+        ensures counted { OnOk result (D.failures disk.new ≡ D.failures disk.old) }
     {
         if self.broken {
             return Err(SwitchFault::Broken);

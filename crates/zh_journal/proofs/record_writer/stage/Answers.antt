@@ -1,4 +1,4 @@
-use Rattle.std.proofs.Common.{◌≡◌, ℕ, ◌*◌, ◌++◌, take, length, subst, arith}
+use Rattle.std.proofs.Common.{◌≡◌, ◌∙◌, ℕ, ◌*◌, ◌++◌, take, length, subst, arith}
 use Rattle.zh_disk.proofs.CallerLemmas.{leaves_more, leaves_weaken}
 use Rattle.zh_journal.specs.Pages.{bodies, spelling, zeros, pages_of, SameButBodies}
 use Rattle.zh_journal.proofs.PageLemmas.{but_refl, but_trans, one_page, staged_next}
@@ -15,6 +15,7 @@ loop-i-preserved g c =
     let n = pages_of (length c.args.payload.now) in
     record {
       later = omega arith;
+      counted = c.in_ok-write_page.ensures.counted ∙ c.loop-i.invariant.counted;
       kept = λ h. c.loop-i.invariant.kept (c.write_page.ensures.kept h);
       moments = λ h. leaves_more (SameButBodies c.args.at n) _ _ _ (but_refl c.args.at n) (but_trans c.args.at n) (c.loop-i.invariant.moments (c.write_page.ensures.kept h))
           (leaves_weaken _ _ _ _ (λ x f image by. one_page c.args.at n c.loop-i.i (omega arith) x f by) (c.write_page.ensures.any_moment h));

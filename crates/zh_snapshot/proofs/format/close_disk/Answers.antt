@@ -43,3 +43,10 @@ returns-in_ok-sync-2-clause-any_moment g c = λ h.
 
 pub returns-else-gate-clause-any_moment : goal.returns-else-gate-clause-any_moment
 returns-else-gate-clause-any_moment g c = λ h. at_read _ _ (c.in_ok-sync.ensures.synced (c.in_ok-read_at.ensures.kept h)) _ (c.in_ok-read_at.ensures.read h).same
+
+pub returns-in_ok-sync-2-clause-counted : goal.returns-in_ok-sync-2-clause-counted
+returns-in_ok-sync-2-clause-counted g c =
+    c.in_ok-sync-2.ensures.counted ∙ c.in_ok-write_at.ensures.counted ∙ c.in_ok-read_at.ensures.counted ∙ c.in_ok-sync.ensures.counted
+
+pub returns-else-gate-clause-counted : goal.returns-else-gate-clause-counted
+returns-else-gate-clause-counted g c = c.in_ok-read_at.ensures.counted ∙ c.in_ok-sync.ensures.counted

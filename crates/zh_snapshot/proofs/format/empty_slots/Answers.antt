@@ -28,3 +28,6 @@ returns-clause-emptied g c = λ h.
     let h0 = c.clear.ensures.kept h1 in
     emptied _ (g.D.Disk.trail c.clear.new.disk).now.bytes _ (g.met.D.Disk.size c.args.disk.now h0) (subst (λ (n : ℕ). IsCleared n (g.D.Disk.trail c.args.disk.now).now.bytes (g.D.Disk.trail c.clear.new.disk).now.bytes) c.journal.ensures (c.in_ok-clear.ensures.cleared h1))
     (ap (λ (t : Trail). t.now.bytes) (c.in_ok-write_at.ensures.written h).ok ∙ ap (λ (n : ℕ). splice n (0 ∷ 0 ∷ 0 ∷ 0 ∷ 0 ∷ 0 ∷ 0 ∷ 0 ∷ 0 ∷ []) (g.D.Disk.trail c.clear.new.disk).now.bytes) c.head.ensures)
+
+pub returns-clause-counted : goal.returns-clause-counted
+returns-clause-counted g c = c.in_ok-write_at.ensures.counted ∙ c.in_ok-clear.ensures.counted

@@ -62,3 +62,9 @@ returns-clause-written g c = λ h.
 pub returns-clause-kept : goal.returns-clause-kept
 returns-clause-kept g c = λ h.
     c.in_ok-write_at.ensures.kept (c.in_ok-write_at-2.ensures.kept (c.in_ok-write_at-3.ensures.kept (c.write_at-4.ensures.kept h)))
+
+pub returns-clause-counted : goal.returns-clause-counted
+returns-clause-counted g c =
+    on_ok_by c.write_at-4.result _ _
+    (λ same. same ∙ c.in_ok-write_at-3.ensures.counted ∙ c.in_ok-write_at-2.ensures.counted ∙ c.in_ok-write_at.ensures.counted)
+    c.write_at-4.ensures.counted

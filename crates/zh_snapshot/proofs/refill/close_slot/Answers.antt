@@ -1,3 +1,4 @@
+use Rattle.std.proofs.Common.{◌∙◌}
 use Rattle.zh_snapshot.proofs.FillLemmas.{named, at_write, at_sync, closed_at_end}
 use Rattle.zh_snapshot.proofs.refill.close_slot.Goals as goal
 
@@ -23,3 +24,6 @@ returns-in_ok-sync-clause-closed g c = λ h.
     let h1 = c.in_ok-sync.ensures.kept h in
     closed_at_end c.args.slot c.args.is_open _ _ _ (g.met.D.Disk.size c.args.disk.now (c.in_ok-write_at.ensures.kept h1))
     (named _ _ _ _ _ _ c.head.ensures (c.in_ok-write_at.ensures.written h1)) (c.in_ok-sync.ensures.synced h)
+
+pub returns-in_ok-sync-clause-counted : goal.returns-in_ok-sync-clause-counted
+returns-in_ok-sync-clause-counted g c = c.in_ok-sync.ensures.counted ∙ c.in_ok-write_at.ensures.counted

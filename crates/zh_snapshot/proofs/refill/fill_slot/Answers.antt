@@ -44,3 +44,9 @@ returns-clause-filled g c = λ h.
     (ap (λ (t : Trail). t.now.bytes) (c.in_ok-write_at-2.ensures.written h2).ok ∙ ap (λ (n : ℕ). splice n c.args.payload.now b1) c.snapshot.ensures)
     (subst (λ (n : ℕ). IsCleared n b2 b3) c.journal.ensures is))
     (c.clear.ensures.cleared h)
+
+pub returns-clause-counted : goal.returns-clause-counted
+returns-clause-counted g c =
+    on_ok_by c.clear.result _ _
+    (λ same. same ∙ c.in_ok-write_at-2.ensures.counted ∙ c.in_ok-write_at.ensures.counted)
+    c.clear.ensures.counted

@@ -37,3 +37,6 @@ returns-clause-refilled g c = λ h.
     at_end c.args.slot c.args.is_open c.args.generation c.args.payload.now (g.D.Disk.trail c.args.disk.now) (g.D.Disk.trail c.close_slot.new.disk) (g.met.D.Disk.size c.args.disk.now (c.close_slot.ensures.kept h1)) (c.close_slot.ensures.any_moment h1)
     (c.in_ok-close_slot.ensures.closed h1) (g.D.Disk.trail c.fill_slot.new.disk) (c.fill_slot.ensures.any_moment h2) (g.met.D.Disk.size c.fill_slot.new.disk h2) (c.in_ok-area.ensures.filled h2) (g.D.Disk.trail c.open_gate.new.disk)
     (c.in_ok-open_gate.ensures.ok h ∙ ap (λ (n : ℕ). settled (splice n (165 ∷ []) (g.D.Disk.trail c.fill_slot.new.disk).now.bytes)) c.head.ensures)
+
+pub returns-clause-counted : goal.returns-clause-counted
+returns-clause-counted g c = c.in_ok-open_gate.ensures.counted ∙ c.in_ok-area.ensures.counted ∙ c.in_ok-close_slot.ensures.counted

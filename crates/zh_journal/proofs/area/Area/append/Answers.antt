@@ -1,4 +1,4 @@
-use Rattle.std.proofs.Common.{rules, ap, arith, subst}
+use Rattle.std.proofs.Common.{◌∙◌, rules, ap, arith, subst}
 use Rattle.zh_disk.specs.Disk.{Moment, Leaves, Moves}
 use Rattle.zh_journal.specs.Pages.{AddsOrNot, Adds}
 use Rattle.zh_journal.specs.Place.{Place}
@@ -39,3 +39,6 @@ returns-clause-err g c = tt
 
 pub returns-clause-cause : goal.returns-clause-cause
 returns-clause-cause g c = λ is. absurd (cc)
+
+pub returns-clause-counted : goal.returns-clause-counted
+returns-clause-counted g c = c.in_ok-open_gate.ensures.counted ∙ c.in_ok-stage.ensures.counted

@@ -66,7 +66,7 @@ returns-in-Ok-clause-results g c =
     let x = c.args.command.now in
     let stepped = c.count.ensures ∙ c.apply.ensures ∙ ap (λ (y : Ledger). step y.tally x) c.self.view_is in
     let more : (step tally x).accepted ≡ tally.accepted + 1 = ap (λ (v : Verdict). (on_verdict v (changed tally x) tally).accepted) c.requires.accept in
-    inl (ap Stored (c.accepted.ensures.accepted ∙ ap (λ (t : Tally). t.accepted) stepped ∙ more))
+    inl (ap Stored (c.accepted.ensures.accepted ∙ ap (λ (t : Tally). t.accepted) stepped ∙ more), c.in-Ok.ensures.counted)
 
 pub returns-in-Ok-clause-after : goal.returns-in-Ok-clause-after
 returns-in-Ok-clause-after g c = search rules

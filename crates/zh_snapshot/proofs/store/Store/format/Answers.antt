@@ -1,4 +1,4 @@
-use Rattle.std.proofs.Common.{◌≡◌, Result, Err, arith, refl, ap}
+use Rattle.std.proofs.Common.{◌≡◌, ◌∙◌, Result, Err, arith, refl, ap}
 use Rattle.zh_snapshot.specs.declared.fault.FormatFault.{FormatFault}
 use Rattle.zh_snapshot.specs.declared.fault.FormatFault.TheVariants.{Memory, Device}
 use Rattle.zh_snapshot.proofs.FormatLemmas.{opened}
@@ -70,3 +70,7 @@ returns-in_err-open_gate-clause-kept g c = λ h.
 pub returns-clause-kept : goal.returns-clause-kept
 returns-clause-kept g c = λ h.
     c.close_disk.ensures.kept (c.write_parts.ensures.kept (c.empty_slots.ensures.kept (c.open_gate.ensures.kept h)))
+
+pub returns-clause-counted : goal.returns-clause-counted
+returns-clause-counted g c =
+    c.in_ok-open_gate.ensures.counted ∙ c.in_ok-empty_slots.ensures.counted ∙ c.in_ok-write_parts.ensures.counted ∙ c.in_ok-close_disk.ensures.counted

@@ -33,3 +33,6 @@ returns-in-Err-clause-outside g c = λ h.
     switch_around c.args.self.now c.other-slot.result c.self.inside.other_open (c.self.inside.generation + 1) c.args.payload.now (g.D.Disk.trail c.args.disk.now) (g.D.Disk.trail c.refill.new.disk)
     (c.other-slot.ensures ∙ ap (λ (s : State). other s.slot) c.self.view_is) (ap (λ (s : State). s.other_open) c.self.view_is) (ap (λ (s : State). s.generation + 1) c.self.view_is)
     (c.refill.ensures.any_moment h)
+
+pub returns-in-Ok-clause-counted : goal.returns-in-Ok-clause-counted
+returns-in-Ok-clause-counted g c = c.in-Ok.ensures.counted
