@@ -1,5 +1,5 @@
 //! The head of a page: gate, page count, payload length.
-ghost use Rattle.std.specs.Prelude.{◌≡◌, ◌+◌, ◌*◌, ◌≤◌, ℕ, List, length, slice_range, IfOk};
+ghost use Rattle.std.specs.Prelude.{◌≡◌, ◌+◌, ◌*◌, ◌≤◌, ℕ, List, length, slice_range, IfOk, OnOk};
 ghost use Rattle.zh_disk.specs.Disk.{HasCause};
 ghost use Rattle.zh_disk.specs.declared.disk.TheConstants.{DISK_LENGTH};
 ghost use Rattle.zh_journal.specs.Heads.{Heads, TakesAtMost};
@@ -45,6 +45,7 @@ pub(crate) fn read_head<D: Disk>(disk: &mut D, at: u64, left: u32) -> Result<Hea
     ensures pages { IfOk result (λ head. TakesAtMost left head) }
     ensures same { D.honest disk.new → D.trail disk.new ≡ D.trail disk.old }
     ensures cause { HasCause (D.failures disk.old) (D.failures disk.new) result }
+    ensures counted { OnOk result (D.failures disk.new ≡ D.failures disk.old) }
 {
     let mut head = [0; 4];
     disk.read_at(at, &mut head)?;

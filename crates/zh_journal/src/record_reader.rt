@@ -29,6 +29,7 @@ fn read_page<D: Disk>(
 
     ensures same { D.honest disk.new → D.trail disk.new ≡ D.trail disk.old }
     ensures cause { HasCause (D.failures disk.old) (D.failures disk.new) result }
+    ensures counted { OnOk result (D.failures disk.new ≡ D.failures disk.old) }
 {
     let from = (255 * i).saturating_sub(3);
     let to = (255 * i + 252).min(len);
@@ -54,6 +55,7 @@ fn read_payload<D: Disk>(
 
     ensures same { D.honest disk.new → D.trail disk.new ≡ D.trail disk.old }
     ensures cause { HasCause (D.failures disk.old) (D.failures disk.new) result }
+    ensures counted { OnOk result (D.failures disk.new ≡ D.failures disk.old) }
 {
     for i in 0..pages_of(len) {
         read_page(disk, at, len, i, buffer)?;
@@ -78,6 +80,7 @@ pub(crate) fn read_record<D: Disk>(
     ensures len { IfOk result (λ len. (len ≤ LONGEST_PAYLOAD) × (1 ≤ len → pages_of len ≤ left)) }
     ensures same { D.honest disk.new → D.trail disk.new ≡ D.trail disk.old }
     ensures cause { HasCause (D.failures disk.old) (D.failures disk.new) result }
+    ensures counted { OnOk result (D.failures disk.new ≡ D.failures disk.old) }
 {
     if left == 0 {
         return Ok(0);
@@ -100,6 +103,7 @@ pub(crate) fn find_page<D: Disk>(disk: &mut D, base: u64, i: u32) -> Result<u32,
     ensures inside { IfOk result (λ page. page ≤ AREA_PAGES) }
     ensures same { D.honest disk.new → D.trail disk.new ≡ D.trail disk.old }
     ensures cause { HasCause (D.failures disk.old) (D.failures disk.new) result }
+    ensures counted { OnOk result (D.failures disk.new ≡ D.failures disk.old) }
 {
     let mut page = 0;
     for _passed in 0..i {

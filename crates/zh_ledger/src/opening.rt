@@ -81,6 +81,7 @@ impl<'s> Ledger<'s> {
         ensures untouched { IsErrOf result OpenFault.Memory → disk.new ≡ disk.old }
         ensures later { D.failures disk.old ≤ D.failures disk.new }
         ensures cause { IsErrOf result OpenFault.Device → HasRisen (D.failures disk.old) (D.failures disk.new) }
+        ensures counted { OnOk result (D.failures disk.new ≡ D.failures disk.old) }
     {
         let bytes = setup_bytes(alloc, setup)?;
         let mut buffer = buffer(alloc)?;
@@ -118,6 +119,7 @@ fn read_count<D: Disk>(
     ensures memory { result ≢ Err OpenFault.Memory }
     ensures later { D.failures disk.old ≤ D.failures disk.new }
     ensures cause { IsErrOf result OpenFault.Device → HasRisen (D.failures disk.old) (D.failures disk.new) }
+    ensures counted { OnOk result (D.failures disk.new ≡ D.failures disk.old) }
 {
     if !store.setup_equals(disk, setup)? {
         return Err(OpenFault::SetupDiffers);

@@ -73,6 +73,7 @@ impl<'s> Office<'s> {
         ensures untouched { IsErrOf result OpenFault.Memory → disk.new ≡ disk.old }
         ensures later { D.failures disk.old ≤ D.failures disk.new }
         ensures cause { IsErrOf result OpenFault.Device → HasRisen (D.failures disk.old) (D.failures disk.new) }
+        ensures counted { OnOk result (D.failures disk.new ≡ D.failures disk.old) }
     {
         let rows = row_bytes(alloc)?;
         let ledger = Ledger::open(alloc, setup, disk)?;

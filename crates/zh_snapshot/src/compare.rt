@@ -1,5 +1,5 @@
 //! Bytes of a disk beside those of a caller.
-ghost use Rattle.std.specs.Prelude.{◌≡◌, ◌+◌, ◌≤◌, ◌↔◌, length, slice_range, IsTrue, IfOk};
+ghost use Rattle.std.specs.Prelude.{◌≡◌, ◌+◌, ◌≤◌, ◌↔◌, length, slice_range, IsTrue, IfOk, OnOk};
 ghost use Rattle.zh_disk.specs.Disk.{HasCause};
 ghost use Rattle.zh_disk.specs.declared.disk.TheConstants.{DISK_LENGTH};
 
@@ -14,6 +14,7 @@ pub(crate) fn stand_at<D: Disk>(disk: &mut D, at: u64, bytes: &[u8]) -> Result<b
 
     ensures same { D.honest disk.new → D.trail disk.new ≡ D.trail disk.old }
     ensures cause { HasCause (D.failures disk.old) (D.failures disk.new) result }
+    ensures counted { OnOk result (D.failures disk.new ≡ D.failures disk.old) }
 {
     let mut buffer = [0; 256];
     let mut done = 0;
@@ -44,6 +45,7 @@ pub(crate) fn lend<'b, D: Disk>(
     ensures len { IfOk result (λ bytes. length bytes.now ≡ n) }
     ensures same { D.honest disk.new → D.trail disk.new ≡ D.trail disk.old }
     ensures cause { HasCause (D.failures disk.old) (D.failures disk.new) result }
+    ensures counted { OnOk result (D.failures disk.new ≡ D.failures disk.old) }
 {
     disk.read_at(at, &mut buffer[..n])?;
     Ok(&buffer[..n])

@@ -1,5 +1,5 @@
 //! What stands at the heads of a disk and of a slot.
-ghost use Rattle.std.specs.Prelude.{◌≡◌, ◌≢◌, ◌≤◌, ℕ, List, Some, slice_index, slice_range, IfOk, IsErrOf};
+ghost use Rattle.std.specs.Prelude.{◌≡◌, ◌≢◌, ◌≤◌, ℕ, List, Some, slice_index, slice_range, IfOk, OnOk, IsErrOf};
 ghost use Rattle.zh_disk.specs.Disk.{HasCause};
 ghost use Rattle.zh_journal.specs.Cause.{HasRisen};
 ghost use Rattle.zh_snapshot.specs.Image.{IsBlank, header_bytes};
@@ -27,6 +27,7 @@ pub(crate) fn open_header<D: Disk>(disk: &mut D) -> Result<u32, OpenFault>
     ensures same { D.honest disk.new → D.trail disk.new ≡ D.trail disk.old }
     ensures later { D.failures disk.old ≤ D.failures disk.new }
     ensures cause { IsErrOf result OpenFault.Device → HasRisen (D.failures disk.old) (D.failures disk.new) }
+    ensures counted { OnOk result (D.failures disk.new ≡ D.failures disk.old) }
 {
     let mut head = [0; 15];
     disk.read_at(0, &mut head)?;
@@ -46,6 +47,7 @@ fn read_head<D: Disk>(disk: &mut D, slot: Slot) -> Result<Option<u64>, DiskFault
 
     ensures same { D.honest disk.new → D.trail disk.new ≡ D.trail disk.old }
     ensures cause { HasCause (D.failures disk.old) (D.failures disk.new) result }
+    ensures counted { OnOk result (D.failures disk.new ≡ D.failures disk.old) }
 {
     let mut head = [0; 9];
     disk.read_at(slot.head(), &mut head)?;
@@ -107,6 +109,7 @@ pub(crate) fn find_slot<D: Disk>(disk: &mut D) -> Result<Option<InUse>, DiskFaul
 
     ensures same { D.honest disk.new → D.trail disk.new ≡ D.trail disk.old }
     ensures cause { HasCause (D.failures disk.old) (D.failures disk.new) result }
+    ensures counted { OnOk result (D.failures disk.new ≡ D.failures disk.old) }
 {
     let first = read_head(disk, Slot::First)?;
     let second = read_head(disk, Slot::Second)?;

@@ -59,26 +59,23 @@ impl Store {
         // At each moment an image is one from the start, and after the sync what a read gave.
         ensures any_moment { D.honest disk.new → Leaves (Settles (D.trail disk.old).now.bytes) (D.trail disk.old) (D.trail disk.new) }
         ensures settled { D.honest disk.new → OnOk result ((D.trail disk.new).now ≡ settled (D.trail disk.old).now.bytes) }
-
         ensures framed { D.honest disk.new → IfOk result (λ opened. (x : Content) × (j : ℕ) × IsFramed x j (D.trail disk.old).now.bytes × Fits opened.0 x j (D.trail disk.old).now.bytes) }
 
         // This is the content of the disk; a blank or damaged one has none.
         ensures content { D.honest disk.new → IfOk result (λ opened. (x : Content) × (content_of (D.trail disk.old).now.bytes ≡ Some x) × (length x.records ≡ opened.0.area.count)) }
         ensures none { D.honest disk.new → (IsErrOf result OpenFault.Blank → content_of (D.trail disk.old).now.bytes ≡ None) × (IsErrOf result OpenFault.Damaged → content_of (D.trail disk.old).now.bytes ≡ None) }
-
         ensures whole { IfOk result (λ opened. opened.0.broken ≡ false) }
 
         // The reader has all records left.
         ensures left { D.honest disk.new → (x : Content) (j : ℕ) → IsFramed x j (D.trail disk.old).now.bytes → IfOk result (λ opened. Frames 0 opened.1.pages opened.1.page x.records opened.1.end) }
-
         ensures blank { D.honest disk.new → IsErrOf result OpenFault.Blank → IsBlank (D.trail disk.old).now.bytes }
 
         // It is damaged where the disk gate is open, and no content is framed.
         ensures damaged { D.honest disk.new → IsErrOf result OpenFault.Damaged → (IsBlank (D.trail disk.old).now.bytes → ⊥) × ((x : Content) (j : ℕ) → IsFramed x j (D.trail disk.old).now.bytes → ⊥) }
-
         ensures untouched { IsErrOf result OpenFault.Memory → disk.new ≡ disk.old }
         ensures later { D.failures disk.old ≤ D.failures disk.new }
         ensures cause { IsErrOf result OpenFault.Device → HasRisen (D.failures disk.old) (D.failures disk.new) }
+        ensures counted { OnOk result (D.failures disk.new ≡ D.failures disk.old) }
     {
         let pages = zeros(alloc, AREA_LENGTH as usize)?;
         let zeros = zeros(alloc, AREA_LENGTH as usize)?;
@@ -108,6 +105,7 @@ impl Store {
         ensures same { D.honest disk.new → D.trail disk.new ≡ D.trail disk.old }
         ensures later { D.failures disk.old ≤ D.failures disk.new }
         ensures cause { IsErrOf result OpenFault.Device → HasRisen (D.failures disk.old) (D.failures disk.new) }
+        ensures counted { OnOk result (D.failures disk.new ≡ D.failures disk.old) }
     {
         let setup_length = open_header(disk)?;
         let Some(found) = find_slot(disk)? else {
@@ -130,10 +128,10 @@ impl Store {
     pub fn setup_equals<D: Disk>(&self, disk: &mut D, setup: &[u8]) -> Result<bool, StoreFault>
         ensures kept { D.honest disk.new → D.honest disk.old }
         ensures equal { D.honest disk.new → (x : Content) (j : ℕ) → IsFramed x j (D.trail disk.old).now.bytes → length x.setup ≡ self.now.setup_length → IfOk result (λ equal. IsTrue equal ↔ (x.setup ≡ setup.now)) }
-
         ensures same { D.honest disk.new → D.trail disk.new ≡ D.trail disk.old }
         ensures later { D.failures disk.old ≤ D.failures disk.new }
         ensures cause { IsErrOf result StoreFault.Device → HasRisen (D.failures disk.old) (D.failures disk.new) }
+        ensures counted { OnOk result (D.failures disk.new ≡ D.failures disk.old) }
     {
         if setup.len() != self.setup_length as usize {
             return Ok(false);
@@ -151,11 +149,11 @@ impl Store {
 
         ensures kept { D.honest disk.new → D.honest disk.old }
         ensures payload { D.honest disk.new → (x : Content) (j : ℕ) → IsFramed x j (D.trail disk.old).now.bytes → IsInUse self.now.slot (D.trail disk.old).now.bytes → IfOk result (λ payload. payload.now ≡ x.snapshot) }
-
         ensures len { IfOk result (λ payload. length payload.now ≡ SNAPSHOT_LENGTH) }
         ensures same { D.honest disk.new → D.trail disk.new ≡ D.trail disk.old }
         ensures later { D.failures disk.old ≤ D.failures disk.new }
         ensures cause { IsErrOf result StoreFault.Device → HasRisen (D.failures disk.old) (D.failures disk.new) }
+        ensures counted { OnOk result (D.failures disk.new ≡ D.failures disk.old) }
     {
         Ok(lend(disk, self.slot.snapshot(), SNAPSHOT_LENGTH, buffer)?)
     }
@@ -177,6 +175,7 @@ impl Store {
         ensures same { D.honest disk.new → D.trail disk.new ≡ D.trail disk.old }
         ensures later { D.failures disk.old ≤ D.failures disk.new }
         ensures cause { IsErrOf result StoreFault.Device → HasRisen (D.failures disk.old) (D.failures disk.new) }
+        ensures counted { OnOk result (D.failures disk.new ≡ D.failures disk.old) }
     {
         Ok(self.area.record(disk, i, buffer)?)
     }

@@ -22,6 +22,7 @@ loop-passed-preserved g c =
     record {
       inside = omega (arith, takes);
       later = omega arith;
+      counted = c.in_ok-len.ensures.counted ∙ c.loop-passed.invariant.counted;
       kept = λ h. c.loop-passed.invariant.kept (c.in_ok-len.ensures.kept h);
       same = λ h. c.in_ok-len.ensures.same h ∙ c.loop-passed.invariant.same (c.in_ok-len.ensures.kept h);
       found = λ h rs j reads low.
@@ -40,3 +41,6 @@ returns-then-page-eq-AREA_PAGES-clause-found g c = λ h rs j reads low.
     let here = frames_cut c.args.base b p j c.loop-passed._passed rs (omega arith) (c.loop-passed.invariant.found h rs j reads (omega arith)) in
     let room = frames_room c.args.base b p j here.0 (drop (c.loop-passed._passed + 1) rs) here.2 in
     absurd (omega (arith, room, reads.1.0))
+
+pub returns-in_default-clause-counted : goal.returns-in_default-clause-counted
+returns-in_default-clause-counted g c = c.in_ok-len.ensures.counted ∙ c.loop-passed.invariant.counted

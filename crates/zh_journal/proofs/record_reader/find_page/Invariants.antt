@@ -6,6 +6,7 @@ abbrev pub invariant-loop-passed : goal.invariant-loop-passed
 invariant-loop-passed g l = record {
   inside : l.page ≤ 1024;
   later : g.D.Disk.failures l.initial.disk ≤ g.D.Disk.failures l.disk;
+  counted : g.D.Disk.failures l.disk ≡ g.D.Disk.failures l.initial.disk;
   kept : g.D.Disk.honest l.disk → g.D.Disk.honest l.initial.disk;
   same : g.D.Disk.honest l.disk → g.D.Disk.trail l.disk ≡ g.D.Disk.trail l.initial.disk;
   found : g.D.Disk.honest l.disk → (rs : List (List ℕ)) (j : ℕ) → Reads l.base (g.D.Disk.trail l.initial.disk).now.bytes rs j → l._passed ≤ length rs → Frames l.base (g.D.Disk.trail l.initial.disk).now.bytes l.page (drop l._passed rs) j;

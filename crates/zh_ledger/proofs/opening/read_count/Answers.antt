@@ -126,3 +126,6 @@ decode-requires g c = c.requires.count
 
 pub returns-clause-later : goal.returns-clause-later
 returns-clause-later g c = omega (arith, c.setup_equals.ensures.later, c.snapshot.ensures.later)
+
+pub returns-clause-counted : goal.returns-clause-counted
+returns-clause-counted g c = c.in_ok-snapshot.ensures.counted ∙ c.in_ok-setup_equals.ensures.counted

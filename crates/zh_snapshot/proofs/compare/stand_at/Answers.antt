@@ -21,6 +21,7 @@ pub loop-done-preserved : goal.loop-done-preserved
 loop-done-preserved g c = record {
   inside = omega arith;
   later = omega arith;
+  counted = c.in_ok-stored.ensures.counted ∙ c.loop-done.invariant.counted;
   kept = λ h. c.loop-done.invariant.kept (c.in_ok-stored.ensures.kept h);
   same = λ h. c.in_ok-stored.ensures.same h ∙ c.loop-done.invariant.same (c.in_ok-stored.ensures.kept h);
   equal = λ h.
@@ -35,3 +36,6 @@ loop-done-preserved g c = record {
 
 pub returns-clause-equal : goal.returns-clause-equal
 returns-clause-equal g c = grind (arith, common_steps)
+
+pub returns-then-ne-clause-counted : goal.returns-then-ne-clause-counted
+returns-then-ne-clause-counted g c = c.in_ok-stored.ensures.counted ∙ c.loop-done.invariant.counted

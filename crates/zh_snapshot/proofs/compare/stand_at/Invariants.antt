@@ -6,6 +6,7 @@ abbrev pub invariant-loop-done : goal.invariant-loop-done
 invariant-loop-done g l = record {
   inside : l.done ≤ length l.bytes;
   later : g.D.Disk.failures l.initial.disk ≤ g.D.Disk.failures l.disk;
+  counted : g.D.Disk.failures l.disk ≡ g.D.Disk.failures l.initial.disk;
   kept : g.D.Disk.honest l.disk → g.D.Disk.honest l.initial.disk;
   same : g.D.Disk.honest l.disk → g.D.Disk.trail l.disk ≡ g.D.Disk.trail l.initial.disk;
   equal : g.D.Disk.honest l.disk → slice_range (g.D.Disk.trail l.initial.disk).now.bytes l.at (l.at + l.done) ≡ take l.done l.bytes;

@@ -15,3 +15,6 @@ returns-clause-payload g c = λ h rs j reads low.
     let there = subst (λ (t : Trail). Frames c.self.inside.base t.now.bytes page (here.0 ∷ drop (c.args.i + 1) rs) j) (sym (c.in_ok-page.ensures.same (c.in_ok-len.ensures.kept h))) here.2 in
     let room = frames_room c.self.inside.base b page j here.0 (drop (c.args.i + 1) rs) here.2 in
     here.1 ∙ ap Some (sym (c.in_ok-len.ensures.read h here.0 there.0 there.1.0.0 there.1.0.1 (omega (arith, room, reads.1.0))).1)
+
+pub returns-clause-counted : goal.returns-clause-counted
+returns-clause-counted g c = c.in_ok-len.ensures.counted ∙ c.in_ok-page.ensures.counted

@@ -102,3 +102,6 @@ read_count-requires-clause-count g c = c.in_ok-count.ensures ∙ sym (ap (λ (t 
 
 pub invariant_of-result : goal.invariant_of-result
 invariant_of-result g c = grind (arith, common_steps)
+
+pub returns-clause-counted : goal.returns-clause-counted
+returns-clause-counted g c = c.in_ok-read_count.ensures.counted ∙ c.in_ok-store.ensures.counted

@@ -1,4 +1,5 @@
-use Rattle.std.proofs.Common.{ℕ, List, subst}
+use Rattle.std.proofs.Common.{◌∙◌, ℕ, List, subst}
+use Rattle.zh_journal.proofs.CallerLemmas.{on_ok_by}
 use Rattle.std.specs.Prelude.{IfOk}
 use Rattle.std.proofs.lemmas.Result.{IfOk-weaker}
 use Rattle.zh_journal.specs.Pages.{Frames}
@@ -41,3 +42,6 @@ returns-clause-none g c = λ h.
       λ is. no_content b long (λ x j framed. subst (λ (l : List ℕ). IsBlank l) same (c.read.ensures.blank h is) framed.gate),
       λ is. no_content b long (subst (λ (l : List ℕ). (IsBlank l → ⊥) × ((x : Content) (j : ℕ) → IsFramed x j l → ⊥)) same (c.read.ensures.damaged h is)).1,
     )
+
+pub returns-clause-counted : goal.returns-clause-counted
+returns-clause-counted g c = on_ok_by c.read.result _ _ (λ same. same ∙ c.in_ok-sync.ensures.counted) c.read.ensures.counted

@@ -115,3 +115,6 @@ pub returns-clause-same : goal.returns-clause-same
 returns-clause-same g c = λ h.
     let h2 = c.open.ensures.kept h in
     c.open.ensures.same h ∙ c.find_slot.ensures.same h2 ∙ c.open_header.ensures.same (c.find_slot.ensures.kept h2)
+
+pub returns-clause-counted : goal.returns-clause-counted
+returns-clause-counted g c = c.in_ok-area.ensures.counted ∙ c.in_ok-found.ensures.counted ∙ c.in_ok-setup_length.ensures.counted
