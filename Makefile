@@ -1,17 +1,26 @@
-# Short names for the repository's commands.
-.PHONY: run example test cases refused wrong-bodies bench fmt
+# Short names for the repository's commands. `make` lists them.
+.PHONY: help run build example test check quick cases refused wrong-bodies documents bench fmt
+
+help:
+	@cat scripts/help
 
 run:
-	@cd crates/zhcount && rt run
+	@scripts/run
+
+build:
+	@scripts/build
 
 example:
-	@cd crates/zhcount && rt run < /dev/null > /dev/null
-	@examples/zurich2006/run
+	@scripts/example
 
 test:
-	rt ci
-	@tests/refused_allocations.sh
-	@tests/real_file.sh
+	@scripts/test
+
+check:
+	@scripts/check $(CRATE)
+
+quick:
+	@scripts/quick
 
 cases:
 	@cd crates/zh_cases && rt run > /dev/null
@@ -23,6 +32,9 @@ refused:
 
 wrong-bodies:
 	@tests/wrong_bodies.sh $(CRATES)
+
+documents:
+	@tests/documents
 
 bench:
 	@bench/run
