@@ -46,7 +46,7 @@ fn read_undoubled(alloc: Global, document: &Table) -> Result<Setup, SetupFault>
     ensures { Gives (λ setup. setup) result (undoubled (has_double (table_view document.now)) (setup_of (table_view document.now))) }
 {
     let draft = read_draft(alloc, document)?;
-    if has_double(document) {
+    if has_double(alloc, document)? {
         return Err(SetupFault::Double);
     }
     Ok(Setup::assembled(draft))

@@ -1,11 +1,13 @@
 //! What stands twice in a document.
 
-ghost use Rattle.std.specs.Prelude.{◌≡◌, map};
+ghost use Rattle.std.specs.Prelude.{◌≡◌, map, IfOk};
 ghost use Rattle.std.specs.List.{list_any};
 ghost use Rattle.toml.specs.View.{view, table_view};
 ghost use Rattle.zh_setups.specs.Document.{name_in, stands_in, same_name, same_number, repeats, has_double};
 
 use crate::table::{tables_at, value_of, values};
+use std::alloc::{AllocError, Global};
+use std::collections::BTreeSet;
 use toml::{Table, Value};
 
 fn name_in(value: &Value) -> &str
@@ -20,33 +22,17 @@ fn name_in(value: &Value) -> &str
     }
 }
 
-fn same_name(a: &Value, b: &Value) -> bool
-    ensures { result ≡ same_name (view a.now) (view b.now) }
-{
-    name_in(a) == name_in(b)
-}
-
-fn is_named_among(value: &Value, others: &[Value]) -> bool
-    ensures { result ≡ list_any (same_name (view value.now)) (map view others.now) }
-{
-    for other in others {
-        if same_name(value, other) {
-            return true;
-        }
-    }
-    false
-}
-
 /// Whether two of the tables have equal names.
-fn repeats_name(values: &[Value]) -> bool
-    ensures { result ≡ repeats same_name (map view values.now) }
+fn repeats_name(alloc: Global, values: &[Value]) -> Result<bool, AllocError>
+    ensures { IfOk result (λ repeated. repeated ≡ repeats same_name (map view values.now)) }
 {
-    for (place, value) in values.iter().enumerate() {
-        if is_named_among(value, &values[place + 1..]) {
-            return true;
+    let mut names = BTreeSet::new(alloc);
+    for value in values {
+        if !names.insert(name_in(value))? {
+            return Ok(true);
         }
     }
-    false
+    Ok(false)
 }
 
 fn same_number(a: &Value, b: &Value) -> bool
@@ -105,17 +91,17 @@ fn stands_twice(groups: &[Value]) -> bool
 }
 
 /// Whether two names of one kind are equal, or a group stands twice in one constituency.
-pub(crate) fn has_double(document: &Table) -> bool
-    ensures { result ≡ has_double (table_view document.now) }
+pub(crate) fn has_double(alloc: Global, document: &Table) -> Result<bool, AllocError>
+    ensures { IfOk result (λ double. double ≡ has_double (table_view document.now)) }
 {
-    if repeats_name(tables_at(document, "constituency")) {
-        return true;
+    if repeats_name(alloc, tables_at(document, "constituency"))? {
+        return Ok(true);
     }
-    if repeats_name(tables_at(document, "municipality")) {
-        return true;
+    if repeats_name(alloc, tables_at(document, "municipality"))? {
+        return Ok(true);
     }
-    if repeats_name(tables_at(document, "group")) {
-        return true;
+    if repeats_name(alloc, tables_at(document, "group"))? {
+        return Ok(true);
     }
-    stands_twice(tables_at(document, "group"))
+    Ok(stands_twice(tables_at(document, "group")))
 }

@@ -1,8 +1,14 @@
-use Rattle.std.proofs.Common.{◌≡◌, map, drop}
+use Rattle.std.proofs.Common.{◌≡◌, ◌||◌, map, drop}
+use Rattle.std.specs.BTreeSet.{contains_by}
+use Rattle.std.specs.Cmp.Lexicographic.{slice_cmp}
+use Rattle.std.specs.List.{list_any}
+use Rattle.std.specs.Ordering.{nat_cmp}
 use Rattle.toml.specs.View.{view}
-use Rattle.zh_setups.specs.Document.{same_name, repeats}
+use Rattle.zh_setups.specs.Document.{name_in, same_name, repeats}
 use Rattle.zh_setups.proofs.doubles.repeats_name.Given as goal
 
-abbrev pub invariant-loop-place : goal.invariant-loop-place
-invariant-loop-place l =
-    repeats same_name (map view (drop l.place l.values)) ≡ repeats same_name (map view l.values)
+-- what is left repeats a name that was seen before, or one of its own
+abbrev pub invariant-loop-value : goal.invariant-loop-value
+invariant-loop-value l =
+    (list_any (λ d. contains_by (λ k. slice_cmp nat_cmp (name_in d) k.now) l.names) (map view (drop l.value-index l.values)) || repeats same_name (map view (drop l.value-index l.values)))
+    ≡ repeats same_name (map view l.values)
