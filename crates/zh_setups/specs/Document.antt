@@ -87,7 +87,13 @@ setup_of document = do
   municipalities ← values_at (codes "municipality") 512 document >>= each (municipality_of (length constituencies))
   groups ← values_at (codes "group") 32 document >>= each (group_of (length constituencies))
   canton_quorum ← quorum_of (get_member (codes "canton_quorum") document)
-  Some (record { house = house; constituencies = constituencies; municipalities = municipalities; groups = groups; canton_quorum = canton_quorum })
+  Some (record {
+    house = house;
+    constituencies = constituencies;
+    municipalities = municipalities;
+    groups = groups;
+    canton_quorum = canton_quorum;
+  })
 
 -- a value is the same as a later one
 abbrev pub repeats : (Data → Data → Bool) → List Data → Bool

@@ -42,7 +42,8 @@ document_keys = codes "version" ∷ codes "house" ∷ codes "constituency" ∷ c
 
 -- whether the version is the whole number 2
 abbrev pub is_version_2 : Members → Bool
-is_version_2 document = option_map_or (λ version. int_eq version (pos 2)) (option_and_then as_integer (get_member (codes "version") document)) false
+is_version_2 document =
+    option_map_or (λ version. int_eq version (pos 2)) (option_and_then as_integer (get_member (codes "version") document)) false
 
 -- the keys that may stand at the top: with version 2 also that of a canton-wide quorum
 abbrev pub known_keys : Members → List (List ℕ)
