@@ -1,13 +1,13 @@
 -- Equal bytes spell equal set-ups.
-use Rattle.std.proofs.Common.{◌≡◌, ℕ, ◌^◌, ◌<◌, ◌≤◌, Bool, true, false, List, [], ◌∷◌, ◌++◌, length, get_or, drop, All, refl, sym, ap, subst, ◌∙◌, arith, append_assoc}
+use Rattle.std.proofs.Common.{◌≡◌, ℕ, ◌^◌, ◌<◌, ◌≤◌, Bool, true, false, Option, Some, None, List, [], ◌∷◌, ◌++◌, length, get_or, drop, All, refl, sym, ap, subst, ◌∙◌, arith, append_assoc}
+use Rattle.std.specs.Prelude.{IfSome}
 use Rattle.std.specs.Int.{w16, w32, to_be_bytes, from_be_bytes}
 use Rattle.std.specs.List.{flat_map, AllByRecursion}
-use Rattle.std.proofs.lemmas.List.{append-nil}
 use Rattle.std.proofs.lemmas.List.Concat.{flat_map-cons}
 use Rattle.std.proofs.lemmas.List.Elements.{recursion_from_All, All-weaker}
 use Rattle.std.proofs.lemmas.Nat.{from_be_bytes-to_be_bytes_2, from_be_bytes-to_be_bytes_4}
 use Rattle.zh_districts.specs.Canton.{Canton, Constituency, Municipality, Group, IsCanton}
-use Rattle.zh_districts.specs.Spelling.{name_spelling, mask_of, constituency_spelling, municipality_spelling, group_spelling, setup_spelling}
+use Rattle.zh_districts.specs.Spelling.{name_spelling, mask_of, constituency_spelling, municipality_spelling, group_spelling, quorum_spelling, setup_spelling}
 use Rattle.zh_districts.proofs.MaskLemmas.{mask_of-fits}
 
 -- two texts that go on after fronts of one length
@@ -60,13 +60,25 @@ a_group name stands = record { name = name; stands = stands }
 same_group : (x y : Group) → x.name ≡ y.name → x.stands ≡ y.stands → x ≡ y
 same_group x y e f = ap (λ (name : List ℕ). a_group name x.stands) e ∙ ap (a_group y.name) f
 
-abbrev a_canton : ℕ → List Constituency → List Municipality → List Group → Canton
-a_canton house constituencies municipalities groups = record { house = house; constituencies = constituencies; municipalities = municipalities; groups = groups }
+abbrev a_canton : ℕ → List Constituency → List Municipality → List Group → Option ℕ → Canton
+a_canton house constituencies municipalities groups quorum =
+    record { house = house; constituencies = constituencies; municipalities = municipalities; groups = groups; canton_quorum = quorum }
 
-same_parts : (a b : Canton) → a.house ≡ b.house → a.constituencies ≡ b.constituencies → a.municipalities ≡ b.municipalities → a.groups ≡ b.groups → a ≡ b
-same_parts a b e f g h =
-    ap (λ (x : ℕ). a_canton x a.constituencies a.municipalities a.groups) e ∙ ap (λ (x : List Constituency). a_canton b.house x a.municipalities a.groups) f
-    ∙ ap (λ (x : List Municipality). a_canton b.house b.constituencies x a.groups) g ∙ ap (a_canton b.house b.constituencies b.municipalities) h
+same_parts : (a b : Canton) → a.house ≡ b.house → a.constituencies ≡ b.constituencies → a.municipalities ≡ b.municipalities → a.groups ≡ b.groups
+    → a.canton_quorum ≡ b.canton_quorum → a ≡ b
+same_parts a b e f g h q =
+    ap (λ (x : ℕ). a_canton x a.constituencies a.municipalities a.groups a.canton_quorum) e
+    ∙ ap (λ (x : List Constituency). a_canton b.house x a.municipalities a.groups a.canton_quorum) f
+    ∙ ap (λ (x : List Municipality). a_canton b.house b.constituencies x a.groups a.canton_quorum) g
+    ∙ ap (λ (x : List Group). a_canton b.house b.constituencies b.municipalities x a.canton_quorum) h
+    ∙ ap (a_canton b.house b.constituencies b.municipalities b.groups) q
+
+-- a quorum within its limits has one spelling
+same_quorum : (p q : Option ℕ) → IfSome p (λ x. (1 ≤ x) × (x ≤ 49)) → IfSome q (λ x. (1 ≤ x) × (x ≤ 49)) → quorum_spelling p ≡ quorum_spelling q → p ≡ q
+same_quorum None None hp hq e = refl
+same_quorum None (Some n) hp hq e = absurd (omega (arith, ap length e))
+same_quorum (Some m) None hp hq e = absurd (omega (arith, ap length e))
+same_quorum (Some m) (Some n) hp hq e = ap (λ (x : ℕ). Some x) (same_16 m n (omega (arith, hp.1)) (omega (arith, hq.1)) e)
 
 -- what f writes of each x with P determines x and where it ends
 abbrev Describes : {X : Type 0} → (X → Type 0) → (X → List ℕ) → Type 0
@@ -107,7 +119,7 @@ parts_determine P f determines (x ∷ xs) (y ∷ ys) c d len px py e =
 
 -- what stands after the house, after the constituencies, and after the municipalities
 abbrev after_municipalities : Canton → List ℕ
-after_municipalities canton = length canton.groups ∷ flat_map group_spelling canton.groups
+after_municipalities canton = length canton.groups ∷ (flat_map group_spelling canton.groups ++ quorum_spelling canton.canton_quorum)
 
 abbrev after_constituencies : Canton → List ℕ
 after_constituencies canton = to_be_bytes w16 (length canton.municipalities) ++ (flat_map municipality_spelling canton.municipalities ++ after_municipalities canton)
@@ -136,6 +148,6 @@ same_setup a b ha hb e =
     let R = λ (x : Group). length x.stands ≡ n in
     let ga : AllByRecursion R a.groups = recursion_from_All R a.groups ha.stands in
     let gb : AllByRecursion R b.groups = recursion_from_All R b.groups (subst (λ (m : ℕ). All (λ (x : Group). length x.stands ≡ m) b.groups) (sym count) hb.stands) in
-    let ended : flat_map group_spelling a.groups ++ [] ≡ flat_map group_spelling b.groups ++ [] = append-nil (flat_map group_spelling a.groups) ∙ ap (drop 1) municipalities.1 ∙ sym (append-nil (flat_map group_spelling b.groups)) in
-    let groups = parts_determine R group_spelling (groups_tell n ha.constituencies.1) a.groups b.groups [] [] count'' ga gb ended in
-    same_parts a b house constituencies.0 municipalities.0 groups.0
+    let groups = parts_determine R group_spelling (groups_tell n ha.constituencies.1) a.groups b.groups (quorum_spelling a.canton_quorum) (quorum_spelling b.canton_quorum) count'' ga gb (ap (drop 1) municipalities.1) in
+    let quorum = same_quorum a.canton_quorum b.canton_quorum ha.canton_quorum hb.canton_quorum groups.1 in
+    same_parts a b house constituencies.0 municipalities.0 groups.0 quorum

@@ -1,5 +1,5 @@
--- The set-up of an election: the house, the constituencies with their municipalities, and the groups of lists.
-use Rattle.std.specs.Prelude.{◌≡◌, ◌≢◌, ℕ, ◌-◌, ◌≤◌, Bool, true, false, not, ◌&&◌, ◌==◌, nat_le, IsTrue, List, length, slice_get, slice_index, unwrap_or, map, All, AllPairs, Contains}
+-- The set-up of an election: the house, the constituencies with their municipalities, the groups of lists, and a quorum.
+use Rattle.std.specs.Prelude.{◌≡◌, ◌≢◌, ℕ, ◌-◌, ◌≤◌, Bool, true, false, not, ◌&&◌, ◌==◌, nat_le, IsTrue, Option, IfSome, List, length, slice_get, slice_index, unwrap_or, map, All, AllPairs, Contains}
 use Rattle.std.specs.List.{list_all}
 use Rattle.std.specs.Str.{is_utf8}
 use Rattle.std.specs.Option.{option_map_or}
@@ -19,12 +19,14 @@ pub record Group : Type 0 where
   pub name : List ℕ
   pub stands : List Bool
 
--- the set-up; constituencies, municipalities and groups are numbered from 1 in these orders
+-- the set-up; constituencies, municipalities and groups are numbered from 1 in these orders; the canton-wide quorum, if there
+-- is one, is in per mille of the votes of the whole canton
 pub record Canton : Type 0 where
   pub house : ℕ
   pub constituencies : List Constituency
   pub municipalities : List Municipality
   pub groups : List Group
+  pub canton_quorum : Option ℕ
 
 -- whether the set-up has a municipality of this number
 abbrev pub has_municipality : Canton → ℕ → Bool
@@ -73,3 +75,4 @@ pub record IsCanton (canton : Canton) : Type 0 where
   pub constituency_names : AreNames (map (λ x. x.name) canton.constituencies)
   pub municipality_names : AreNames (map (λ x. x.name) canton.municipalities)
   pub group_names : AreNames (map (λ x. x.name) canton.groups)
+  pub canton_quorum : IfSome canton.canton_quorum (λ q. (1 ≤ q) × (q ≤ 49))

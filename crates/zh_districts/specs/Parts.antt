@@ -1,5 +1,5 @@
 -- What the parts of a set-up stand for.
-use Rattle.std.specs.Prelude.{ℕ, List, map, string_bytes}
+use Rattle.std.specs.Prelude.{ℕ, Option, List, map, string_bytes}
 use Rattle.zh_districts.specs.Canton as canton
 use Rattle.zh_districts.specs.declared.parts.Constituency.{Constituency}
 use Rattle.zh_districts.specs.declared.parts.Municipality.{Municipality}
@@ -19,10 +19,15 @@ abbrev pub group : Group → canton.Group
 group x = record { name = string_bytes x.name; stands = x.stands.items }
 
 -- the set-up of these parts
-abbrev pub canton_from : ℕ → List Constituency → List Municipality → List Group → canton.Canton
-canton_from house constituencies municipalities groups =
-    record { house = house; constituencies = map constituency constituencies; municipalities = map municipality municipalities; groups = map group groups }
+abbrev pub canton_from : ℕ → List Constituency → List Municipality → List Group → Option ℕ → canton.Canton
+canton_from house constituencies municipalities groups canton_quorum = record {
+  house = house;
+  constituencies = map constituency constituencies;
+  municipalities = map municipality municipalities;
+  groups = map group groups;
+  canton_quorum = canton_quorum;
+}
 
 -- the set-up that a draft would make
 abbrev pub draft : Draft → canton.Canton
-draft d = canton_from d.house d.constituencies.items d.municipalities.items d.groups.items
+draft d = canton_from d.house d.constituencies.items d.municipalities.items d.groups.items d.canton_quorum

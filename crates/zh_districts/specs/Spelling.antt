@@ -1,7 +1,8 @@
 -- The bytes of a set-up. Numbers are big endian.
-use Rattle.std.specs.Prelude.{ℕ, ◌+◌, ◌*◌, Bool, if◌then◌else◌, List, [], ◌∷◌, ◌++◌, length}
+use Rattle.std.specs.Prelude.{ℕ, ◌+◌, ◌*◌, Bool, if◌then◌else◌, Option, List, [], ◌∷◌, ◌++◌, length}
 use Rattle.std.specs.List.{flat_map}
 use Rattle.std.specs.Int.{w16, w32, to_be_bytes}
+use Rattle.std.specs.Option.{option_map_or}
 use Rattle.zh_districts.specs.Canton.{Canton, Constituency, Municipality, Group}
 
 -- one byte of length, and the name
@@ -25,10 +26,16 @@ municipality_spelling x = x.constituency ∷ name_spelling x.name
 abbrev pub group_spelling : Group → List ℕ
 group_spelling x = to_be_bytes w32 (mask_of x.stands) ++ name_spelling x.name
 
--- two bytes of house; of each kind how many there are, in two bytes for municipalities and else in one, and then each
+-- two bytes of the canton-wide quorum, where there is one
+abbrev pub quorum_spelling : Option ℕ → List ℕ
+quorum_spelling quorum = option_map_or (to_be_bytes w16) quorum []
+
+-- two bytes of house; of each kind how many there are, in two bytes for municipalities and else in one, and then each; and
+-- the canton-wide quorum
 abbrev pub setup_spelling : Canton → List ℕ
 setup_spelling canton =
     to_be_bytes w16 canton.house
     ++ (length canton.constituencies ∷ flat_map constituency_spelling canton.constituencies)
     ++ (to_be_bytes w16 (length canton.municipalities) ++ flat_map municipality_spelling canton.municipalities)
     ++ (length canton.groups ∷ flat_map group_spelling canton.groups)
+    ++ quorum_spelling canton.canton_quorum

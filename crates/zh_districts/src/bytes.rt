@@ -1,10 +1,10 @@
 //! The bytes of the parts of a set-up.
 
-ghost use Rattle.std.specs.Prelude.{◌≡◌, ◌≤◌, ◌<◌, ◌^◌, ◌++◌, ◌∷◌, length, map, OnOk, All, string_bytes};
+ghost use Rattle.std.specs.Prelude.{◌≡◌, ◌≤◌, ◌<◌, ◌^◌, ◌++◌, ◌∷◌, length, map, IfSome, OnOk, All, string_bytes};
 ghost use Rattle.std.specs.Int.{w16, to_be_bytes};
 ghost use Rattle.std.specs.List.{flat_map};
 ghost use Rattle.zh_districts.specs.Parts.{constituency, municipality, group};
-ghost use Rattle.zh_districts.specs.Spelling.{name_spelling, mask_of, constituency_spelling, municipality_spelling, group_spelling};
+ghost use Rattle.zh_districts.specs.Spelling.{name_spelling, mask_of, constituency_spelling, municipality_spelling, group_spelling, quorum_spelling};
 
 use crate::parts::{Constituency, Group, Municipality};
 use std::alloc::AllocError;
@@ -101,6 +101,17 @@ pub(crate) fn put_groups(out: &mut Vec<u8>, parts: &[Group]) -> Result<(), Alloc
     out.push(parts.len() as u8)?;
     for part in parts {
         put_group(out, part)?;
+    }
+    Ok(())
+}
+
+/// The canton-wide quorum, in two bytes, where there is one.
+pub(crate) fn put_quorum(out: &mut Vec<u8>, quorum: Option<u32>) -> Result<(), AllocError>
+    requires { IfSome quorum (λ q. q < 2 ^ 16) }
+    ensures { OnOk result (out.new.items ≡ out.old.items ++ quorum_spelling quorum) }
+{
+    if let Some(per_mille) = quorum {
+        out.extend_from_slice(&(per_mille as u16).to_be_bytes())?;
     }
     Ok(())
 }

@@ -28,4 +28,6 @@ pub struct Draft {
     pub constituencies: Vec<Constituency>,
     pub municipalities: Vec<Municipality>,
     pub groups: Vec<Group>,
+    /// In per mille of the votes of the whole canton, 1 to 49.
+    pub canton_quorum: Option<u32>,
 }

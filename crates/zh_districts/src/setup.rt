@@ -6,20 +6,22 @@ ghost use Rattle.zh_districts.specs.Canton.{Canton, IsCanton, has_municipality, 
 ghost use Rattle.zh_districts.specs.Misplaced.{misplaced};
 ghost use Rattle.zh_districts.specs.Spelling.{setup_spelling};
 
-use crate::bytes::{put_constituencies, put_groups, put_municipalities};
+use crate::bytes::{put_constituencies, put_groups, put_municipalities, put_quorum};
 use crate::misplaced::Misplaced;
 use crate::parts::{Constituency, Draft, Group, Municipality};
 use std::alloc::{AllocError, Global};
 use std::marker::Model;
 
-/// The house, the constituencies with their municipalities, and the groups. Each is numbered from 1, in the order of
-/// the set-up text. There are 1 to 32 constituencies, 1 to 512 municipalities and 1 to 32 groups.
+/// The house, the constituencies with their municipalities, the groups, and a canton-wide quorum, if there is one.
+/// Constituencies, municipalities and groups are numbered from 1, each in the order of the set-up text. There are 1 to 32
+/// constituencies, 1 to 512 municipalities and 1 to 32 groups.
 #[derive(Drop)]
 pub struct Setup {
     house: u32,
     constituencies: Vec<Constituency>,
     municipalities: Vec<Municipality>,
     groups: Vec<Group>,
+    canton_quorum: Option<u32>,
 }
 
 impl Model for Setup {
@@ -48,12 +50,14 @@ impl Setup {
             constituencies,
             municipalities,
             groups,
+            canton_quorum,
         } = parts;
         Setup {
             house,
             constituencies,
             municipalities,
             groups,
+            canton_quorum,
         }
     }
 
@@ -180,18 +184,27 @@ impl Setup {
     {
         self.groups[(group - 1) as usize].name.as_str()
     }
+
+    /// The canton-wide quorum, if there is one: 1 to 49 per mille of the votes of the whole canton.
+    pub fn canton_quorum(&self) -> Option<u32>
+        ensures quorum { result ≡ self.now.canton_quorum }
+        ensures limits { IsCanton self.now }
+    {
+        self.canton_quorum
+    }
 }
 
-/// The bytes of a set-up, at most 24,390, as docs/FORMATS.md lays them out.
+/// The bytes of a set-up, at most 24,392, as docs/FORMATS.md lays them out.
 pub fn setup_bytes(alloc: Global, setup: &Setup) -> Result<Vec<u8>, AllocError>
     ensures spelling { IfOk result (λ bytes. bytes.items ≡ setup_spelling setup.now) }
-    ensures length { IfOk result (λ bytes. length bytes.items ≤ 24390) }
+    ensures length { IfOk result (λ bytes. length bytes.items ≤ 24392) }
 {
     let mut out = Vec::new(alloc);
     out.extend_from_slice(&(setup.house as u16).to_be_bytes())?;
     put_constituencies(&mut out, &setup.constituencies)?;
     put_municipalities(&mut out, &setup.municipalities)?;
     put_groups(&mut out, &setup.groups)?;
+    put_quorum(&mut out, setup.canton_quorum)?;
     Ok(out)
 }
 

@@ -1,1 +1,3 @@
+pub mod CallerLemmas
+mod CantonVotesLemmas
 mod ParticipatingLemmas

@@ -1,6 +1,7 @@
 ghost use Rattle.std.specs.Prelude.{◌≤◌, ◌↔◌, IfOk, IsTrue, length};
-ghost use Rattle.zh_quorum.specs.Quorum.{AreParticipating, ReachesQuorum, TakesPart};
+ghost use Rattle.zh_quorum.specs.Quorum.{AreParticipating, ReachesQuorum, ReachesSomewhere, TakesPart};
 
+use crate::canton_quorum::reaches_canton_quorum;
 use std::alloc::{AllocError, Global};
 use zh_totals::Totals;
 
@@ -17,10 +18,10 @@ fn reaches_quorum(totals: &Totals, constituency: u32, group: u32) -> bool
 }
 
 /// Whether the list of a group reaches the quorum in one constituency.
-fn takes_part(totals: &Totals, group: u32) -> bool
+fn reaches_somewhere(totals: &Totals, group: u32) -> bool
     requires from_one { 1 ≤ group }
     requires there { group ≤ length totals.now.canton.groups }
-    ensures { IsTrue result ↔ TakesPart totals.now group }
+    ensures { IsTrue result ↔ ReachesSomewhere totals.now group }
 {
     for place in 0..totals.setup().constituencies() {
         if reaches_quorum(totals, place + 1, group) {
@@ -30,8 +31,18 @@ fn takes_part(totals: &Totals, group: u32) -> bool
     false
 }
 
+/// Whether a group reaches the quorum in one constituency, or that of the whole canton.
+fn takes_part(totals: &Totals, group: u32) -> bool
+    requires from_one { 1 ≤ group }
+    requires there { group ≤ length totals.now.canton.groups }
+    ensures { IsTrue result ↔ TakesPart totals.now group }
+{
+    reaches_somewhere(totals, group) || reaches_canton_quorum(totals, group)
+}
+
 /// For each group in order whether it takes part in the apportionment: whether one of its lists has at least
-/// 5 per cent of the votes of its constituency, and any votes (GPR section 102).
+/// 5 per cent of the votes of its constituency, and any votes (GPR section 102); or, where the set-up has a canton-wide
+/// quorum, whether the group has that part of the votes of the whole canton, and any votes.
 pub fn participating(alloc: Global, totals: &Totals) -> Result<Vec<bool>, AllocError>
     ensures { IfOk result (λ taking. AreParticipating totals.now taking.items) }
 {

@@ -1,6 +1,7 @@
 mod ArrayLemmas
 mod AsciiLemmas
 mod EachLemmas
+mod KeyLemmas
 mod RehearsalTextLemmas
 mod SetupLemmas
 mod SetupTextLemmas

@@ -1,12 +1,12 @@
 -- The set-up that a document says.
 use Rattle.std.proofs.Common.{◌≡◌, ℕ, ◌≤◌, true, false, ◌||◌, List, length, map, All, Option, Some, None, codes, refl, subst, arith}
-use Rattle.std.specs.Prelude.{Contains}
+use Rattle.std.specs.Prelude.{Contains, IfSome}
 use Rattle.std.specs.List.{list_any}
 use Rattle.std.proofs.lemmas.Bool.{or_parts}
 use Rattle.toml.specs.Data.{Data, Members, get_member}
 use Rattle.zh_districts.specs.Canton.{Canton, Constituency, Municipality, Group, AreNames, IsCanton}
 use Rattle.zh_setups.specs.Keys.{tables_at}
-use Rattle.zh_setups.specs.Document.{◌>>=◌, number_within, each, values_at, constituency_of, municipality_of, group_of, setup_of, same_name, same_number, stands_in, repeats, has_double}
+use Rattle.zh_setups.specs.Document.{◌>>=◌, number_within, each, values_at, constituency_of, municipality_of, group_of, quorum_of, setup_of, same_name, same_number, stands_in, repeats, has_double}
 use Rattle.zh_setups.proofs.ValueLemmas.{bind_some, number_within-bounds, HasName, length-each, each-all, each-named, are_names, values_at-some, constituency_of-some, municipality_of-some, group_of-some}
 
 -- the parts of one kind, read at their key
@@ -51,19 +51,28 @@ groups_read n = parts_of (codes "group") 32 (λ x. x.name) (stands_within n) (gr
 some_is : {A : Type 0} (x y : A) → Some x ≡ Some y → x ≡ y
 some_is x y e = cc
 
+-- a canton-wide quorum that was read is within its limits
+quorum_of-bounds : (found : Option Data) (quorum : Option ℕ) → quorum_of found ≡ Some quorum → IfSome quorum (λ q. (1 ≤ q) × (q ≤ 49))
+quorum_of-bounds None quorum e = subst (λ (o : Option ℕ). IfSome o (λ q. (1 ≤ q) × (q ≤ 49))) (some_is None quorum e) tt
+quorum_of-bounds (Some value) quorum e =
+    let n = bind_some (number_within 1 49 value) (λ q. Some (Some q)) quorum e in
+    subst (λ (o : Option ℕ). IfSome o (λ q. (1 ≤ q) × (q ≤ 49))) (some_is (Some n.0) quorum n.2) (number_within-bounds 1 49 value n.0 n.1)
+
 -- a set-up that a document says, with nothing twice, is one within the limits
 pub IsCanton-from_document : (document : Members) (canton : Canton) → setup_of document ≡ Some canton → has_double document ≡ false → IsCanton canton
 IsCanton-from_document document canton e single =
-    let version = get_member (codes "version") document >>= number_within 1 1 in
+    let version = get_member (codes "version") document >>= number_within 1 2 in
     let house = get_member (codes "house") document >>= number_within 1 400 in
     let constituencies = values_at (codes "constituency") 32 document >>= each constituency_of in
     let municipalities = λ (n : ℕ). values_at (codes "municipality") 512 document >>= each (municipality_of n) in
     let groups = λ (n : ℕ). values_at (codes "group") 32 document >>= each (group_of n) in
-    let a = bind_some version (λ v. house >>= λ h. constituencies >>= λ cs. municipalities (length cs) >>= λ ms. groups (length cs) >>= λ gs. Some (made_of h cs ms gs)) canton e in
-    let b = bind_some house (λ h. constituencies >>= λ cs. municipalities (length cs) >>= λ ms. groups (length cs) >>= λ gs. Some (made_of h cs ms gs)) canton a.2 in
-    let c = bind_some constituencies (λ cs. municipalities (length cs) >>= λ ms. groups (length cs) >>= λ gs. Some (made_of b.0 cs ms gs)) canton b.2 in
-    let d = bind_some (municipalities (length c.0)) (λ ms. groups (length c.0) >>= λ gs. Some (made_of b.0 c.0 ms gs)) canton c.2 in
-    let g = bind_some (groups (length c.0)) (λ gs. Some (made_of b.0 c.0 d.0 gs)) canton d.2 in
+    let quorum = quorum_of (get_member (codes "canton_quorum") document) in
+    let a = bind_some version (λ v. house >>= λ h. constituencies >>= λ cs. municipalities (length cs) >>= λ ms. groups (length cs) >>= λ gs. quorum >>= λ q. Some (made_of h cs ms gs q)) canton e in
+    let b = bind_some house (λ h. constituencies >>= λ cs. municipalities (length cs) >>= λ ms. groups (length cs) >>= λ gs. quorum >>= λ q. Some (made_of h cs ms gs q)) canton a.2 in
+    let c = bind_some constituencies (λ cs. municipalities (length cs) >>= λ ms. groups (length cs) >>= λ gs. quorum >>= λ q. Some (made_of b.0 cs ms gs q)) canton b.2 in
+    let d = bind_some (municipalities (length c.0)) (λ ms. groups (length c.0) >>= λ gs. quorum >>= λ q. Some (made_of b.0 c.0 ms gs q)) canton c.2 in
+    let g = bind_some (groups (length c.0)) (λ gs. quorum >>= λ q. Some (made_of b.0 c.0 d.0 gs q)) canton d.2 in
+    let k = bind_some quorum (λ q. Some (made_of b.0 c.0 d.0 g.0 q)) canton g.2 in
     let hb = bind_some (get_member (codes "house") document) (number_within 1 400) b.0 b.1 in
     let bounds = number_within-bounds 1 400 hb.0 b.0 hb.2 in
     let cs = constituencies_read document c.0 c.1 in
@@ -75,7 +84,7 @@ IsCanton-from_document document canton e single =
     let o = or_parts (names || names' || names'') (list_any (λ value. repeats same_number (stands_in value)) (tables_at (codes "group") document)) single in
     let o' = or_parts (names || names') names'' o.0 in
     let o'' = or_parts names names' o'.0 in
-    subst IsCanton {x = made_of b.0 c.0 d.0 g.0} (some_is (made_of b.0 c.0 d.0 g.0) canton g.2) (record {
+    subst IsCanton {x = made_of b.0 c.0 d.0 g.0 k.0} (some_is (made_of b.0 c.0 d.0 g.0 k.0) canton k.2) (record {
       house = bounds;
       constituencies = (cs.some, cs.few);
       municipalities = (ms.some, ms.few);
@@ -87,23 +96,33 @@ IsCanton-from_document document canton e single =
       constituency_names = cs.names o''.0;
       municipality_names = ms.names o''.1;
       group_names = gs.names o'.1;
+      canton_quorum = quorum_of-bounds (get_member (codes "canton_quorum") document) k.0 k.1;
     })
   where
-    made_of : ℕ → List Constituency → List Municipality → List Group → Canton
-    made_of h cs ms gs = record { house = h; constituencies = cs; municipalities = ms; groups = gs }
+    made_of : ℕ → List Constituency → List Municipality → List Group → Option ℕ → Canton
+    made_of h cs ms gs q = record { house = h; constituencies = cs; municipalities = ms; groups = gs; canton_quorum = q }
 
 -- where the municipalities, or the groups, say nothing, there is no set-up
-pub no_municipalities : (document : Members) (v h n : ℕ) (cs : List Constituency) → (get_member (codes "version") document >>= number_within 1 1) ≡ Some v → (get_member (codes "house") document >>= number_within 1 400) ≡ Some h
+pub no_municipalities : (document : Members) (v h n : ℕ) (cs : List Constituency) → (get_member (codes "version") document >>= number_within 1 2) ≡ Some v → (get_member (codes "house") document >>= number_within 1 400) ≡ Some h
     → (values_at (codes "constituency") 32 document >>= each constituency_of) ≡ Some cs → length cs ≡ n → (values_at (codes "municipality") 512 document >>= each (municipality_of n)) ≡ None → setup_of document ≡ None
 no_municipalities document v h n cs e f g len none = rw (e, f, g, len, none) refl
 
-pub no_groups : (document : Members) (v h n : ℕ) (cs : List Constituency) (ms : List Municipality) → (get_member (codes "version") document >>= number_within 1 1) ≡ Some v → (get_member (codes "house") document >>= number_within 1 400) ≡ Some h
+pub no_groups : (document : Members) (v h n : ℕ) (cs : List Constituency) (ms : List Municipality) → (get_member (codes "version") document >>= number_within 1 2) ≡ Some v → (get_member (codes "house") document >>= number_within 1 400) ≡ Some h
     → (values_at (codes "constituency") 32 document >>= each constituency_of) ≡ Some cs → length cs ≡ n → (values_at (codes "municipality") 512 document >>= each (municipality_of n)) ≡ Some ms
     → (values_at (codes "group") 32 document >>= each (group_of n)) ≡ None → setup_of document ≡ None
 no_groups document v h n cs ms e f g len m none = rw (e, f, g, len, m, none) refl
 
+-- nor where the canton-wide quorum does
+pub no_quorum : (document : Members) (v h n : ℕ) (cs : List Constituency) (ms : List Municipality) (gs : List Group) → (get_member (codes "version") document >>= number_within 1 2) ≡ Some v
+    → (get_member (codes "house") document >>= number_within 1 400) ≡ Some h → (values_at (codes "constituency") 32 document >>= each constituency_of) ≡ Some cs → length cs ≡ n
+    → (values_at (codes "municipality") 512 document >>= each (municipality_of n)) ≡ Some ms → (values_at (codes "group") 32 document >>= each (group_of n)) ≡ Some gs
+    → quorum_of (get_member (codes "canton_quorum") document) ≡ None → setup_of document ≡ None
+no_quorum document v h n cs ms gs e f g len m k none = rw (e, f, g, len, m, k, none) refl
+
 -- the set-up of its parts
-pub setup_read : (document : Members) (v h n : ℕ) (cs : List Constituency) (ms : List Municipality) (gs : List Group) → (get_member (codes "version") document >>= number_within 1 1) ≡ Some v → (get_member (codes "house") document >>= number_within 1 400) ≡ Some h
-    → (values_at (codes "constituency") 32 document >>= each constituency_of) ≡ Some cs → length cs ≡ n → (values_at (codes "municipality") 512 document >>= each (municipality_of n)) ≡ Some ms
-    → (values_at (codes "group") 32 document >>= each (group_of n)) ≡ Some gs → setup_of document ≡ Some (record { house = h; constituencies = cs; municipalities = ms; groups = gs })
-setup_read document v h n cs ms gs e f g len m k = rw (e, f, g, len, m, k) refl
+pub setup_read : (document : Members) (v h n : ℕ) (cs : List Constituency) (ms : List Municipality) (gs : List Group) (q : Option ℕ) → (get_member (codes "version") document >>= number_within 1 2) ≡ Some v
+    → (get_member (codes "house") document >>= number_within 1 400) ≡ Some h → (values_at (codes "constituency") 32 document >>= each constituency_of) ≡ Some cs → length cs ≡ n
+    → (values_at (codes "municipality") 512 document >>= each (municipality_of n)) ≡ Some ms → (values_at (codes "group") 32 document >>= each (group_of n)) ≡ Some gs
+    → quorum_of (get_member (codes "canton_quorum") document) ≡ Some q
+    → setup_of document ≡ Some (record { house = h; constituencies = cs; municipalities = ms; groups = gs; canton_quorum = q })
+setup_read document v h n cs ms gs q e f g len m k r = rw (e, f, g, len, m, k, r) refl

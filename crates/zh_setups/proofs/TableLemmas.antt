@@ -1,15 +1,17 @@
 -- The table of a set-up text holds the set-up, part by part.
-use Rattle.std.proofs.Common.{◌≡◌, ℕ, Bool, true, false, cond, ◌&&◌, nat_le, List, length, map, Option, Some, None, option_map, option_and_then, Result, Ok, Err, pos, negsuc, codes, refl, sym, ap, subst, ◌∙◌, arith}
-use Rattle.std.specs.Prelude.{IfOk}
+use Rattle.std.proofs.Common.{◌≡◌, ℕ, ◌≤◌, Bool, true, false, cond, ◌&&◌, nat_le, List, length, map, Option, Some, None, option_map, option_and_then, Result, Ok, Err, pos, negsuc, codes, refl, sym, ap, subst, ◌∙◌, inl, inr, arith}
+use Rattle.std.specs.Prelude.{◌⊎◌, IfOk}
 use Rattle.std.specs.List.{AllZip}
+use Rattle.std.proofs.lemmas.Bool.{cases_lt}
 use Rattle.toml.specs.Data.{Data, Members, string, integer, float, boolean, datetime, array, table, get, get_member, as_array}
 use Rattle.zh_districts.specs.Canton.{Canton, Constituency, Municipality, Group, is_name}
-use Rattle.zh_setups.specs.Keys.{list_of, tables_at}
-use Rattle.zh_setups.specs.Document.{◌>>=◌, number_within, name_of, each, values_of, values_at, constituency_of, municipality_of, group_of, stands_of, setup_of, undoubled, checked}
+use Rattle.zh_setups.specs.Keys.{list_of, tables_at, knows_keys, known_keys, has_other_key}
+use Rattle.zh_setups.specs.Document.{◌>>=◌, number_within, name_of, each, values_of, values_at, constituency_of, municipality_of, group_of, quorum_of, stands_of, setup_of, undoubled, checked}
 use Rattle.zh_setups.specs.Outcomes.{Gives}
-use Rattle.zh_setups.specs.SetupText.{ConstituencyOf, MunicipalityOf, GroupOf, SetupOf}
+use Rattle.zh_setups.specs.SetupText.{ConstituencyOf, MunicipalityOf, GroupOf, HasVersion, SetupOf}
 use Rattle.zh_setups.specs.declared.fault.SetupFault.{SetupFault}
 use Rattle.zh_setups.specs.declared.fault.SetupFault.TheVariants.{Missing, Unknown}
+use Rattle.zh_setups.proofs.KeyLemmas.{knows_top, no_quorum_key}
 use Rattle.zh_setups.proofs.ValueLemmas.{bind_some, guard_some, number_within-bounds, HasName, each-holds, each-named, values_at-some, constituency_of-some, municipality_of-some, group_of-some}
 
 some_is : {A : Type 0} (x y : A) → Some x ≡ Some y → x ≡ y
@@ -95,40 +97,68 @@ zipped key most name R f named holds document xs e =
     let all : AllZip R a.0 xs = each-holds R f holds (λ ds ys. AllZip R ds ys) tt (λ d x ds ys h others. (h, others)) a.0 xs a.2 in
     subst (λ (ds : List Data). AllZip R ds xs) (sym (v.2 n.kind)) all
 
-SetupOf-from_document : (document : Members) (canton : Canton) → setup_of document ≡ Some canton → SetupOf document canton
-SetupOf-from_document document canton e =
-    let version = get_member (codes "version") document >>= number_within 1 1 in
+-- a canton-wide quorum that was read, or was not there
+quorum_found : (found : Option Data) (quorum : Option ℕ) → quorum_of found ≡ Some quorum → found ≡ option_map (λ q. integer (pos q)) quorum
+quorum_found None quorum e = ap (option_map (λ q. integer (pos q))) (some_is None quorum e)
+quorum_found (Some value) quorum e =
+    let n = bind_some (number_within 1 49 value) (λ q. Some (Some q)) quorum e in
+    ap (λ (d : Data). Some d) (number_within-is 1 49 value n.0 n.1) ∙ ap (option_map (λ q. integer (pos q))) (some_is (Some n.0) quorum n.2)
+
+-- version 1 has no canton-wide quorum
+unquorate : (document : Members) (quorum : Option ℕ) → HasVersion document 1 → knows_keys (known_keys document) document ≡ true → quorum_of (get_member (codes "canton_quorum") document) ≡ Some quorum → quorum ≡ None
+unquorate document quorum version knows e =
+    sym (some_is None quorum (sym (ap quorum_of (no_quorum_key document version knows)) ∙ e))
+
+one_or_two : (n : ℕ) → 1 ≤ n → n ≤ 2 → (n ≡ 1) ⊎ (n ≡ 2)
+one_or_two n low high = elim (cases_lt n 2) [ inl less ↦ inl (omega arith) | inr not_less ↦ inr (omega arith) ]
+
+-- the version of a document, and whether it has a canton-wide quorum
+version_of : (document : Members) (n : ℕ) (quorum : Option ℕ) → (get_member (codes "version") document >>= number_within 1 2) ≡ Some n → knows_keys (known_keys document) document ≡ true
+    → quorum_of (get_member (codes "canton_quorum") document) ≡ Some quorum → (HasVersion document 1 × (quorum ≡ None)) ⊎ HasVersion document 2
+version_of document n quorum e knows q =
+    let found = number_found (get_member (codes "version") document) 1 2 n e in
+    let vb = bind_some (get_member (codes "version") document) (number_within 1 2) n e in
+    let bounds = number_within-bounds 1 2 vb.0 n vb.2 in
+    elim (one_or_two n bounds.0 bounds.1) [
+      | inl one ↦ let version : HasVersion document 1 = found ∙ ap (λ (k : ℕ). Some (integer (pos k))) one in inl (version, unquorate document quorum version knows q)
+      | inr two ↦ inr (found ∙ ap (λ (k : ℕ). Some (integer (pos k))) two)
+    ]
+
+SetupOf-from_document : (document : Members) (canton : Canton) → has_other_key document ≡ false → setup_of document ≡ Some canton → SetupOf document canton
+SetupOf-from_document document canton other e =
+    let version = get_member (codes "version") document >>= number_within 1 2 in
     let house = get_member (codes "house") document >>= number_within 1 400 in
     let constituencies = values_at (codes "constituency") 32 document >>= each constituency_of in
     let municipalities = λ (n : ℕ). values_at (codes "municipality") 512 document >>= each (municipality_of n) in
     let groups = λ (n : ℕ). values_at (codes "group") 32 document >>= each (group_of n) in
-    let a = bind_some version (λ v. house >>= λ h. constituencies >>= λ cs. municipalities (length cs) >>= λ ms. groups (length cs) >>= λ gs. Some (made_of h cs ms gs)) canton e in
-    let b = bind_some house (λ h. constituencies >>= λ cs. municipalities (length cs) >>= λ ms. groups (length cs) >>= λ gs. Some (made_of h cs ms gs)) canton a.2 in
-    let c = bind_some constituencies (λ cs. municipalities (length cs) >>= λ ms. groups (length cs) >>= λ gs. Some (made_of b.0 cs ms gs)) canton b.2 in
-    let d = bind_some (municipalities (length c.0)) (λ ms. groups (length c.0) >>= λ gs. Some (made_of b.0 c.0 ms gs)) canton c.2 in
-    let g = bind_some (groups (length c.0)) (λ gs. Some (made_of b.0 c.0 d.0 gs)) canton d.2 in
-    let vb = bind_some (get_member (codes "version") document) (number_within 1 1) a.0 a.1 in
-    let one : a.0 ≡ 1 = let bounds = number_within-bounds 1 1 vb.0 a.0 vb.2 in omega (arith, bounds.0, bounds.1) in
+    let quorum = quorum_of (get_member (codes "canton_quorum") document) in
+    let a = bind_some version (λ v. house >>= λ h. constituencies >>= λ cs. municipalities (length cs) >>= λ ms. groups (length cs) >>= λ gs. quorum >>= λ q. Some (made_of h cs ms gs q)) canton e in
+    let b = bind_some house (λ h. constituencies >>= λ cs. municipalities (length cs) >>= λ ms. groups (length cs) >>= λ gs. quorum >>= λ q. Some (made_of h cs ms gs q)) canton a.2 in
+    let c = bind_some constituencies (λ cs. municipalities (length cs) >>= λ ms. groups (length cs) >>= λ gs. quorum >>= λ q. Some (made_of b.0 cs ms gs q)) canton b.2 in
+    let d = bind_some (municipalities (length c.0)) (λ ms. groups (length c.0) >>= λ gs. quorum >>= λ q. Some (made_of b.0 c.0 ms gs q)) canton c.2 in
+    let g = bind_some (groups (length c.0)) (λ gs. quorum >>= λ q. Some (made_of b.0 c.0 d.0 gs q)) canton d.2 in
+    let k = bind_some quorum (λ q. Some (made_of b.0 c.0 d.0 g.0 q)) canton g.2 in
     let n = length c.0 in
-    subst (λ (x : Canton). SetupOf document x) {x = made_of b.0 c.0 d.0 g.0} (some_is (made_of b.0 c.0 d.0 g.0) canton g.2) (record {
-      version = number_found (get_member (codes "version") document) 1 1 a.0 a.1 ∙ ap (λ (k : ℕ). Some (integer (pos k))) one;
+    subst (λ (x : Canton). SetupOf document x) {x = made_of b.0 c.0 d.0 g.0 k.0} (some_is (made_of b.0 c.0 d.0 g.0 k.0) canton k.2) (record {
+      version = version_of document a.0 k.0 a.1 (knows_top document other) k.1;
       house = number_found (get_member (codes "house") document) 1 400 b.0 b.1;
       constituencies = zipped (codes "constituency") 32 (λ x. x.name) ConstituencyOf constituency_of (λ d x e. (constituency_of-some d x e).0) constituency_of-holds document c.0 c.1;
       municipalities = zipped (codes "municipality") 512 (λ x. x.name) MunicipalityOf (municipality_of n) (λ d x e. (municipality_of-some n d x e).0) (municipality_of-holds n) document d.0 d.1;
       groups = zipped (codes "group") 32 (λ x. x.name) (GroupOf n) (group_of n) (λ d x e. (group_of-some n d x e).0) (group_of-holds n) document g.0 g.1;
+      canton_quorum = quorum_found (get_member (codes "canton_quorum") document) k.0 k.1;
     })
   where
-    made_of : ℕ → List Constituency → List Municipality → List Group → Canton
-    made_of h cs ms gs = record { house = h; constituencies = cs; municipalities = ms; groups = gs }
+    made_of : ℕ → List Constituency → List Municipality → List Group → Option ℕ → Canton
+    made_of h cs ms gs q = record { house = h; constituencies = cs; municipalities = ms; groups = gs; canton_quorum = q }
 
 -- what passes each check is the set-up
-passes : (misses other double : Bool) (wanted : Option Canton) (canton : Canton) → cond misses (Err Missing) (cond other (Err Unknown) (undoubled double wanted)) ≡ Ok canton → wanted ≡ Some canton
+passes : (misses other double : Bool) (wanted : Option Canton) (canton : Canton) → cond misses (Err Missing) (cond other (Err Unknown) (undoubled double wanted)) ≡ Ok canton → (other ≡ false) × (wanted ≡ Some canton)
 passes true other double wanted canton e = absurd cc
 passes false true double wanted canton e = absurd cc
 passes false false double None canton e = absurd cc
 passes false false true (Some x) canton e = absurd cc
-passes false false false (Some x) canton e = cc
+passes false false false (Some x) canton e = (refl, cc)
 
 pub given_table : (document : Members) (r : Result Canton SetupFault) → Gives (λ s. s) r (checked document) → IfOk r (λ s. SetupOf document s)
-given_table document (Ok s) h = SetupOf-from_document document s (passes _ _ _ (setup_of document) s h)
+given_table document (Ok s) h = let p = passes _ (has_other_key document) _ (setup_of document) s h in SetupOf-from_document document s p.0 p.1
 given_table document (Err fault) h = tt

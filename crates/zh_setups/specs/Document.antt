@@ -71,15 +71,29 @@ group_of constituencies value = do
   numbers ← each (number_within 1 constituencies) values
   Some (record { name = name; stands = stands_of constituencies numbers })
 
+-- a canton-wide quorum in per mille, which stands under a key of its own or nowhere
+abbrev pub quorum_of : Option Data → Option (Option ℕ)
+quorum_of None = Some None
+quorum_of (Some value) = do
+  per_mille ← number_within 1 49 value
+  Some (Some per_mille)
+
 -- the set-up, where each value is of its kind and within its limits
 abbrev pub setup_of : Members → Option Canton
 setup_of document = do
-  version ← get_member (codes "version") document >>= number_within 1 1
+  version ← get_member (codes "version") document >>= number_within 1 2
   house ← get_member (codes "house") document >>= number_within 1 400
   constituencies ← values_at (codes "constituency") 32 document >>= each constituency_of
   municipalities ← values_at (codes "municipality") 512 document >>= each (municipality_of (length constituencies))
   groups ← values_at (codes "group") 32 document >>= each (group_of (length constituencies))
-  Some (record { house = house; constituencies = constituencies; municipalities = municipalities; groups = groups })
+  canton_quorum ← quorum_of (get_member (codes "canton_quorum") document)
+  Some (record {
+    house = house;
+    constituencies = constituencies;
+    municipalities = municipalities;
+    groups = groups;
+    canton_quorum = canton_quorum;
+  })
 
 -- a value is the same as a later one
 abbrev pub repeats : (Data → Data → Bool) → List Data → Bool

@@ -1,9 +1,10 @@
 -- The keys of a set-up text: which are there, and which should not be.
-use Rattle.std.specs.Prelude.{ℕ, Bool, true, not, ◌&&◌, if◌then◌else◌, List, [], ◌∷◌, is_some, codes}
+use Rattle.std.specs.Prelude.{ℕ, Bool, true, false, not, ◌&&◌, if◌then◌else◌, pos, List, [], ◌∷◌, is_some, option_and_then, codes}
 use Rattle.std.specs.Option.{option_map_or}
 use Rattle.std.specs.List.{list_all, list_any}
+use Rattle.std.specs.Ordering.{int_eq}
 use Rattle.std.specs.Str.{bytes_eq}
-use Rattle.toml.specs.Data.{Data, Items, no_items, item, Members, no_members, member, table, get, get_member, as_table, as_array}
+use Rattle.toml.specs.Data.{Data, Items, no_items, item, Members, no_members, member, table, get, get_member, as_table, as_array, as_integer}
 
 -- the values of an array
 abbrev pub list_of : Items → List Data
@@ -35,9 +36,18 @@ knows_keys keys (member key _ others) = list_any (λ known. bytes_eq known key) 
 abbrev pub knows_keys_of : List (List ℕ) → Data → Bool
 knows_keys_of keys value = option_map_or (knows_keys keys) (as_table value) true
 
--- the keys at the top
+-- the keys that stand at the top
 abbrev pub document_keys : List (List ℕ)
 document_keys = codes "version" ∷ codes "house" ∷ codes "constituency" ∷ codes "municipality" ∷ codes "group" ∷ []
+
+-- whether the version is the whole number 2
+abbrev pub is_version_2 : Members → Bool
+is_version_2 document =
+    option_map_or (λ version. int_eq version (pos 2)) (option_and_then as_integer (get_member (codes "version") document)) false
+
+-- the keys that may stand at the top: with version 2 also that of a canton-wide quorum
+abbrev pub known_keys : Members → List (List ℕ)
+known_keys document = if is_version_2 document then codes "canton_quorum" ∷ document_keys else document_keys
 
 -- the keys of a constituency
 abbrev pub constituency_keys : List (List ℕ)
@@ -63,6 +73,6 @@ misses_key document =
 abbrev pub has_other_key : Members → Bool
 has_other_key document =
     not (
-    knows_keys document_keys document && list_all (knows_keys_of constituency_keys) (tables_at (codes "constituency") document)
+    knows_keys (known_keys document) document && list_all (knows_keys_of constituency_keys) (tables_at (codes "constituency") document)
     && list_all (knows_keys_of municipality_keys) (tables_at (codes "municipality") document) && list_all (knows_keys_of group_keys) (tables_at (codes "group") document)
     )

@@ -1,5 +1,5 @@
 -- What a set-up text says.
-use Rattle.std.specs.Prelude.{◌≡◌, ℕ, ◌&&◌, nat_le, if◌then◌else◌, pos, List, length, map, Some, option_map, option_and_then, Result, Err, codes}
+use Rattle.std.specs.Prelude.{◌≡◌, ℕ, ◌&&◌, ◌⊎◌, nat_le, if◌then◌else◌, pos, List, length, map, Some, None, option_map, option_and_then, Result, Err, codes}
 use Rattle.std.specs.List.{AllZip}
 use Rattle.std.specs.Option.{option_map_or}
 use Rattle.std.specs.Str.{is_utf8}
@@ -29,13 +29,18 @@ GroupOf constituencies value x =
     (get (codes "name") value ≡ Some (string x.name))
     × ((numbers : List ℕ) × (option_map list_of (option_and_then as_array (get (codes "stands") value)) ≡ Some (map (λ n. integer (pos n)) numbers)) × (x.stands ≡ stands_of constituencies numbers))
 
--- the table holds the set-up, part by part
+-- the table has this version
+abbrev pub HasVersion : Members → ℕ → Type 0
+HasVersion document version = get_member (codes "version") document ≡ Some (integer (pos version))
+
+-- the table holds the set-up, part by part; a canton-wide quorum needs version 2
 pub record SetupOf (document : Members) (canton : Canton) : Type 0 where
-  pub version : get_member (codes "version") document ≡ Some (integer (pos 1))
+  pub version : (HasVersion document 1 × (canton.canton_quorum ≡ None)) ⊎ HasVersion document 2
   pub house : get_member (codes "house") document ≡ Some (integer (pos canton.house))
   pub constituencies : AllZip ConstituencyOf (tables_at (codes "constituency") document) canton.constituencies
   pub municipalities : AllZip MunicipalityOf (tables_at (codes "municipality") document) canton.municipalities
   pub groups : AllZip (GroupOf (length canton.constituencies)) (tables_at (codes "group") document) canton.groups
+  pub canton_quorum : get_member (codes "canton_quorum") document ≡ option_map (λ q. integer (pos q)) canton.canton_quorum
 
 -- the text stands for a table that holds the set-up
 abbrev pub Describes : List ℕ → Canton → Type 0

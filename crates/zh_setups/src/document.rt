@@ -1,9 +1,9 @@
 //! The set-up of a document, or its first fault.
 
-ghost use Rattle.std.specs.Prelude.{option_and_then};
+ghost use Rattle.std.specs.Prelude.{option_and_then, codes};
 ghost use Rattle.toml.specs.Data.{get_member};
 ghost use Rattle.toml.specs.View.{table_view};
-ghost use Rattle.zh_setups.specs.Document.{number_within, setup_of, has_double, undoubled, checked};
+ghost use Rattle.zh_setups.specs.Document.{number_within, quorum_of, setup_of, has_double, undoubled, checked};
 ghost use Rattle.zh_setups.specs.Outcomes.{Gives, GivesInRange};
 ghost use Rattle.zh_districts.specs.Parts.{draft};
 
@@ -23,21 +23,36 @@ fn number_at(document: &Table, key: &str, low: u32, high: u32) -> Result<u32, Se
     number(value, low, high).ok_or(SetupFault::Range)
 }
 
+/// The canton-wide quorum of a document in per mille, 1 to 49, where it has one.
+fn read_quorum(document: &Table) -> Result<Option<u32>, SetupFault>
+    ensures { GivesInRange (λ q. q) result (quorum_of (get_member (codes "canton_quorum") (table_view document.now))) }
+{
+    match value_at(document, "canton_quorum") {
+        Some(value) => {
+            let per_mille = number(value, 1, 49).ok_or(SetupFault::Range)?;
+            Ok(Some(per_mille))
+        }
+        None => Ok(None),
+    }
+}
+
 /// The parts of a set-up, where each value is of its kind and within its limits.
 fn read_draft(alloc: Global, document: &Table) -> Result<Draft, SetupFault>
     ensures { GivesInRange draft result (setup_of (table_view document.now)) }
 {
-    let _version = number_at(document, "version", 1, 1)?;
+    let _version = number_at(document, "version", 1, 2)?;
     let house = number_at(document, "house", 1, 400)?;
     let constituencies = read_constituencies(alloc, document)?;
     let count = constituencies.len() as u32;
     let municipalities = read_municipalities(alloc, document, count)?;
     let groups = read_groups(alloc, document, count)?;
+    let canton_quorum = read_quorum(document)?;
     Ok(Draft {
         house,
         constituencies,
         municipalities,
         groups,
+        canton_quorum,
     })
 }
 

@@ -5,7 +5,7 @@ ghost use Rattle.std.specs.List.{list_all, list_any};
 ghost use Rattle.std.specs.Str.{bytes_eq};
 ghost use Rattle.toml.specs.Data.{table};
 ghost use Rattle.toml.specs.View.{view, table_view};
-ghost use Rattle.zh_setups.specs.Keys.{has_keys, knows_keys, knows_keys_of, misses_key, has_other_key, tables_at};
+ghost use Rattle.zh_setups.specs.Keys.{has_keys, knows_keys, knows_keys_of, is_version_2, known_keys, misses_key, has_other_key, tables_at};
 
 use crate::table::{tables_at, value_at, value_of};
 use toml::{Table, Value};
@@ -109,14 +109,45 @@ fn tables_know_keys(document: &Table, kind: &str, keys: &[&str]) -> bool
     each_knows_keys(tables_at(document, kind), keys)
 }
 
+/// Whether the version is the whole number 2.
+fn is_version_2(document: &Table) -> bool
+    ensures { result ≡ is_version_2 (table_view document.now) }
+{
+    match value_at(document, "version") {
+        Some(version) => version.as_integer() == Some(2),
+        None => false,
+    }
+}
+
+/// Whether each key at the top may stand there.
+fn knows_document_keys(document: &Table) -> bool
+    ensures { result ≡ knows_keys (known_keys (table_view document.now)) (table_view document.now) }
+{
+    if is_version_2(document) {
+        knows_keys(
+            document,
+            &[
+                "canton_quorum",
+                "version",
+                "house",
+                "constituency",
+                "municipality",
+                "group",
+            ],
+        )
+    } else {
+        knows_keys(
+            document,
+            &["version", "house", "constituency", "municipality", "group"],
+        )
+    }
+}
+
 /// Whether another key stands at the top or in a table.
 pub(crate) fn has_other_key(document: &Table) -> bool
     ensures { result ≡ has_other_key (table_view document.now) }
 {
-    if !knows_keys(
-        document,
-        &["version", "house", "constituency", "municipality", "group"],
-    ) {
+    if !knows_document_keys(document) {
         return true;
     }
     if !tables_know_keys(document, "constituency", &["name", "persons"]) {

@@ -11,8 +11,8 @@ use zh_districts::Setup;
 
 const LONGEST: usize = 1_048_576;
 
-/// The set-up of a text in TOML, as docs/FORMATS.md lays it out: the keys `version` (1), `house`, `constituency`,
-/// `municipality` and `group`.
+/// The set-up of a text in TOML, as docs/FORMATS.md lays it out: the keys `version` (1 or 2), `house`, `constituency`,
+/// `municipality` and `group`, and with version 2 also `canton_quorum`, if there is one.
 ///
 /// The faults are looked for in the order of `SetupFault`, each over the whole document. Memory may come in place of
 /// any other answer, where an allocation was refused.

@@ -12,6 +12,7 @@ use Rattle.zh_divisors.proofs.CallerLemmas.{term-le-sum_to}
 use Rattle.zh_districts.specs.Canton.{IsCanton}
 use Rattle.zh_lower.specs.Question.{AreTotals, EachColumnHasVotes, column_votes}
 use Rattle.zh_quorum.specs.Quorum.{TakesPart}
+use Rattle.zh_quorum.proofs.CallerLemmas.{HasVotes, has_votes}
 use Rattle.zh_totals.specs.Totals as totals
 use Rattle.zh_totals.specs.Totals.{VoteTotals, votes_in}
 use Rattle.zh_upper.specs.UpperSeats.{of_participants}
@@ -115,11 +116,12 @@ column_has_votes t a k lt =
     let g : ℕ = get_or (seated_groups a.upper) k 0 in
     let there : g ≤ length t.canton.groups = omega (arith, is.there, length-upper t a) in
     let takes : TakesPart t g = (a.participation.each g is.from_one there).0 (seated_takes t a (g - 1) (omega (arith, is.from_one, is.there)) is.seated) in
-    let row : takes.d - 1 < length t.canton.constituencies = omega (arith, takes.from_one, takes.there) in
-    let number : takes.d - 1 + 1 ≡ takes.d = omega (arith, takes.from_one) in
-    let votes : column_votes (lower_question t a.seats a.upper) k (takes.d - 1) ≡ votes_in t takes.d g
-    = at_seated_votes t a.upper (takes.d - 1) k row lt ∙ ap (λ d. votes_in t d g) number in
-    omega (arith, votes, takes.reaches.some_votes, term-le-sum_to (length t.canton.constituencies) (column_votes (lower_question t a.seats a.upper) k) (takes.d - 1) row)
+    let has : HasVotes t g = has_votes t g takes in
+    let row : has.d - 1 < length t.canton.constituencies = omega (arith, has.from_one, has.there) in
+    let number : has.d - 1 + 1 ≡ has.d = omega (arith, has.from_one) in
+    let votes : column_votes (lower_question t a.seats a.upper) k (has.d - 1) ≡ votes_in t has.d g
+    = at_seated_votes t a.upper (has.d - 1) k row lt ∙ ap (λ d. votes_in t d g) number in
+    omega (arith, votes, has.some_votes, term-le-sum_to (length t.canton.constituencies) (column_votes (lower_question t a.seats a.upper) k) (has.d - 1) row)
 
 row_totals : (t : VoteTotals) (a : Targets t) → IsCanton t.canton → AreTotals (length t.canton.constituencies) a.seats
 row_totals t a canton = record {

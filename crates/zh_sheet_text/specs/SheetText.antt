@@ -1,6 +1,7 @@
 -- The text of a sheet, line by line (docs/FORMATS.md, "The sheet"): 10 ends a line, 48 is the digit 0.
 use Rattle.std.specs.Prelude.{ℕ, ◌-◌, ◌/◌, ◌%◌, Bool, true, false, if◌then◌else◌, List, [], ◌∷◌, ◌++◌, length, replicate, slice_index, Option, Some, None, codes, decimal, flat_map}
 use Rattle.std.specs.List.{range_with_len}
+use Rattle.std.specs.Option.{option_map_or}
 use Rattle.zh_districts.specs.Canton.{persons_of, stands}
 use Rattle.zh_divisors.specs.Shares.{Apportionment}
 use Rattle.zh_totals.specs.Totals.{constituency_votes, votes_in}
@@ -45,6 +46,10 @@ house_line x = field (codes "house ") x.totals.canton.house ++ 10 ∷ []
 -- the divisors of the seats of the constituencies and of the groups, not reduced
 abbrev pub key_lines : Distribution → List ℕ
 key_lines x = key_text (codes "seats key ") x.seats ++ 10 ∷ [] ++ key_text (codes "upper key ") x.upper ++ 10 ∷ []
+
+-- the canton-wide quorum in per mille, where the set-up has one
+abbrev pub quorum_line : Distribution → List ℕ
+quorum_line x = option_map_or (λ q. field (codes "quorum canton ") q ++ 10 ∷ []) x.totals.canton.canton_quorum []
 
 -- a constituency: its persons, seats, votes, divisor and name
 abbrev pub constituency_line : Distribution → ℕ → List ℕ
@@ -95,7 +100,7 @@ list_lines x = flat_map (list_lines_in x) (range_with_len 1 (length x.totals.can
 -- the whole text, for a desk, final or provisional, after so many accepted commands
 abbrev pub sheet_text : Distribution → ℕ → Bool → ℕ → List ℕ
 sheet_text x desk is_final accepted =
-    head_line desk is_final accepted ++ house_line x ++ key_lines x
+    head_line desk is_final accepted ++ house_line x ++ key_lines x ++ quorum_line x
     ++ constituency_lines x
     ++ group_lines x
     ++ list_lines x

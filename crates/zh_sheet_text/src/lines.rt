@@ -1,6 +1,6 @@
 //! The lines of a sheet (docs/FORMATS.md, "The sheet").
 ghost use Rattle.std.specs.Prelude.{◌≡◌, ◌+◌, ◌≤◌, ◌++◌, length};
-ghost use Rattle.zh_sheet_text.specs.SheetText.{constituency_line, group_line, head_line, house_line, key_lines, kind, list_line, yes_or_no};
+ghost use Rattle.zh_sheet_text.specs.SheetText.{constituency_line, group_line, head_line, house_line, key_lines, kind, list_line, quorum_line, yes_or_no};
 
 use crate::page::{LINE, Page, ROOM};
 use zh_sheet::Sheet;
@@ -55,6 +55,18 @@ pub(crate) fn push_keys(page: &mut Page, sheet: &Sheet<'_>)
     page.push_field(b"upper key ", sheet.upper().num());
     page.push_field(b"/", u64::from(sheet.upper().den()));
     page.push(b"\n");
+}
+
+/// The canton-wide quorum, where the set-up has one.
+pub(crate) fn push_quorum(page: &mut Page, sheet: &Sheet<'_>)
+    requires { length page.old + LINE ≤ ROOM }
+    ensures text { page.new ≡ page.old ++ quorum_line sheet.now }
+    ensures short { length page.new ≤ length page.old + LINE }
+{
+    if let Some(per_mille) = sheet.setup().canton_quorum() {
+        page.push_field(b"quorum canton ", u64::from(per_mille));
+        page.push(b"\n");
+    }
 }
 
 /// A constituency: its persons, seats, votes, divisor and name.

@@ -4,7 +4,9 @@ ghost use Rattle.std.specs.Io.KnownBytes.{Appends};
 ghost use Rattle.zh_sheet_text.specs.Printing.{Prints, WritesFront};
 ghost use Rattle.zh_sheet_text.specs.SheetText.{constituency_lines, group_lines, list_lines, list_lines_in, sheet_text};
 
-use crate::lines::{push_constituency, push_group, push_head, push_house, push_keys, push_list};
+use crate::lines::{
+    push_constituency, push_group, push_head, push_house, push_keys, push_list, push_quorum,
+};
 use crate::page::{LINE, Page, ROOM};
 use std::io::Write;
 use zh_commands::WriteFault;
@@ -95,6 +97,7 @@ pub fn write_sheet<W: Write>(
     push_head(&mut page, desk, is_final, accepted);
     push_house(&mut page, sheet);
     push_keys(&mut page, sheet);
+    push_quorum(&mut page, sheet);
     print_constituencies(&mut page, out, sheet)?;
     print_groups(&mut page, out, sheet)?;
     print_lists(&mut page, out, sheet)?;

@@ -13,8 +13,9 @@ use zh_setups::{read_setup, rehearsal};
 use zh_totals::Totals;
 use zh_upper::{UpperFault, upper, voters};
 
-const TEXT: &str = r#"version = 1
+const TEXT: &str = r#"version = 2
 house = 10
+canton_quorum = 30
 [[constituency]]
 name = "Nord"
 persons = 5000
@@ -33,7 +34,7 @@ stands = [1, 2]
 "#;
 
 // Its bytes.
-const BYTES: [u8; 36] = [
+const BYTES: [u8; 38] = [
     0x00, 0x0a, 0x02, // 10 seats, 2 constituencies
     0x00, 0x00, 0x13, 0x88, 0x04, 0x4e, 0x6f, 0x72, 0x64, // 5,000 in Nord
     0x00, 0x00, 0x07, 0xd0, 0x04, 0x57, 0x65, 0x73, 0x74, // 2,000 in West
@@ -41,6 +42,7 @@ const BYTES: [u8; 36] = [
     0x01, 0x01, 0x4e, 0x02, 0x01, 0x57, // N in the first, W in the second
     0x01, // a group
     0x00, 0x00, 0x00, 0x03, 0x01, 0x41, // A in both
+    0x00, 0x1e, // 30 per mille
 ];
 
 fn see_bytes(rt: &impl Abort, alloc: Global, setup: &Setup) -> Result<(), Fail> {

@@ -20,13 +20,14 @@ put_groups-requires-clause-names c =
     rw c.deref-3.ensures.value (short_names (λ x. x.name) (map group c.setup.inside.groups.items) c.setup.invariant.group_names)
 
 -- what was put
-the_bytes : (c : goal.In_ok-put_groups) → c.put_groups.new.out.items ≡ setup_spelling c.args.setup.now
+the_bytes : (c : goal.In_ok-put_quorum) → c.put_quorum.new.out.items ≡ setup_spelling c.args.setup.now
 the_bytes c =
     let house = rw (c.new-out.ensures.items, c.to_be_bytes.ensures) at c.in_ok-extend_from_slice.ensures.items in
     let constituencies = rw c.deref.ensures.value at c.in_ok-put_constituencies.ensures in
     let municipalities = rw c.deref-2.ensures.value at c.in_ok-put_municipalities.ensures in
     let groups = rw c.deref-3.ensures.value at c.in_ok-put_groups.ensures in
-    spelled c.setup.inside c.args.setup.now c.extend_from_slice.new.self.items c.put_constituencies.new.out.items c.put_municipalities.new.out.items c.put_groups.new.out.items c.setup.view_is house constituencies municipalities groups
+    let quorum = c.in_ok-put_quorum.ensures in
+    spelled c.setup.inside c.args.setup.now c.extend_from_slice.new.self.items c.put_constituencies.new.out.items c.put_municipalities.new.out.items c.put_groups.new.out.items c.put_quorum.new.out.items c.setup.view_is house constituencies municipalities groups quorum
 
 pub returns-clause-spelling : goal.returns-clause-spelling
 returns-clause-spelling c = the_bytes c

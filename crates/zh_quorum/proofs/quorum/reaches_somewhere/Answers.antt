@@ -1,6 +1,6 @@
 use Rattle.std.proofs.Common.{arith}
 use Rattle.std.proofs.lemmas.Grind.{common_steps}
-use Rattle.zh_quorum.proofs.quorum.takes_part.Goals as goal
+use Rattle.zh_quorum.proofs.quorum.reaches_somewhere.Goals as goal
 
 pub returns : goal.returns
 returns c = grind (arith, common_steps)

@@ -1,0 +1,7 @@
+use Rattle.std.proofs.Common.{◌≡◌, ◌+◌}
+use Rattle.zh_totals.specs.Sums.{sum_to}
+use Rattle.zh_totals.specs.Totals.{constituency_votes}
+use Rattle.zh_quorum.proofs.canton_quorum.all_votes.Given as goal
+
+abbrev pub invariant-loop-place : goal.invariant-loop-place
+invariant-loop-place l = l.votes ≡ sum_to l.place (λ i. constituency_votes l.totals (i + 1))

@@ -1,0 +1,49 @@
+-- The keys at the top of a document.
+use Rattle.std.proofs.Common.{◌≡◌, Bool, true, false, not, ◌&&◌, Ordering, Less, Equal, Greater, List, Option, Some, None, ℕ, codes, refl, sym, subst, ◌∙◌, inl, inr}
+use Rattle.std.specs.List.{list_all, list_any}
+use Rattle.std.specs.Ordering.{nat_cmp, is_eq, match_ordering}
+use Rattle.std.specs.Cmp.Lexicographic.{slice_cmp}
+use Rattle.std.specs.Str.{bytes_eq}
+use Rattle.std.proofs.lemmas.Bool.{and_parts, cases_Bool, false≢true}
+use Rattle.std.proofs.lemmas.Map.Text.{is_eq-slice_cmp}
+use Rattle.std.proofs.lemmas.Slice.Eq.{bytes_eq-Decides}
+use Rattle.toml.specs.Data.{Data, Members, no_members, member, get_member}
+use Rattle.zh_setups.specs.Keys.{tables_at, knows_keys, knows_keys_of, document_keys, known_keys, constituency_keys, municipality_keys, group_keys, has_other_key}
+use Rattle.zh_setups.specs.SetupText.{HasVersion}
+
+passed : (o : Ordering) (d : Data) (found : Option Data) → is_eq o ≡ false → match_ordering o found (Some d) found ≡ found
+passed Less d found e = refl
+passed Equal d found e = absurd cc
+passed Greater d found e = refl
+
+-- a key that is not among the known ones does not stand there
+no_member : (keys : List (List ℕ)) (key : List ℕ) (members : Members) → knows_keys keys members ≡ true → list_any (λ known. bytes_eq known key) keys ≡ false → get_member key members ≡ None
+no_member keys key no_members knows other = refl
+no_member keys key (member here d members) knows other =
+    let k = and_parts (list_any (λ known. bytes_eq known here) keys) (knows_keys keys members) knows in
+    let apart : is_eq (slice_cmp nat_cmp key here) ≡ false = elim (cases_Bool (is_eq (slice_cmp nat_cmp key here))) [
+      | inl same ↦
+          let equal : key ≡ here = (bytes_eq-Decides key here).0 (sym (is_eq-slice_cmp key here) ∙ same) in
+          absurd (false≢true (sym other ∙ subst (λ (x : List ℕ). list_any (λ known. bytes_eq known x) keys ≡ true) (sym equal) k.0))
+      | inr e ↦ e
+    ] in
+    passed (slice_cmp nat_cmp key here) d (get_member key members) apart ∙ no_member keys key members k.1 other
+
+not_false : (b : Bool) → not b ≡ false → b ≡ true
+not_false true e = refl
+not_false false e = absurd cc
+
+-- the keys at the top are known
+pub knows_top : (document : Members) → has_other_key document ≡ false → knows_keys (known_keys document) document ≡ true
+knows_top document e =
+    let cs = list_all (knows_keys_of constituency_keys) (tables_at (codes "constituency") document) in
+    let ms = list_all (knows_keys_of municipality_keys) (tables_at (codes "municipality") document) in
+    let gs = list_all (knows_keys_of group_keys) (tables_at (codes "group") document) in
+    let top = knows_keys (known_keys document) document in
+    (and_parts top cs (and_parts (top && cs) ms (and_parts (top && cs && ms) gs (not_false (top && cs && ms && gs) e)).0).0).0
+
+-- version 1 does not know that of a canton-wide quorum
+pub no_quorum_key : (document : Members) → HasVersion document 1 → knows_keys (known_keys document) document ≡ true → get_member (codes "canton_quorum") document ≡ None
+no_quorum_key document version knows =
+    let keys : known_keys document ≡ document_keys = rw version refl in
+    no_member document_keys (codes "canton_quorum") document (subst (λ (keys : List (List ℕ)). knows_keys keys document ≡ true) keys knows) refl
