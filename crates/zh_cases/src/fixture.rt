@@ -166,7 +166,8 @@ impl<'s> Fixture<'s> {
 
     /// Takes the disk out of what lets it fail.
     fn take_memory(&mut self) -> Result<MemoryDisk, Fault> {
-        Ok(self.disk.take().ok_or(NO_CASE)?.inner.into_inner().into_inner())
+        let device = self.disk.take().ok_or(NO_CASE)?;
+        Ok(device.inner.into_inner().into_inner())
     }
 
     /// Lets the disk fail after so many calls.
