@@ -1,12 +1,12 @@
 //! A disk that counts its calls.
 
-use zh_disk::{Disk, DiskFault, FuseDisk, MemoryDisk};
+use zh_disk::{Disk, DiskFault, FuseDisk, MemoryDisk, OnceDisk};
 
-/// The disk of a case, with the fuse that lets it fail.
-pub(crate) type Device = CountingDisk<FuseDisk<MemoryDisk>>;
+/// The disk of a case, which may fail for good or once.
+pub(crate) type Device = CountingDisk<OnceDisk<FuseDisk<MemoryDisk>>>;
 
 /// So many calls are never made.
-const NO_FUSE: u64 = u64::MAX;
+const NEVER: u64 = u64::MAX;
 
 /// Hands each call on to the disk inside, and counts the calls of each kind.
 #[derive(Drop)]
@@ -17,10 +17,10 @@ pub(crate) struct CountingDisk<D: Disk + Drop> {
     pub(crate) syncs: u64,
 }
 
-/// A disk that fails when its fuse does. Nothing is counted yet.
-pub(crate) fn device(fuse: FuseDisk<MemoryDisk>) -> Device {
+/// A disk that fails for good after so many calls, or once. Nothing is counted yet.
+fn device(disk: MemoryDisk, for_good: u64, once: u64) -> Device {
     CountingDisk {
-        inner: fuse,
+        inner: OnceDisk::new(FuseDisk::new(disk, for_good), once),
         reads: 0,
         writes: 0,
         syncs: 0,
@@ -29,7 +29,17 @@ pub(crate) fn device(fuse: FuseDisk<MemoryDisk>) -> Device {
 
 /// A disk that does not fail.
 pub(crate) fn whole(disk: MemoryDisk) -> Device {
-    device(FuseDisk::new(disk, NO_FUSE))
+    device(disk, NEVER, NEVER)
+}
+
+/// A disk that fails after so many calls.
+pub(crate) fn failing(disk: MemoryDisk, calls: u64) -> Device {
+    device(disk, calls, NEVER)
+}
+
+/// A disk that fails in the call after so many, and then works again.
+pub(crate) fn failing_once(disk: MemoryDisk, calls: u64) -> Device {
+    device(disk, NEVER, calls)
 }
 
 impl<D: Disk + Drop> Disk for CountingDisk<D> {

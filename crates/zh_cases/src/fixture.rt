@@ -1,6 +1,6 @@
 //! What a case works on: a set-up, a disk, and the office that is open there.
 
-use crate::device::{Device, device, whole};
+use crate::device::{Device, failing, failing_once, whole};
 use crate::fault::Fault;
 use crate::image::{disk_of, image_of, put};
 use crate::program::push_lines;
@@ -9,7 +9,7 @@ use crate::words::read_place;
 use hex::encode;
 use std::alloc::Global;
 use zh_commands::write_reply;
-use zh_disk::{DISK_LENGTH, FuseDisk, MemoryDisk, Stop};
+use zh_disk::{DISK_LENGTH, MemoryDisk, Stop};
 use zh_districts::Setup;
 use zh_office::{FormatFault, Office, OpenFault};
 
@@ -164,20 +164,21 @@ impl<'s> Fixture<'s> {
         Ok(answer)
     }
 
-    /// Takes the disk out of its fuse.
+    /// Takes the disk out of what lets it fail.
     fn take_memory(&mut self) -> Result<MemoryDisk, Fault> {
-        Ok(self.disk.take().ok_or(NO_CASE)?.inner.into_inner())
+        let device = self.disk.take().ok_or(NO_CASE)?;
+        Ok(device.inner.into_inner().into_inner())
     }
 
     /// Lets the disk fail after so many calls.
     pub(crate) fn fail(&mut self, calls: u64) -> Result<&'static str, Fault> {
-        self.disk = Some(device(FuseDisk::new(self.take_memory()?, calls)));
+        self.disk = Some(failing(self.take_memory()?, calls));
         Ok("ok")
     }
 
     /// Lets the disk fail in the call after so many, and work again.
     pub(crate) fn fail_once(&mut self, calls: u64) -> Result<&'static str, Fault> {
-        self.disk = Some(device(FuseDisk::once(self.take_memory()?, calls)));
+        self.disk = Some(failing_once(self.take_memory()?, calls));
         Ok("ok")
     }
 

@@ -1,5 +1,5 @@
 -- The moments of a whole append: the pages behind their gates, then the gate of the first.
-use Rattle.std.proofs.Common.{◌≡◌, ℕ, ◌+◌, ◌*◌, ◌≤◌, List, [], ◌∷◌, length, sym, ◌∙◌, ap, subst, arith}
+use Rattle.std.proofs.Common.{◌≡◌, inl, inr, ⊎_elim, ℕ, ◌+◌, ◌*◌, ◌≤◌, List, [], ◌∷◌, length, sym, ◌∙◌, ap, subst, arith}
 use Rattle.std.specs.Prelude.{slice_index}
 use Rattle.zh_disk.specs.Disk.{Moment, Trail, IsImage, SameOutside, Moves, Leaves, splice}
 use Rattle.zh_disk.proofs.CallerLemmas.{splice_inside, splice_same, image_now, leaves_now, leaves_weaken, leaves_join, synced_image}
@@ -36,3 +36,22 @@ module _ (base j : ℕ) (r : List ℕ) (sized : HasSize r) (room : j + pages_of 
       let here : base + 256 * j + 0 ≡ base + 256 * j = omega arith in
       let gate : slice_index c (base + 256 * j) ≡ 165 = ap (λ (l : List ℕ). slice_index l (base + 256 * j)) only ∙ ap (slice_index (splice (base + 256 * j) (165 ∷ []) b)) (sym here) ∙ splice_inside (base + 256 * j) (165 ∷ []) b 0 fits (omega arith) in
       (came.0, came.1, opened base j r sized room came.0 b (long_image came.0 came.1) came.2 staged c same gate)
+
+-- the pages alone are changed
+module _ (at n : ℕ) (some : 1 ≤ n) (t0 t1 : Trail) (staging : Leaves (SameButBodies at n) t0 t1) where
+  bodies_within : (d b : List ℕ) → SameButBodies at n d b → SameOutside at (256 * n) d b
+  bodies_within d b by = record { size = by.size; same = λ k out. by.same k (λ x low. ⊎_elim (λ before. inl (omega arith)) (λ after. inr (omega arith)) out) }
+
+  pub within_staging : Leaves (SameOutside at (256 * n)) t0 t1
+  within_staging = leaves_weaken _ _ t0 t1 (λ d c image by. bodies_within d c by) staging
+
+  gate_within : (d b c : List ℕ) → SameOutside at (256 * n) d b → SameOutside at 1 b c → SameOutside at (256 * n) d c
+  gate_within d b c within gate = record { size = gate.size ∙ within.size; same = λ k out. gate.same k (⊎_elim (λ before. inl before) (λ after. inr (omega arith)) out) ∙ within.same k out }
+
+  pub within_opening : (t2 : Trail) → Leaves (FromBytes at t1) t1 t2 → Leaves (SameOutside at (256 * n)) t0 t2
+  within_opening t2 seal =
+      let came = leaves_now _ t0 t1 (but_refl at n) staging t1.now.bytes (image_now t1.now) in
+      leaves_join _ _ (SameOutside at (256 * n)) t0 t1 t2 staging seal (λ d c image by. bodies_within d c by)
+      (λ x f image by.
+      let same : SameOutside at 1 t1.now.bytes f = subst (λ (b : List ℕ). SameOutside at 1 b f) by.0 by.1 in
+      (came.0, came.1, gate_within came.0 t1.now.bytes f (bodies_within came.0 t1.now.bytes came.2) same))

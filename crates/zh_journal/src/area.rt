@@ -1,9 +1,9 @@
 //! An area of records.
-ghost use Rattle.std.specs.Prelude.{◌≡◌, ◌+◌, ◌*◌, ◌↔◌, ◌<◌, ◌≤◌, ℕ, List, None, Some, [], ◌∷◌, ◌++◌, length, slice_get, slice_index, IfOk, OnOk, OnErr, IsErrOf};
+ghost use Rattle.std.specs.Prelude.{◌≡◌, ◌+◌, ◌*◌, ◌↔◌, ◌⊎◌, ◌<◌, ◌≤◌, ℕ, List, None, Some, [], ◌∷◌, ◌++◌, length, slice_get, slice_index, IfOk, OnOk, OnErr, IsErrOf};
 ghost use Rattle.zh_disk.specs.Disk.{Leaves, Moves, SameOutside};
 ghost use Rattle.zh_disk.specs.declared.disk.TheConstants.{DISK_LENGTH};
-ghost use Rattle.zh_journal.specs.Cause.{HasRisen};
-ghost use Rattle.zh_journal.specs.Pages.{Frames, Reads, AddsOrNot, Adds, IsCleared, pages_of};
+ghost use Rattle.zh_journal.specs.Cause.{HasRisen, UnlessDevice};
+ghost use Rattle.zh_journal.specs.Pages.{Frames, IsRecord, Reads, AddsOrNot, Adds, IsCleared, pages_of};
 ghost use Rattle.zh_journal.specs.Place.{pages_left, grown};
 ghost use Rattle.zh_journal.specs.Records.{records_of};
 
@@ -69,7 +69,7 @@ impl Area {
         ensures same { D.honest disk.new → D.trail disk.new ≡ D.trail disk.old }
         ensures later { D.failures disk.old ≤ D.failures disk.new }
         ensures cause { IsErrOf result OpenFault.Device → HasRisen (D.failures disk.old) (D.failures disk.new) }
-        ensures counted { OnOk result (D.failures disk.new ≡ D.failures disk.old) }
+        ensures counted { UnlessDevice result (D.failures disk.new ≡ D.failures disk.old) }
     {
         disk.read_at(base, &mut pages)?;
         let Some(extent) = extent_of(&pages) else {
@@ -114,6 +114,10 @@ impl Area {
         ensures kept { D.honest disk.new → D.honest disk.old }
         ensures payload { D.honest disk.new → (rs : List (List ℕ)) (j : ℕ) → Reads self.now.base (D.trail disk.old).now.bytes rs j → i < length rs → IfOk result (λ payload. slice_get rs i ≡ Some payload.now) }
 
+        // It is empty where the disk has no record i any more, and else that record.
+        ensures found { D.honest disk.new → IfOk result (λ payload. (payload.now ≡ [])
+            ⊎ IsRecord self.now.base i (D.trail disk.old).now.bytes payload.now) }
+
         ensures most { IfOk result (λ payload. length payload.now ≤ LONGEST_PAYLOAD) }
         ensures same { D.honest disk.new → D.trail disk.new ≡ D.trail disk.old }
         ensures later { D.failures disk.old ≤ D.failures disk.new }
@@ -136,6 +140,14 @@ impl Area {
 
         // Each image at each moment is one from the start, with the record or without it.
         ensures any_moment { D.honest disk.new → Leaves (AddsOrNot self.old.base self.old.end payload.now) (D.trail disk.old) (D.trail disk.new) }
+
+        // And nothing but the record's pages is changed, whatever the images were.
+        ensures outside { D.honest disk.new → Leaves (SameOutside (self.old.base + 256 * self.old.end)
+            (256 * pages_of (length payload.now))) (D.trail disk.old) (D.trail disk.new) }
+
+        // It is a write a page, and the three calls that open the gate.
+        ensures calls { D.honest disk.new → OnOk result (length (D.trail disk.new).past
+            ≡ length (D.trail disk.old).past + pages_of (length payload.now) + 3) }
 
         ensures added { D.honest disk.new → OnOk result (Moves (Adds self.old.base self.old.end payload.now) (D.trail disk.old).now (D.trail disk.new).now) }
 
@@ -174,6 +186,7 @@ impl Area {
 
         ensures cleared { D.honest disk.new → OnOk result (IsCleared base (D.trail disk.old).now.bytes (D.trail disk.new).now.bytes) }
 
+        ensures calls { D.honest disk.new → OnOk result (length (D.trail disk.new).past ≡ length (D.trail disk.old).past + 1) }
         ensures empty { IfOk result (λ a. a ≡ record { base = base; end = 0; count = 0 }) }
         ensures later { D.failures disk.old ≤ D.failures disk.new }
         ensures cause { IsErrOf result AreaFault.Device → HasRisen (D.failures disk.old) (D.failures disk.new) }

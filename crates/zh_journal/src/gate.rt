@@ -1,5 +1,5 @@
 //! A byte that says whether what follows it counts.
-ghost use Rattle.std.specs.Prelude.{◌≡◌, ◌<◌, [], ◌∷◌, OnOk};
+ghost use Rattle.std.specs.Prelude.{◌≡◌, ◌+◌, ◌<◌, [], ◌∷◌, length, OnOk};
 ghost use Rattle.zh_disk.specs.Disk.{Leaves, HasCause, settled, splice};
 ghost use Rattle.zh_disk.specs.declared.disk.TheConstants.{DISK_LENGTH};
 ghost use Rattle.zh_journal.specs.Gate.{FromBytes};
@@ -19,6 +19,7 @@ pub fn open_gate<D: Disk>(disk: &mut D, gate: u64) -> Result<(), DiskFault>
 
     ensures ok { D.honest disk.new → OnOk result ((D.trail disk.new).now ≡ settled (splice gate (OPEN_GATE ∷ []) (D.trail disk.old).now.bytes)) }
 
+    ensures calls { D.honest disk.new → OnOk result (length (D.trail disk.new).past ≡ length (D.trail disk.old).past + 3) }
     ensures cause { HasCause (D.failures disk.old) (D.failures disk.new) result }
     ensures counted { OnOk result (D.failures disk.new ≡ D.failures disk.old) }
 {

@@ -77,6 +77,10 @@ pub(crate) fn read_record<D: Disk>(
     ensures kept { D.honest disk.new → D.honest disk.old }
     ensures read { D.honest disk.new → (r : List ℕ) → slice_index (D.trail disk.old).now.bytes at ≡ 165 → IsStaged (D.trail disk.old).now.bytes at r → HasSize r → pages_of (length r) ≤ left → IfOk result (λ len. (len ≡ length r) × (take len buffer.new ≡ r)) }
 
+    // What is given is what stands there.
+    ensures stands { D.honest disk.new → IfOk result (λ len. 1 ≤ len → (slice_index (D.trail disk.old).now.bytes at ≡ 165)
+        × IsStaged (D.trail disk.old).now.bytes at (take len buffer.new) × HasSize (take len buffer.new)) }
+
     ensures len { IfOk result (λ len. (len ≤ LONGEST_PAYLOAD) × (1 ≤ len → pages_of len ≤ left)) }
     ensures same { D.honest disk.new → D.trail disk.new ≡ D.trail disk.old }
     ensures cause { HasCause (D.failures disk.old) (D.failures disk.new) result }
@@ -99,6 +103,10 @@ pub(crate) fn find_page<D: Disk>(disk: &mut D, base: u64, i: u32) -> Result<u32,
 
     ensures kept { D.honest disk.new → D.honest disk.old }
     ensures found { D.honest disk.new → (rs : List (List ℕ)) (j : ℕ) → Reads base (D.trail disk.old).now.bytes rs j → i < length rs → IfOk result (λ page. Frames base (D.trail disk.old).now.bytes page (drop i rs) j) }
+
+    // Before the page stand i records.
+    ensures stands { D.honest disk.new → IfOk result (λ page. page < AREA_PAGES
+        → (rs : List (List ℕ)) × Frames base (D.trail disk.old).now.bytes 0 rs page × (length rs ≡ i)) }
 
     ensures inside { IfOk result (λ page. page ≤ AREA_PAGES) }
     ensures same { D.honest disk.new → D.trail disk.new ≡ D.trail disk.old }

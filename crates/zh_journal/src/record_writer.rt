@@ -1,6 +1,6 @@
 //! Writing a record, all but its gates.
 ghost use Rattle.std.specs.Prelude.{◌≡◌, ◌+◌, ◌*◌, ◌<◌, ◌≤◌, length, OnOk};
-ghost use Rattle.zh_disk.specs.Disk.{Leaves, SameOutside, HasCause, splice};
+ghost use Rattle.zh_disk.specs.Disk.{Leaves, SameOutside, HasCause, Writes, splice};
 ghost use Rattle.zh_disk.specs.declared.disk.TheConstants.{DISK_LENGTH};
 ghost use Rattle.zh_journal.specs.declared.page.TheConstants.{LONGEST_PAYLOAD};
 ghost use Rattle.zh_journal.specs.Pages.{IsWritten, SameButBodies, body_of, pages_of};
@@ -18,6 +18,9 @@ fn write_page<D: Disk>(disk: &mut D, at: u64, payload: &[u8], i: u32) -> Result<
 
     ensures ok { D.honest disk.new → OnOk result ((D.trail disk.new).now.bytes ≡ splice (at + 256 * i + 1) (body_of payload.now i) (D.trail disk.old).now.bytes) }
 
+    // It is one write, whatever the disk answers.
+    ensures written { D.honest disk.new → Writes (D.trail disk.old) (D.trail disk.new) (at + 256 * i + 1) (body_of payload.now i) result }
+
     ensures cause { HasCause (D.failures disk.old) (D.failures disk.new) result }
     ensures counted { OnOk result (D.failures disk.new ≡ D.failures disk.old) }
 {
@@ -34,6 +37,9 @@ pub(crate) fn stage<D: Disk>(disk: &mut D, at: u64, payload: &[u8]) -> Result<()
     ensures any_moment { D.honest disk.new → Leaves (SameButBodies at (pages_of (length payload.now))) (D.trail disk.old) (D.trail disk.new) }
 
     ensures ok { D.honest disk.new → OnOk result (IsWritten (D.trail disk.new).now.bytes at payload.now) }
+
+    ensures calls { D.honest disk.new → OnOk result (length (D.trail disk.new).past
+        ≡ length (D.trail disk.old).past + pages_of (length payload.now)) }
 
     ensures cause { HasCause (D.failures disk.old) (D.failures disk.new) result }
     ensures counted { OnOk result (D.failures disk.new ≡ D.failures disk.old) }

@@ -1,5 +1,5 @@
 -- What formatting leaves, and what opening finds.
-use Rattle.std.specs.Prelude.{◌≡◌, ◌≢◌, ℕ, List, false}
+use Rattle.std.specs.Prelude.{◌≡◌, ◌≢◌, ℕ, List, Result, Ok, Err, false}
 use Rattle.zh_districts.specs.Canton.{Canton}
 use Rattle.zh_districts.specs.Spelling.{setup_spelling}
 use Rattle.zh_returns.specs.Tally.{Tally, empty}
@@ -67,3 +67,12 @@ OpenedAs of_store.Device e = e ≡ faults.Device
 OpenedAs of_store.Blank e = e ≡ faults.Blank
 OpenedAs of_store.Damaged e = e ≡ faults.Damaged
 OpenedAs of_store.Memory e = e ≡ faults.Memory
+
+-- this holds, unless a fault of the device is reported
+abbrev pub UnlessDevice : {T : Type 0} → Result T OpenFault → Type 0 → Type 0
+UnlessDevice (Ok opened) P = P
+UnlessDevice (Err faults.Memory) P = P
+UnlessDevice (Err faults.Device) P = Unit {0}
+UnlessDevice (Err faults.Blank) P = P
+UnlessDevice (Err faults.Damaged) P = P
+UnlessDevice (Err faults.SetupDiffers) P = P

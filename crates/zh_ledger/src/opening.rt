@@ -9,7 +9,7 @@ ghost use Rattle.zh_returns.specs.Payload.{payload_spelling};
 ghost use Rattle.zh_snapshot.specs.Image.{Content, IsBlank};
 ghost use Rattle.zh_snapshot.specs.Store.{Settles};
 ghost use Rattle.zh_snapshot.specs.Format.{Formats, IsFormatted};
-ghost use Rattle.zh_ledger.specs.Opened.{IsNew, IsReady, IsOpened, Differs, IsDamaged, IsLeft, IsWrong};
+ghost use Rattle.zh_ledger.specs.Opened.{IsNew, IsReady, IsOpened, Differs, IsDamaged, IsLeft, IsWrong, UnlessDevice};
 ghost use Rattle.zh_ledger.specs.Stands.{StandsFor};
 
 use crate::fault::OpenFault;
@@ -81,7 +81,7 @@ impl<'s> Ledger<'s> {
         ensures untouched { IsErrOf result OpenFault.Memory → disk.new ≡ disk.old }
         ensures later { D.failures disk.old ≤ D.failures disk.new }
         ensures cause { IsErrOf result OpenFault.Device → HasRisen (D.failures disk.old) (D.failures disk.new) }
-        ensures counted { OnOk result (D.failures disk.new ≡ D.failures disk.old) }
+        ensures counted { UnlessDevice result (D.failures disk.new ≡ D.failures disk.old) }
     {
         let bytes = setup_bytes(alloc, setup)?;
         let mut buffer = buffer(alloc)?;
@@ -119,7 +119,7 @@ fn read_count<D: Disk>(
     ensures memory { result ≢ Err OpenFault.Memory }
     ensures later { D.failures disk.old ≤ D.failures disk.new }
     ensures cause { IsErrOf result OpenFault.Device → HasRisen (D.failures disk.old) (D.failures disk.new) }
-    ensures counted { OnOk result (D.failures disk.new ≡ D.failures disk.old) }
+    ensures counted { UnlessDevice result (D.failures disk.new ≡ D.failures disk.old) }
 {
     if !store.setup_equals(disk, setup)? {
         return Err(OpenFault::SetupDiffers);

@@ -9,7 +9,7 @@ ghost use Rattle.zh_returns.specs.Payload.{payload_spelling};
 ghost use Rattle.zh_snapshot.specs.Image.{IsBlank};
 ghost use Rattle.zh_snapshot.specs.Store.{Settles};
 ghost use Rattle.zh_snapshot.specs.Format.{Formats, IsFormatted};
-ghost use Rattle.zh_ledger.specs.Opened.{IsNew, Differs, IsDamaged};
+ghost use Rattle.zh_ledger.specs.Opened.{IsNew, Differs, IsDamaged, UnlessDevice};
 ghost use Rattle.zh_office.specs.Opened.{IsReady, IsOpened};
 
 use crate::office::Office;
@@ -73,7 +73,7 @@ impl<'s> Office<'s> {
         ensures untouched { IsErrOf result OpenFault.Memory → disk.new ≡ disk.old }
         ensures later { D.failures disk.old ≤ D.failures disk.new }
         ensures cause { IsErrOf result OpenFault.Device → HasRisen (D.failures disk.old) (D.failures disk.new) }
-        ensures counted { OnOk result (D.failures disk.new ≡ D.failures disk.old) }
+        ensures counted { UnlessDevice result (D.failures disk.new ≡ D.failures disk.old) }
     {
         let rows = row_bytes(alloc)?;
         let ledger = Ledger::open(alloc, setup, disk)?;

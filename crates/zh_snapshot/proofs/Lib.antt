@@ -1,6 +1,7 @@
 pub mod CallerLemmas
 mod ClosingLemmas
 mod ContentLemmas
+mod FaultLemmas
 mod FillLemmas
 mod FormatLemmas
 mod FrameLemmas

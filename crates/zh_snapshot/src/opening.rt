@@ -2,6 +2,7 @@
 ghost use Rattle.std.specs.Prelude.{◌≡◌, ◌≢◌, ◌≤◌, ℕ, List, Some, slice_index, slice_range, IfOk, OnOk, IsErrOf};
 ghost use Rattle.zh_disk.specs.Disk.{HasCause};
 ghost use Rattle.zh_journal.specs.Cause.{HasRisen};
+ghost use Rattle.zh_snapshot.specs.Faults.{UnlessDevice};
 ghost use Rattle.zh_snapshot.specs.Image.{IsBlank, header_bytes};
 ghost use Rattle.zh_snapshot.specs.Slots.{HasHead, IsFound};
 ghost use Rattle.zh_snapshot.specs.declared.layout.Slot.TheVariants.{First, Second};
@@ -27,7 +28,7 @@ pub(crate) fn open_header<D: Disk>(disk: &mut D) -> Result<u32, OpenFault>
     ensures same { D.honest disk.new → D.trail disk.new ≡ D.trail disk.old }
     ensures later { D.failures disk.old ≤ D.failures disk.new }
     ensures cause { IsErrOf result OpenFault.Device → HasRisen (D.failures disk.old) (D.failures disk.new) }
-    ensures counted { OnOk result (D.failures disk.new ≡ D.failures disk.old) }
+    ensures counted { UnlessDevice result (D.failures disk.new ≡ D.failures disk.old) }
 {
     let mut head = [0; 15];
     disk.read_at(0, &mut head)?;

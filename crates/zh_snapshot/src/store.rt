@@ -1,11 +1,12 @@
 //! A store: the set-up bytes, a snapshot, and the records since.
 mod switch;
 
-ghost use Rattle.std.specs.Prelude.{◌≡◌, ◌≢◌, ◌+◌, ◌<◌, ◌≤◌, ◌↔◌, ℕ, Bool, true, false, List, [], ◌∷◌, ◌++◌, length, slice_get, slice_index, IsTrue, Some, None, IfOk, OnOk, OnErr, IsErrOf};
+ghost use Rattle.std.specs.Prelude.{◌≡◌, ◌≢◌, ◌+◌, ◌*◌, ◌<◌, ◌≤◌, ◌↔◌, ℕ, Bool, true, false, List, [], ◌∷◌, ◌++◌, length, slice_get, slice_index, IsTrue, Some, None, IfOk, OnOk, OnErr, IsErrOf};
 ghost use Rattle.zh_disk.specs.Disk.{Leaves, Moves, SameOutside, settled};
 ghost use Rattle.zh_journal.specs.Cause.{HasRisen};
 ghost use Rattle.zh_journal.specs.Pages.{pages_of, Frames};
 ghost use Rattle.zh_journal.specs.Place.{pages_left};
+ghost use Rattle.zh_snapshot.specs.Faults.{UnlessDevice};
 ghost use Rattle.zh_snapshot.specs.Image.{Content, IsBlank, IsFramed, content_of};
 ghost use Rattle.zh_snapshot.specs.Layout.{journal_at};
 ghost use Rattle.zh_snapshot.specs.Slots.{IsInUse};
@@ -75,7 +76,7 @@ impl Store {
         ensures untouched { IsErrOf result OpenFault.Memory → disk.new ≡ disk.old }
         ensures later { D.failures disk.old ≤ D.failures disk.new }
         ensures cause { IsErrOf result OpenFault.Device → HasRisen (D.failures disk.old) (D.failures disk.new) }
-        ensures counted { OnOk result (D.failures disk.new ≡ D.failures disk.old) }
+        ensures counted { UnlessDevice result (D.failures disk.new ≡ D.failures disk.old) }
     {
         let pages = zeros(alloc, AREA_LENGTH as usize)?;
         let zeros = zeros(alloc, AREA_LENGTH as usize)?;
@@ -105,7 +106,7 @@ impl Store {
         ensures same { D.honest disk.new → D.trail disk.new ≡ D.trail disk.old }
         ensures later { D.failures disk.old ≤ D.failures disk.new }
         ensures cause { IsErrOf result OpenFault.Device → HasRisen (D.failures disk.old) (D.failures disk.new) }
-        ensures counted { OnOk result (D.failures disk.new ≡ D.failures disk.old) }
+        ensures counted { UnlessDevice result (D.failures disk.new ≡ D.failures disk.old) }
     {
         let setup_length = open_header(disk)?;
         let Some(found) = find_slot(disk)? else {
@@ -212,24 +213,23 @@ impl Store {
     pub fn append<D: Disk>(&mut self, disk: &mut D, payload: &[u8]) -> Result<(), AppendFault>
         requires some { 1 ≤ length payload.now }
         requires most { length payload.now ≤ LONGEST_PAYLOAD }
-
         ensures kept { D.honest disk.new → D.honest disk.old }
-
         // Each image at each moment is one from the start, with the record or without it.
         ensures any_moment { D.honest disk.new → Leaves (StoreAddsOrNot self.old payload.now) (D.trail disk.old) (D.trail disk.new) }
-
         // And nothing outside the journal is changed, whatever the images were.
         ensures outside { D.honest disk.new → Leaves (SameOutside (journal_at self.old.slot) AREA_LENGTH) (D.trail disk.old) (D.trail disk.new) }
-
+        // Of the journal the record's pages alone, by a write a page, and the three calls that open the gate.
+        ensures pages { D.honest disk.new → Leaves (SameOutside (self.old.area.base + 256 * self.old.area.end)
+            (256 * pages_of (length payload.now))) (D.trail disk.old) (D.trail disk.new) }
+        ensures calls { D.honest disk.new → OnOk result (length (D.trail disk.new).past
+            ≡ length (D.trail disk.old).past + pages_of (length payload.now) + 3) }
         ensures added { D.honest disk.new → OnOk result (Moves (StoreAdds self.old payload.now) (D.trail disk.old).now (D.trail disk.new).now) }
         ensures settled { D.honest disk.new → OnOk result ((D.trail disk.new).now.pending ≡ []) }
-
         ensures ok { OnOk result (self.new ≡ longer self.old (length payload.now)) }
         ensures device { IsErrOf result AppendFault.Device → self.new ≡ record self.old { broken = true } }
         ensures broken { (result ≡ Err AppendFault.Broken) ↔ (self.old.broken ≡ true) }
         ensures full { (result ≡ Err AppendFault.Full) ↔ ((self.old.broken ≡ false) × (pages_left self.old.area < pages_of (length payload.now))) }
         ensures untouched { (IsErrOf result AppendFault.Broken → (disk.new ≡ disk.old) × (self.new ≡ self.old)) × (IsErrOf result AppendFault.Full → (disk.new ≡ disk.old) × (self.new ≡ self.old)) }
-
         ensures later { D.failures disk.old ≤ D.failures disk.new }
         ensures cause { IsErrOf result AppendFault.Device → HasRisen (D.failures disk.old) (D.failures disk.new) }
         ensures counted { OnOk result (D.failures disk.new ≡ D.failures disk.old) }

@@ -3,6 +3,7 @@ use Rattle.zh_disk.specs.Disk.{Trail}
 use Rattle.zh_journal.specs.declared.head.Head.TheVariants.{Record}
 use Rattle.zh_journal.specs.Pages.{Frames}
 use Rattle.zh_journal.specs.Heads.{Heads, TakesAtMost}
+use Rattle.zh_journal.proofs.HeadLemmas.{found_more}
 use Rattle.zh_journal.proofs.WalkLemmas.{frames_cut, frames_room, frames_next, no_other_head}
 use Rattle.zh_journal.proofs.record_reader.find_page.Goals as goal
 
@@ -25,6 +26,13 @@ loop-passed-preserved g c =
       counted = c.in_ok-len.ensures.counted ∙ c.loop-passed.invariant.counted;
       kept = λ h. c.loop-passed.invariant.kept (c.in_ok-len.ensures.kept h);
       same = λ h. c.in_ok-len.ensures.same h ∙ c.loop-passed.invariant.same (c.in_ok-len.ensures.kept h);
+      stands = λ h.
+          let b = (g.D.Disk.trail c.args.disk.now).now.bytes in
+          let before = c.loop-passed.invariant.stands (c.in_ok-len.ensures.kept h) in
+          let said : Heads (g.D.Disk.trail c.loop-passed.disk).now.bytes (c.args.base + 256 * p) (1024 - p) (Record c.in-Record.len) = subst (Heads (g.D.Disk.trail c.loop-passed.disk).now.bytes (c.args.base + 256 * p) (1024 - p)) c.in-Record.is (c.in_ok-len.ensures.head h) in
+          let says : Heads b (c.args.base + 256 * p) (1024 - p) (Record c.in-Record.len) = subst (λ (t : Trail). Heads t.now.bytes (c.args.base + 256 * p) (1024 - p) (Record c.in-Record.len)) (c.loop-passed.invariant.same (c.in_ok-len.ensures.kept h)) said in
+          let more = found_more c.args.base b p c.in-Record.len c.loop-passed._passed says.0 says.1 before in
+          (more.0, subst (λ (n : ℕ). Frames c.args.base b 0 more.0 (p + n)) (sym c.pages_of-page.ensures) more.1, more.2);
       found = λ h rs j reads low.
           let b = (g.D.Disk.trail c.args.disk.now).now.bytes in
           let here = frames_cut c.args.base b p j c.loop-passed._passed rs (omega arith) (c.loop-passed.invariant.found (c.in_ok-len.ensures.kept h) rs j reads (omega arith)) in
@@ -44,3 +52,8 @@ returns-then-page-eq-AREA_PAGES-clause-found g c = λ h rs j reads low.
 
 pub returns-in_default-clause-counted : goal.returns-in_default-clause-counted
 returns-in_default-clause-counted g c = c.in_ok-len.ensures.counted ∙ c.loop-passed.invariant.counted
+
+pub returns-after-loop-passed-clause-stands : goal.returns-after-loop-passed-clause-stands
+returns-after-loop-passed-clause-stands g c = λ h low.
+    let before = c.loop-passed.invariant.stands h in
+    (before.0, before.1, omega (arith, before.2, c.loop-passed-test.false))

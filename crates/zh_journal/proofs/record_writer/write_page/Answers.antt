@@ -1,5 +1,5 @@
 use Rattle.std.proofs.Common.{◌≡◌, ℕ, List, ◌+◌, ◌*◌, length, ◌∙◌, ap, subst, arith}
-use Rattle.zh_disk.specs.Disk.{Leaves, SameOutside, Trail, splice}
+use Rattle.zh_disk.specs.Disk.{Leaves, SameOutside, Trail, Writes, splice}
 use Rattle.zh_disk.proofs.CallerLemmas.{write_leaves}
 use Rattle.zh_journal.proofs.PayloadLemmas.{on_ok_by}
 use Rattle.zh_journal.proofs.PageLemmas.{length-body}
@@ -16,3 +16,7 @@ returns-clause-ok g c = λ h.
     on_ok_by c.write_at.result _ _
     (λ done. ap (λ (t : Trail). t.now.bytes) done ∙ ap (λ (l : List ℕ). splice (c.args.at + 256 * c.args.i + 1) l (g.D.Disk.trail c.args.disk.now).now.bytes) c.page_of-page.ensures)
     (c.write_at.ensures.written h).ok
+
+pub returns-clause-written : goal.returns-clause-written
+returns-clause-written g c = λ h.
+    subst (λ (l : List ℕ). Writes (g.D.Disk.trail c.args.disk.now) (g.D.Disk.trail c.write_at.new.self) (c.args.at + 256 * c.args.i + 1) l c.write_at.result) c.page_of-page.ensures (c.write_at.ensures.written h)

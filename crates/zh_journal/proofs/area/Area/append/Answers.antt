@@ -1,8 +1,8 @@
-use Rattle.std.proofs.Common.{◌∙◌, rules, ap, arith, subst}
-use Rattle.zh_disk.specs.Disk.{Moment, Leaves, Moves}
-use Rattle.zh_journal.specs.Pages.{AddsOrNot, Adds}
+use Rattle.std.proofs.Common.{◌∙◌, ◌+◌, ◌*◌, rules, length, ap, arith, subst}
+use Rattle.zh_disk.specs.Disk.{Moment, Leaves, Moves, SameOutside}
+use Rattle.zh_journal.specs.Pages.{AddsOrNot, Adds, pages_of}
 use Rattle.zh_journal.specs.Place.{Place}
-use Rattle.zh_journal.proofs.AppendMomentLemmas.{at_staging, at_opening, at_end}
+use Rattle.zh_journal.proofs.AppendMomentLemmas.{at_staging, at_opening, at_end, within_staging, within_opening}
 use Rattle.zh_journal.proofs.area.Area.append.Goals as goal
 
 pub returns-in_err-stage-clause-any_moment : goal.returns-in_err-stage-clause-any_moment
@@ -42,3 +42,18 @@ returns-clause-cause g c = λ is. absurd (cc)
 
 pub returns-clause-counted : goal.returns-clause-counted
 returns-clause-counted g c = c.in_ok-open_gate.ensures.counted ∙ c.in_ok-stage.ensures.counted
+
+pub returns-in_err-stage-clause-outside : goal.returns-in_err-stage-clause-outside
+returns-in_err-stage-clause-outside g c = λ h.
+    subst (λ (p : Place). Leaves (SameOutside (p.base + 256 * p.end) (256 * pages_of (length c.args.payload.now))) (g.D.Disk.trail c.args.disk.now) (g.D.Disk.trail c.stage.new.disk)) c.self.view_is
+    (within_staging (c.self.inside.base + 256 * c.self.inside.end) (pages_of (length c.args.payload.now)) (omega arith) _ _ (c.stage.ensures.any_moment h))
+
+pub returns-in_err-open_gate-clause-outside : goal.returns-in_err-open_gate-clause-outside
+returns-in_err-open_gate-clause-outside g c = λ h.
+    subst (λ (p : Place). Leaves (SameOutside (p.base + 256 * p.end) (256 * pages_of (length c.args.payload.now))) (g.D.Disk.trail c.args.disk.now) (g.D.Disk.trail c.open_gate.new.disk)) c.self.view_is
+    (within_opening (c.self.inside.base + 256 * c.self.inside.end) (pages_of (length c.args.payload.now)) (omega arith) _ _ (c.stage.ensures.any_moment (c.open_gate.ensures.kept h)) _ (c.open_gate.ensures.any_moment h))
+
+pub returns-clause-outside : goal.returns-clause-outside
+returns-clause-outside g c = λ h.
+    subst (λ (p : Place). Leaves (SameOutside (p.base + 256 * p.end) (256 * pages_of (length c.args.payload.now))) (g.D.Disk.trail c.args.disk.now) (g.D.Disk.trail c.open_gate.new.disk)) c.self.view_is
+    (within_opening (c.self.inside.base + 256 * c.self.inside.end) (pages_of (length c.args.payload.now)) (omega arith) _ _ (c.stage.ensures.any_moment (c.open_gate.ensures.kept h)) _ (c.open_gate.ensures.any_moment h))

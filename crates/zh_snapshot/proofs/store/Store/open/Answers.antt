@@ -1,5 +1,5 @@
 use Rattle.std.proofs.Common.{◌∙◌, ℕ, List, subst}
-use Rattle.zh_journal.proofs.CallerLemmas.{on_ok_by}
+use Rattle.zh_snapshot.proofs.FaultLemmas.{unless_by}
 use Rattle.std.specs.Prelude.{IfOk}
 use Rattle.std.proofs.lemmas.Result.{IfOk-weaker}
 use Rattle.zh_journal.specs.Pages.{Frames}
@@ -44,4 +44,4 @@ returns-clause-none g c = λ h.
     )
 
 pub returns-clause-counted : goal.returns-clause-counted
-returns-clause-counted g c = on_ok_by c.read.result _ _ (λ same. same ∙ c.in_ok-sync.ensures.counted) c.read.ensures.counted
+returns-clause-counted g c = unless_by c.read.result _ _ (λ same. same ∙ c.in_ok-sync.ensures.counted) c.read.ensures.counted

@@ -1,0 +1,9 @@
+use Rattle.zh_disk.proofs.OnceLemmas.{passes_once}
+use Rattle.zh_disk.proofs.once.OnceDiskDisk.write_at.Goals as goal
+
+pub returns-clause-once : goal.returns-clause-once
+returns-clause-once g c = record {
+  counts = c.write_at.ensures.fused.counts;
+  fails = c.write_at.ensures.fused.blows;
+  passes = passes_once _ _ _ _ _ c.write_at.ensures.fused c.args.self.now.once;
+}

@@ -1,0 +1,94 @@
+//! A disk that fails in one call alone.
+ghost use Rattle.std.specs.Prelude.{◌≡◌, ◌+◌, ◌≤◌, true, length, Some, OnOk};
+ghost use Rattle.zh_disk.specs.declared.disk.TheConstants.{DISK_LENGTH};
+ghost use Rattle.zh_disk.specs.Disk.{HasCause, Reads, Writes, Syncs, failures_after};
+ghost use Rattle.zh_disk.specs.Fuse.{fails_once};
+
+use crate::disk::{DISK_LENGTH, Disk, DiskFault};
+use crate::fuse::FuseDisk;
+
+/// A disk that hands each call on to the disk inside, but for one, which fails.
+#[derive(Drop)]
+pub struct OnceDisk<D: Disk + Drop> {
+    fuse: FuseDisk<D>,
+    ghost once: { fails_once fuse ≡ true },
+}
+
+impl<D: Disk + Drop> OnceDisk<D> {
+    ghost use Rattle.zh_disk.specs.Once.{disk_inside, calls_before, once_failures};
+
+    /// A disk that fails the call after this many, and no other. If that call is a write, the disk
+    /// inside gets it, so that its range is pending.
+    pub fn new(inner: D, calls: u64) -> Self
+        ensures inner { disk_inside result ≡ inner }
+        ensures before { calls_before result ≡ Some calls }
+        ensures failures { once_failures result ≡ 0 }
+    {
+        OnceDisk {
+            fuse: FuseDisk::once(inner, calls),
+        }
+    }
+
+    /// The disk inside.
+    pub fn into_inner(self) -> D
+        ensures { result ≡ disk_inside self }
+    {
+        self.fuse.into_inner()
+    }
+}
+
+impl<D: Disk + Drop> Disk for OnceDisk<D> {
+    ghost use Rattle.zh_disk.specs.Fuse.{IsSame, ReachesWrite};
+    ghost use Rattle.zh_disk.specs.Once.{disk_inside, once_failures, FailsOnce};
+
+    ghost honest = { λ d. D.honest (disk_inside d) };
+
+    ghost trail = { λ d. D.trail (disk_inside d) };
+
+    ghost failures = { once_failures };
+
+    ghost leaves = { λ d. D.leaves (disk_inside d) };
+
+    ghost leaves_images = { λ d h. D.leaves_images (disk_inside d) h };
+
+    ghost size = { λ d h. D.size (disk_inside d) h };
+
+    fn read_at(&mut self, at: u64, into: &mut [u8]) -> Result<(), DiskFault>
+        requires { at + length into.old ≤ DISK_LENGTH }
+        ensures kept { D.honest (disk_inside self.new) → D.honest (disk_inside self.old) }
+        ensures read { D.honest (disk_inside self.new) → Reads (D.trail (disk_inside self.old))
+            (D.trail (disk_inside self.new)) at (length into.old) into.new result }
+        ensures cause { HasCause (once_failures self.old) (once_failures self.new) result }
+        ensures counted { OnOk result (once_failures self.new ≡ once_failures self.old) }
+        ensures rises { once_failures self.new ≡ failures_after (once_failures self.old) result }
+        ensures once { FailsOnce D.failures IsSame self.old self.new result }
+    {
+        self.fuse.read_at(at, into)
+    }
+
+    fn write_at(&mut self, at: u64, from: &[u8]) -> Result<(), DiskFault>
+        requires { at + length from.now ≤ DISK_LENGTH }
+        ensures kept { D.honest (disk_inside self.new) → D.honest (disk_inside self.old) }
+        ensures written { D.honest (disk_inside self.new) → Writes (D.trail (disk_inside self.old))
+            (D.trail (disk_inside self.new)) at from.now result }
+        ensures cause { HasCause (once_failures self.old) (once_failures self.new) result }
+        ensures counted { OnOk result (once_failures self.new ≡ once_failures self.old) }
+        ensures rises { once_failures self.new ≡ failures_after (once_failures self.old) result }
+        ensures once { FailsOnce D.failures (ReachesWrite D.honest D.trail D.failures at from.now)
+            self.old self.new result }
+    {
+        self.fuse.write_at(at, from)
+    }
+
+    fn sync(&mut self) -> Result<(), DiskFault>
+        ensures kept { D.honest (disk_inside self.new) → D.honest (disk_inside self.old) }
+        ensures synced { D.honest (disk_inside self.new) → Syncs (D.trail (disk_inside self.old))
+            (D.trail (disk_inside self.new)) result }
+        ensures cause { HasCause (once_failures self.old) (once_failures self.new) result }
+        ensures counted { OnOk result (once_failures self.new ≡ once_failures self.old) }
+        ensures rises { once_failures self.new ≡ failures_after (once_failures self.old) result }
+        ensures once { FailsOnce D.failures IsSame self.old self.new result }
+    {
+        self.fuse.sync()
+    }
+}
