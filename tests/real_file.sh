@@ -36,7 +36,7 @@ exec 9<> never  # nothing is ever written to it
 readonly DISK=1118720 JOURNAL=332032 PAGE=256
 
 # The functions of the checks, by subject.
-for subject in checks program tasks streams two_programs volume kills kinds; do
+for subject in checks program tasks streams two_programs volume memory kills kinds; do
     . "$here/$subject.sh" || exit 1
 done
 
@@ -59,6 +59,7 @@ check "run on a full volume keeps what it acknowledged" full_run
 check "the disk full, then the output: the fault is write" full_disk_and_output
 check "format on a full volume can be done again" full_format
 check "too little memory: the fault is memory, and the disk is untouched" little_memory
+check "each allocation refused: the fault is memory, and the disk is untouched" each_allocation
 check "kill -9 of run, 50 times" killed_runs
 check "3,000 returns on one disk" many_returns
 check "kill -9 around a switch, 40 times" killed_switches
@@ -71,7 +72,9 @@ check "refused: a file with a second name" second_name
 check "a link leads to its disk" through_a_link
 check "refused: a file of another length" another_length
 check "an empty file: format takes it, run does not" empty_file
-check "a missing file: run makes none" missing_file
+check "a missing file: run, load and export make none" missing_file
+check "a disk that is made is for its owner alone" modes
+check "a disk that is made is of zeros" zeros
 check "files beside the disk" beside
 check "a name of 247 bytes is a disk, a longer one is not" long_name
 

@@ -111,9 +111,38 @@ long_name() {
     refused "disk device" "kinds/x$name"
 }
 
+# None of the tasks that open a disk makes one.
 missing_file() {
     rm -rf kinds
     mkdir kinds
+    echo "municipality,list,number,votes" > returns.csv
     ends 1 "disk device" "" run kinds/d < /dev/null
+    ends 1 "disk device" "" load kinds/d returns.csv
+    ends 1 "disk device" "" export_csv kinds/d
     same "the folder" "" "$(ls -A kinds)"
+}
+
+# A disk that is made is for its owner alone, whatever the umask allows; a file that is there keeps its mode.
+modes() {
+    rm -rf kinds
+    mkdir kinds
+    (
+        umask 0
+        format kinds/d
+    )
+    same "the mode of a new disk" 600 "$(stat -c %a kinds/d)"
+    serves kinds/d "$(returns 1 1 1)" "1 stored 1"
+    same "its mode after a run" 600 "$(stat -c %a kinds/d)"
+    : > kinds/empty
+    chmod 640 kinds/empty
+    new_disk_over kinds/empty
+    same "the mode of a file that was there" 640 "$(stat -c %a kinds/empty)"
+}
+
+# A disk that was made is that of a file of zeros.
+zeros() {
+    new_disk d
+    head -c $DISK /dev/zero > zeroed
+    ends 0 "" "" format zeroed
+    same_bytes d zeroed
 }

@@ -2,6 +2,8 @@
 
 format() { timeout 20 "$program" format --setup "$setup" --disk "$1"; }
 run() { timeout 20 "$program" run --setup "$setup" --disk "$1"; }
+load() { timeout 20 "$program" load --setup "$setup" --disk "$1" --csv "$2"; }
+export_csv() { timeout 20 "$program" export --setup "$setup" --disk "$1"; }
 
 # A new disk at this path, and nothing else.
 new_disk() {

@@ -1,10 +1,28 @@
 //! Runs of the program on the files of the folder.
 
+ghost use Rattle.std.specs.Prelude.{[], false};
+
 use crate::fault::Fault;
 use std::alloc::Global;
 use std::fs;
-use zh_file::Unknown;
+use zh_file::Start;
 use zh_program::program;
+
+/// Stands for what a file of the folder holds when it is opened.
+#[derive(Drop)]
+struct AnyContent;
+
+impl Start for AnyContent {
+    ghost log = { [] };
+
+    ghost db = { [] };
+
+    ghost is_mixing = { false };
+
+    fn mixes() -> bool {
+        false
+    }
+}
 
 /// Appends the lines of a text, each after a separator.
 pub(crate) fn push_lines(answer: &mut String, separator: &str, text: &[u8]) -> Result<(), Fault> {
@@ -52,7 +70,7 @@ pub(crate) fn run_program(rt: &HostRuntime, text: &str) -> Result<String, Fault>
         &mut reader,
         &mut out,
         &mut faults,
-        Unknown,
+        AnyContent,
         &mut None,
     );
     let mut answer = format!(in alloc; "{status}")?;

@@ -1,5 +1,6 @@
 -- What a stored disk holds and has held.
-use Rattle.std.specs.Prelude.{◌≡◌, Bool, true, List, ℕ, Result, IsErr, IsTrue}
+use Rattle.std.specs.Prelude.{◌≡◌, ◌+◌, ◌⊎◌, Bool, true, List, ℕ, Result, IsErr, IsTrue, OnErr}
+use Rattle.sqlite_disk.specs.Disk.{MoreFaults}
 use Rattle.sqlite_disk.specs.declared.Disk.{Ghosts}
 use Rattle.zh_disk.specs.declared.disk.DiskFault.{DiskFault}
 use Rattle.zh_disk.specs.Disk.{Trail}
@@ -15,9 +16,13 @@ module _ {D : Type 0} {g : Ghosts D} where
   abbrev pub stored_trail : (D → List ℕ) → Stored D g → Trail
   stored_trail seen d = trail_of seen d.held d.before
 
-  -- how often it has failed
-  abbrev pub stored_failures : Stored D g → ℕ
-  stored_failures d = d.failures
+  -- how many calls of its file have failed, as the record of these calls says
+  abbrev pub stored_faults : (D → ℕ) → Stored D g → ℕ
+  stored_faults faults d = faults d.held.file
+
+  -- how often it has failed: the failed calls of its file, and the calls that it refused once it was over
+  abbrev pub stored_failures : (D → ℕ) → Stored D g → ℕ
+  stored_failures faults d = stored_faults faults d + d.refusals
 
   -- a write or a sync has failed
   abbrev pub is_over : Stored D g → Bool
@@ -28,3 +33,7 @@ module _ {D : Type 0} {g : Ghosts D} where
     pub fails : IsErr result
     pub over : new.is_over ≡ true
     pub same : new.held.file ≡ old.held.file
+
+  -- A call fails only where the disk was over, or a call of the file failed.
+  abbrev pub HasFailed : (D → ℕ) → Stored D g → Stored D g → Result (Unit {0}) DiskFault → Type 0
+  HasFailed faults old new result = OnErr result ((is_over old ≡ true) ⊎ MoreFaults (stored_faults faults old) (stored_faults faults new))

@@ -1,14 +1,15 @@
 //! A disk over a file at a path.
-ghost use Rattle.std.specs.Prelude.{◌≡◌, ◌⊎◌, [], IfOk, IsTrue};
+ghost use Rattle.std.specs.Prelude.{◌≡◌, ◌⊎◌, [], false, IfOk, IsTrue};
 ghost use Rattle.sqlite_disk.specs.Disk.{Only};
 ghost use Rattle.zh_disk.specs.Disk.{fresh_trail};
 ghost use Rattle.zh_file.specs.Held.{BeginsOrFills};
+ghost use Rattle.zh_file.specs.Stored.{is_over};
 
 use crate::FileDisk;
 use crate::fault::OpenFault;
 use crate::stored::Stored;
 use sqlite_disk::{Disk as File, Files};
-use sqlite_std_file::{FileFrom, OpenError, Start};
+use sqlite_std_file::{FileFrom, Start};
 use std::fs::{self, OpenOptions};
 use std::io::{self, ErrorKind};
 use std::os::unix::fs::OpenOptionsExt;
@@ -21,6 +22,7 @@ use zh_disk::{DISK_LENGTH, Disk};
 pub fn open<S: Start>(rt: &HostRuntime, path: &str, start: S) -> Result<FileDisk<S>, OpenFault>
     ensures begins { IfOk result (λ d. ⟦<FileDisk<S> as Disk>⟧.trail d ≡ fresh_trail S.Start.db) }
     ensures failures { IfOk result (λ d. ⟦<FileDisk<S> as Disk>⟧.failures d ≡ 0) }
+    ensures whole { IfOk result (λ d. is_over d ≡ false) }
 {
     // What is no disk is left alone: the lock makes a file that is missing, and one beside it.
     if length_at(rt, path)? != DISK_LENGTH {
@@ -41,6 +43,7 @@ pub fn open_or_make<S: Start>(
 ) -> Result<FileDisk<S>, OpenFault>
     ensures begins { IfOk result (λ d. ⟦<FileDisk<S> as Disk>⟧.honest d → BeginsOrFills S.Start.db (⟦<FileDisk<S> as Disk>⟧.trail d)) }
     ensures failures { IfOk result (λ d. ⟦<FileDisk<S> as Disk>⟧.failures d ≡ 0) }
+    ensures whole { IfOk result (λ d. is_over d ≡ false) }
 {
     make(rt, path)?;
     let length = length_at(rt, path)?;
@@ -48,18 +51,17 @@ pub fn open_or_make<S: Start>(
         return Err(OpenFault::Size);
     }
     let mut file = lock(rt, path, start)?;
-    if fill(&mut file).is_err() {
-        return Err(OpenFault::Device);
-    }
+    fill(&mut file)?;
     Stored::start(file)
 }
 
 /// The length of the regular file at this path, or where a link there leads.
 fn length_at(rt: &HostRuntime, path: &str) -> Result<u64, OpenFault> {
-    match fs::metadata(rt, path) {
-        Ok(found) if found.is_file() => Ok(found.len()),
-        _ => Err(OpenFault::Device),
+    let found = fs::metadata(rt, path)?;
+    if !found.is_file() {
+        return Err(OpenFault::Device);
     }
+    Ok(found.len())
 }
 
 /// Makes an empty file where there is nothing.
@@ -73,7 +75,7 @@ fn make(rt: &HostRuntime, path: &str) -> Result<(), OpenFault> {
     match made {
         Ok(_) => Ok(()),
         Err(error) if error.kind() == ErrorKind::AlreadyExists => Ok(()),
-        Err(_) => Err(OpenFault::Device),
+        Err(error) => Err(error.into()),
     }
 }
 
@@ -84,6 +86,7 @@ fn fill<D: File>(file: &mut D) -> io::Result<()>
     ensures kept { IsTrue (D.is_clean file.new) → IsTrue (D.is_clean file.old) }
     ensures same { IsTrue (D.is_clean file.new) → (D.seen file.old ≡ []) ⊎ (D.seen file.new ≡ D.seen file.old) }
     ensures usable { IfOk result (λ _. IsTrue (D.is_usable file.new)) }
+    ensures unfailed { IfOk result (λ _. D.faults file.new ≡ D.faults file.old) }
     ensures synced { IfOk result (λ _. Only (D.seen file.new) (D.may_leave file.new)) }
 {
     if file.len()? == 0 {
@@ -98,18 +101,14 @@ fn lock<S: Start>(rt: &HostRuntime, path: &str, start: S) -> Result<FileFrom<S>,
     ensures usable { IfOk result (λ file. IsTrue (⟦<FileFrom<S> as File>⟧.is_usable file)) }
     ensures synced { IfOk result (λ file. Only (⟦<FileFrom<S> as File>⟧.seen file) (⟦<FileFrom<S> as File>⟧.may_leave file)) }
     ensures holds { IfOk result (λ file. ⟦<FileFrom<S> as File>⟧.seen file ≡ S.Start.db) }
+    ensures unfailed { IfOk result (λ file. ⟦<FileFrom<S> as File>⟧.faults file ≡ 0) }
 {
-    match sqlite_std_file::open(rt, path, start) {
-        Ok(Files { mut log, db }) => {
-            if matches!(log.len(), Ok(0)) {
-                drop(log);
-                let _left_there = remove_log(rt, path);
-            }
-            Ok(db)
-        }
-        Err(OpenError::Busy) => Err(OpenFault::Busy),
-        Err(_) => Err(OpenFault::Device),
+    let Files { mut log, db } = sqlite_std_file::open(rt, path, start)?;
+    if matches!(log.len(), Ok(0)) {
+        drop(log);
+        let _left_there = remove_log(rt, path);
     }
+    Ok(db)
 }
 
 /// Removes the empty file that the library makes beside the disk. Only the holder of the lock does so:

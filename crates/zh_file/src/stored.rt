@@ -31,17 +31,19 @@ pub struct Stored<D: File + Drop> {
     before: Past<Held<D>>,
     // a write or a sync has failed
     is_over: bool,
-    failures: u64,
+    // the calls since then, of which nothing was asked of the file
+    refusals: u64,
     ghost usable: { is_over ≡ false → IsTrue (D.is_usable held.file) },
     ghost size: { IsTrue (D.is_clean held.file) → length (D.seen held.file) ≡ DISK_LENGTH },
     // a stop may leave nothing else than the images of the moment
     ghost sizes: { IsTrue (D.is_clean held.file) → (c : List ℕ) → D.may_leave held.file c → length c ≡ DISK_LENGTH },
     ghost same: { IsTrue (D.is_clean held.file) → (c : List ℕ) → D.may_leave held.file c → (k : ℕ)
         → IsSettled (pairs held.written) k → slice_index c k ≡ slice_index (D.seen held.file) k },
+    ghost unrefused: { is_over ≡ false → refusals ≡ 0 },
 }
 
 impl<D: File + Drop> Stored<D> {
-    ghost use Rattle.zh_file.specs.Stored.{stored_honest, stored_trail, stored_failures};
+    ghost use Rattle.zh_file.specs.Stored.{stored_honest, stored_trail, stored_failures, is_over};
 
     /// The disk that a file holds, as it was synced.
     pub(crate) fn start(mut file: D) -> Result<Stored<D>, OpenFault>
@@ -49,54 +51,48 @@ impl<D: File + Drop> Stored<D> {
         requires synced { Only (D.seen file) (D.may_leave file) }
         ensures kept { IfOk result (λ d. stored_honest D.is_clean d → IsTrue (D.is_clean file)) }
         ensures begins { IfOk result (λ d. stored_trail D.seen d ≡ fresh_trail (D.seen file)) }
-        ensures failures { IfOk result (λ d. stored_failures d ≡ 0) }
+        ensures failures { IfOk result (λ d. stored_failures D.faults d ≡ D.faults file) }
+        ensures whole { IfOk result (λ d. is_over d ≡ false) }
     {
-        match file.len() {
-            Ok(len) if len as u64 == DISK_LENGTH => Ok(Stored {
-                held: Held {
-                    file,
-                    written: Ranges::new(),
-                },
-                before: Past::new(),
-                is_over: false,
-                failures: 0,
-            }),
-            Ok(_) => Err(OpenFault::Size),
-            Err(_) => Err(OpenFault::Device),
+        if file.len()? as u64 != DISK_LENGTH {
+            return Err(OpenFault::Size);
         }
+        Ok(Stored {
+            held: Held {
+                file,
+                written: Ranges::new(),
+            },
+            before: Past::new(),
+            is_over: false,
+            refusals: 0,
+        })
     }
 }
 
-/// The answer of a call, which is counted where it failed.
-fn reported(failures: &mut u64, done: io::Result<()>) -> Result<(), DiskFault>
-    ensures ok { is_ok result ≡ is_ok done }
-    ensures cause { HasCause failures.old failures.new result }
-    ensures counted { OnOk result (failures.new ≡ failures.old) }
+/// The answer of a call of the file.
+fn reported(done: io::Result<()>) -> Result<(), DiskFault>
+    ensures { is_ok result ≡ is_ok done }
 {
-    match done {
-        Ok(()) => Ok(()),
-        Err(_) => {
-            *failures = failures.saturating_add(1);
-            Err(DiskFault::Device)
-        }
-    }
+    done.map_err(|_| DiskFault::Device)
 }
 
-/// The answer of a call of which nothing is asked of the file.
-fn refused() -> io::Result<()>
-    ensures { IsErr result }
+/// The answer of a call of which nothing is asked of the file. It is counted.
+fn refused(refusals: &mut u64) -> Result<(), DiskFault>
+    ensures fails { IsErr result }
+    ensures cause { HasCause refusals.old refusals.new result }
 {
-    Err(io::ErrorKind::Other.into())
+    *refusals = refusals.saturating_add(1);
+    Err(DiskFault::Device)
 }
 
 impl<D: File + Drop> Disk for Stored<D> {
-    ghost use Rattle.zh_file.specs.Stored.{stored_honest, stored_trail, stored_failures, is_over, StaysOver};
+    ghost use Rattle.zh_file.specs.Stored.{stored_honest, stored_trail, stored_faults, stored_failures, is_over, StaysOver, HasFailed};
 
     ghost honest = { stored_honest D.is_clean };
 
     ghost trail = { stored_trail D.seen };
 
-    ghost failures = { stored_failures };
+    ghost failures = { stored_failures D.faults };
 
     ghost leaves = { λ d. D.may_leave d.held.file };
 
@@ -108,46 +104,55 @@ impl<D: File + Drop> Disk for Stored<D> {
         requires { at + length into.old ≤ DISK_LENGTH }
         ensures kept { stored_honest D.is_clean self.new → stored_honest D.is_clean self.old }
         ensures read { stored_honest D.is_clean self.new → Reads (stored_trail D.seen self.old) (stored_trail D.seen self.new) at (length into.old) into.new result }
-        ensures cause { HasCause (stored_failures self.old) (stored_failures self.new) result }
-        ensures counted { OnOk result (stored_failures self.new ≡ stored_failures self.old) }
+        ensures cause { HasCause (stored_failures D.faults self.old) (stored_failures D.faults self.new) result }
+        ensures counted { OnOk result (stored_failures D.faults self.new ≡ stored_failures D.faults self.old) }
+        ensures unfailed { OnOk result (stored_faults D.faults self.new ≡ stored_faults D.faults self.old) }
+        ensures caused { HasFailed D.faults self.old self.new result }
         ensures over { is_over self.old ≡ true → StaysOver self.old self.new result }
+        ensures stays { is_over self.new ≡ is_over self.old }
     {
         if self.is_over {
-            return reported(&mut self.failures, refused());
+            return refused(&mut self.refusals);
         }
         let done = self.held.file.read_at(at as usize, into);
-        reported(&mut self.failures, done)
+        reported(done)
     }
 
     fn write_at(&mut self, at: u64, from: &[u8]) -> Result<(), DiskFault>
         requires { at + length from.now ≤ DISK_LENGTH }
         ensures kept { stored_honest D.is_clean self.new → stored_honest D.is_clean self.old }
         ensures written { stored_honest D.is_clean self.new → Writes (stored_trail D.seen self.old) (stored_trail D.seen self.new) at from.now result }
-        ensures cause { HasCause (stored_failures self.old) (stored_failures self.new) result }
-        ensures counted { OnOk result (stored_failures self.new ≡ stored_failures self.old) }
+        ensures cause { HasCause (stored_failures D.faults self.old) (stored_failures D.faults self.new) result }
+        ensures counted { OnOk result (stored_failures D.faults self.new ≡ stored_failures D.faults self.old) }
+        ensures unfailed { OnOk result (stored_faults D.faults self.new ≡ stored_faults D.faults self.old) }
+        ensures caused { HasFailed D.faults self.old self.new result }
         ensures over { is_over self.old ≡ true → StaysOver self.old self.new result }
+        ensures stays { OnOk result (is_over self.new ≡ is_over self.old) }
         ensures ends { OnErr result (is_over self.new ≡ true) }
     {
         if self.is_over {
-            return reported(&mut self.failures, refused());
+            return refused(&mut self.refusals);
         }
         self.before.push(Snapshot::of(&self.held));
         let done = self.held.file.write_at(at as usize, from);
         self.held.written.push(at, from.len());
         self.is_over = done.is_err();
-        reported(&mut self.failures, done)
+        reported(done)
     }
 
     fn sync(&mut self) -> Result<(), DiskFault>
         ensures kept { stored_honest D.is_clean self.new → stored_honest D.is_clean self.old }
         ensures synced { stored_honest D.is_clean self.new → Syncs (stored_trail D.seen self.old) (stored_trail D.seen self.new) result }
-        ensures cause { HasCause (stored_failures self.old) (stored_failures self.new) result }
-        ensures counted { OnOk result (stored_failures self.new ≡ stored_failures self.old) }
+        ensures cause { HasCause (stored_failures D.faults self.old) (stored_failures D.faults self.new) result }
+        ensures counted { OnOk result (stored_failures D.faults self.new ≡ stored_failures D.faults self.old) }
+        ensures unfailed { OnOk result (stored_faults D.faults self.new ≡ stored_faults D.faults self.old) }
+        ensures caused { HasFailed D.faults self.old self.new result }
         ensures over { is_over self.old ≡ true → StaysOver self.old self.new result }
+        ensures stays { OnOk result (is_over self.new ≡ is_over self.old) }
         ensures ends { OnErr result (is_over self.new ≡ true) }
     {
         if self.is_over {
-            return reported(&mut self.failures, refused());
+            return refused(&mut self.refusals);
         }
         let before = Snapshot::of(&self.held);
         let done = self.held.file.sync();
@@ -157,6 +162,6 @@ impl<D: File + Drop> Disk for Stored<D> {
         } else {
             self.is_over = true;
         }
-        reported(&mut self.failures, done)
+        reported(done)
     }
 }

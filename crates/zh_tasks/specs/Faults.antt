@@ -7,6 +7,7 @@ use Rattle.zh_tasks.specs.declared.fault.ProgramFault.TheVariants as faults
 
 -- the fault of a file that was to be a disk
 abbrev pub FoundAs : file.OpenFault → ProgramFault → Type 0
+FoundAs of_file.Memory e = e ≡ faults.Memory
 FoundAs of_file.Device e = e ≡ faults.Device
 FoundAs of_file.Size e = e ≡ faults.Size
 FoundAs of_file.Busy e = e ≡ faults.Busy

@@ -63,6 +63,7 @@ impl From<zh_file::OpenFault> for ProgramFault {
 
     fn from(fault: zh_file::OpenFault) -> Self {
         match fault {
+            zh_file::OpenFault::Memory => ProgramFault::Memory,
             zh_file::OpenFault::Device => ProgramFault::Device,
             zh_file::OpenFault::Size => ProgramFault::Size,
             zh_file::OpenFault::Busy => ProgramFault::Busy,

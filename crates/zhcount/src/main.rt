@@ -1,10 +1,12 @@
 //! The count office of a cantonal parliament.
 #![tactic(auto)]
 
+mod unknown;
+
 use std::io::ErrorKind;
 use std::process::ExitCode;
 use std::{env, io};
-use zh_file::Unknown;
+use unknown::UnknownContent;
 use zh_program::program;
 
 /// Hands the files, the arguments and the standard streams to the program, and returns its status.
@@ -17,7 +19,7 @@ fn main(rt: HostRuntime) -> ExitCode {
             &mut rt.stdin(),
             &mut rt.stdout(),
             &mut rt.stderr(),
-            Unknown,
+            UnknownContent,
             &mut None,
         )),
         Err(error) if error.kind() == ErrorKind::InvalidData => {

@@ -1,8 +1,26 @@
 //! Rehearsals, and inputs and outputs that are slow or fail.
 
+ghost use Rattle.std.specs.Prelude.{[], false};
+
 use std::io::{self, ErrorKind, Read, Write};
-use zh_file::Unknown;
+use zh_file::Start;
 use zh_program::program;
+
+/// A rehearsal opens no file.
+#[derive(Drop)]
+struct NoFile;
+
+impl Start for NoFile {
+    ghost log = { [] };
+
+    ghost db = { [] };
+
+    ghost is_mixing = { false };
+
+    fn mixes() -> bool {
+        false
+    }
+}
 
 /// Runs the program without arguments, and gives its status.
 pub(crate) fn run_rehearsal<I: Read, O: Write, F: Write>(
@@ -11,7 +29,7 @@ pub(crate) fn run_rehearsal<I: Read, O: Write, F: Write>(
     out: &mut O,
     faults: &mut F,
 ) -> u8 {
-    program(rt, rt.alloc(), &[], input, out, faults, Unknown, &mut None)
+    program(rt, rt.alloc(), &[], input, out, faults, NoFile, &mut None)
 }
 
 /// Gives the bytes of a text one by one, and then comes to its end or fails.
