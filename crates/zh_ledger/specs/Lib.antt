@@ -1,4 +1,5 @@
 pub mod Ledger
+pub mod Kept
 pub mod Code
 pub mod Stands
 pub mod Images

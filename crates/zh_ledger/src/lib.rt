@@ -5,6 +5,7 @@
 #![tactic(auto)]
 
 mod fault;
+mod keep;
 mod laws;
 mod ledger;
 mod opening;

@@ -1,0 +1,120 @@
+//! Keeping an accepted command: its record is stored, and then it is applied to the count.
+
+ghost use Rattle.std.specs.Prelude.{◌≡◌, ◌≢◌, ◌↔◌, ◌<◌, ◌≤◌, ◌-◌, ◌^◌, true, false, length, take, OnOk, IfOk, IsErrOf};
+ghost use Rattle.zh_disk.specs.Disk.{Leaves, Moves};
+ghost use Rattle.zh_journal.specs.Cause.{HasRisen};
+ghost use Rattle.zh_returns.specs.Judgement.{judge};
+ghost use Rattle.zh_returns.specs.Limits.{IsTally};
+ghost use Rattle.zh_records.specs.Spelling.{HasNumbers, IsSpeakable, command_spelling};
+ghost use Rattle.zh_ledger.specs.Ledger.{MayStore, StoredOrDevice, Becomes, ready, has_room, lacks_room};
+ghost use Rattle.zh_ledger.specs.Images.{LeavesBy, Keeps, Readies, SameOutsideSlots};
+ghost use Rattle.zh_ledger.specs.Kept.{ledger_of};
+ghost use Rattle.zh_ledger.specs.Submissions.{UnlessStored};
+
+use crate::outcome::Outcome;
+use zh_disk::Disk;
+use zh_journal::pages_of;
+use zh_returns::{Command, PAYLOAD_LENGTH, Verdict, encode_command};
+use zh_snapshot::{AppendFault, Store, SwitchFault};
+use zh_totals::RunningCount;
+
+/// Stores a command that was judged acceptable, if the count has a number left for it and the disk has room, and then
+/// applies it to the count. The buffer is for a snapshot or a record.
+pub(crate) fn keep<D: Disk>(
+    count: &mut RunningCount<'_>,
+    store: &mut Store,
+    buffer: &mut [u8],
+    disk: &mut D,
+    command: &Command<'_>,
+) -> Outcome
+    requires buffer { length buffer.old ≡ PAYLOAD_LENGTH }
+    requires accept { judge count.old command.now ≡ Verdict.Accept }
+    requires whole { store.old.broken ≡ false }
+    requires numbers { HasNumbers command.now }
+    ensures results { MayStore (ledger_of count.old store.old) command.now (D.failures disk.old) (D.failures disk.new) result }
+    ensures after { Becomes (ledger_of count.old store.old) command.now result (ledger_of count.new store.new) }
+    ensures later { D.failures disk.old ≤ D.failures disk.new }
+    ensures kept { D.honest disk.new → D.honest disk.old }
+    ensures leaves { D.honest disk.new → LeavesBy (ledger_of count.old store.old) command.now result (D.trail disk.old) (D.trail disk.new) }
+    ensures outside { D.honest disk.new → Leaves SameOutsideSlots (D.trail disk.old) (D.trail disk.new) }
+    ensures untouched { UnlessStored result disk.old disk.new }
+{
+    if count.count().accepted() == u64::MAX {
+        return Outcome::Spent;
+    }
+    match make_room(count, store, buffer, disk, command) {
+        Ok(len) => append(count, store, disk, command, &buffer[..len]),
+        Err(SwitchFault::Spent) => Outcome::Spent,
+        Err(SwitchFault::Device) => Outcome::Device,
+        Err(SwitchFault::Broken) => unreachable!(),
+    }
+}
+
+/// Writes the record of a command to the front of the buffer, gives its length, and makes room for it on the disk: where
+/// too few pages are left, the store switches to the disk's other slot, with the count as its snapshot. The snapshot
+/// goes through the same buffer, so the record is written again after it.
+fn make_room<D: Disk>(
+    count: &RunningCount<'_>,
+    store: &mut Store,
+    buffer: &mut [u8],
+    disk: &mut D,
+    command: &Command<'_>,
+) -> Result<usize, SwitchFault>
+    requires buffer { length buffer.old ≡ PAYLOAD_LENGTH }
+    requires whole { store.old.broken ≡ false }
+    requires limits { IsTally count.now }
+    requires speakable { IsSpeakable command.now }
+    ensures length { IfOk result (λ len. len ≡ length (command_spelling command.now)) }
+    ensures written { IfOk result (λ len. take len buffer.new ≡ command_spelling command.now) }
+    ensures ok { OnOk result (ledger_of count.now store.new ≡ ready (ledger_of count.now store.old) command.now) }
+    ensures device { IsErrOf result SwitchFault.Device → store.new.broken ≡ true }
+    ensures spent { (result ≡ Err SwitchFault.Spent) ↔ (lacks_room (ledger_of count.now store.old) command.now ≡ true) }
+    ensures broken { result ≢ Err SwitchFault.Broken }
+    ensures untouched { IsErrOf result SwitchFault.Spent → (disk.new ≡ disk.old) × (store.new ≡ store.old) }
+    ensures later { D.failures disk.old ≤ D.failures disk.new }
+    ensures cause { IsErrOf result SwitchFault.Device → HasRisen (D.failures disk.old) (D.failures disk.new) }
+    ensures counted { OnOk result (D.failures disk.new ≡ D.failures disk.old) }
+    ensures kept { D.honest disk.new → D.honest disk.old }
+    ensures any_moment { D.honest disk.new → Leaves (Keeps (ledger_of count.now store.old)) (D.trail disk.old) (D.trail disk.new) }
+    ensures outside { D.honest disk.new → Leaves SameOutsideSlots (D.trail disk.old) (D.trail disk.new) }
+    ensures readied { D.honest disk.new → OnOk result (Moves (Readies (ledger_of count.now store.old) command.now) (D.trail disk.old).now (D.trail disk.new).now) }
+{
+    let len = encode_command(command, buffer);
+    if pages_of(len as u32) <= store.pages_left() {
+        return Ok(len);
+    }
+    count.count().encode(buffer);
+    store.switch(disk, buffer)?;
+    Ok(encode_command(command, buffer))
+}
+
+/// Appends the record of a command, for which there is room, and then applies the command to the count.
+fn append<D: Disk>(
+    count: &mut RunningCount<'_>,
+    store: &mut Store,
+    disk: &mut D,
+    command: &Command<'_>,
+    payload: &[u8],
+) -> Outcome
+    requires accept { judge count.old command.now ≡ Verdict.Accept }
+    requires whole { store.old.broken ≡ false }
+    requires number { count.old.accepted < 2 ^ 64 - 1 }
+    requires speakable { IsSpeakable command.now }
+    requires spelled { payload.now ≡ command_spelling command.now }
+    requires room { has_room (ledger_of count.old store.old) command.now ≡ true }
+    ensures results { StoredOrDevice count.old.accepted (D.failures disk.old) (D.failures disk.new) result }
+    ensures after { Becomes (ledger_of count.old store.old) command.now result (ledger_of count.new store.new) }
+    ensures later { D.failures disk.old ≤ D.failures disk.new }
+    ensures kept { D.honest disk.new → D.honest disk.old }
+    ensures leaves { D.honest disk.new → LeavesBy (ledger_of count.old store.old) command.now result (D.trail disk.old) (D.trail disk.new) }
+    ensures outside { D.honest disk.new → Leaves SameOutsideSlots (D.trail disk.old) (D.trail disk.new) }
+{
+    match store.append(disk, payload) {
+        Ok(()) => {
+            count.apply(command);
+            Outcome::Stored(count.count().accepted())
+        }
+        Err(AppendFault::Device) => Outcome::Device,
+        Err(AppendFault::Full | AppendFault::Broken) => unreachable!(),
+    }
+}
