@@ -1,5 +1,5 @@
 # Short names for the repository's commands.
-.PHONY: run example test cases refused wrong-bodies bench fmt
+.PHONY: run example test cases refused documents wrong-bodies bench fmt
 
 run:
 	@cd crates/zhcount && rt run
@@ -12,6 +12,8 @@ test:
 	rt ci
 	@tests/refused_allocations.sh
 	@tests/real_file.sh
+	@tests/documents_test.sh
+	@tests/documents
 
 cases:
 	@cd crates/zh_cases && rt run > /dev/null
@@ -20,6 +22,9 @@ cases:
 
 refused:
 	@tests/refused_allocations.sh
+
+documents:
+	@tests/documents
 
 wrong-bodies:
 	@tests/wrong_bodies.sh $(CRATES)
