@@ -11,7 +11,7 @@ LIST_ITEM = re.compile(r" *([-*+]|\d+\.) ")
 class Block:
     page: str
     number: int  # of its first line in the page
-    word: str = ""  # of its fence; none if it is indented
+    word: str = ""  # of its fence, if it has one
     file: str = ""
     lines: list = field(default_factory=list)
 
@@ -36,7 +36,7 @@ def blocks_of(page, text):
         elif fence:
             state, depth = "fence", len(fence[1])
             word, _, file = fence[2].strip().partition(" ")
-            found.append(Block(page, number + 1, word or "text", file))
+            found.append(Block(page, number + 1, word, file))
         elif not line.strip():
             if state == "indented":
                 found[-1].lines.append("")
