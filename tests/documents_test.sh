@@ -40,6 +40,8 @@ The shell is kept from one command to the next:
     $ false
     $ echo $?
     1
+    $ sleep 60 &
+    $ kill -9 $!; wait
 
 1. In a list, an indented paragraph is no block:
 
@@ -68,6 +70,8 @@ version = 1
 ```
 
     touch made
+    sleep 60 &
+    kill -9 $!; wait $!
 
     test -e made
 

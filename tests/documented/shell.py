@@ -11,14 +11,14 @@ SECONDS = 600  # of a command
 OF_A_JOB = re.compile(r"^bash: line \d+: +\d+ (Killed|Terminated).*\n", re.MULTILINE)
 
 # Reads the name of a folder, runs the command in it, and writes its status. $? is that of the command before. Of a
-# script it writes the status of its last command that failed.
+# script it writes the status of its last command that failed; that of a wait is how a job ended, which may be killed.
 LOOP = r"""
 exec 8<&0 9>&1 < /dev/null
 status=0
 while read -r -u 8 room; do
     text=$(< "$room/command") failed=0
     if [ -e "$room/script" ]; then
-        trap 'failed=$?' ERR
+        trap 'at=$?; [[ $BASH_COMMAND == wait* ]] || failed=$at' ERR
         eval "$text" < "$room/input" > "$room/output" 2>&1 8<&- 9>&-
         trap - ERR
         status=$failed
