@@ -1,0 +1,102 @@
+/* Makes the calls of a disk's opening, and then those of so many appended records: DISK PAGES RECORDS.
+ *
+ * It judges nothing: it reads no lines, checks nothing that it reads, and what it writes is made up. Each record is
+ * answered. The disk has to be formatted, with an empty journal in slot 1 if there is a record. */
+#include <fcntl.h>
+#include <libgen.h>
+#include <stdint.h>
+#include <stdio.h>
+#include <stdlib.h>
+#include <string.h>
+#include <unistd.h>
+
+enum {
+    SET_UP = 4096,
+    SLOT_1 = 69632,
+    SLOT_2 = 594176,
+    PAYLOAD = 262391,
+    JOURNAL = 332032,
+    JOURNAL_LENGTH = 262144,
+    PAGE = 256,
+};
+
+static void expect(int holds, const char *what) {
+    if (!holds) {
+        perror(what);
+        exit(1);
+    }
+}
+
+static void read_at(int file, void *to, size_t n, off_t at) {
+    expect(pread(file, to, n, at) == (ssize_t)n, "pread");
+}
+
+static void write_at(int file, const void *from, size_t n, off_t at) {
+    expect(pwrite(file, from, n, at) == (ssize_t)n, "pwrite");
+}
+
+static void settle(int file, int folder) {
+    expect(fsync(file) == 0, "fsync");
+    expect(posix_fadvise(file, 0, 0, POSIX_FADV_DONTNEED) == 0, "posix_fadvise");
+    expect(fsync(folder) == 0, "fsync");
+}
+
+/* Opens the file, with an empty one beside it that comes and goes. */
+static int open_file(const char *path) {
+    char beside[4096], folder_of[4096];
+    snprintf(beside, sizeof beside, "%s-wal", path);
+    snprintf(folder_of, sizeof folder_of, "%s", path);
+    int file = open(path, O_RDWR | O_CLOEXEC);
+    expect(file >= 0, path);
+    int log = open(beside, O_RDWR | O_CREAT | O_EXCL | O_CLOEXEC, 0600);
+    expect(log >= 0, beside);
+    int folder = open(dirname(folder_of), O_RDONLY | O_CLOEXEC);
+    expect(folder >= 0, folder_of);
+    settle(log, folder);
+    settle(file, folder);
+    close(folder);
+    close(log);
+    expect(unlink(beside) == 0, "unlink");
+    return file;
+}
+
+/* The sync and the reads of an opening. */
+static void open_disk(int file) {
+    static uint8_t bytes[JOURNAL_LENGTH + PAGE];
+    expect(fdatasync(file) == 0, "fdatasync");
+    read_at(file, bytes, 15, 0);
+    size_t set_up = (size_t)bytes[11] << 24 | bytes[12] << 16 | bytes[13] << 8 | bytes[14];
+    read_at(file, bytes, 9, SLOT_1);
+    read_at(file, bytes, 9, SLOT_2);
+    read_at(file, bytes, JOURNAL_LENGTH, JOURNAL);
+    for (size_t done = 0; done < set_up; done += PAGE)
+        read_at(file, bytes, set_up - done < PAGE ? set_up - done : PAGE, (off_t)(SET_UP + done));
+    read_at(file, bytes, PAYLOAD, SLOT_1 + 9);
+}
+
+/* Appends a record at a page: its body, and then the gate of its first page. */
+static void append(int file, int page, int pages) {
+    static uint8_t body[PAGE - 1];
+    for (int k = 0; k < pages; k++) {
+        memset(body, page + k, sizeof body);
+        write_at(file, body, sizeof body, JOURNAL + (off_t)(page + k) * PAGE + 1);
+    }
+    expect(fdatasync(file) == 0, "fdatasync");
+    write_at(file, "\xa5", 1, JOURNAL + (off_t)page * PAGE);
+    expect(fdatasync(file) == 0, "fdatasync");
+}
+
+int main(int argc, char **argv) {
+    if (argc != 4)
+        return 2;
+    int pages = atoi(argv[2]), records = atoi(argv[3]);
+    if (pages < 0 || records < 0 || pages * records > JOURNAL_LENGTH / PAGE)
+        return 2;
+    int file = open_file(argv[1]);
+    open_disk(file);
+    for (int k = 0; k < records; k++) {
+        append(file, k * pages, pages);
+        expect(write(1, "1 stored 1\n", 11) == 11, "write");
+    }
+    return close(file) == 0 ? 0 : 1;
+}
