@@ -11,7 +11,7 @@ use std::alloc::Global;
 use zh_commands::write_reply;
 use zh_disk::{DISK_LENGTH, MemoryDisk, Stop};
 use zh_districts::Setup;
-use zh_office::{FormatFault, Office, OpenFault};
+use zh_office::{FormatFault, NotedReader, Office, OpenFault};
 
 /// How many reads an office may make of a text.
 const TURNS: u64 = 1_000;
@@ -140,7 +140,7 @@ impl<'s> Fixture<'s> {
         let (Some(office), Some(disk)) = (&mut self.office, &mut self.disk) else {
             return Ok(String::from_str(self.alloc, "closed")?);
         };
-        let mut reader = text;
+        let mut reader = NotedReader::new(text);
         let reply = office.load(disk, &mut reader);
         let mut line = [0; 64];
         let length = write_reply(0, &reply, &mut line);

@@ -1,4 +1,6 @@
 mod ExportLemmas
 mod FieldLemmas
+mod FirstRecordsLemmas
 mod LoadLemmas
+mod OneLoadingLemmas
 mod ReadLemmas

@@ -1,3 +1,4 @@
 pub mod Records
 pub mod Load
 pub mod Export
+pub mod Noted

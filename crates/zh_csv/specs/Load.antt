@@ -1,5 +1,5 @@
 -- What a text of records loads: the rows of a batch, or why it is refused.
-use Rattle.std.specs.Prelude.{◌≡◌, ◌≢◌, ◌⊎◌, ℕ, ◌<◌, ◌≤◌, ◌^◌, nat_lt, if◌then◌else◌, List, [], ◌∷◌, ◌++◌, map, length, All, Option, Some, None, Result, Ok, Err, codes, decimal}
+use Rattle.std.specs.Prelude.{◌≡◌, ◌≢◌, ◌⊎◌, ℕ, ◌<◌, ◌≤◌, ◌^◌, nat_lt, if◌then◌else◌, List, [], ◌∷◌, ◌++◌, map, length, All, IfOk, true, Bool, Option, Some, None, Result, Ok, Err, codes, decimal}
 use Rattle.zh_districts.specs.Canton.{Canton}
 use Rattle.zh_districts.specs.Misplaced.{misplaced}
 use Rattle.zh_districts.specs.declared.misplaced.Misplaced.{Misplaced}
@@ -80,3 +80,14 @@ Loads canton text (Err faults.Memory) = Unit {0}
 Loads canton text (Err faults.Read) = Unit {0}
 Loads canton text (Err faults.Csv) = HasNoNames text ⊎ StopsAt canton text faults.Csv
 Loads canton text (Err fault) = StopsAt canton text fault
+
+-- neither refused memory nor a reader that failed decided
+abbrev pub IsOfText : Result (List Row) LoadFault → Type 0
+IsOfText loaded = (loaded ≢ Err faults.Memory) × (loaded ≢ Err faults.Read)
+
+-- What is loaded from a reader: rows that can be held together, or a fault, that of the reader only where a read of it
+-- failed. What its text loads is said where its bytes are known.
+pub record LoadsFrom (canton : Canton) (text : Option (List ℕ)) (failed : Bool) (loaded : Result (List Row) LoadFault) : Type 0 where
+  pub rows : IfOk loaded (AreLoaded canton)
+  pub read : loaded ≡ Err faults.Read → failed ≡ true
+  pub known : (bytes : List ℕ) → text ≡ Some bytes → Loads canton bytes loaded

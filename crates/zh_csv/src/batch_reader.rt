@@ -1,14 +1,16 @@
 //! A batch read from a text.
 
-ghost use Rattle.std.specs.Prelude.{◌≡◌, ◌≢◌, List, ◌++◌, ◌∷◌, [], ℕ, Some, IfOk, IfErr, OnOk, OnErr};
+ghost use Rattle.std.specs.Prelude.{◌≡◌, ◌≢◌, List, ◌++◌, ◌∷◌, [], ℕ, Some, IfOk, IfErr, IsErrOf, OnOk, OnErr, true};
 ghost use Rattle.zh_records.specs.declared.row.Row.{Row};
 ghost use Rattle.zh_desks.specs.declared.fault.RowFault.{RowFault};
 ghost use Rattle.zh_csv.specs.declared.fault.LoadFault.{LoadFault};
 ghost use Rattle.zh_csv.specs.Load.{place_fault, batch_fault, fault_after, names, Loads, AreLoaded, IsReadable};
+ghost use Rattle.zh_csv.specs.Noted.{has_failed, inside};
 ghost use Rattle.zh_csv.specs.Records.{HasRead};
 
 use crate::fault::LoadFault;
 use crate::fields::{is_names, row_of};
+use crate::noted_reader::NotedReader;
 use crate::records::{next_record, reader_of};
 use csv::{ByteRecord, Reader};
 use std::alloc::Global;
@@ -82,8 +84,8 @@ fn read_rows<R: Read>(
     unreachable!()
 }
 
-/// Reads the batch of a text: the names of the columns, and then a record for each row. At most 1,002 records are read.
-pub fn read_batch<R: Read + Drop>(alloc: Global, setup: &Setup, text: R) -> Result<Batch, LoadFault>
+/// Reads the records of a text as a batch: the names of the columns, and then a record for each row.
+fn read_records<R: Read + Drop>(alloc: Global, setup: &Setup, text: R) -> Result<Batch, LoadFault>
     ensures loads { (bytes : List ℕ) → R.remaining text ≡ Some bytes → Loads setup.now bytes result }
     ensures loaded { IfOk result (AreLoaded setup.now) }
 {
@@ -93,4 +95,22 @@ pub fn read_batch<R: Read + Drop>(alloc: Global, setup: &Setup, text: R) -> Resu
         return Err(LoadFault::Csv);
     }
     read_rows(alloc, setup, &mut reader, &mut record)
+}
+
+/// Reads the batch of a text: the names of the columns, and then a record for each row. At most 1,002 records are read,
+/// and one of them is held at a time.
+pub fn read_batch<R: Read>(
+    alloc: Global,
+    setup: &Setup,
+    text: &mut NotedReader<R>,
+) -> Result<Batch, LoadFault>
+    ensures loads { (bytes : List ℕ) → R.remaining (inside text.old) ≡ Some bytes → Loads setup.now bytes result }
+    ensures loaded { IfOk result (AreLoaded setup.now) }
+    ensures read { IsErrOf result LoadFault.Read → has_failed text.new ≡ true }
+{
+    match read_records(alloc, setup, &mut *text) {
+        // A read that fails is noted, so here it was memory that was refused.
+        Err(LoadFault::Read) if !text.has_failed() => Err(LoadFault::Memory),
+        loaded => loaded,
+    }
 }

@@ -5,8 +5,12 @@ mod batch_reader;
 mod export;
 mod fault;
 mod fields;
+mod laws;
+mod noted_reader;
 mod records;
 
 pub use batch_reader::read_batch;
 pub use export::{ExportFault, write_count};
 pub use fault::LoadFault;
+pub use laws::{few_records, one_loading};
+pub use noted_reader::NotedReader;

@@ -39,13 +39,13 @@ put_front (Ok done) w w' text text' is front = tt
 put_front (Err fault) w w' text text' is front = writes_front w w' text text' is front
 
 -- what an office replied to the text that it was given
-pub replied_to : (honest : Type 0) (start end : OnDisk) (text : List ℕ) (reply : Reply) → LoadTurn honest start (Some text) reply end → Replied honest (IsThis start end.failures end.trail) reply
-replied_to honest start end text reply turn = record { start = start; end = end; text = text; spans = (refl, refl, refl); turn = turn; kept = λ sure. load_is_logged honest sure start (Some text) reply end turn }
+pub replied_to : (honest : Type 0) (start end : OnDisk) (text : Option (List ℕ)) (failed : Bool) (reply : Reply) → LoadTurn honest start text failed reply end → Replied honest (IsThis start end.failures end.trail) reply
+replied_to honest start end text failed reply turn = record { start = start; end = end; text = text; failed = failed; spans = (refl, refl, refl); turn = turn; kept = λ sure. load_is_logged honest sure start text failed reply end turn }
 
 -- a reply that it wrote
-pub loaded_to : (honest : Type 0) (w w' : Option (List ℕ)) (start end : OnDisk) (text : List ℕ) (reply : Reply) (faulted : Bool) → LoadTurn honest start (Some text) reply end → Appends w w' (printed reply) → end.office.ledger.store.broken ≡ faulted → Loaded honest w w' (IsThis start end.failures end.trail) reply faulted
+pub loaded_to : (honest : Type 0) (w w' : Option (List ℕ)) (start end : OnDisk) (text : Option (List ℕ)) (failed : Bool) (reply : Reply) (faulted : Bool) → LoadTurn honest start text failed reply end → Appends w w' (printed reply) → end.office.ledger.store.broken ≡ faulted → Loaded honest w w' (IsThis start end.failures end.trail) reply faulted
 unfolding replied_to
-loaded_to honest w w' start end text reply faulted turn written device = record { replied = replied_to honest start end text reply turn; written = written; device = device }
+loaded_to honest w w' start end text failed reply faulted turn written device = record { replied = replied_to honest start end text failed reply turn; written = written; device = device }
 
 -- the file gives no text, and an office was opened
 pub unread : (honest unwritten : Type 0) (Refused : OpenFault → Type 0) (w w' : Option (List ℕ)) (Spans : OnDisk → OnDisk → Type 0) (start : OnDisk) (fault : LoadFault)
@@ -59,7 +59,7 @@ unread honest unwritten Refused w w' Spans start (loading.Open fault) is same sp
 
 -- the same of an office that began in another way too, or was refused
 replied_as : (honest : Type 0) (Spans Spans' : OnDisk → OnDisk → Type 0) (reply : Reply) → ((start end : OnDisk) → Spans start end → Spans' start end) → Replied honest Spans reply → Replied honest Spans' reply
-replied_as honest Spans Spans' reply turn replied = record { start = replied.start; end = replied.end; text = replied.text; spans = turn replied.start replied.end replied.spans; turn = replied.turn; kept = replied.kept }
+replied_as honest Spans Spans' reply turn replied = record { start = replied.start; end = replied.end; text = replied.text; failed = replied.failed; spans = turn replied.start replied.end replied.spans; turn = replied.turn; kept = replied.kept }
 
 loaded_as : (honest : Type 0) (w w' : Option (List ℕ)) (Spans Spans' : OnDisk → OnDisk → Type 0) (reply : Reply) (faulted : Bool) → ((start end : OnDisk) → Spans start end → Spans' start end) → Loaded honest w w' Spans reply faulted → Loaded honest w w' Spans' reply faulted
 unfolding replied_as

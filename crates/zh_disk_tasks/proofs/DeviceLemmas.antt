@@ -109,8 +109,8 @@ breaks_fares : (honest : Type 0) (lines : List (List ℕ)) (w w' : Option (List 
 breaks_fares honest lines w w' old new by =
     both_fare old by.mid new (runs_fares honest old by.answered by.out by.log by.mid by.run) (turn_fares honest by.mid by.last by.answer new by.turn)
 
-load_fares : (honest : Type 0) (old : OnDisk) (text : Option (List ℕ)) (reply : Reply) (new : OnDisk) → LoadTurn honest old text reply new → FaresOn old new
-load_fares honest old text reply new turn = acts_fares honest (ledger_of old) (load_command old.office.ledger.store.broken turn.loaded) _ _ (ledger_of new) turn.acts
+load_fares : (honest : Type 0) (old : OnDisk) (text : Option (List ℕ)) (failed : Bool) (reply : Reply) (new : OnDisk) → LoadTurn honest old text failed reply new → FaresOn old new
+load_fares honest old text failed reply new turn = acts_fares honest (ledger_of old) (load_command old.office.ledger.store.broken turn.loaded) _ _ (ledger_of new) turn.acts
 
 -- What a task leaves of its disk's failures, which had happened so often before: none is forgotten, and a fault that is
 -- one of the device came of one.
@@ -179,7 +179,7 @@ module _ (honest : Type 0) (canton : Canton) (failures : ℕ) (first : Trail) (f
   serves_end r r' w w' (Err (runs.Open fault)) serves = absurd serves
 
   replied_later : (reply : Reply) → Replied honest From reply → failures ≤ failures'
-  replied_later reply by = from_later by.start by.end by.spans (load_fares honest by.start _ reply by.end by.turn)
+  replied_later reply by = from_later by.start by.end by.spans (load_fares honest by.start _ _ reply by.end by.turn)
 
   opened_later : (start : OnDisk) → From start start → failures ≤ failures'
   opened_later start from = omega (arith, from.0.later, from.2)
@@ -188,7 +188,7 @@ module _ (honest : Type 0) (canton : Canton) (failures : ℕ) (first : Trail) (f
   loads_end unwritten w w' (Ok done) (reply, taken, by) = record { later = replied_later reply by.replied; cause = tt }
   loads_end unwritten w w' (Err loading.Refused) (refusal, by) = record { later = replied_later _ by.replied; cause = λ no. absurd no }
   loads_end unwritten w w' (Err loading.Faulted) (reply, by) =
-      let fares = load_fares honest by.replied.start _ reply by.replied.end by.replied.turn in
+      let fares = load_fares honest by.replied.start _ _ reply by.replied.end by.replied.turn in
       record { later = replied_later reply by.replied; cause = λ _. from_broke by.replied.start by.replied.end by.replied.spans fares by.device }
   loads_end unwritten w w' (Err loading.Write) (reply, replied, front) = record { later = replied_later reply replied; cause = λ no. absurd no }
   loads_end unwritten w w' (Err (loading.Open fault)) by = absurd by

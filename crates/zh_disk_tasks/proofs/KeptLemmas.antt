@@ -1,5 +1,5 @@
 -- What is kept of the commands of a run, or of a load.
-use Rattle.std.proofs.Common.{◌≡◌, ◌∙◌, ℕ, List, Option, Some, None, sym, ap, subst}
+use Rattle.std.proofs.Common.{◌≡◌, ◌∙◌, ℕ, Bool, List, Option, Some, None, sym, ap, subst}
 use Rattle.zh_districts.specs.Canton.{Canton, IsCanton}
 use Rattle.zh_districts.proofs.CallerLemmas.{same_setup}
 use Rattle.zh_districts.specs.Spelling.{setup_spelling}
@@ -31,8 +31,8 @@ acts_logged honest sure old (Some command) May answer new (outcome, by, is) =
     subst (λ (l : Log). IsLogged old l new) (sym log) (submission_logged honest sure old command outcome new by)
 
 -- a text that is loaded is one command, or none
-pub load_is_logged : (honest : Type 0) → honest → (old : OnDisk) (text : Option (List ℕ)) (reply : Reply) (new : OnDisk) (turn : LoadTurn honest old text reply new) → IsLogged (ledger_of old) (load_logged old turn.loaded reply) (ledger_of new)
-load_is_logged honest sure old text reply new turn = acts_logged honest sure (ledger_of old) (load_command old.office.ledger.store.broken turn.loaded) _ _ (ledger_of new) turn.acts
+pub load_is_logged : (honest : Type 0) → honest → (old : OnDisk) (text : Option (List ℕ)) (failed : Bool) (reply : Reply) (new : OnDisk) (turn : LoadTurn honest old text failed reply new) → IsLogged (ledger_of old) (load_logged old turn.loaded reply) (ledger_of new)
+load_is_logged honest sure old text failed reply new turn = acts_logged honest sure (ledger_of old) (load_command old.office.ledger.store.broken turn.loaded) _ _ (ledger_of new) turn.acts
 
 module _ (canton : Canton) (failures : ℕ) (first : Trail) (failures' : ℕ) (last : Trail) (start end : OnDisk) (log : Log) (tally : Tally) (from : IsFrom (Unit {0}) canton failures first failures' last start end)
     (logs : IsLogged (ledger_of start) log (ledger_of end)) (limits : IsCanton canton) (own : IsCanton tally.canton) (holds : Holds tally first.now.bytes) where

@@ -25,13 +25,15 @@ printed reply = answer reply ++ 10 ∷ []
 abbrev pub IsThis : OnDisk → ℕ → Trail → OnDisk → OnDisk → Type 0
 IsThis first failures last start end = (start ≡ first) × (end.trail ≡ last) × (end.failures ≡ failures)
 
--- an office that began so was given a text, and replied so; on an honest disk its batch is kept as a command of a run is
+-- An office that began so was given a text, whose bytes may be unknown and whose reader failed or not, and replied so. On
+-- an honest disk its batch is kept as a command of a run is.
 pub record Replied (honest : Type 0) (Spans : OnDisk → OnDisk → Type 0) (reply : Reply) : Type 0 where
   pub start : OnDisk
   pub end : OnDisk
-  pub text : List ℕ
+  pub text : Option (List ℕ)
+  pub failed : Bool
   pub spans : Spans start end
-  pub turn : LoadTurn honest start (Some text) reply end
+  pub turn : LoadTurn honest start text failed reply end
   pub kept : honest → IsLogged (ledger_of start) (load_logged start turn.loaded reply) (ledger_of end)
 
 -- the reply is written, and the device failed under it or not

@@ -9,7 +9,7 @@ use zh_office::OpenFault;
 pub enum LoadFault {
     #[error("{0}")]
     Open(OpenFault),
-    /// The file could not be opened or read, or is longer than 1,048,576 bytes.
+    /// The file could not be opened, or its first bytes could not be read.
     #[error("csv file")]
     File,
     #[error("memory")]

@@ -10,29 +10,26 @@ ghost use Rattle.zh_disk_tasks.specs.Tasks.{IsFrom, IsRefused};
 use crate::csv_fault::{ExportFault, LoadFault};
 use std::alloc::Global;
 use std::fs::File;
-use std::io::{ErrorKind, Read, Write};
+use std::io::{BufRead, BufReader, Read, Write};
 use zh_commands::{Reply, WriteFault, put, write_reply};
 use zh_disk::Disk;
 use zh_districts::Setup;
-use zh_office::Office;
+use zh_office::{NotedReader, Office};
 
-/// How many bytes a CSV file may have: more than its 1,000 rows need, and few enough to be held in memory.
-const LONGEST_FILE: u64 = 1_048_576;
-
-/// The text of the file at this path, which is read whole or not at all.
-fn text_at(rt: &HostRuntime, alloc: Global, path: &str) -> Result<Vec<u8>, LoadFault>
+/// The file at this path, opened, with its first bytes read.
+fn file_at(rt: &HostRuntime, alloc: Global, path: &str) -> Result<BufReader<File>, LoadFault>
     ensures { IfErr result IsUnreadable }
 {
     let Ok(file) = File::open(rt, path) else {
         return Err(LoadFault::File);
     };
-    let mut text = Vec::new(alloc);
-    match file.take(LONGEST_FILE + 1).read_to_end(&mut text) {
-        Ok(length) if length as u64 > LONGEST_FILE => Err(LoadFault::File),
-        Ok(_) => Ok(text),
-        Err(error) if error.kind() == ErrorKind::OutOfMemory => Err(LoadFault::Memory),
-        Err(_) => Err(LoadFault::File),
+    let Ok(mut text) = BufReader::new(alloc, file) else {
+        return Err(LoadFault::Memory);
+    };
+    if text.fill_buf().is_err() {
+        return Err(LoadFault::File);
     }
+    Ok(text)
 }
 
 /// Writes a reply without its desk.
@@ -45,17 +42,17 @@ fn print_reply<O: Write>(reply: &Reply, out: &mut O) -> Result<(), WriteFault>
     put(out, &text[2..length])
 }
 
-/// Gives an office the text of a file, and writes the reply.
-fn load_text<O: Write, D: Disk>(
+/// Gives an office a text, and writes the reply.
+fn load_text<R: Read + Drop, O: Write, D: Disk>(
     office: &mut Office<'_>,
     disk: &mut D,
-    text: &[u8],
+    text: R,
     out: &mut O,
 ) -> Result<(), LoadFault>
     ensures kept { D.honest disk.new → D.honest disk.old }
     ensures loaded { Loads (D.honest disk.new) (λ fault. ⊥) (out.new ≡ out.old) (O.contents out.old) (O.contents out.new) (IsThis (on_disk office.old (D.failures disk.old) (D.trail disk.old)) (D.failures disk.new) (D.trail disk.new)) result }
 {
-    let mut reader = text;
+    let mut reader = NotedReader::new(text);
     let reply = office.load(disk, &mut reader);
     print_reply(&reply, out)?;
     if office.faulted() {
@@ -82,8 +79,8 @@ pub fn load_on<O: Write, D: Disk>(
     ensures cause { IfErr result (λ fault. IsLoadOfDevice fault → HasRisen (D.failures disk.old) (D.failures disk.new)) }
 {
     let mut office = Office::open(alloc, setup, disk)?;
-    let text = text_at(rt, alloc, csv)?;
-    load_text(&mut office, disk, &text, out)
+    let text = file_at(rt, alloc, csv)?;
+    load_text(&mut office, disk, text, out)
 }
 
 /// Writes what an office holds.

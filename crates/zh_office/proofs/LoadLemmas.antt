@@ -5,7 +5,7 @@ use Rattle.zh_records.specs.declared.row.Row.{Row}
 use Rattle.zh_commands.specs.declared.replies.Reply.{Reply}
 use Rattle.zh_commands.specs.declared.replies.Reply.TheVariants.{Same, Refused}
 use Rattle.zh_commands.specs.declared.replies.Refusal.TheVariants as refusals
-use Rattle.zh_csv.specs.Load.{Loads}
+use Rattle.zh_csv.specs.Load.{LoadsFrom}
 use Rattle.zh_csv.specs.declared.fault.LoadFault.{LoadFault}
 use Rattle.zh_csv.specs.declared.fault.LoadFault.TheVariants as faults
 use Rattle.zh_ledger.specs.Submissions.{Submission}
@@ -20,8 +20,8 @@ abbrev ActsOf : Type 0 → OnDisk → Bool → Result (List Row) LoadFault → R
 ActsOf honest old broken loaded reply new = Acts honest (ledger_of old) (load_command broken loaded) (λ a. a ≡ answers.Reply (load_reply broken loaded)) (answers.Reply reply) (ledger_of new)
 
 -- after a fault of the device
-pub broken_turn : (honest : Type 0) (old : OnDisk) (text : Option (List ℕ)) → old.office.ledger.store.broken ≡ true → LoadTurn honest old text (Refused refusals.ReopenDisk) old
-broken_turn honest old text broken = record {
+pub broken_turn : (honest : Type 0) (old : OnDisk) (text : Option (List ℕ)) (failed : Bool) → old.office.ledger.store.broken ≡ true → LoadTurn honest old text failed (Refused refusals.ReopenDisk) old
+broken_turn honest old text failed broken = record {
   loaded = Err faults.Csv;
   loads = λ whole. let wrong : true ≡ false = sym broken ∙ whole in cc wrong;
   acts = subst (λ (b : Bool). ActsOf honest old b (Err faults.Csv) (Refused refusals.ReopenDisk) old) (sym broken) (refl, refl);
@@ -29,9 +29,9 @@ broken_turn honest old text broken = record {
 }
 
 -- a text that is refused
-pub refused_turn : (honest : Type 0) (old : OnDisk) (text : Option (List ℕ)) (fault : LoadFault) → old.office.ledger.store.broken ≡ false
-    → ((bytes : List ℕ) → text ≡ Some bytes → Loads old.office.ledger.tally.canton bytes (Err fault)) → LoadTurn honest old text (Refused (load_refusal fault)) old
-refused_turn honest old text fault whole loads = record {
+pub refused_turn : (honest : Type 0) (old : OnDisk) (text : Option (List ℕ)) (failed : Bool) (fault : LoadFault) → old.office.ledger.store.broken ≡ false
+    → LoadsFrom old.office.ledger.tally.canton text failed (Err fault) → LoadTurn honest old text failed (Refused (load_refusal fault)) old
+refused_turn honest old text failed fault whole loads = record {
   loaded = Err fault;
   loads = λ _. loads;
   acts = subst (λ (b : Bool). ActsOf honest old b (Err fault) (Refused (load_refusal fault)) old) (sym whole) (refl, refl);
@@ -39,22 +39,22 @@ refused_turn honest old text fault whole loads = record {
 }
 
 -- a text without rows
-pub empty_turn : (honest : Type 0) (old : OnDisk) (text : Option (List ℕ)) (rows : List Row) → old.office.ledger.store.broken ≡ false → length rows ≡ 0
-    → ((bytes : List ℕ) → text ≡ Some bytes → Loads old.office.ledger.tally.canton bytes (Ok rows)) → LoadTurn honest old text Same old
-empty_turn honest old text [] whole none loads = record {
+pub empty_turn : (honest : Type 0) (old : OnDisk) (text : Option (List ℕ)) (failed : Bool) (rows : List Row) → old.office.ledger.store.broken ≡ false → length rows ≡ 0
+    → LoadsFrom old.office.ledger.tally.canton text failed (Ok rows) → LoadTurn honest old text failed Same old
+empty_turn honest old text failed [] whole none loads = record {
   loaded = Ok [];
   loads = λ _. loads;
   acts = subst (λ (b : Bool). ActsOf honest old b (Ok []) Same old) (sym whole) (refl, refl);
   held = refl;
 }
-empty_turn honest old text (row ∷ rows) whole none loads = absurd (omega arith)
+empty_turn honest old text failed (row ∷ rows) whole none loads = absurd (omega arith)
 
 -- rows that are submitted
-pub submitted_turn : (honest : Type 0) (old new : OnDisk) (text : Option (List ℕ)) (rows : List Row) (reply : Reply) → old.office.ledger.store.broken ≡ false → 1 ≤ length rows → new.office.held ≡ old.office.held
-    → ((bytes : List ℕ) → text ≡ Some bytes → Loads old.office.ledger.tally.canton bytes (Ok rows))
-    → (outcome : Outcome) × Submission honest (ledger_of old) (commands.Batch rows) outcome (ledger_of new) × (reply ≡ reply_to outcome) → LoadTurn honest old text reply new
-submitted_turn honest old new text [] reply whole some held loads acts = absurd (omega arith)
-submitted_turn honest old new text (row ∷ rows) reply whole some held loads acts = record {
+pub submitted_turn : (honest : Type 0) (old new : OnDisk) (text : Option (List ℕ)) (failed : Bool) (rows : List Row) (reply : Reply) → old.office.ledger.store.broken ≡ false → 1 ≤ length rows → new.office.held ≡ old.office.held
+    → LoadsFrom old.office.ledger.tally.canton text failed (Ok rows)
+    → (outcome : Outcome) × Submission honest (ledger_of old) (commands.Batch rows) outcome (ledger_of new) × (reply ≡ reply_to outcome) → LoadTurn honest old text failed reply new
+submitted_turn honest old new text failed [] reply whole some held loads acts = absurd (omega arith)
+submitted_turn honest old new text failed (row ∷ rows) reply whole some held loads acts = record {
   loaded = Ok (row ∷ rows);
   loads = λ _. loads;
   acts = subst (λ (b : Bool). ActsOf honest old b (Ok (row ∷ rows)) reply new) (sym whole) (acts.0, acts.1, ap answers.Reply acts.2);

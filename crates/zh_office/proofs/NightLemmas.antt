@@ -64,10 +64,10 @@ one_line canton kept s t (answered line answer) Then (old, new, begins, turn, is
 one_line canton kept s t (stopped_within line) Then (old, new, answer, c, begins, turn, left, is) sure go =
     go kept (subst (λ (x : Stretch). IsSure canton kept (ledger_of x)) (sym is)
     (left_sure canton kept (ledger_of s) sure (runs.ledger_of old) (runs.ledger_of new) (begins_below s old begins) c left (command_read old.office turn.reading) (MayAnswer old.office turn.reading) answer turn.acts))
-one_line canton kept s t (loaded text reply) Then (old, new, begins, turn, is) sure go =
+one_line canton kept s t (loaded text reply) Then (old, new, failed, begins, turn, is) sure go =
     go kept (subst (λ (x : Stretch). IsSure canton kept (ledger_of x)) (sym is)
     (answered_sure canton kept (ledger_of s) sure (runs.ledger_of old) (runs.ledger_of new) (begins_below s old begins) (load_command old.office.ledger.store.broken turn.loaded) (λ a. a ≡ answers.Reply (load_reply old.office.ledger.store.broken turn.loaded)) (answers.Reply reply) turn.acts))
-one_line canton kept s t (stopped_within_load text) Then (old, new, reply, c, begins, turn, left, is) sure go =
+one_line canton kept s t (stopped_within_load text) Then (old, new, failed, reply, c, begins, turn, left, is) sure go =
     go kept (subst (λ (x : Stretch). IsSure canton kept (ledger_of x)) (sym is)
     (left_sure canton kept (ledger_of s) sure (runs.ledger_of old) (runs.ledger_of new) (begins_below s old begins) c left (load_command old.office.ledger.store.broken turn.loaded) (λ a. a ≡ answers.Reply (load_reply old.office.ledger.store.broken turn.loaded)) (answers.Reply reply) turn.acts))
 one_line canton kept s t stopped Then (c, image, is) sure go =

@@ -6,7 +6,7 @@ use Rattle.zh_commands.specs.declared.replies.Reply.{Reply}
 use Rattle.zh_commands.specs.declared.replies.Reply.TheVariants.{Same, Refused}
 use Rattle.zh_commands.specs.declared.replies.Refusal.{Refusal}
 use Rattle.zh_commands.specs.declared.replies.Refusal.TheVariants as refusals
-use Rattle.zh_csv.specs.Load.{Loads}
+use Rattle.zh_csv.specs.Load.{LoadsFrom}
 use Rattle.zh_csv.specs.declared.fault.LoadFault.{LoadFault}
 use Rattle.zh_csv.specs.declared.fault.LoadFault.TheVariants as faults
 use Rattle.zh_answers.specs.Answers.{batch_of}
@@ -39,11 +39,11 @@ load_reply true loaded = Refused refusals.ReopenDisk
 load_reply false (Err fault) = Refused (load_refusal fault)
 load_reply false (Ok rows) = Same
 
--- The office may answer to this text so, and then it and its disk hold this; no desk's batch is touched. What the text
--- loads is said where its bytes are known. Of the trail of a disk that is not honest nothing is said.
-pub record LoadTurn (honest : Type 0) (old : OnDisk) (text : Option (List ℕ)) (reply : Reply) (new : OnDisk) : Type 0 where
+-- The office may answer to this text so, whose reader failed or not, and then it and its disk hold this; no desk's batch
+-- is touched. Of the trail of a disk that is not honest nothing is said.
+pub record LoadTurn (honest : Type 0) (old : OnDisk) (text : Option (List ℕ)) (failed : Bool) (reply : Reply) (new : OnDisk) : Type 0 where
   pub loaded : Result (List Row) LoadFault
-  pub loads : old.office.ledger.store.broken ≡ false → (bytes : List ℕ) → text ≡ Some bytes → Loads old.office.ledger.tally.canton bytes loaded
+  pub loads : old.office.ledger.store.broken ≡ false → LoadsFrom old.office.ledger.tally.canton text failed loaded
   pub acts : Acts honest (ledger_of old) (load_command old.office.ledger.store.broken loaded) (λ a. a ≡ answers.Reply (load_reply old.office.ledger.store.broken loaded)) (answers.Reply reply) (ledger_of new)
   pub held : new.office.held ≡ old.office.held
 

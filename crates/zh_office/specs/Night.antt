@@ -1,5 +1,5 @@
 -- A night of an office: lines, loaded texts, stops and openings on an honest disk that was formatted for it.
-use Rattle.std.specs.Prelude.{◌≡◌, ℕ, List, ◌∷◌, [], Option, Some, None, option_map}
+use Rattle.std.specs.Prelude.{◌≡◌, ℕ, Bool, List, ◌∷◌, [], Option, Some, None, option_map}
 use Rattle.zh_disk.specs.Disk.{Moment, Trail, IsImage, Leaves, settled}
 use Rattle.zh_districts.specs.Canton.{Canton}
 use Rattle.zh_records.specs.declared.command.Command.{Command}
@@ -61,10 +61,10 @@ Allows canton s (stopped_within line) t =
     (old : OnDisk) × (new : OnDisk) × (answer : Answer) × (c : List ℕ) × Begins s old × (turn : Turn (Unit {0}) old line answer new)
     × IsLeft old.trail new.trail c × (t ≡ after_stop c (followed_by s.log (unacknowledged (logged (command_read old.office turn.reading) answer))))
 Allows canton s (loaded text reply) t =
-    (old : OnDisk) × (new : OnDisk) × Begins s old × (turn : LoadTurn (Unit {0}) old text reply new)
+    (old : OnDisk) × (new : OnDisk) × (failed : Bool) × Begins s old × (turn : LoadTurn (Unit {0}) old text failed reply new)
     × (t ≡ record { now = new.trail.now; office = Some new.office; log = followed_by s.log (load_logged old turn.loaded reply) })
 Allows canton s (stopped_within_load text) t =
-    (old : OnDisk) × (new : OnDisk) × (reply : Reply) × (c : List ℕ) × Begins s old × (turn : LoadTurn (Unit {0}) old text reply new)
+    (old : OnDisk) × (new : OnDisk) × (failed : Bool) × (reply : Reply) × (c : List ℕ) × Begins s old × (turn : LoadTurn (Unit {0}) old text failed reply new)
     × IsLeft old.trail new.trail c × (t ≡ after_stop c (followed_by s.log (unacknowledged (load_logged old turn.loaded reply))))
 Allows canton s stopped t = (c : List ℕ) × IsImage s.now c × (t ≡ after_stop c s.log)
 Allows canton s (opened office) t =

@@ -16,6 +16,6 @@ pub fn stretches()
 /// all but the last, which then nobody acknowledged. So each opening finds, stretch by stretch, the first of the
 /// accepted commands, in order, among them all that were acknowledged, and each once. An opening is refused only for
 /// memory or by the device.
-pub fn nights()
+pub fn law_nights()
     ensures { Law }
 {}

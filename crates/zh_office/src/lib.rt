@@ -9,9 +9,9 @@ mod opening;
 mod partial_line;
 mod service;
 
-pub use laws::{nights, stretches};
+pub use laws::{law_nights, stretches};
 pub use office::Office;
 pub use service::ServeFault;
 pub use zh_answers::Answer;
-pub use zh_csv::ExportFault;
+pub use zh_csv::{ExportFault, NotedReader};
 pub use zh_ledger::{FormatFault, OpenFault};

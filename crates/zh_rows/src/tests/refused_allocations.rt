@@ -9,7 +9,7 @@ use std::test::Fail;
 use zh_commands::{Refusal, Reply};
 use zh_disk::MemoryDisk;
 use zh_districts::Setup;
-use zh_office::{Answer, Office};
+use zh_office::{Answer, NotedReader, Office};
 
 const MEMORY: Option<Reply> = Some(Reply::Refused(Refusal::Memory));
 
@@ -166,12 +166,8 @@ fn buffer(alloc: Global) -> Result<Vec<u8>, Fail> {
 
 /// What an office answers to a text that is loaded again where memory was refused to it.
 fn load(office: &mut Office<'_>, disk: &mut MemoryDisk, text: &[u8]) -> Reply {
-    let mut reader = text;
-    match office.load(disk, &mut reader) {
-        Reply::Refused(Refusal::Memory) => {
-            let mut reader = text;
-            office.load(disk, &mut reader)
-        }
+    match office.load(disk, &mut NotedReader::new(text)) {
+        Reply::Refused(Refusal::Memory) => office.load(disk, &mut NotedReader::new(text)),
         reply => reply,
     }
 }

@@ -10,19 +10,19 @@ use Rattle.zh_disk_tasks.proofs.csv_tasks.load_text.Goals as goal
 pub returns-in_err-print_reply-clause-loaded : goal.returns-in_err-print_reply-clause-loaded
 returns-in_err-print_reply-clause-loaded g c =
     let is : c.from_residual.result ≡ Err loading.Write = search rules in
-    rw is ((c.load-reply.result, replied_to _ _ _ _ _ c.load-reply.ensures.turn, c.in_err-print_reply.ensures.front))
+    rw is ((c.load-reply.result, replied_to _ _ _ _ _ _ c.load-reply.ensures.turn, c.in_err-print_reply.ensures.front))
 
 pub returns-then-faulted-clause-loaded : goal.returns-then-faulted-clause-loaded
-returns-then-faulted-clause-loaded g c = (c.load-reply.result, loaded_to _ _ _ _ _ _ _ _ c.load-reply.ensures.turn c.in_ok-print_reply.ensures.all (search rules))
+returns-then-faulted-clause-loaded g c = (c.load-reply.result, loaded_to _ _ _ _ _ _ _ _ _ c.load-reply.ensures.turn c.in_ok-print_reply.ensures.all (search rules))
 
 pub returns-in-Refused-clause-loaded : goal.returns-in-Refused-clause-loaded
 returns-in-Refused-clause-loaded g c =
     let is : c.load-reply.result ≡ replies.Refused c.in-Refused.field-0 = search rules in
     let spans = IsThis (on_disk c.args.office.now (g.D.Disk.failures c.args.disk.now) (g.D.Disk.trail c.args.disk.now)) (g.D.Disk.failures c.load-reply.new.disk) (g.D.Disk.trail c.load-reply.new.disk) in
-    (c.in-Refused.field-0, subst (λ (r : Reply). Loaded (g.D.Disk.honest c.load-reply.new.disk) (g.O.Write.contents c.args.out.now) (g.O.Write.contents c.print_reply.new.out) spans r false) is (loaded_to _ _ _ _ _ _ _ _ c.load-reply.ensures.turn c.in_ok-print_reply.ensures.all (search rules)))
+    (c.in-Refused.field-0, subst (λ (r : Reply). Loaded (g.D.Disk.honest c.load-reply.new.disk) (g.O.Write.contents c.args.out.now) (g.O.Write.contents c.print_reply.new.out) spans r false) is (loaded_to _ _ _ _ _ _ _ _ _ c.load-reply.ensures.turn c.in_ok-print_reply.ensures.all (search rules)))
 
-pub returns-in_default : goal.returns-in_default
-returns-in_default g c = record {
+pub returns : goal.returns
+returns g c = record {
   kept = c.load-reply.ensures.kept;
-  loaded = (c.load-reply.result, c.in_default.not-Refused, loaded_to _ _ _ _ _ _ _ _ c.load-reply.ensures.turn c.in_ok-print_reply.ensures.all (search rules));
+  loaded = (c.load-reply.result, c.in_default.not-Refused, loaded_to _ _ _ _ _ _ _ _ _ c.load-reply.ensures.turn c.in_ok-print_reply.ensures.all (search rules));
 }

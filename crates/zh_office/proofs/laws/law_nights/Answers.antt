@@ -1,5 +1,5 @@
 use Rattle.zh_office.proofs.NightLemmas.{law}
-use Rattle.zh_office.proofs.laws.nights.Goals as goal
+use Rattle.zh_office.proofs.laws.law_nights.Goals as goal
 
 pub returns : goal.returns
 returns c = law

@@ -3,8 +3,8 @@ use Rattle.csv.specs.Records.{fields_of}
 use Rattle.zh_csv.specs.Records.{Record, HasRead}
 use Rattle.zh_csv.specs.Load.{names}
 use Rattle.zh_csv.proofs.LoadLemmas.{first_not_given, are_first}
-use Rattle.zh_csv.proofs.batch_reader.read_batch.Goals as goal
-use Rattle.zh_csv.proofs.batch_reader.read_batch.Goals.{then-not-branch-via-then-not-branch, then-not-branch-via-else-not-branch+then-not-is_names}
+use Rattle.zh_csv.proofs.batch_reader.read_records.Goals as goal
+use Rattle.zh_csv.proofs.batch_reader.read_records.Goals.{then-not-branch-via-then-not-branch, then-not-branch-via-else-not-branch+then-not-is_names}
 
 pub returns-in_err-next_record-clause-loads : goal.returns-in_err-next_record-clause-loads
 returns-in_err-next_record-clause-loads g c bytes known =

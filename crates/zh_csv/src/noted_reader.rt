@@ -1,0 +1,51 @@
+//! A reader that notes whether a read failed.
+
+ghost use Rattle.std.specs.Prelude.{◌≡◌, ◌↔◌, ◌⊎◌, true, false, IsErr};
+ghost use Rattle.std.specs.Io.{ReadsAtMost};
+ghost use Rattle.std.specs.Io.KnownBytes.{ReadConsumes};
+ghost use Rattle.zh_csv.specs.Noted.{inside, has_failed};
+
+use std::io::{Read, Result};
+
+/// A reader that notes whether a read failed.
+///
+/// The note is set by a read that fails, and by nothing else; it is never cleared.
+#[derive(Drop)]
+pub struct NotedReader<R> {
+    inner: R,
+    has_failed: bool,
+}
+
+impl<R: Read> NotedReader<R> {
+    /// A reader of which no read has failed yet.
+    pub fn new(inner: R) -> Self
+        ensures over { inside result ≡ inner }
+        ensures fresh { has_failed result ≡ false }
+    {
+        NotedReader {
+            inner,
+            has_failed: false,
+        }
+    }
+
+    /// Whether a read failed.
+    pub fn has_failed(&self) -> bool
+        ensures { result ≡ has_failed self.now }
+    {
+        self.has_failed
+    }
+}
+
+impl<R: Read> Read for NotedReader<R> {
+    ghost remaining = { λ reader. R.remaining reader.inner };
+
+    fn read(&mut self, buf: &mut [u8]) -> Result<usize>
+        ensures bound { ReadsAtMost result buf.new }
+        ensures bytes { ReadConsumes (R.remaining (inside self.old)) (R.remaining (inside self.new)) result buf.new }
+        ensures noted { (has_failed self.new ≡ true) ↔ ((has_failed self.old ≡ true) ⊎ IsErr result) }
+    {
+        let result = self.inner.read(buf);
+        self.has_failed |= result.is_err();
+        result
+    }
+}
