@@ -7,4 +7,6 @@ mod NightLemmas
 mod OtherDeskLemmas
 mod ReadCountLemmas
 mod RunLemmas
+mod SteadyLemmas
 mod TextLemmas
+mod UndisturbedLemmas

@@ -1,5 +1,5 @@
 -- What the loading of a text leaves.
-use Rattle.std.proofs.Common.{◌≡◌, ◌≤◌, ◌∙◌, ℕ, Bool, true, false, List, [], ◌∷◌, length, Option, Some, Result, Ok, Err, refl, sym, ap, subst, arith}
+use Rattle.std.proofs.Common.{◌≡◌, ◌≤◌, ◌∙◌, ℕ, Bool, true, false, List, [], ◌∷◌, length, Option, Result, Ok, Err, refl, sym, ap, subst, arith}
 use Rattle.zh_records.specs.declared.command.Command.TheVariants as commands
 use Rattle.zh_records.specs.declared.row.Row.{Row}
 use Rattle.zh_commands.specs.declared.replies.Reply.{Reply}

@@ -6,3 +6,4 @@ pub mod Runs
 pub mod Load
 pub mod Served
 pub mod Night
+pub mod Undisturbed

@@ -9,7 +9,7 @@ mod opening;
 mod partial_line;
 mod service;
 
-pub use laws::{law_nights, stretches};
+pub use laws::{law_nights, stretches, undisturbed};
 pub use office::Office;
 pub use service::ServeFault;
 pub use zh_answers::Answer;

@@ -1,0 +1,134 @@
+-- A ledger whose disk does not fail: its numbers do not fall, and it does not break.
+use Rattle.std.proofs.Common.{◌≡◌, ◌≤◌, ◌<◌, ◌+◌, ◌-◌, ◌^◌, ◌==◌, ◌&&◌, ◌||◌, ℕ, Bool, true, false, refl, sym, ap, ◌∙◌, subst, ⊎_elim, arith, Option, Some, None}
+use Rattle.std.specs.Prelude.{not}
+use Rattle.std.proofs.lemmas.Bool.{ne_eqb}
+use Rattle.zh_records.specs.declared.command.Command.{Command}
+use Rattle.zh_returns.specs.Tally.{Tally}
+use Rattle.zh_returns.specs.Judgement.{judge}
+use Rattle.zh_returns.specs.Step.{step, changed, on_verdict}
+use Rattle.zh_returns.specs.declared.verdict.Verdict.{Verdict}
+use Rattle.zh_returns.specs.declared.verdict.Verdict.TheVariants as verdicts
+use Rattle.zh_journal.specs.Cause.{HasRisen}
+use Rattle.zh_ledger.specs.Ledger.{Ledger, Becomes, MayFollow, MayResultWhere, MayStoreWhere, has_room, is_spent, stored}
+use Rattle.zh_ledger.specs.Submissions as ledger
+use Rattle.zh_ledger.specs.declared.outcome.Outcome.{Outcome}
+use Rattle.zh_ledger.specs.declared.outcome.Outcome.TheVariants as outcomes
+use Rattle.zh_ledger.proofs.CallerLemmas.{ready_already, ready_switched}
+use Rattle.zh_answers.specs.declared.answer.Answer.{Answer}
+use Rattle.zh_requests.specs.Requests.{Acts}
+
+-- a count of failures that stays below its end has not risen
+pub not_risen : (a b : ℕ) → b ≡ a → b < 2 ^ 64 - 1 → HasRisen a b → ⊥
+not_risen a b same below risen = ⊎_elim (λ (more : a < b). omega arith) (λ (end : 2 ^ 64 - 1 ≤ b). omega arith) risen
+
+-- three counts that do not fall, of which the last is the first again
+pub all_same : (a b c : ℕ) → a ≤ b → b ≤ c → c ≡ a → (b ≡ a) × (c ≡ b)
+all_same a b c low high same = (omega arith, omega arith)
+
+pub as_many : (a b : ℕ) → b ≡ a → a ≤ b
+as_many a b same = omega arith
+
+pub below : (a b n : ℕ) → a ≤ b → b < n → a < n
+below a b n low less = omega arith
+
+pub no_less : (a b c : ℕ) → a ≤ b → b ≤ c → a ≤ c
+no_less a b c low high = omega arith
+
+-- the ledger is whole, and neither its commands nor its generation became fewer
+pub record Steady (old new : Ledger) : Type 0 where
+  pub whole : new.store.broken ≡ false
+  pub accepted : old.tally.accepted ≤ new.tally.accepted
+  pub generation : old.store.generation ≤ new.store.generation
+
+pub stays : (old new : Ledger) → old.store.broken ≡ false → new ≡ old → Steady old new
+stays old new whole same =
+    let accepted : new.tally.accepted ≡ old.tally.accepted = ap (λ (l : Ledger). l.tally.accepted) same in
+    let generation : new.store.generation ≡ old.store.generation = ap (λ (l : Ledger). l.store.generation) same in
+    record { whole = ap (λ (l : Ledger). l.store.broken) same ∙ whole; accepted = omega arith; generation = omega arith }
+
+pub both_steady : (a b c : Ledger) → Steady a b → Steady b c → Steady a c
+both_steady a b c first then =
+    record { whole = then.whole; accepted = no_less _ _ _ first.accepted then.accepted; generation = no_less _ _ _ first.generation then.generation }
+
+step_counts : (t : Tally) (c : Command) → t.accepted ≤ (step t c).accepted
+step_counts t c = by (judge t c)
+  where
+    by : (v : Verdict) → t.accepted ≤ (on_verdict v (changed t c) t).accepted
+    by verdicts.Accept = omega arith
+    by verdicts.Same = omega arith
+    by (verdicts.Refused reason) = omega arith
+
+stored_steady : (s : Ledger) (c : Command) → s.store.broken ≡ false → Steady s (stored s c)
+stored_steady s c whole = by (has_room s c) refl
+  where
+    by : (b : Bool) → has_room s c ≡ b → Steady s (stored s c)
+    by true room =
+        let broken : (stored s c).store.broken ≡ s.store.broken = ap (λ (l : Ledger). l.store.broken) (ready_already s c room) in
+        let generation : (stored s c).store.generation ≡ s.store.generation = ap (λ (l : Ledger). l.store.generation) (ready_already s c room) in
+        record { whole = broken ∙ whole; accepted = step_counts s.tally c; generation = omega (arith, generation) }
+    by false none =
+        let broken : (stored s c).store.broken ≡ s.store.broken = ap (λ (l : Ledger). l.store.broken) (ready_switched s c none) in
+        let generation : (stored s c).store.generation ≡ s.store.generation + 1 = ap (λ (l : Ledger). l.store.generation) (ready_switched s c none) in
+        record { whole = broken ∙ whole; accepted = step_counts s.tally c; generation = omega (arith, generation) }
+
+-- the outcomes of a device that failed, now or before
+abbrev pub fails : Outcome → Bool
+fails outcomes.Device = true
+fails outcomes.Broken = true
+fails outcome = false
+
+-- the outcome of numbers that are used up
+abbrev pub spends : Outcome → Bool
+spends outcomes.Spent = true
+spends outcome = false
+
+-- a whole ledger whose disk does not fail
+module _ (l : Ledger) (c : Command) (failures failures' : ℕ) (calm : HasRisen failures failures' → ⊥) where
+  stored_fails : (spent : Bool) (outcome : Outcome) → MayStoreWhere spent l.tally.accepted failures failures' outcome → fails outcome ≡ false
+  stored_fails true outcome is = ap fails is
+  stored_fails false outcome is = ⊎_elim (λ both. ap fails both.0) (λ both. absurd (calm both.1)) is
+
+  follows_fails : (verdict : Verdict) (outcome : Outcome) → MayFollow verdict l c failures failures' outcome → fails outcome ≡ false
+  follows_fails verdicts.Accept outcome is = stored_fails (is_spent l c) outcome is
+  follows_fails verdicts.Same outcome is = ap fails is
+  follows_fails (verdicts.Refused reason) outcome is = ap fails is
+
+  pub never_fails : (broken : Bool) (outcome : Outcome) → broken ≡ false → MayResultWhere broken l c failures failures' outcome → fails outcome ≡ false
+  never_fails true outcome whole is = absurd (cc whole)
+  never_fails false outcome whole is = follows_fails (judge l.tally c) outcome is
+
+  stored_spends : (spent : Bool) (outcome : Outcome) → spent ≡ false → MayStoreWhere spent l.tally.accepted failures failures' outcome → spends outcome ≡ false
+  stored_spends true outcome left is = absurd (cc left)
+  stored_spends false outcome left is = ⊎_elim (λ both. ap spends both.0) (λ both. ap spends both.0) is
+
+  follows_spends : (verdict : Verdict) (outcome : Outcome) → is_spent l c ≡ false → MayFollow verdict l c failures failures' outcome → spends outcome ≡ false
+  follows_spends verdicts.Accept outcome left is = stored_spends (is_spent l c) outcome left is
+  follows_spends verdicts.Same outcome left is = ap spends is
+  follows_spends (verdicts.Refused reason) outcome left is = ap spends is
+
+  pub never_spends : (broken : Bool) (outcome : Outcome) → is_spent l c ≡ false → MayResultWhere broken l c failures failures' outcome → spends outcome ≡ false
+  never_spends true outcome left is = ap spends is
+  never_spends false outcome left is = follows_spends (judge l.tally c) outcome left is
+
+-- numbers below their end
+unspent : (a g n : ℕ) (room : Bool) → a < n → g < n → ((a == n) || (not room && (g == n))) ≡ false
+unspent a g n true few low = rw (ne_eqb a n (λ same. omega arith)) refl
+unspent a g n false few low = rw (ne_eqb a n (λ same. omega arith), ne_eqb g n (λ same. omega arith)) refl
+
+pub has_numbers : (l : Ledger) (c : Command) → l.tally.accepted < 2 ^ 64 - 1 → l.store.generation < 2 ^ 64 - 1 → is_spent l c ≡ false
+has_numbers l c few low = unspent l.tally.accepted l.store.generation (2 ^ 64 - 1) (has_room l c) few low
+
+-- what it becomes
+becomes_steady : (old new : Ledger) (c : Command) (outcome : Outcome) → fails outcome ≡ false → Becomes old c outcome new → old.store.broken ≡ false → Steady old new
+becomes_steady old new c (outcomes.Stored accepted) calm after whole = subst (Steady old) (sym after) (stored_steady old c whole)
+becomes_steady old new c outcomes.Device calm after whole = absurd (cc calm)
+becomes_steady old new c outcome calm after whole = stays old new whole after
+
+pub acts_steady : (honest : Type 0) (old : ledger.OnDisk) (command : Option Command) (May : Answer → Type 0) (answer : Answer) (new : ledger.OnDisk) → Acts honest old command May answer new → old.ledger.store.broken ≡ false → (HasRisen old.failures new.failures → ⊥) → Steady old.ledger new.ledger
+acts_steady honest old None May answer new acts whole calm = stays old.ledger new.ledger whole (ap (λ (o : ledger.OnDisk). o.ledger) acts.1)
+acts_steady honest old (Some command) May answer new (outcome, by, is) whole calm =
+    becomes_steady old.ledger new.ledger command outcome (never_fails old.ledger command old.failures new.failures calm old.ledger.store.broken outcome whole by.results) by.after whole
+
+pub acts_later : (honest : Type 0) (old : ledger.OnDisk) (command : Option Command) (May : Answer → Type 0) (answer : Answer) (new : ledger.OnDisk) → Acts honest old command May answer new → old.failures ≤ new.failures
+acts_later honest old None May answer new acts = let same : new.failures ≡ old.failures = ap (λ (o : ledger.OnDisk). o.failures) acts.1 in omega arith
+acts_later honest old (Some command) May answer new (outcome, by, is) = by.later

@@ -1,0 +1,54 @@
+-- What an office answers whose device does not fail, and which has numbers left.
+use Rattle.std.specs.Prelude.{◌≡◌, ℕ, ◌<◌, ◌-◌, ◌^◌, Bool, true, false, List, [], ◌∷◌, Result, Ok, Err}
+use Rattle.zh_commands.specs.declared.lines.Line.{Line}
+use Rattle.zh_commands.specs.declared.lines.LineFault.{LineFault}
+use Rattle.zh_commands.specs.declared.lines.Request.{Request}
+use Rattle.zh_commands.specs.declared.lines.Request.TheVariants as requests
+use Rattle.zh_commands.specs.declared.replies.Reply.TheVariants.{Refused}
+use Rattle.zh_commands.specs.declared.replies.Refusal.TheVariants as refusals
+use Rattle.zh_ledger.specs.Submissions.{Log}
+use Rattle.zh_answers.specs.declared.answer.Answer.{Answer}
+use Rattle.zh_answers.specs.declared.answer.Answer.TheVariants as answers
+use Rattle.zh_office.specs.Runs.{OnDisk, Runs}
+
+-- the replies that come of the device, now or before, or of numbers that are used up
+abbrev pub is_disturbed : Answer → Bool
+is_disturbed (answers.Reply (Refused refusals.Device)) = true
+is_disturbed (answers.Reply (Refused refusals.ReopenDisk)) = true
+is_disturbed (answers.Reply (Refused refusals.Spent)) = true
+is_disturbed answer = false
+
+-- the reply that comes of refused memory
+abbrev pub is_memory : Answer → Bool
+is_memory (answers.Reply (Refused refusals.Memory)) = true
+is_memory answer = false
+
+-- the lines that may be answered so: `row`, `sheet` and `final`
+abbrev pub RequestTakesMemory : Request → Type 0
+RequestTakesMemory (requests.Row row) = Unit {0}
+RequestTakesMemory requests.Sheet = Unit {0}
+RequestTakesMemory requests.Final = Unit {0}
+RequestTakesMemory request = ⊥
+
+abbrev pub TakesMemory : Result Line LineFault → Type 0
+TakesMemory (Ok line) = RequestTakesMemory line.request
+TakesMemory (Err fault) = ⊥
+
+-- the answer to bytes that were read so is none of `device`, `reopen-disk` and `spent`, and `memory` only to such a line
+pub record IsUndisturbed (reading : Result Line LineFault) (answer : Answer) : Type 0 where
+  pub calm : is_disturbed answer ≡ false
+  pub memory : is_memory answer ≡ true → TakesMemory reading
+
+-- The office had met no fault of the device, and no call of its disk failed since; in the end a number is left for the
+-- failures, for a command and for a switch.
+pub record MeetsNoFault (old new : OnDisk) : Type 0 where
+  pub whole : old.office.ledger.store.broken ≡ false
+  pub failures : new.failures ≡ old.failures
+  pub counted : new.failures < 2 ^ 64 - 1
+  pub accepted : new.office.ledger.tally.accepted < 2 ^ 64 - 1
+  pub generation : new.office.ledger.store.generation < 2 ^ 64 - 1
+
+-- each line of a run is answered so
+abbrev pub AreUndisturbed : (honest : Type 0) (old : OnDisk) (lines : List (List ℕ)) (out : List ℕ) (log : Log) (new : OnDisk) → Runs honest old lines out log new → Type 0
+AreUndisturbed honest old [] out log new run = Unit {0}
+AreUndisturbed honest old (line ∷ lines) out log new run = IsUndisturbed run.4.reading run.0 × AreUndisturbed honest run.1 lines run.2 run.3 new run.7
