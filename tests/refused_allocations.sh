@@ -15,12 +15,14 @@ zh_limits tests::refused_memory::groups_take_part
 zh_limits tests::refused_memory::voters_are_counted
 zh_limits tests::refused_memory::groups_get_seats
 zh_limits tests::matrices::a_refused_allocation_leaves_the_next_call
-zh_rows tests::refused_allocations::a_row_without_memory_leaves_the_batch_as_it_was
-zh_rows tests::refused_allocations::a_sheet_without_memory_changes_nothing
-zh_rows tests::refused_allocations::a_return_is_stored_once
-zh_rows tests::refused_allocations::a_return_that_needs_a_switch_is_stored_once
-zh_rows tests::refused_allocations::a_text_without_memory_leaves_the_count_as_it_was
-zh_rows tests::refused_allocations::a_rehearsal_without_memory_says_so
+zh_rows tests::refused_openings::a_disk_is_formatted
+zh_rows tests::refused_openings::an_opening_without_memory_leaves_the_disk_as_it_was
+zh_rows tests::refused_returns::a_return_is_stored_once
+zh_rows tests::refused_returns::a_return_that_needs_a_switch_is_stored_once
+zh_rows tests::refused_rows::a_row_without_memory_leaves_the_batch_as_it_was
+zh_rows tests::refused_sheets::a_sheet_without_memory_changes_nothing
+zh_rows tests::refused_texts::a_text_is_loaded_once_and_exported
+zh_rows tests::refused_rehearsals::a_rehearsal_without_memory_says_so
 "
 
 folder=$(mktemp -d) || exit 2

@@ -1,4 +1,4 @@
-//! Tests of the count office that are code: refused allocations, and streams that fail or give single bytes. All that
+//! Tests of the count office that are code: refused allocations, and streams that fail. All that
 //! a text can say is a case of `zh_cases`.
 #![tactic(auto)]
 

@@ -1,6 +1,11 @@
 mod failing_streams;
 mod fakes;
+mod held;
 mod loading;
 mod offices;
-mod refused_allocations;
-mod single_bytes;
+mod refused_openings;
+mod refused_rehearsals;
+mod refused_returns;
+mod refused_rows;
+mod refused_sheets;
+mod refused_texts;
