@@ -4,6 +4,7 @@ use crate::device::{Device, failing, failing_once, whole};
 use crate::fault::Fault;
 use crate::image::{disk_of, image_of, put};
 use crate::program::push_lines;
+use crate::serving::{Limits, answer_to, serve_within};
 use crate::setups::Named;
 use crate::words::read_place;
 use hex::encode;
@@ -12,9 +13,6 @@ use zh_commands::write_reply;
 use zh_disk::{DISK_LENGTH, MemoryDisk, Stop};
 use zh_districts::Setup;
 use zh_office::{FormatFault, NotedReader, Office, OpenFault};
-
-/// How many reads an office may make of a text.
-const TURNS: u64 = 1_000;
 
 const NO_CASE: Fault = Fault::Text("no case has begun");
 
@@ -123,16 +121,15 @@ impl<'s> Fixture<'s> {
         let (Some(office), Some(disk)) = (&mut self.office, &mut self.disk) else {
             return Ok(String::from_str(self.alloc, "closed")?);
         };
-        let mut text = bytes.to_vec(self.alloc)?;
-        text.push(b'\n')?;
-        let mut reader = text.as_slice();
-        let mut out = Vec::new(self.alloc);
-        if office.serve(&mut reader, &mut out, disk, TURNS).is_err() {
-            return Err(Fault::Text("the line is too long"));
-        }
-        let mut answer = String::new(self.alloc);
-        push_lines(&mut answer, "; ", &out)?;
-        Ok(answer)
+        answer_to(self.alloc, office, disk, bytes)
+    }
+
+    /// What comes of serving a text within these limits.
+    pub(crate) fn serve(&mut self, text: &[u8], limits: Limits) -> Result<String, Fault> {
+        let (Some(office), Some(disk)) = (&mut self.office, &mut self.disk) else {
+            return Ok(String::from_str(self.alloc, "closed")?);
+        };
+        serve_within(self.alloc, office, disk, text, limits)
     }
 
     /// What the office answers to a text that is loaded. There is no desk in it.

@@ -7,7 +7,9 @@ mod files;
 mod fixture;
 mod image;
 mod program;
+mod serving;
 mod setups;
+mod streams;
 mod turn;
 mod words;
 

@@ -4,6 +4,7 @@ use crate::fault::Fault;
 use crate::files::{act_on_files, save};
 use crate::fixture::Fixture;
 use crate::program::run_program;
+use crate::serving::read_limits;
 use crate::words::read_stop;
 use std::fs;
 use zh_transcripts::{Line, read_bytes, read_number};
@@ -27,6 +28,10 @@ fn act(rt: &HostRuntime, fixture: &mut Fixture<'_>, text: &str) -> Result<String
         "holds" => fixture.holds(rest),
         "calls" => fixture.calls(),
         "csv" => fixture.load(&fs::read(rt, rest)?),
+        "serve" => {
+            let (name, limits) = read_limits(rest)?;
+            fixture.serve(&fs::read(rt, name)?, limits)
+        }
         "zhcount" => run_program(rt, rest),
         _ => Ok(String::from_str(rt.alloc(), act_on_office(rt, fixture, word, rest)?)?),
     }

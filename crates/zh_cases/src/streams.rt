@@ -1,0 +1,53 @@
+//! An input that gives one byte of each read, and an output that takes one of each write. Both may fail.
+
+use std::io::{self, ErrorKind, Read, Write};
+
+/// Gives the bytes of a text one by one, as long as bytes are left to give, and then fails.
+#[derive(Drop)]
+pub(crate) struct SlowInput<'a> {
+    pub(crate) text: &'a [u8],
+    pub(crate) left: u64,
+}
+
+impl Read for SlowInput<'_> {
+    fn read(&mut self, buf: &mut [u8]) -> io::Result<usize> {
+        if self.left == 0 {
+            return Err(ErrorKind::Other.into());
+        }
+        let [first, rest @ ..] = self.text else {
+            return Ok(0);
+        };
+        let Some(place) = buf.first_mut() else {
+            return Ok(0);
+        };
+        *place = *first;
+        self.text = rest;
+        self.left -= 1;
+        Ok(1)
+    }
+}
+
+/// Takes one byte of each write, as long as bytes are left to take, and then fails.
+#[derive(Drop)]
+pub(crate) struct SlowOutput {
+    pub(crate) bytes: Vec<u8>,
+    pub(crate) left: u64,
+}
+
+impl Write for SlowOutput {
+    fn write(&mut self, buf: &[u8]) -> io::Result<usize> {
+        if self.left == 0 {
+            return Err(ErrorKind::BrokenPipe.into());
+        }
+        let Some(byte) = buf.first() else {
+            return Ok(0);
+        };
+        self.bytes.push(*byte)?;
+        self.left -= 1;
+        Ok(1)
+    }
+
+    fn flush(&mut self) -> io::Result<()> {
+        Ok(())
+    }
+}
