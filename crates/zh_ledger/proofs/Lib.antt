@@ -1,5 +1,4 @@
 pub mod CallerLemmas
-mod BufferLemmas
 mod CommandLemmas
 mod JudgedLemmas
 mod KeptLemmas

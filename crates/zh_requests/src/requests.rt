@@ -72,11 +72,12 @@ pub fn answer_to<'s, D: Disk>(
     ensures held { desks.new ≡ held_after desks.old line result }
     ensures untouched { UnlessStored result disk.old disk.new }
 {
-    if ledger.is_broken() {
-        return Answer::Reply(Reply::Refused(Refusal::ReopenDisk));
-    }
+    // Whether the disk failed before is asked by the ledger where a command is submitted, and here for every other line.
     if let Some(command) = line.request.command() {
         return Answer::Reply(submit(ledger, disk, &command));
+    }
+    if ledger.is_broken() {
+        return Answer::Reply(Reply::Refused(Refusal::ReopenDisk));
     }
     match line.request {
         Request::Commit => Answer::Reply(commit(ledger, desks, rows, disk, line.desk)),
