@@ -5,6 +5,7 @@ mod closed_bytes;
 mod count;
 mod entry;
 mod entry_bytes;
+mod follower;
 mod judgement;
 mod laws;
 mod payload;
@@ -15,6 +16,7 @@ mod verdict;
 
 pub use count::{Count, MOST_VOTES};
 pub use entry::Entry;
+pub use follower::Follower;
 pub use laws::{accepted_fits, accepted_is_speakable, one_payload};
 pub use payload::PAYLOAD_LENGTH;
 pub use verdict::{Reason, Verdict};

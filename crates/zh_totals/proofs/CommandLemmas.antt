@@ -4,7 +4,7 @@ use Rattle.std.specs.Prelude.{slice_get}
 use Rattle.std.specs.List.{list_any}
 use Rattle.std.specs.Ordering.{eq_by_cmp}
 use Rattle.std.specs.FinMap as map_of
-use Rattle.std.proofs.lemmas.Bool.{or_parts, ltb-false}
+use Rattle.std.proofs.lemmas.Bool.{or_parts}
 use Rattle.std.proofs.lemmas.List.{take_all, map-append, length-map, get_or-map, take-map}
 use Rattle.std.proofs.lemmas.List.Elements.{All-get_or}
 use Rattle.std.proofs.lemmas.List.Sums.{fold-append}
@@ -28,9 +28,9 @@ use Rattle.zh_districts.proofs.CallerLemmas.{placed}
 use Rattle.zh_records.proofs.CallerLemmas.{keys_total, fresh_from_distinct}
 use Rattle.zh_totals.specs.Totals.{VoteTotals}
 use Rattle.zh_totals.specs.Counting.{votes_of, totals_of}
-use Rattle.zh_totals.specs.Changes.{IsChange, noted, all_noted, change_to, row_change, changes_of}
+use Rattle.zh_totals.specs.Changes.{noted, all_noted, change_to, row_change, changes_of}
 use Rattle.zh_totals.proofs.NotingLemmas.{with_entry}
-use Rattle.zh_totals.proofs.ChangeLemmas.{entry_noted, votes_can}
+use Rattle.zh_totals.proofs.ChangeLemmas.{entry_noted}
 
 -- a key that no row has holds what it held
 other_rows : (entries : map_of.FinMap key_cmp Entry) (rows : List Row) (key : ℕ × ℕ) → list_any (eq_by_cmp key_cmp key) (map row_key rows) ≡ false → map_of.get (with_rows entries rows) key ≡ map_of.get entries key
@@ -81,14 +81,6 @@ IsTally-upto tally rows (suc i) limits batch accepted within =
       | inr past ↦ absurd (omega arith)
     ]
 
--- the totals can take a row after those before it
-pub row_can : (tally : Tally) (rows : List Row) (i : ℕ) (row : Row) → IsTally tally → IsBatch rows → of_all (map (judge_row tally) rows) ≡ Accept → slice_get rows i ≡ Some row → IsChange (totals_of (upto tally rows i)) (row_change tally row)
-row_can tally rows i row limits batch accepted is =
-    let kept = rows_kept tally rows i row batch accepted is in
-    let within = slice_get_within rows i row is in
-    subst (IsChange (totals_of (upto tally rows i))) (row_change_still tally rows i row batch is) (
-    votes_can (upto tally rows i) row.municipality row.list row.votes (IsTally-upto tally rows i limits batch accepted (omega arith)) (placed tally.canton row.municipality row.list kept.place).0 (placed tally.canton row.municipality row.list kept.place).1 kept.votes)
-
 pub row_noted : (tally : Tally) (rows : List Row) (i : ℕ) (row : Row) → IsTally tally → IsBatch rows → of_all (map (judge_row tally) rows) ≡ Accept → slice_get rows i ≡ Some row → totals_of (upto tally rows (i + 1)) ≡ noted (totals_of (upto tally rows i)) (row_change tally row)
 row_noted tally rows i row limits batch accepted is =
     let kept = rows_kept tally rows i row batch accepted is in
@@ -112,17 +104,6 @@ rows_noted tally rows (suc i) limits batch accepted within =
           ∙ ap (all_noted (totals_of tally)) (sym (map-append (row_change tally) (take i rows) (row ∷ [])) ∙ ap (map (row_change tally)) (sym (rows_more rows i row found.2)) ∙ ap (λ n. map (row_change tally) (take n rows)) (sym next))
       | inr past ↦ absurd (omega arith)
     ]
-
--- the totals can take an accepted return, and an accepted withdrawal
-pub return_can : (tally : Tally) (row : Row) → IsTally tally → judge_row tally row ≡ Accept → IsChange (totals_of tally) (row_change tally row)
-return_can tally row limits accepted =
-    let p = passes tally row.municipality row.list row.number (Some row.votes) (ap is_refusal accepted) in
-    votes_can tally row.municipality row.list row.votes limits (placed tally.canton row.municipality row.list p.place).0 (placed tally.canton row.municipality row.list p.place).1 (ltb-false 1000000000 row.votes p.enough)
-
-pub withdrawal_can : (tally : Tally) (municipality list number : ℕ) → IsTally tally → judge_content tally municipality list number None ≡ Accept → IsChange (totals_of tally) (change_to tally municipality list 0)
-withdrawal_can tally municipality list number limits accepted =
-    let p = passes tally municipality list number None (ap is_refusal accepted) in
-    votes_can tally municipality list 0 limits (placed tally.canton municipality list p.place).0 (placed tally.canton municipality list p.place).1 (omega arith)
 
 pub return_noted : (tally : Tally) (row : Row) → IsTally tally → judge_row tally row ≡ Accept → totals_of (changed tally (commands.Return row)) ≡ noted (totals_of tally) (row_change tally row)
 return_noted tally row limits accepted =

@@ -2,8 +2,8 @@
 #![tactic(auto)]
 
 mod change;
-mod commands;
 mod entries;
+mod follower;
 mod laws;
 mod running_count;
 mod totals;

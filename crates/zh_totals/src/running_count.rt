@@ -88,7 +88,6 @@ impl<'s> RunningCount<'s> {
         requires room { self.old.accepted < 2 ^ 64 - 1 }
         ensures { self.new ≡ step self.old command.now }
     {
-        self.totals.note_command(&self.count, command);
-        self.count.apply(command);
+        self.count.apply_followed(command, &mut self.totals);
     }
 }
