@@ -1,5 +1,6 @@
 pub mod CallerLemmas
 mod AcceptedLemmas
+mod BatchLemmas
 mod BitLemmas
 mod ClosedBytesLemmas
 mod EntryBytesLemmas

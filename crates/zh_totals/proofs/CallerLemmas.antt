@@ -3,4 +3,4 @@ pub use Rattle.zh_totals.proofs.SumLemmas.{sum_to_more, sum_to_equal, sum_to_cha
 pub use Rattle.zh_totals.proofs.TotalsLemmas.{group_within, constituency_within, constituency_most, group_most}
 pub use Rattle.zh_totals.proofs.BoundLemmas.{few_votes, AreTotals-of}
 pub use Rattle.zh_totals.proofs.ChangeLemmas.{votes_can, entry_noted}
-pub use Rattle.zh_totals.proofs.CommandLemmas.{upto, row_noted, return_noted, withdrawal_noted, command_noted}
+pub use Rattle.zh_totals.proofs.CommandLemmas.{row_noted, return_noted, withdrawal_noted, command_noted}

@@ -23,13 +23,12 @@ use Rattle.zh_records.specs.Spelling.{HasNumbers}
 use Rattle.zh_returns.specs.Step.{entry_of, with_rows, changed}
 use Rattle.zh_returns.specs.Tally.{Tally, held}
 use Rattle.zh_records.specs.Keys.{key_cmp}
-use Rattle.zh_returns.proofs.CallerLemmas.{passes, rows_kept, IsTally-insert, rows_more}
+use Rattle.zh_returns.proofs.CallerLemmas.{passes, rows_kept, IsTally-insert, rows_more, upto, next_row}
 use Rattle.zh_districts.proofs.CallerLemmas.{placed}
 use Rattle.zh_records.proofs.CallerLemmas.{keys_total, fresh_from_distinct}
 use Rattle.zh_totals.specs.Totals.{VoteTotals}
 use Rattle.zh_totals.specs.Counting.{votes_of, totals_of}
 use Rattle.zh_totals.specs.Changes.{noted, all_noted, change_to, row_change, changes_of}
-use Rattle.zh_totals.proofs.NotingLemmas.{with_entry}
 use Rattle.zh_totals.proofs.ChangeLemmas.{entry_noted}
 
 -- a key that no row has holds what it held
@@ -40,16 +39,6 @@ other_rows entries (row ∷ rows) key fresh =
     other_rows (map_of.insert entries (row_key row) (entry_of row)) rows key parts.1
     ∙ map_of.get-insert keys_total entries (row_key row) (entry_of row) key
     ∙ ap (λ b. cond b (Some (entry_of row)) (map_of.get entries key)) parts.0
-
--- a count with the first rows of a batch
-abbrev pub upto : Tally → List Row → ℕ → Tally
-upto tally rows i = record tally { entries = with_rows tally.entries (take i rows) }
-
-next_row : (tally : Tally) (rows : List Row) (i : ℕ) (row : Row) → slice_get rows i ≡ Some row → upto tally rows (i + 1) ≡ with_entry (upto tally rows i) row.municipality row.list (entry_of row)
-next_row tally rows i row is =
-    ap (λ entries. record tally { entries = entries }) (
-    ap (with_rows tally.entries) (rows_more rows i row is)
-    ∙ fold-append (λ entries (r : Row). map_of.insert entries (row_key r) (entry_of r)) tally.entries (take i rows) (row ∷ []))
 
 -- the key of a row holds what it held before the batch, since the rows before it have others
 held_still : (tally : Tally) (rows : List Row) (i : ℕ) (row : Row) → IsBatch rows → slice_get rows i ≡ Some row → held (upto tally rows i) row.municipality row.list ≡ held tally row.municipality row.list
