@@ -1,5 +1,5 @@
 //! An area of records.
-ghost use Rattle.std.specs.Prelude.{◌≡◌, ◌+◌, ◌*◌, ◌↔◌, ◌⊎◌, ◌<◌, ◌≤◌, ℕ, List, None, Some, [], ◌∷◌, ◌++◌, length, slice_get, slice_index, IfOk, OnOk, OnErr, IsErrOf};
+ghost use Rattle.std.specs.Prelude.{◌≡◌, ◌+◌, ◌*◌, ◌↔◌, ◌⊎◌, ◌<◌, ◌≤◌, ℕ, List, None, Some, [], length, slice_get, slice_index, IfOk, OnOk, OnErr, IsErrOf};
 ghost use Rattle.zh_disk.specs.Disk.{Leaves, Moves, SameOutside};
 ghost use Rattle.zh_disk.specs.declared.disk.TheConstants.{DISK_LENGTH};
 ghost use Rattle.zh_journal.specs.Cause.{HasRisen, UnlessDevice};
@@ -15,7 +15,7 @@ use crate::reader::Reader;
 use crate::record_reader::{find_page, read_record};
 use crate::record_writer::stage;
 use std::marker::Model;
-use zh_disk::{Disk, DiskFault};
+use zh_disk::Disk;
 
 /// The records of one area of a disk, as they were found or written.
 ///

@@ -1,6 +1,6 @@
 //! Formatting a disk.
-ghost use Rattle.std.specs.Prelude.{◌≡◌, ◌≢◌, ◌≤◌, ℕ, [], length, slice_index, OnOk, IsErrOf};
-ghost use Rattle.zh_disk.specs.Disk.{Leaves, SameOutside, HasCause};
+ghost use Rattle.std.specs.Prelude.{◌≡◌, ◌≢◌, ◌-◌, ◌≤◌, ℕ, [], length, slice_index, OnOk, IsErrOf};
+ghost use Rattle.zh_disk.specs.Disk.{Leaves, SameOutside, HasCause, disk_length};
 ghost use Rattle.zh_journal.specs.Cause.{HasRisen};
 ghost use Rattle.zh_snapshot.specs.Image.{IsBlank};
 ghost use Rattle.zh_snapshot.specs.Format.{KeptOrBlank, Formats, IsFormatted};
@@ -40,7 +40,7 @@ fn write_parts<D: Disk>(disk: &mut D, setup: &[u8], first: &[u8]) -> Result<(), 
     requires first { length first.now ≡ SNAPSHOT_LENGTH }
 
     ensures kept { D.honest disk.new → D.honest disk.old }
-    ensures any_moment { D.honest disk.new → Leaves (SameOutside 1 1118719) (D.trail disk.old) (D.trail disk.new) }
+    ensures any_moment { D.honest disk.new → Leaves (SameOutside 1 (disk_length - 1)) (D.trail disk.old) (D.trail disk.new) }
     ensures written { D.honest disk.new → OnOk result (HasParts setup.now first.now (D.trail disk.new).now.bytes) }
     ensures cause { HasCause (D.failures disk.old) (D.failures disk.new) result }
     ensures counted { OnOk result (D.failures disk.new ≡ D.failures disk.old) }
@@ -57,7 +57,7 @@ fn empty_slots<D: Disk>(disk: &mut D, zeros: &[u8]) -> Result<(), FormatFault>
     requires zero { (k : ℕ) → slice_index zeros.now k ≡ 0 }
 
     ensures kept { D.honest disk.new → D.honest disk.old }
-    ensures any_moment { D.honest disk.new → Leaves (SameOutside 1 1118719) (D.trail disk.old) (D.trail disk.new) }
+    ensures any_moment { D.honest disk.new → Leaves (SameOutside 1 (disk_length - 1)) (D.trail disk.old) (D.trail disk.new) }
     ensures emptied { D.honest disk.new → OnOk result (IsEmptied (D.trail disk.old).now.bytes (D.trail disk.new).now.bytes) }
     ensures memory { result ≢ Err FormatFault.Memory }
     ensures later { D.failures disk.old ≤ D.failures disk.new }

@@ -1,8 +1,8 @@
 //! Writing a slot anew.
-ghost use Rattle.std.specs.Prelude.{◌≡◌, ◌≤◌, ℕ, [], length, slice_index, IfOk, OnOk, IsErrOf};
+ghost use Rattle.std.specs.Prelude.{◌≡◌, ◌-◌, ◌≤◌, ℕ, [], length, slice_index, IfOk, OnOk, IsErrOf};
 ghost use Rattle.zh_disk.specs.Disk.{Leaves, Moves, SameOutside, HasCause};
 ghost use Rattle.zh_journal.specs.Cause.{HasRisen};
-ghost use Rattle.zh_snapshot.specs.Layout.{generation_at, journal_at};
+ghost use Rattle.zh_snapshot.specs.Layout.{slot_length, generation_at, journal_at};
 ghost use Rattle.zh_snapshot.specs.Slots.{Closes, IsClosed, HasNew, Refills, IsRefilled};
 ghost use Rattle.zh_snapshot.specs.declared.layout.TheConstants.{SNAPSHOT_LENGTH};
 
@@ -40,7 +40,7 @@ fn fill_slot<D: Disk>(
     requires zero { (k : ℕ) → slice_index zeros.now k ≡ 0 }
 
     ensures kept { D.honest disk.new → D.honest disk.old }
-    ensures any_moment { D.honest disk.new → Leaves (SameOutside (generation_at slot) 524543) (D.trail disk.old) (D.trail disk.new) }
+    ensures any_moment { D.honest disk.new → Leaves (SameOutside (generation_at slot) (slot_length - 1)) (D.trail disk.old) (D.trail disk.new) }
 
     ensures filled { D.honest disk.new → OnOk result (HasNew slot generation payload.now (D.trail disk.new).now.bytes) }
 

@@ -1,7 +1,7 @@
 //! A store: the set-up bytes, a snapshot, and the records since.
 mod switch;
 
-ghost use Rattle.std.specs.Prelude.{◌≡◌, ◌≢◌, ◌+◌, ◌*◌, ◌<◌, ◌≤◌, ◌↔◌, ℕ, Bool, true, false, List, [], ◌∷◌, ◌++◌, length, slice_get, slice_index, IsTrue, Some, None, IfOk, OnOk, OnErr, IsErrOf};
+ghost use Rattle.std.specs.Prelude.{◌≡◌, ◌≢◌, ◌+◌, ◌*◌, ◌<◌, ◌≤◌, ◌↔◌, ℕ, true, false, [], length, slice_get, slice_index, IsTrue, Some, None, IfOk, OnOk, IsErrOf};
 ghost use Rattle.zh_disk.specs.Disk.{Leaves, Moves, SameOutside, settled};
 ghost use Rattle.zh_journal.specs.Cause.{HasRisen};
 ghost use Rattle.zh_journal.specs.Pages.{pages_of, Frames};
@@ -10,7 +10,7 @@ ghost use Rattle.zh_snapshot.specs.Faults.{UnlessDevice};
 ghost use Rattle.zh_snapshot.specs.Image.{Content, IsBlank, IsFramed, content_of};
 ghost use Rattle.zh_snapshot.specs.Layout.{journal_at};
 ghost use Rattle.zh_snapshot.specs.Slots.{IsInUse};
-ghost use Rattle.zh_snapshot.specs.Store.{State, Fits, Settles, StoreAdds, StoreAddsOrNot, longer};
+ghost use Rattle.zh_snapshot.specs.Store.{Fits, Settles, StoreAdds, StoreAddsOrNot, longer};
 
 use crate::compare::{lend, stand_at};
 use crate::fault::{AppendFault, OpenFault, StoreFault};
@@ -41,14 +41,16 @@ pub struct Store {
 
 impl Model for Store {
     ghost use Rattle.std.specs.Prelude.{◌≡◌, ◌≤◌, ℕ, length, slice_index};
+    ghost use Rattle.zh_journal.specs.declared.page.TheConstants.{AREA_LENGTH};
     ghost use Rattle.zh_snapshot.specs.Layout.{journal_at};
     ghost use Rattle.zh_snapshot.specs.Store.{State};
+    ghost use Rattle.zh_snapshot.specs.declared.layout.TheConstants.{SETUP_LIMIT};
 
     ghost Value = { State };
 
     ghost view = { λ s. record { setup_length = s.setup_length; slot = s.slot; generation = s.generation; other_open = s.other_open; area = s.area; broken = s.broken } };
 
-    ghost invariant = { λ s. (s.setup_length ≤ 65536) × (s.area.base ≡ journal_at s.slot) × (length s.zeros.items ≡ 262144) × ((k : ℕ) → slice_index s.zeros.items k ≡ 0) };
+    ghost invariant = { λ s. (s.setup_length ≤ SETUP_LIMIT) × (s.area.base ≡ journal_at s.slot) × (length s.zeros.items ≡ AREA_LENGTH) × ((k : ℕ) → slice_index s.zeros.items k ≡ 0) };
 }
 
 impl Store {

@@ -1,8 +1,8 @@
 //! From the slot in use to the other.
-ghost use Rattle.std.specs.Prelude.{◌≡◌, ◌≢◌, ◌≤◌, ◌↔◌, ◌-◌, ◌^◌, ℕ, true, false, [], length, OnOk, IsErrOf};
+ghost use Rattle.std.specs.Prelude.{◌≡◌, ◌≤◌, ◌↔◌, ◌-◌, ◌^◌, true, false, [], length, OnOk, IsErrOf};
 ghost use Rattle.zh_disk.specs.Disk.{Leaves, Moves, SameOutside};
 ghost use Rattle.zh_journal.specs.Cause.{HasRisen};
-ghost use Rattle.zh_snapshot.specs.Layout.{other, slot_at};
+ghost use Rattle.zh_snapshot.specs.Layout.{other, slot_at, slot_length};
 ghost use Rattle.zh_snapshot.specs.Store.{StoreSwitches, StoreSwitchesOrNot, switched};
 ghost use Rattle.zh_snapshot.specs.declared.layout.TheConstants.{SNAPSHOT_LENGTH};
 
@@ -22,7 +22,7 @@ impl Store {
         ensures any_moment { D.honest disk.new → Leaves (StoreSwitchesOrNot self.old payload.now) (D.trail disk.old) (D.trail disk.new) }
 
         // And nothing outside the other slot is changed, whatever the images were.
-        ensures outside { D.honest disk.new → Leaves (SameOutside (slot_at (other self.old.slot)) 524544) (D.trail disk.old) (D.trail disk.new) }
+        ensures outside { D.honest disk.new → Leaves (SameOutside (slot_at (other self.old.slot)) slot_length) (D.trail disk.old) (D.trail disk.new) }
 
         ensures replaced { D.honest disk.new → OnOk result (Moves (StoreSwitches self.old payload.now) (D.trail disk.old).now (D.trail disk.new).now) }
         ensures settled { D.honest disk.new → OnOk result ((D.trail disk.new).now.pending ≡ []) }
