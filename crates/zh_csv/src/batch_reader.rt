@@ -1,6 +1,6 @@
 //! A batch read from a text.
 
-ghost use Rattle.std.specs.Prelude.{◌≡◌, ◌≢◌, List, ◌++◌, ◌∷◌, [], ℕ, Some, IfOk, IfErr, IsErrOf, OnOk, OnErr, true};
+ghost use Rattle.std.specs.Prelude.{◌≡◌, ◌≢◌, List, ◌++◌, ◌∷◌, [], ℕ, Some, IfOk, IfErr, IsErrOf, OnOk, true};
 ghost use Rattle.zh_records.specs.declared.row.Row.{Row};
 ghost use Rattle.zh_desks.specs.declared.fault.RowFault.{RowFault};
 ghost use Rattle.zh_csv.specs.declared.fault.LoadFault.{LoadFault};

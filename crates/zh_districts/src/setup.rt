@@ -1,8 +1,8 @@
 //! The set-up of an election.
 
-ghost use Rattle.std.specs.Prelude.{◌≡◌, ◌≤◌, ◌-◌, ◌+◌, true, length, slice_get, option_map, map, IfOk, IfNone};
+ghost use Rattle.std.specs.Prelude.{◌≡◌, ◌≤◌, ◌-◌, true, length, slice_get, option_map, map, IfOk, IfNone};
 ghost use Rattle.zh_districts.specs.Seats.{persons};
-ghost use Rattle.zh_districts.specs.Canton.{Canton, IsCanton, has_municipality, persons_of, constituency_of, stands};
+ghost use Rattle.zh_districts.specs.Canton.{IsCanton, has_municipality, persons_of, constituency_of, stands};
 ghost use Rattle.zh_districts.specs.Misplaced.{misplaced};
 ghost use Rattle.zh_districts.specs.Spelling.{setup_spelling};
 
@@ -25,7 +25,6 @@ pub struct Setup {
 }
 
 impl Model for Setup {
-    ghost use Rattle.std.specs.Prelude.{map};
     ghost use Rattle.zh_districts.specs.Canton.{Canton, IsCanton};
 
     ghost Value = { Canton };

@@ -1,6 +1,6 @@
 //! The seats of the constituencies.
 
-ghost use Rattle.std.specs.Prelude.{◌≡◌, ◌≤◌, ◌<◌, ℕ, List, All, MatchOption, IfOk, IfErr, IsErrOf, length, slice_index};
+ghost use Rattle.std.specs.Prelude.{◌≡◌, ◌≤◌, ◌<◌, ℕ, List, MatchOption, IfOk, IsErrOf, length, slice_index};
 ghost use Rattle.zh_districts.specs.Canton.{IsCanton};
 ghost use Rattle.zh_districts.specs.Seats.{persons, AreSeats, IsFirstWithout};
 ghost use Rattle.zh_divisors.specs.Fit.{IsTied};

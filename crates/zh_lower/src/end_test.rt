@@ -1,5 +1,5 @@
 //! Whether a state of the search has seats, or a tie.
-ghost use Rattle.std.specs.Prelude.{◌≡◌, ◌*◌, ◌≤◌, All, IfNone, IfSome, IsTrue, length};
+ghost use Rattle.std.specs.Prelude.{◌≡◌, ◌*◌, IfNone, IfSome, IsTrue, length};
 ghost use Rattle.zh_lower.specs.Asked.{asked};
 ghost use Rattle.zh_lower.specs.Divisors.{AreWithinLimits, millionths};
 ghost use Rattle.zh_lower.specs.Outcomes.{AreTwoWays, Ends, HasNone};

@@ -1,5 +1,5 @@
 //! Which rows have votes.
-ghost use Rattle.std.specs.Prelude.{ℕ, ◌<◌, ◌↔◌, IfNone, IfSome, IsTrue};
+ghost use Rattle.std.specs.Prelude.{◌<◌, ◌↔◌, IfNone, IfSome, IsTrue};
 ghost use Rattle.zh_lower.specs.Asked.{asked};
 ghost use Rattle.zh_lower.specs.Question.{EachRowHasVotes, HasVotes, IsFirstWithoutVotes, row_votes};
 

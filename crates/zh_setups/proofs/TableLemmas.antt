@@ -105,8 +105,8 @@ quorum_found (Some value) quorum e =
     ap (λ (d : Data). Some d) (number_within-is 1 49 value n.0 n.1) ∙ ap (option_map (λ q. integer (pos q))) (some_is (Some n.0) quorum n.2)
 
 -- version 1 has no canton-wide quorum
-unquorate : (document : Members) (quorum : Option ℕ) → HasVersion document 1 → knows_keys (known_keys document) document ≡ true → quorum_of (get_member (codes "canton_quorum") document) ≡ Some quorum → quorum ≡ None
-unquorate document quorum version knows e =
+no_quorum_in_version_1 : (document : Members) (quorum : Option ℕ) → HasVersion document 1 → knows_keys (known_keys document) document ≡ true → quorum_of (get_member (codes "canton_quorum") document) ≡ Some quorum → quorum ≡ None
+no_quorum_in_version_1 document quorum version knows e =
     sym (some_is None quorum (sym (ap quorum_of (no_quorum_key document version knows)) ∙ e))
 
 one_or_two : (n : ℕ) → 1 ≤ n → n ≤ 2 → (n ≡ 1) ⊎ (n ≡ 2)
@@ -120,7 +120,7 @@ version_of document n quorum e knows q =
     let vb = bind_some (get_member (codes "version") document) (number_within 1 2) n e in
     let bounds = number_within-bounds 1 2 vb.0 n vb.2 in
     elim (one_or_two n bounds.0 bounds.1) [
-      | inl one ↦ let version : HasVersion document 1 = found ∙ ap (λ (k : ℕ). Some (integer (pos k))) one in inl (version, unquorate document quorum version knows q)
+      | inl one ↦ let version : HasVersion document 1 = found ∙ ap (λ (k : ℕ). Some (integer (pos k))) one in inl (version, no_quorum_in_version_1 document quorum version knows q)
       | inr two ↦ inr (found ∙ ap (λ (k : ℕ). Some (integer (pos k))) two)
     ]
 

@@ -6,7 +6,7 @@ ghost use Rattle.toml.specs.Data.{get, get_member};
 ghost use Rattle.toml.specs.View.{view, table_view};
 ghost use Rattle.zh_districts.specs.Canton.{is_printable, is_plain, is_name};
 ghost use Rattle.zh_setups.specs.Keys.{is_table, tables_of, tables_at};
-ghost use Rattle.zh_setups.specs.Document.{number_within, name_of, name_in, values_of, values_at, stands_in};
+ghost use Rattle.zh_setups.specs.Document.{number_within, name_of, values_of, values_at};
 
 use toml::{Table, Value};
 

@@ -1,4 +1,4 @@
-ghost use Rattle.std.specs.Prelude.{◌≡◌, ℕ, IfOk, List, length, slice_index, ◌-◌};
+ghost use Rattle.std.specs.Prelude.{◌≡◌, ℕ, IfOk, List, ◌-◌};
 ghost use Rattle.zh_lower.specs.Divisors.{Divisors};
 ghost use Rattle.zh_lower.specs.Outcomes.{IsReached};
 ghost use Rattle.zh_lower.specs.SeatMatrix.{IsWeak};

@@ -1,5 +1,5 @@
 //! The groups that have seats in the whole canton.
-ghost use Rattle.std.specs.Prelude.{◌≡◌, ◌+◌, ◌-◌, ◌*◌, ◌^◌, ◌≤◌, ◌++◌, ◌==◌, All, IfOk, OnOk, flat_map, length, map, position, slice_index};
+ghost use Rattle.std.specs.Prelude.{◌≡◌, ◌+◌, ◌-◌, ◌^◌, ◌≤◌, ◌++◌, ◌==◌, All, IfOk, OnOk, flat_map, length, map, position, slice_index};
 ghost use Rattle.std.specs.List.{range_with_len};
 ghost use Rattle.zh_totals.specs.Totals.{votes_in};
 ghost use Rattle.zh_sheet.specs.Distribution.{seated_groups};

@@ -1,5 +1,5 @@
 //! The text of a sheet, written through a page.
-ghost use Rattle.std.specs.Prelude.{◌≡◌, ℕ, ◌+◌, ◌<◌, ◌≤◌, ◌++◌, length, OnErr, OnOk, take};
+ghost use Rattle.std.specs.Prelude.{ℕ, ◌+◌, ◌<◌, ◌≤◌, ◌++◌, length, OnErr, OnOk, take};
 ghost use Rattle.std.specs.Io.KnownBytes.{Appends};
 ghost use Rattle.zh_sheet_text.specs.Printing.{Prints, WritesFront};
 ghost use Rattle.zh_sheet_text.specs.SheetText.{constituency_lines, group_lines, list_lines, list_lines_in, sheet_text};
