@@ -1,5 +1,5 @@
 -- The bytes of a command: how many there are, and that they are of one command.
-use Rattle.std.proofs.Common.{◌≡◌, ◌<◌, ◌≤◌, ◌^◌, ◌∙◌, ℕ, List, [], ◌++◌, length, take, drop, get_or, sym, ap, arith, lit≤}
+use Rattle.std.proofs.Common.{◌≡◌, ◌<◌, ◌≤◌, ◌+◌, ◌^◌, ◌∙◌, ℕ, List, [], ◌++◌, length, take, drop, get_or, sym, ap, arith, lit≤}
 use Rattle.std.specs.Prelude.{All}
 use Rattle.std.specs.Int.{w16, w32, to_be_bytes, from_be_bytes}
 use Rattle.std.specs.List.{flat_map}
@@ -8,10 +8,12 @@ use Rattle.std.proofs.lemmas.List.Elements.{All-weaker}
 use Rattle.std.proofs.lemmas.Nat.{from_be_bytes-to_be_bytes_2, from_be_bytes-to_be_bytes_4}
 use Rattle.zh_records.specs.declared.command.Command.{Command}
 use Rattle.zh_records.specs.declared.command.Command.TheVariants as commands
+use Rattle.zh_records.specs.declared.format.Format.{Format}
+use Rattle.zh_records.specs.declared.format.Format.TheVariants.{One, Two}
 use Rattle.zh_records.specs.declared.row.Row.{Row}
 use Rattle.zh_records.specs.RowBytes.{row_from, rows_from}
 use Rattle.zh_records.specs.Rows.{row_spelling, FitsRow, IsSpeakableRow, IsBatch}
-use Rattle.zh_records.specs.Spelling.{command_spelling, batch_spelling, FitsCommand, IsSpeakable}
+use Rattle.zh_records.specs.Spelling.{command_spelling, withdrawal_spelling, batch_spelling, head, last_desk, FitsCommand, IsSpeakable, IsWithdrawal}
 use Rattle.zh_records.proofs.RowBytesLemmas.{row_back, rows_back, length-batch}
 
 pub row_once : (a b : Row) → IsSpeakableRow a → IsSpeakableRow b → row_spelling a ≡ row_spelling b → a ≡ b
@@ -39,29 +41,54 @@ batch_once a b batch_a batch_b same =
     ∙ ap (λ (n : ℕ). rows_from n (flat_map row_spelling a)) count
     ∙ rows_once b (flat_map row_spelling a) batch_b.are_rows.speakable (sym (ap (drop 2) same))
 
-pub command_once : (a b : Command) → IsSpeakable a → IsSpeakable b → command_spelling a ≡ command_spelling b → a ≡ b
-command_once (commands.Return a) (commands.Return b) speakable_a speakable_b same = ap commands.Return (row_once a b speakable_a speakable_b (ap (drop 1) same))
-command_once (commands.Withdraw m l n) (commands.Withdraw m' l' n') speakable_a speakable_b same =
-    ap (λ (x : ℕ). commands.Withdraw x l n) (short_once m m' speakable_a.0 speakable_b.0 (ap (λ (bytes : List ℕ). take 2 (drop 1 bytes)) same))
-    ∙ ap (λ (x : ℕ). commands.Withdraw m' x n) (ap (λ (bytes : List ℕ). get_or bytes 3 0) same)
-    ∙ ap (λ (x : ℕ). commands.Withdraw m' l' x) (number_once n n' speakable_a.3 speakable_b.3 (ap (drop 4) same))
-command_once (commands.Close m) (commands.Close m') speakable_a speakable_b same = ap commands.Close (short_once m m' speakable_a speakable_b (ap (drop 1) same))
-command_once (commands.Reopen m) (commands.Reopen m') speakable_a speakable_b same = ap commands.Reopen (short_once m m' speakable_a speakable_b (ap (drop 1) same))
-command_once (commands.Batch a) (commands.Batch b) speakable_a speakable_b same = ap commands.Batch (batch_once a b speakable_a speakable_b (ap (drop 1) same))
-command_once a b speakable_a speakable_b same = absurd (omega (arith, ap (λ (bytes : List ℕ). get_or bytes 0 0) same))
+-- a kind and a desk that the format can say are read back from the front
+head_once : (format : Format) (one two desk other : ℕ) (fields others : List ℕ) → desk ≤ last_desk format → other ≤ last_desk format →
+    head format one two desk ++ fields ≡ head format one two other ++ others → (desk ≡ other) × (fields ≡ others)
+head_once One one two desk other fields others said said_other same = (omega arith, ap (drop 1) same)
+head_once Two one two desk other fields others said said_other same = (ap (λ (bytes : List ℕ). get_or bytes 1 0) same, ap (drop 2) same)
+
+withdrawal_once : (desk m l n m' l' n' : ℕ) → IsWithdrawal m l n → IsWithdrawal m' l' n' → withdrawal_spelling m l n ≡ withdrawal_spelling m' l' n' →
+    commands.Withdraw desk m l n ≡ commands.Withdraw desk m' l' n'
+withdrawal_once desk m l n m' l' n' is is' same =
+    ap (λ (x : ℕ). commands.Withdraw desk x l n) (short_once m m' is.0 is'.0 (ap (take 2) same))
+    ∙ ap (λ (x : ℕ). commands.Withdraw desk m' x n) (ap (λ (bytes : List ℕ). get_or bytes 2 0) same)
+    ∙ ap (λ (x : ℕ). commands.Withdraw desk m' l' x) (number_once n n' is.3 is'.3 (ap (drop 3) same))
+
+pub command_once : (format : Format) (a b : Command) → IsSpeakable format a → IsSpeakable format b → command_spelling format a ≡ command_spelling format b → a ≡ b
+command_once format (commands.Return d a) (commands.Return e b) is_a is_b same =
+    let parts = head_once format 1 6 d e (row_spelling a) (row_spelling b) is_a.0 is_b.0 same in
+    ap (λ (desk : ℕ). commands.Return desk a) parts.0 ∙ ap (commands.Return e) (row_once a b is_a.1 is_b.1 parts.1)
+command_once format (commands.Withdraw d m l n) (commands.Withdraw e m' l' n') is_a is_b same =
+    let parts = head_once format 2 7 d e (withdrawal_spelling m l n) (withdrawal_spelling m' l' n') is_a.0 is_b.0 same in
+    ap (λ (desk : ℕ). commands.Withdraw desk m l n) parts.0 ∙ withdrawal_once e m l n m' l' n' is_a.1 is_b.1 parts.1
+command_once format (commands.Close m) (commands.Close m') is_a is_b same = ap commands.Close (short_once m m' is_a is_b (ap (drop 1) same))
+command_once format (commands.Reopen m) (commands.Reopen m') is_a is_b same = ap commands.Reopen (short_once m m' is_a is_b (ap (drop 1) same))
+command_once format (commands.Batch d a) (commands.Batch e b) is_a is_b same =
+    let parts = head_once format 5 8 d e (batch_spelling a) (batch_spelling b) is_a.0 is_b.0 same in
+    ap (λ (desk : ℕ). commands.Batch desk a) parts.0 ∙ ap (commands.Batch e) (batch_once a b is_a.1 is_b.1 parts.1)
+command_once One a b is_a is_b same = absurd (omega (arith, ap (λ (bytes : List ℕ). get_or bytes 0 0) same))
+command_once Two a b is_a is_b same = absurd (omega (arith, ap (λ (bytes : List ℕ). get_or bytes 0 0) same))
+
+length-head : (format : Format) (one two desk : ℕ) (fields : List ℕ) → length (head format one two desk ++ fields) ≤ 2 + length fields
+length-head One one two desk fields = omega arith
+length-head Two one two desk fields = omega arith
 
 -- no command takes more bytes than a batch of 1,000 rows
-pub short : (command : Command) → IsSpeakable command → length (command_spelling command) ≤ 11003
-short (commands.Return row) is = lit≤ tt
-short (commands.Withdraw municipality list number) is = lit≤ tt
-short (commands.Close municipality) is = lit≤ tt
-short (commands.Reopen municipality) is = lit≤ tt
-short (commands.Batch rows) is = omega (arith, length-batch rows, is.are_rows.most)
+pub short : (format : Format) (command : Command) → IsSpeakable format command → length (command_spelling format command) ≤ 11004
+short format (commands.Return desk row) is = omega (arith, length-head format 1 6 desk (row_spelling row))
+short format (commands.Withdraw desk municipality list number) is = omega (arith, length-head format 2 7 desk (withdrawal_spelling municipality list number))
+short format (commands.Close municipality) is = lit≤ tt
+short format (commands.Reopen municipality) is = lit≤ tt
+short format (commands.Batch desk rows) is = omega (arith, length-head format 5 8 desk (batch_spelling rows), length-batch rows, is.1.are_rows.most)
 
--- a command that is read from bytes fits them
-pub speakable_fit : (command : Command) → IsSpeakable command → FitsCommand command
-speakable_fit (commands.Return row) is = (is.municipality, is.list)
-speakable_fit (commands.Withdraw municipality list number) is = (is.0, is.1)
-speakable_fit (commands.Close municipality) is = is
-speakable_fit (commands.Reopen municipality) is = is
-speakable_fit (commands.Batch rows) is = All-weaker IsSpeakableRow FitsRow (λ row s. (s.municipality, s.list)) rows is.are_rows.speakable
+desk_fits : (format : Format) (desk : ℕ) → desk ≤ last_desk format → desk ≤ 8
+desk_fits One desk said = omega arith
+desk_fits Two desk said = said
+
+-- a command that is read from bytes fits those of format Two
+pub speakable_fit : (format : Format) (command : Command) → IsSpeakable format command → FitsCommand command
+speakable_fit format (commands.Return desk row) is = (desk_fits format desk is.0, (is.1.municipality, is.1.list))
+speakable_fit format (commands.Withdraw desk municipality list number) is = (desk_fits format desk is.0, is.1.0, is.1.1)
+speakable_fit format (commands.Close municipality) is = is
+speakable_fit format (commands.Reopen municipality) is = is
+speakable_fit format (commands.Batch desk rows) is = (desk_fits format desk is.0, All-weaker IsSpeakableRow FitsRow (λ row s. (s.municipality, s.list)) rows is.1.are_rows.speakable)

@@ -18,8 +18,8 @@ use Rattle.zh_records.proofs.NumeralLemmas.{first_fit}
 pub rows_wide : HasWidth row_spelling 11
 rows_wide = record { at = λ row. refl }
 
--- a batch takes three bytes and its rows
-pub length-batch : (rows : List Row) → length (5 ∷ batch_spelling rows) ≡ 3 + 11 * length rows
+-- a batch takes two bytes and its rows
+pub length-batch : (rows : List Row) → length (batch_spelling rows) ≡ 2 + 11 * length rows
 length-batch rows = let e = length-blocks row_spelling 11 rows_wide rows in omega arith
 
 abbrev row_with : ℕ → ℕ → ℕ → ℕ → Row

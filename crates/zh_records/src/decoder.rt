@@ -1,41 +1,88 @@
-//! Commands read from their bytes.
+//! Commands read from their bytes, in either format.
 
-ghost use Rattle.std.specs.Prelude.{◌≡◌, ◌≢◌, ◌<◌, ◌^◌, List, ◌∷◌, length, IfSome, IfNone};
+ghost use Rattle.std.specs.Prelude.{◌≡◌, ◌≢◌, ◌<◌, ◌^◌, ℕ, List, length, IfSome, IfNone};
 ghost use Rattle.std.specs.Int.{w16, to_be_bytes};
 ghost use Rattle.zh_records.specs.declared.command.Command.{Command};
 ghost use Rattle.zh_records.specs.declared.row.Row.{Row};
 ghost use Rattle.zh_records.specs.Rows.{IsBatch};
-ghost use Rattle.zh_records.specs.Spelling.{command_spelling, batch_spelling, IsSpeakable};
+ghost use Rattle.zh_records.specs.Spelling.{command_spelling, withdrawal_spelling, batch_spelling, IsWithdrawal, IsSpeakable};
 
 use crate::command::Command;
-use crate::encoder::{BATCH, CLOSE, REOPEN, RETURN, SHORT_LENGTH, WITHDRAW, WITHDRAWAL_LENGTH};
+use crate::encoder::{SHORT_LENGTH, WITHDRAWAL_LENGTH};
+use crate::format::{
+    BATCH_ONE, BATCH_TWO, CLOSE, Format, LAST_DESK, REOPEN, RETURN_ONE, RETURN_TWO, WITHDRAW_ONE,
+    WITHDRAW_TWO,
+};
 use crate::row_bytes::read_row;
 use crate::rows::Rows;
 use byteorder::{BigEndian, ByteOrder};
 
-/// The command that has these bytes, if there is one.
-pub fn decode_command(bytes: &[u8]) -> Option<Command<'_>>
-    ensures read { IfSome result (λ command. IsSpeakable command × (command_spelling command ≡ bytes.now)) }
-    ensures refused { IfNone result ((command : Command) → IsSpeakable command → command_spelling command ≡ bytes.now → ⊥) }
+/// The command that has these bytes in a format, if there is one.
+pub fn decode_command(bytes: &[u8], format: Format) -> Option<Command<'_>>
+    ensures read { IfSome result (λ command. IsSpeakable format command × (command_spelling format command ≡ bytes.now)) }
+    ensures refused { IfNone result ((command : Command) → IsSpeakable format command → command_spelling format command ≡ bytes.now → ⊥) }
 {
-    match bytes {
-        [RETURN, row @ ..] => Some(Command::Return(read_row(row)?)),
-        [WITHDRAW, fields @ ..] => read_withdrawal(fields),
-        [CLOSE, municipality @ ..] => Some(Command::Close {
+    match (format, bytes) {
+        (Format::One, [RETURN_ONE, row @ ..]) => Some(Command::Return {
+            desk: 0,
+            row: read_row(row)?,
+        }),
+        (Format::Two, [RETURN_TWO, desk @ 0..=LAST_DESK, row @ ..]) => Some(Command::Return {
+            desk: *desk,
+            row: read_row(row)?,
+        }),
+        (Format::One, [WITHDRAW_ONE, fields @ ..]) => Some(read_withdrawal(fields)?.by(0)),
+        (Format::Two, [WITHDRAW_TWO, desk @ 0..=LAST_DESK, fields @ ..]) => {
+            Some(read_withdrawal(fields)?.by(*desk))
+        }
+        (_, [CLOSE, municipality @ ..]) => Some(Command::Close {
             municipality: read_short(municipality)?,
         }),
-        [REOPEN, municipality @ ..] => Some(Command::Reopen {
+        (_, [REOPEN, municipality @ ..]) => Some(Command::Reopen {
             municipality: read_short(municipality)?,
         }),
-        [BATCH, batch @ ..] => Some(Command::Batch(read_batch(batch)?)),
+        (Format::One, [BATCH_ONE, batch @ ..]) => Some(Command::Batch {
+            desk: 0,
+            rows: read_batch(batch)?,
+        }),
+        (Format::Two, [BATCH_TWO, desk @ 0..=LAST_DESK, batch @ ..]) => Some(Command::Batch {
+            desk: *desk,
+            rows: read_batch(batch)?,
+        }),
         _ => None,
     }
 }
 
-/// The withdrawal that has these bytes after its first byte, if there is one.
-fn read_withdrawal(bytes: &[u8]) -> Option<Command<'_>>
-    ensures read { IfSome result (λ command. IsSpeakable command × (command_spelling command ≡ WITHDRAW ∷ bytes.now)) }
-    ensures refused { IfNone result ((command : Command) → IsSpeakable command → command_spelling command ≡ WITHDRAW ∷ bytes.now → ⊥) }
+/// What a withdrawal is about.
+struct Withdrawal {
+    municipality: u32,
+    list: u32,
+    number: u32,
+}
+
+impl Withdrawal {
+    /// The command of a desk.
+    fn by<'a>(self, desk: u8) -> Command<'a>
+        ensures { result ≡ Command.Withdraw desk self.municipality self.list self.number }
+    {
+        let Withdrawal {
+            municipality,
+            list,
+            number,
+        } = self;
+        Command::Withdraw {
+            desk,
+            municipality,
+            list,
+            number,
+        }
+    }
+}
+
+/// The withdrawal that has these bytes, if there is one.
+fn read_withdrawal(bytes: &[u8]) -> Option<Withdrawal>
+    ensures read { IfSome result (λ it. IsWithdrawal it.municipality it.list it.number × (withdrawal_spelling it.municipality it.list it.number ≡ bytes.now)) }
+    ensures refused { IfNone result ((municipality list number : ℕ) → IsWithdrawal municipality list number → withdrawal_spelling municipality list number ≡ bytes.now → ⊥) }
 {
     if bytes.len() != WITHDRAWAL_LENGTH {
         return None;
@@ -46,7 +93,7 @@ fn read_withdrawal(bytes: &[u8]) -> Option<Command<'_>>
     if number == 0 {
         return None;
     }
-    Some(Command::Withdraw {
+    Some(Withdrawal {
         municipality,
         list,
         number,
@@ -64,7 +111,7 @@ fn read_short(bytes: &[u8]) -> Option<u32>
     Some(BigEndian::read_u16(bytes) as u32)
 }
 
-/// The rows of the batch that has these bytes after its first byte, if there is one.
+/// The rows of the batch that has these bytes, if there is one.
 fn read_batch(bytes: &[u8]) -> Option<Rows<'_>>
     ensures read { IfSome result (λ rows. IsBatch rows × (batch_spelling rows ≡ bytes.now)) }
     ensures refused { IfNone result ((rows : List Row) → IsBatch rows → batch_spelling rows ≡ bytes.now → ⊥) }

@@ -1,6 +1,6 @@
 //! A set of keys, on the stack.
 
-ghost use Rattle.std.specs.Prelude.{◌≡◌, ◌||◌, ◌&&◌, ◌==◌, ℕ, ◌+◌, ◌*◌, ◌<◌, ◌≤◌, not, length, true, false, slice_index};
+ghost use Rattle.std.specs.Prelude.{◌≡◌, ◌||◌, ◌&&◌, ◌==◌, ℕ, ◌+◌, ◌*◌, ◌<◌, not, length, slice_index};
 ghost use Rattle.zh_records.specs.KeySet.{has_mark, is_marked, AreBlocks};
 
 use crate::rows::MOST_ROWS;

@@ -1,6 +1,6 @@
 //! The bytes of a row.
 
-ghost use Rattle.std.specs.Prelude.{◌≡◌, ◌≤◌, length, IfSome, IfNone};
+ghost use Rattle.std.specs.Prelude.{◌≡◌, length, IfSome, IfNone};
 ghost use Rattle.zh_records.specs.declared.row.Row.{Row};
 ghost use Rattle.zh_records.specs.RowBytes.{row_from};
 ghost use Rattle.zh_records.specs.Rows.{row_spelling, FitsRow, IsSpeakableRow};

@@ -24,7 +24,8 @@ pub(crate) fn are_numbered(bytes: &[u8]) -> bool
     true
 }
 
-/// Whether each row has a key of its own.
+/// Whether each row has a key of its own. Its tables take 160 KiB of the stack, which only a batch should need.
+#[inline(never)]
 pub(crate) fn have_own_keys(bytes: &[u8]) -> bool
     requires { length bytes.now / ROW_LENGTH ≤ MOST_ROWS }
     ensures { (result ≡ true) ↔ IsDistinct (eq_by_cmp key_cmp) (map row_key (rows_in bytes.now)) }

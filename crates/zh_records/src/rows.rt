@@ -1,6 +1,6 @@
 //! The rows of a batch.
 
-ghost use Rattle.std.specs.Prelude.{◌≡◌, ◌<◌, ◌≤◌, List, Some, length, slice_get, IfSome, IfNone};
+ghost use Rattle.std.specs.Prelude.{◌≡◌, ◌<◌, List, Some, length, slice_get, IfSome, IfNone};
 ghost use Rattle.std.specs.List.{flat_map};
 ghost use Rattle.zh_records.specs.declared.row.Row.{Row};
 ghost use Rattle.zh_records.specs.RowBytes.{rows_in};

@@ -1,5 +1,5 @@
 -- What an accepted command says fits its bytes.
-use Rattle.std.proofs.Common.{◌≡◌, ◌<◌, ◌^◌, ◌∙◌, ℕ, Bool, true, false, not, cond, List, map, Option, Some, None, get_or, sym, ap, refl, arith}
+use Rattle.std.proofs.Common.{◌≡◌, ◌≤◌, ◌<◌, ◌^◌, ◌∙◌, ℕ, Bool, true, false, not, cond, List, map, Option, Some, None, get_or, sym, ap, refl, arith}
 use Rattle.std.specs.Prelude.{All}
 use Rattle.std.specs.FinSet as set
 use Rattle.std.proofs.lemmas.Bool.{ltb-false}
@@ -15,7 +15,9 @@ use Rattle.zh_returns.specs.declared.verdict.Reason.TheVariants as reasons
 use Rattle.zh_returns.specs.Judgement.{judge, judge_row, is_refusal, of_all}
 use Rattle.zh_returns.specs.Limits.{IsTally}
 use Rattle.zh_records.specs.Rows.{FitsRow}
-use Rattle.zh_records.specs.Spelling.{FitsCommand, HasNumbers, IsSpeakable}
+use Rattle.zh_records.specs.Spelling.{FitsCommand, HasNumbers, IsSpeakable, last_desk}
+use Rattle.zh_records.specs.declared.format.Format.TheVariants.{Two}
+use Rattle.zh_returns.specs.Step.{desk_of}
 use Rattle.zh_returns.specs.Tally.{Tally}
 use Rattle.zh_returns.proofs.JudgementLemmas.{Passes, passes}
 use Rattle.zh_districts.proofs.CallerLemmas.{municipality_within, list_within, placed}
@@ -45,25 +47,33 @@ rows_fit tally rows d limits accepted =
     ∙ All-get_or (λ v. is_refusal v ≡ false) (map (judge_row tally) rows) i Accept (omega (arith, length-map rows (judge_row tally))) (none_refused (map (judge_row tally) rows) accepted)
     ))
 
-pub fits : (tally : Tally) (command : Command) → IsTally tally → judge tally command ≡ Accept → FitsCommand command
-fits tally (commands.Return row) limits accepted = row_fits tally row limits (ap is_refusal accepted)
-fits tally (commands.Withdraw municipality list number) limits accepted =
+pub fits : (tally : Tally) (command : Command) → IsTally tally → desk_of command ≤ last_desk Two → judge tally command ≡ Accept → FitsCommand command
+fits tally (commands.Return desk row) limits named accepted = (named, row_fits tally row limits (ap is_refusal accepted))
+fits tally (commands.Withdraw desk municipality list number) limits named accepted =
     let p = passes tally municipality list number None (ap is_refusal accepted) in
-    (municipality_fits tally municipality limits (placed tally.canton municipality list p.place).0, list_fits tally municipality list None limits p)
-fits tally (commands.Close municipality) limits accepted =
+    (named, municipality_fits tally municipality limits (placed tally.canton municipality list p.place).0, list_fits tally municipality list None limits p)
+fits tally (commands.Close municipality) limits named accepted =
     municipality_fits tally municipality limits (there_if (has_municipality tally.canton municipality) (cond (set.contains tally.closed municipality) Same Accept) accepted)
-fits tally (commands.Reopen municipality) limits accepted =
+fits tally (commands.Reopen municipality) limits named accepted =
     municipality_fits tally municipality limits (there_if (has_municipality tally.canton municipality) (cond (set.contains tally.closed municipality) Accept (Refused (reasons.NotClosed municipality))) accepted)
-fits tally (commands.Batch rows) limits accepted = rows_fit tally rows (record { municipality = 0; list = 0; number = 0; votes = 0 }) limits accepted
+fits tally (commands.Batch desk rows) limits named accepted = (named, rows_fit tally rows (record { municipality = 0; list = 0; number = 0; votes = 0 }) limits accepted)
 
-pub speakable : (tally : Tally) (command : Command) → IsTally tally → HasNumbers command → judge tally command ≡ Accept → IsSpeakable command
-speakable tally (commands.Return row) limits numbers accepted =
-    let f = fits tally (commands.Return row) limits accepted in
+-- the numbers of a command have a desk up to the last
+pub desk_named : (command : Command) → HasNumbers command → desk_of command ≤ last_desk Two
+desk_named (commands.Return desk row) numbers = numbers.0
+desk_named (commands.Withdraw desk municipality list number) numbers = numbers.0
+desk_named (commands.Close municipality) numbers = omega arith
+desk_named (commands.Reopen municipality) numbers = omega arith
+desk_named (commands.Batch desk rows) numbers = numbers.0
+
+pub speakable : (tally : Tally) (command : Command) → IsTally tally → HasNumbers command → judge tally command ≡ Accept → IsSpeakable Two command
+speakable tally (commands.Return desk row) limits numbers accepted =
+    let f = fits tally (commands.Return desk row) limits numbers.0 accepted in
     let p = passes tally row.municipality row.list row.number (Some row.votes) (ap is_refusal accepted) in
-    record { municipality = f.0; list = f.1; number = numbers; votes = omega (arith, ltb-false 1000000000 row.votes p.enough) }
-speakable tally (commands.Withdraw municipality list number) limits numbers accepted =
-    let f = fits tally (commands.Withdraw municipality list number) limits accepted in
-    (f.0, f.1, numbers.0, numbers.1)
-speakable tally (commands.Close municipality) limits numbers accepted = fits tally (commands.Close municipality) limits accepted
-speakable tally (commands.Reopen municipality) limits numbers accepted = fits tally (commands.Reopen municipality) limits accepted
-speakable tally (commands.Batch rows) limits numbers accepted = numbers
+    (numbers.0, record { municipality = f.1.0; list = f.1.1; number = (numbers.1, numbers.2); votes = omega (arith, ltb-false 1000000000 row.votes p.enough) })
+speakable tally (commands.Withdraw desk municipality list number) limits numbers accepted =
+    let f = fits tally (commands.Withdraw desk municipality list number) limits numbers.0 accepted in
+    (numbers.0, (f.1, f.2, numbers.1, numbers.2))
+speakable tally (commands.Close municipality) limits numbers accepted = fits tally (commands.Close municipality) limits (omega arith) accepted
+speakable tally (commands.Reopen municipality) limits numbers accepted = fits tally (commands.Reopen municipality) limits (omega arith) accepted
+speakable tally (commands.Batch desk rows) limits numbers accepted = numbers

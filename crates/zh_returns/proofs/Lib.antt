@@ -6,6 +6,8 @@ mod ClosedBytesLemmas
 mod EntryBytesLemmas
 mod EntryTableLemmas
 mod FlagLemmas
+mod FormatLemmas
+mod HeldLemmas
 mod JudgementLemmas
 mod LimitsLemmas
 mod NumbersLemmas

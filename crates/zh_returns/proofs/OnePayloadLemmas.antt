@@ -2,17 +2,22 @@
 use Rattle.std.proofs.Common.{◌≡◌, ◌<◌, ◌≤◌, ◌+◌, ◌*◌, ◌/◌, ◌%◌, ◌^◌, ◌∙◌, ◌==◌, ◌⊎◌, ℕ, zero, suc, true, false, cond, List, length, get_or, take, drop, map, Option, Some, None, sym, ap, refl, arith, inl, inr}
 use Rattle.std.specs.Prelude.{IfSome}
 use Rattle.std.specs.Int.{w32, w64, from_be_bytes, to_be_bytes}
-use Rattle.std.specs.List.{flat_map, slice_index}
+use Rattle.std.specs.List.{flat_map, slice_index, slice_get}
 use Rattle.std.specs.Cmp.{nat_cmp_total}
 use Rattle.std.specs.FinMap as map_of
 use Rattle.std.specs.FinSet as set_of
 use Rattle.std.proofs.lemmas.Bool.{cases_lt}
+use Rattle.std.proofs.lemmas.List.{get_or-drop, get_or-take}
+use Rattle.std.proofs.lemmas.Option.{slice_get-get_or}
 use Rattle.std.proofs.lemmas.Map.Lookups.{exact_unsigned}
 use Rattle.std.proofs.lemmas.Nat.{from_be_bytes-to_be_bytes_4, from_be_bytes-to_be_bytes_8}
 use Rattle.zh_districts.specs.Canton.{Canton, IsCanton, has_municipality, stands, constituency_of}
+use Rattle.zh_records.specs.declared.format.Format.{Format}
+use Rattle.zh_records.specs.declared.format.Format.TheVariants.{One, Two}
+use Rattle.zh_records.specs.Spelling.{last_desk}
 use Rattle.zh_returns.specs.declared.entry.Entry.{Entry}
 use Rattle.zh_returns.specs.Limits.{IsTally, IsEntry}
-use Rattle.zh_returns.specs.Payload.{payload_spelling, entry_spelling, content_spelling, closed_byte, numbers, table_of}
+use Rattle.zh_returns.specs.Payload.{payload_spelling, entry_spelling, content_spelling, format_spelling, format_byte, closed_byte, numbers, table_of, HasDesksOf, IsPayload}
 use Rattle.zh_returns.specs.Tables.{place_of, bit_of}
 use Rattle.zh_returns.specs.Tally.{Tally, held}
 use Rattle.zh_records.proofs.CallerLemmas.{block_at, exact_keys, keys_total}
@@ -23,25 +28,25 @@ use Rattle.zh_returns.proofs.TallyTableLemmas.{length-table_of, at_table_of}
 use Rattle.zh_returns.proofs.PayloadLemmas.{parts}
 use Rattle.zh_districts.proofs.CallerLemmas.{municipality_within, list_within}
 
-abbrev entry_of : ℕ → Option ℕ → Option Entry
-entry_of number votes = Some (record { number = number; votes = votes })
+abbrev entry_of : ℕ → ℕ → Option ℕ → Option Entry
+entry_of desk number votes = Some (record { desk = desk; number = number; votes = votes })
 
 -- what sixteen bytes are read as, where they are those of nothing or of an entry
 abbrev entry_from : List ℕ → Option Entry
 entry_from bytes =
     cond (get_or bytes 0 0 == 0) None (
-    entry_of (from_be_bytes w32 (take 4 (drop 4 bytes))) (cond (get_or bytes 0 0 == 1) (Some (from_be_bytes w32 (take 4 (drop 8 bytes)))) None)
+    entry_of (get_or bytes 1 0) (from_be_bytes w32 (take 4 (drop 4 bytes))) (cond (get_or bytes 0 0 == 1) (Some (from_be_bytes w32 (take 4 (drop 8 bytes)))) None)
     )
 
-content_back : (number : ℕ) (votes : Option ℕ) → number < 2 ^ 32 → IfSome votes (λ v. v ≤ 1000000000) → entry_from (content_spelling number votes) ≡ entry_of number votes
-content_back number None small few = ap (λ (n : ℕ). entry_of n None) (from_be_bytes-to_be_bytes_4 number small)
-content_back number (Some votes) small few =
-    ap (λ (n : ℕ). entry_of n (Some (from_be_bytes w32 (to_be_bytes w32 votes)))) (from_be_bytes-to_be_bytes_4 number small)
-    ∙ ap (λ (v : ℕ). entry_of number (Some v)) (from_be_bytes-to_be_bytes_4 votes (omega arith))
+content_back : (desk number : ℕ) (votes : Option ℕ) → number < 2 ^ 32 → IfSome votes (λ v. v ≤ 1000000000) → entry_from (content_spelling desk number votes) ≡ entry_of desk number votes
+content_back desk number None small few = ap (λ (n : ℕ). entry_of desk n None) (from_be_bytes-to_be_bytes_4 number small)
+content_back desk number (Some votes) small few =
+    ap (λ (n : ℕ). entry_of desk n (Some (from_be_bytes w32 (to_be_bytes w32 votes)))) (from_be_bytes-to_be_bytes_4 number small)
+    ∙ ap (λ (v : ℕ). entry_of desk number (Some v)) (from_be_bytes-to_be_bytes_4 votes (omega arith))
 
 entry_back : (h : Option Entry) → IfSome h IsEntry → entry_from (entry_spelling h) ≡ h
 entry_back None limits = refl
-entry_back (Some entry) limits = content_back entry.number entry.votes limits.number.1 limits.votes
+entry_back (Some entry) limits = content_back entry.desk entry.number entry.votes limits.number.1 limits.votes
 
 entry_once : (h k : Option Entry) → IfSome h IsEntry → IfSome k IsEntry → entry_spelling h ≡ entry_spelling k → h ≡ k
 entry_once h k limits_h limits_k same = sym (entry_back h limits_h) ∙ ap entry_from same ∙ entry_back k limits_k
@@ -121,10 +126,30 @@ same_closed a b limits_a limits_b same (suc m) =
       | inr outside ↦ open_outside a (suc m) limits_a (λ is. omega arith) ∙ sym (open_outside b (suc m) limits_b (λ is. omega arith))
     ]
 
-pub tally_once : (a b : Tally) → IsTally a → IsTally b → a.canton ≡ b.canton → payload_spelling a ≡ payload_spelling b → a ≡ b
-tally_once a b limits_a limits_b canton same =
-    let of_a = parts a (payload_spelling b) same in
-    let of_b = parts b (payload_spelling b) refl in
+-- the bytes of two formats are not the same
+pub format_once : (f g : Format) → format_spelling f ≡ format_spelling g → f ≡ g
+format_once One One same = refl
+format_once One Two same = absurd (let first = ap (λ (bytes : List ℕ). get_or bytes 0 0) same in omega arith)
+format_once Two One same = absurd (let first = ap (λ (bytes : List ℕ). get_or bytes 0 0) same in omega arith)
+format_once Two Two same = refl
+
+pub one_format : (f g : Format) (a b : Tally) → payload_spelling f a ≡ payload_spelling g b → f ≡ g
+one_format f g a b same = format_once f g (sym (parts f a (payload_spelling g b) same).says ∙ (parts g b (payload_spelling g b) refl).says)
+
+-- byte 72 says the format
+pub format_at : (format : Format) (tally : Tally) → slice_get (payload_spelling format tally) 72 ≡ Some (format_byte format)
+format_at format tally =
+    let bytes : List ℕ = payload_spelling format tally in
+    let p = parts format tally bytes refl in
+    let byte : get_or bytes 72 0 ≡ format_byte format =
+    sym (get_or-drop 64 (drop 8 bytes) 0 0 ∙ get_or-drop 8 bytes 64 0) ∙ sym (get_or-take 175 (drop 64 (drop 8 bytes)) 0 0 (omega arith)) ∙ ap (λ (b : List ℕ). get_or b 0 0) p.says
+    in
+    slice_get-get_or bytes 72 0 (omega (arith, p.whole)) ∙ ap Some byte
+
+pub tally_once : (f g : Format) (a b : Tally) → IsTally a → IsTally b → a.canton ≡ b.canton → payload_spelling f a ≡ payload_spelling g b → a ≡ b
+tally_once f g a b limits_a limits_b canton same =
+    let of_a = parts f a (payload_spelling g b) same in
+    let of_b = parts g b (payload_spelling g b) refl in
     let entries : a.entries ≡ b.entries = map_of.same_map keys_total exact_keys a.entries b.entries (λ key. same_held a b limits_a limits_b (sym of_a.entries ∙ of_b.entries) key.0 key.1) in
     let closed : a.closed ≡ b.closed = set_of.same_set nat_cmp_total exact_unsigned a.closed b.closed (same_closed a b limits_a limits_b (sym of_a.closed ∙ of_b.closed)) in
     let accepted : a.accepted ≡ b.accepted =
@@ -132,3 +157,25 @@ tally_once a b limits_a limits_b canton same =
     ∙ from_be_bytes-to_be_bytes_8 b.accepted limits_b.accepted
     in
     λ i. record { canton = canton i; entries = entries i; closed = closed i; accepted = accepted i }
+
+if_desk : (h : Option Entry) → IfSome h IsEntry → IfSome h (λ entry. entry.desk ≤ last_desk Two)
+if_desk None is = tt
+if_desk (Some entry) is = is.desk
+
+-- the desks of a count within its limits are ones that format Two can say
+pub desks_said : (tally : Tally) → IsTally tally → HasDesksOf Two tally
+desks_said tally limits m l = if_desk (held tally m l) (limits.entries m l)
+
+byte_once : (f g : Format) → format_byte f ≡ format_byte g → f ≡ g
+byte_once One One same = refl
+byte_once One Two same = absurd (omega arith)
+byte_once Two One same = absurd (omega arith)
+byte_once Two Two same = refl
+
+some_once : (m n : ℕ) → Some m ≡ Some n → m ≡ n
+some_once m n same = cc
+
+-- the bytes of a count say its format
+pub format_said : (f g : Format) (tally : Tally) (bytes : List ℕ) → IsPayload f tally bytes → slice_get bytes 72 ≡ Some (format_byte g) → f ≡ g
+format_said f g tally bytes payload says =
+    byte_once f g (some_once (format_byte f) (format_byte g) (sym (format_at f tally) ∙ ap (λ (b : List ℕ). slice_get b 72) payload.spelling ∙ says))

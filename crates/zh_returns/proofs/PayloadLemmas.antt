@@ -7,9 +7,12 @@ use Rattle.std.proofs.lemmas.Bool.{false≢true, cases_lt}
 use Rattle.std.proofs.lemmas.List.{take_at, drop_at, take-append-drop, length-map, get_or-drop}
 use Rattle.zh_districts.specs.Canton.{Canton, IsCanton, has_municipality, stands, constituency_of}
 use Rattle.zh_districts.proofs.CallerLemmas.{placed}
+use Rattle.zh_records.specs.Spelling.{last_desk}
+use Rattle.zh_records.specs.declared.format.Format.{Format}
+use Rattle.zh_records.specs.declared.format.Format.TheVariants.{One, Two}
 use Rattle.zh_returns.specs.declared.entry.Entry.{Entry}
-use Rattle.zh_returns.specs.Limits.{IsTally, IsEntry}
-use Rattle.zh_returns.specs.Payload.{payload_spelling, payload_length, entry_spelling, closed_byte, numbers, table_of, zeros}
+use Rattle.zh_returns.specs.Limits.{IsTally, IsEntry, IsEntryOf}
+use Rattle.zh_returns.specs.Payload.{payload_spelling, payload_length, entry_spelling, format_spelling, closed_byte, numbers, table_of, HasDesksOf}
 use Rattle.zh_returns.specs.Tables.{tally_from, closed_of, key_of, IsTable, IsHeldAt}
 use Rattle.zh_returns.specs.Tally.{Tally}
 use Rattle.zh_records.proofs.CallerLemmas.{length-blocks}
@@ -26,45 +29,50 @@ four_parts a b c d rest =
     sym (append_assoc a (b ++ (c ++ d)) rest ∙ ap (λ (t : List ℕ). a ++ t) (append_assoc b (c ++ d) rest ∙ ap (λ (t : List ℕ). b ++ t) (append_assoc c d rest)))
 
 -- four parts that are those of a count are its bytes
-pub parts_are : (tally : Tally) (a b c d rest after : List ℕ) → a ≡ to_be_bytes w64 tally.accepted → b ≡ map (closed_byte tally) (numbers 0 64) → c ≡ zeros 175 →
-    d ≡ flat_map entry_spelling (table_of tally 512) → rest ≡ after → a ++ (b ++ (c ++ (d ++ rest))) ≡ payload_spelling tally ++ after
-parts_are tally a b c d rest after ea eb ec ed er =
+pub parts_are : (format : Format) (tally : Tally) (a b c d rest after : List ℕ) → a ≡ to_be_bytes w64 tally.accepted → b ≡ map (closed_byte tally) (numbers 0 64) → c ≡ format_spelling format →
+    d ≡ flat_map entry_spelling (table_of tally 512) → rest ≡ after → a ++ (b ++ (c ++ (d ++ rest))) ≡ payload_spelling format tally ++ after
+parts_are format tally a b c d rest after ea eb ec ed er =
     four_parts a b c d rest
     ∙ ap (λ (t : List ℕ). (t ++ (b ++ (c ++ d))) ++ rest) ea
     ∙ ap (λ (t : List ℕ). (to_be_bytes w64 tally.accepted ++ (t ++ (c ++ d))) ++ rest) eb
     ∙ ap (λ (t : List ℕ). (to_be_bytes w64 tally.accepted ++ (map (closed_byte tally) (numbers 0 64) ++ (t ++ d))) ++ rest) ec
-    ∙ ap (λ (t : List ℕ). (to_be_bytes w64 tally.accepted ++ (map (closed_byte tally) (numbers 0 64) ++ (zeros 175 ++ t))) ++ rest) ed
-    ∙ ap (λ (t : List ℕ). payload_spelling tally ++ t) er
+    ∙ ap (λ (t : List ℕ). (to_be_bytes w64 tally.accepted ++ (map (closed_byte tally) (numbers 0 64) ++ (format_spelling format ++ t))) ++ rest) ed
+    ∙ ap (λ (t : List ℕ). payload_spelling format tally ++ t) er
+
+pub length-format : (format : Format) → length (format_spelling format) ≡ 175
+length-format One = let e = length-zeros 174 in omega arith
+length-format Two = let e = length-zeros 174 in omega arith
 
 -- what stands in the parts of bytes that are those of a count
-pub record Parts (tally : Tally) (bytes : List ℕ) : Type 0 where
+pub record Parts (format : Format) (tally : Tally) (bytes : List ℕ) : Type 0 where
   pub closed : take 64 (drop 8 bytes) ≡ map (closed_byte tally) (numbers 0 64)
-  pub unused : take 175 (drop 64 (drop 8 bytes)) ≡ zeros 175
+  pub says : take 175 (drop 64 (drop 8 bytes)) ≡ format_spelling format
   pub entries : drop 175 (drop 64 (drop 8 bytes)) ≡ flat_map entry_spelling (table_of tally 512)
   pub whole : length bytes ≡ payload_length
 
-pub parts : (tally : Tally) (bytes : List ℕ) → payload_spelling tally ≡ bytes → Parts tally bytes
-parts tally bytes spelled =
+pub parts : (format : Format) (tally : Tally) (bytes : List ℕ) → payload_spelling format tally ≡ bytes → Parts format tally bytes
+parts format tally bytes spelled =
+    let c : List ℕ = format_spelling format in
     let b : List ℕ = map (closed_byte tally) (numbers 0 64) in
     let d : List ℕ = flat_map entry_spelling (table_of tally 512) in
     let lb : length b ≡ 64 = length-map (numbers 0 64) (closed_byte tally) ∙ length-numbers 0 64 in
-    let lc = length-zeros 175 in
+    let lc = length-format format in
     let ld : length d ≡ 262144 = length-blocks entry_spelling 16 entries_wide (table_of tally 512) ∙ ap (λ (n : ℕ). 16 * n) (length-table_of tally 512) in
-    let one : drop 8 bytes ≡ b ++ (zeros 175 ++ d) = ap (drop 8) (sym spelled) in
-    let two : drop 64 (drop 8 bytes) ≡ zeros 175 ++ d = ap (drop 64) one ∙ drop_at b (zeros 175 ++ d) 64 lb in
+    let one : drop 8 bytes ≡ b ++ (c ++ d) = ap (drop 8) (sym spelled) in
+    let two : drop 64 (drop 8 bytes) ≡ c ++ d = ap (drop 64) one ∙ drop_at b (c ++ d) 64 lb in
     record {
-      closed = ap (take 64) one ∙ take_at b (zeros 175 ++ d) 64 lb;
-      unused = ap (take 175) two ∙ take_at (zeros 175) d 175 lc;
-      entries = ap (drop 175) two ∙ drop_at (zeros 175) d 175 lc;
-      whole = ap length (sym spelled) ∙ omega (arith, length-append b (zeros 175 ++ d), length-append (zeros 175) d);
+      closed = ap (take 64) one ∙ take_at b (c ++ d) 64 lb;
+      says = ap (take 175) two ∙ take_at c d 175 lc;
+      entries = ap (drop 175) two ∙ drop_at c d 175 lc;
+      whole = ap length (sym spelled) ∙ omega (arith, length-append b (c ++ d), length-append c d);
     }
 
 -- parts that are those of a count are all of the bytes
-pub parts_read : (tally : Tally) (bytes : List ℕ) → to_be_bytes w64 tally.accepted ≡ take 8 bytes → map (closed_byte tally) (numbers 0 64) ≡ take 64 (drop 8 bytes) →
-    zeros 175 ≡ take 175 (drop 64 (drop 8 bytes)) → flat_map entry_spelling (table_of tally 512) ≡ drop 175 (drop 64 (drop 8 bytes)) → payload_spelling tally ≡ bytes
-parts_read tally bytes ea eb ec ed =
-    ap (λ (t : List ℕ). t ++ (map (closed_byte tally) (numbers 0 64) ++ (zeros 175 ++ flat_map entry_spelling (table_of tally 512)))) ea
-    ∙ ap (λ (t : List ℕ). take 8 bytes ++ (t ++ (zeros 175 ++ flat_map entry_spelling (table_of tally 512)))) eb
+pub parts_read : (format : Format) (tally : Tally) (bytes : List ℕ) → to_be_bytes w64 tally.accepted ≡ take 8 bytes → map (closed_byte tally) (numbers 0 64) ≡ take 64 (drop 8 bytes) →
+    format_spelling format ≡ take 175 (drop 64 (drop 8 bytes)) → flat_map entry_spelling (table_of tally 512) ≡ drop 175 (drop 64 (drop 8 bytes)) → payload_spelling format tally ≡ bytes
+parts_read format tally bytes ea eb ec ed =
+    ap (λ (t : List ℕ). t ++ (map (closed_byte tally) (numbers 0 64) ++ (format_spelling format ++ flat_map entry_spelling (table_of tally 512)))) ea
+    ∙ ap (λ (t : List ℕ). take 8 bytes ++ (t ++ (format_spelling format ++ flat_map entry_spelling (table_of tally 512)))) eb
     ∙ ap (λ (t : List ℕ). take 8 bytes ++ (take 64 (drop 8 bytes) ++ (t ++ flat_map entry_spelling (table_of tally 512)))) ec
     ∙ ap (λ (t : List ℕ). take 8 bytes ++ (take 64 (drop 8 bytes) ++ (take 175 (drop 64 (drop 8 bytes)) ++ t))) ed
     ∙ ap (λ (t : List ℕ). take 8 bytes ++ (take 64 (drop 8 bytes) ++ t)) (take-append-drop 175 (drop 64 (drop 8 bytes)))
@@ -75,14 +83,19 @@ parts_read tally bytes ea eb ec ed =
 is_there : (canton : Canton) (m : ℕ) → 1 ≤ m → m ≤ length canton.municipalities → has_municipality canton m ≡ true
 is_there canton m from_one within = search (rules, tests)
 
+-- an entry within the limits of a format is one within those of format Two
+entry_within : (format : Format) (entry : Entry) → IsEntryOf format entry → IsEntry entry
+entry_within One entry is = record { desk = let none = is.desk in omega arith; number = is.number; votes = is.votes }
+entry_within Two entry is = is
+
 -- tables within their limits stand for a count within its limits
-pub tables_within : (canton : Canton) (table : List (Option Entry)) (flags : List Bool) (accepted : ℕ) → IsCanton canton → IsTable canton table →
+pub tables_within : (format : Format) (canton : Canton) (table : List (Option Entry)) (flags : List Bool) (accepted : ℕ) → IsCanton canton → IsTable format canton table →
     list_all not (drop (length canton.municipalities) flags) ≡ true → accepted < 2 ^ 64 → IsTally (tally_from canton table flags accepted)
-tables_within canton table flags accepted limits held none small = record {
+tables_within format canton table flags accepted limits held none small = record {
   canton = limits;
-  entries = λ m l. each_key (λ _. IsEntry) table (λ i. if_weaker (IsHeldAt canton (key_of i)) IsEntry (get_or table i None) (λ entry is. is.limits) (held i)) (m, l);
-  lists = λ m l. each_key (λ key _. stands canton (constituency_of canton key.0) key.1 ≡ true) table (λ i. if_weaker (IsHeldAt canton (key_of i)) (λ _. stands canton (constituency_of canton (key_of i).0) (key_of i).1 ≡ true) (get_or table i None) (λ entry is. (placed canton (key_of i).0 (key_of i).1 is.place).1) (held i)) (m, l);
-  municipalities = λ m l. each_key (λ key _. has_municipality canton key.0 ≡ true) table (λ i. if_weaker (IsHeldAt canton (key_of i)) (λ _. has_municipality canton (key_of i).0 ≡ true) (get_or table i None) (λ entry is. (placed canton (key_of i).0 (key_of i).1 is.place).0) (held i)) (m, l);
+  entries = λ m l. each_key (λ _. IsEntry) table (λ i. if_weaker (IsHeldAt format canton (key_of i)) IsEntry (get_or table i None) (λ entry is. entry_within format entry is.limits) (held i)) (m, l);
+  lists = λ m l. each_key (λ key _. stands canton (constituency_of canton key.0) key.1 ≡ true) table (λ i. if_weaker (IsHeldAt format canton (key_of i)) (λ _. stands canton (constituency_of canton (key_of i).0) (key_of i).1 ≡ true) (get_or table i None) (λ entry is. (placed canton (key_of i).0 (key_of i).1 is.place).1) (held i)) (m, l);
+  municipalities = λ m l. each_key (λ key _. has_municipality canton key.0 ≡ true) table (λ i. if_weaker (IsHeldAt format canton (key_of i)) (λ _. has_municipality canton (key_of i).0 ≡ true) (get_or table i None) (λ entry is. (placed canton (key_of i).0 (key_of i).1 is.place).0) (held i)) (m, l);
   closed = λ m is. closed_there m is;
   accepted = small;
 }
@@ -101,3 +114,8 @@ tables_within canton table flags accepted limits held none small = record {
               ∙ ap (λ (i : ℕ). get_or flags i false) at ∙ set_there
               ))
         ]
+
+-- and their desks are ones that the format can say
+pub tables_said : (format : Format) (canton : Canton) (table : List (Option Entry)) (flags : List Bool) (accepted : ℕ) → IsTable format canton table → HasDesksOf format (tally_from canton table flags accepted)
+tables_said format canton table flags accepted held m l =
+    each_key (λ _ entry. entry.desk ≤ last_desk format) table (λ i. if_weaker (IsHeldAt format canton (key_of i)) (λ entry. entry.desk ≤ last_desk format) (get_or table i None) (λ entry is. is.limits.desk) (held i)) (m, l)

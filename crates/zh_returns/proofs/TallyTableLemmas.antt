@@ -9,7 +9,9 @@ use Rattle.zh_districts.specs.Canton.{has_municipality, stands, constituency_of}
 use Rattle.zh_districts.proofs.CallerLemmas.{not_misplaced}
 use Rattle.zh_returns.specs.declared.entry.Entry.{Entry}
 use Rattle.zh_returns.specs.Limits.{IsTally, IsEntry}
-use Rattle.zh_returns.specs.Payload.{numbers, table_of}
+use Rattle.zh_records.specs.Spelling.{last_desk}
+use Rattle.zh_records.specs.declared.format.Format.{Format}
+use Rattle.zh_returns.specs.Payload.{numbers, table_of, HasDesksOf}
 use Rattle.zh_returns.specs.Tables.{IsHeldAt, IsTable, key_of, entries_of, entries_from}
 use Rattle.zh_records.specs.Keys.{key_cmp}
 use Rattle.zh_returns.specs.Tally.{Tally, held}
@@ -74,22 +76,22 @@ pub if_weaker : (P Q : Entry → Type 0) (h : Option Entry) → ((entry : Entry)
 if_weaker P Q None weaker is = tt
 if_weaker P Q (Some entry) weaker is = weaker entry is
 
-if_held : (tally : Tally) (key : ℕ × ℕ) (h : Option Entry) → IfSome h IsEntry →
+if_held : (format : Format) (tally : Tally) (key : ℕ × ℕ) (h : Option Entry) → IfSome h IsEntry → IfSome h (λ entry. entry.desk ≤ last_desk format) →
     IfSome h (λ _. stands tally.canton (constituency_of tally.canton key.0) key.1 ≡ true) →
-    IfSome h (λ _. has_municipality tally.canton key.0 ≡ true) → IfSome h (IsHeldAt tally.canton key)
-if_held tally key None limits list municipality = tt
-if_held tally key (Some entry) limits list municipality = record { limits = limits; place = not_misplaced tally.canton key.0 key.1 municipality list }
+    IfSome h (λ _. has_municipality tally.canton key.0 ≡ true) → IfSome h (IsHeldAt format tally.canton key)
+if_held format tally key None limits desk list municipality = tt
+if_held format tally key (Some entry) limits desk list municipality = record { limits = record { desk = desk; number = limits.number; votes = limits.votes }; place = not_misplaced tally.canton key.0 key.1 municipality list }
 
 -- the table of a count within its limits is within its limits
-pub table_within : (tally : Tally) (n : ℕ) → IsTally tally → IsTable tally.canton (table_of tally n)
-table_within tally n limits = λ place. elim (cases_lt place (32 * n)) [
+pub table_within : (format : Format) (tally : Tally) (n : ℕ) → IsTally tally → HasDesksOf format tally → IsTable format tally.canton (table_of tally n)
+table_within format tally n limits desks = λ place. elim (cases_lt place (32 * n)) [
   | inl inside ↦
-      subst (λ h. IfSome h (IsHeldAt tally.canton (key_of place))) (sym (at_table_of tally n place inside)) (
+      subst (λ h. IfSome h (IsHeldAt format tally.canton (key_of place))) (sym (at_table_of tally n place inside)) (
       let m = place / 32 + 1 in
       let l = place % 32 + 1 in
-      if_held tally (m, l) (held tally m l) (limits.entries m l) (limits.lists m l) (limits.municipalities m l)
+      if_held format tally (m, l) (held tally m l) (limits.entries m l) (desks m l) (limits.lists m l) (limits.municipalities m l)
       )
   | inr outside ↦
       let past : length (table_of tally n) ≤ place = omega (arith, length-table_of tally n) in
-      subst (λ h. IfSome h (IsHeldAt tally.canton (key_of place))) (sym (get_or_past (table_of tally n) place None past)) tt
+      subst (λ h. IfSome h (IsHeldAt format tally.canton (key_of place))) (sym (get_or_past (table_of tally n) place None past)) tt
 ]

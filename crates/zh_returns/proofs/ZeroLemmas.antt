@@ -29,10 +29,10 @@ unfolding zeros
 all_zeros zero = refl
 all_zeros (suc n) = all_zeros n
 
--- three and four of them
-pub three_zeros : (bytes : List ℕ) → length bytes ≡ 3 → list_all (λ byte. byte == 0) bytes ≡ true → bytes ≡ 0 ∷ 0 ∷ 0 ∷ []
+-- two and four of them
+pub two_zeros : (bytes : List ℕ) → length bytes ≡ 2 → list_all (λ byte. byte == 0) bytes ≡ true → bytes ≡ 0 ∷ 0 ∷ []
 unfolding zeros
-three_zeros bytes len all = zeros_from_all bytes all ∙ ap zeros len
+two_zeros bytes len all = zeros_from_all bytes all ∙ ap zeros len
 
 pub four_zeros : (bytes : List ℕ) → length bytes ≡ 4 → list_all (λ byte. byte == 0) bytes ≡ true → bytes ≡ 0 ∷ 0 ∷ 0 ∷ 0 ∷ []
 unfolding zeros

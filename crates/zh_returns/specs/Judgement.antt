@@ -89,10 +89,10 @@ is_accept (Refused reason) = false
 abbrev pub of_all : List Verdict → Verdict
 of_all verdicts = unwrap_or (find is_refusal verdicts) (if list_any is_accept verdicts then Accept else Same)
 
--- of a batch each row is judged against the count before it
+-- which desk a command comes from is not looked at; of a batch each row is judged against the count before it
 abbrev pub judge : Tally → Command → Verdict
-judge tally (commands.Return row) = judge_row tally row
-judge tally (commands.Withdraw municipality list number) = judge_content tally municipality list number None
+judge tally (commands.Return desk row) = judge_row tally row
+judge tally (commands.Withdraw desk municipality list number) = judge_content tally municipality list number None
 judge tally (commands.Close municipality) = judge_close tally municipality
 judge tally (commands.Reopen municipality) = judge_reopen tally municipality
-judge tally (commands.Batch rows) = of_all (map (judge_row tally) rows)
+judge tally (commands.Batch desk rows) = of_all (map (judge_row tally) rows)

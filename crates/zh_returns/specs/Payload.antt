@@ -1,9 +1,12 @@
 -- The bytes of a count. Numbers are big endian.
-use Rattle.std.specs.Prelude.{ℕ, zero, suc, ◌+◌, ◌*◌, Option, Some, None, List, [], ◌∷◌, ◌++◌, map}
+use Rattle.std.specs.Prelude.{◌≡◌, ◌≤◌, ℕ, zero, suc, ◌+◌, ◌*◌, Option, Some, None, List, [], ◌∷◌, ◌++◌, map, IfSome}
 use Rattle.std.specs.Int.{w32, w64, to_be_bytes}
 use Rattle.std.specs.List.{flat_map}
 use Rattle.std.specs.FinSet as set
 use Rattle.zh_districts.specs.Spelling.{mask_of}
+use Rattle.zh_records.specs.Spelling.{last_desk}
+use Rattle.zh_records.specs.declared.format.Format.{Format}
+use Rattle.zh_records.specs.declared.format.Format.TheVariants.{One, Two}
 use Rattle.zh_returns.specs.declared.entry.Entry.{Entry}
 use Rattle.zh_returns.specs.Tally.{Tally, held}
 
@@ -17,19 +20,19 @@ unfoldable pub zeros : ℕ → List ℕ
 zeros zero = []
 zeros (suc n) = 0 ∷ zeros n
 
--- the state, three zero bytes, the replacement number, the votes, four zero bytes
-abbrev pub fields_spelling : ℕ → ℕ → ℕ → List ℕ
-fields_spelling state number votes = state ∷ 0 ∷ 0 ∷ 0 ∷ (to_be_bytes w32 number ++ (to_be_bytes w32 votes ++ (0 ∷ 0 ∷ 0 ∷ 0 ∷ [])))
+-- the state, the desk, two zero bytes, the replacement number, the votes, four zero bytes
+abbrev pub fields_spelling : ℕ → ℕ → ℕ → ℕ → List ℕ
+fields_spelling state desk number votes = state ∷ desk ∷ 0 ∷ 0 ∷ (to_be_bytes w32 number ++ (to_be_bytes w32 votes ++ (0 ∷ 0 ∷ 0 ∷ 0 ∷ [])))
 
 -- votes, or none for a withdrawn list
-abbrev pub content_spelling : ℕ → Option ℕ → List ℕ
-content_spelling number (Some votes) = fields_spelling 1 number votes
-content_spelling number None = fields_spelling 2 number 0
+abbrev pub content_spelling : ℕ → ℕ → Option ℕ → List ℕ
+content_spelling desk number (Some votes) = fields_spelling 1 desk number votes
+content_spelling desk number None = fields_spelling 2 desk number 0
 
 -- nothing, or an entry
 abbrev pub entry_spelling : Option Entry → List ℕ
-entry_spelling None = fields_spelling 0 0 0
-entry_spelling (Some entry) = content_spelling entry.number entry.votes
+entry_spelling None = fields_spelling 0 0 0 0
+entry_spelling (Some entry) = content_spelling entry.desk entry.number entry.votes
 
 -- what is held, municipality by municipality, and in each list by list
 abbrev pub table_of : Tally → ℕ → List (Option Entry)
@@ -41,9 +44,27 @@ closed_byte tally byte = mask_of (map (set.contains tally.closed) (numbers (8 * 
 
 -- the bytes of a count
 abbrev pub payload_length : ℕ
-payload_length = 262391
+payload_length = 8 + 64 + 175 + 16 * (32 * 512)
 
--- how many commands were accepted, which of 512 municipalities are closed, 175 bytes not in use, and what is held
-abbrev pub payload_spelling : Tally → List ℕ
-payload_spelling tally =
-    to_be_bytes w64 tally.accepted ++ (map (closed_byte tally) (numbers 0 64) ++ (zeros 175 ++ flat_map entry_spelling (table_of tally 512)))
+-- the byte of a format
+abbrev pub format_byte : Format → ℕ
+format_byte One = 0
+format_byte Two = 2
+
+-- the format in one byte, and 174 bytes not in use
+abbrev pub format_spelling : Format → List ℕ
+format_spelling format = format_byte format ∷ zeros 174
+
+-- how many commands were accepted, which of 512 municipalities are closed, the format, and what is held
+abbrev pub payload_spelling : Format → Tally → List ℕ
+payload_spelling format tally =
+    to_be_bytes w64 tally.accepted ++ (map (closed_byte tally) (numbers 0 64) ++ (format_spelling format ++ flat_map entry_spelling (table_of tally 512)))
+
+-- the desks of the entries are ones that the format can say
+abbrev pub HasDesksOf : Format → Tally → Type 0
+HasDesksOf format tally = (municipality list : ℕ) → IfSome (held tally municipality list) (λ entry. entry.desk ≤ last_desk format)
+
+-- these are the bytes of the count in this format
+pub record IsPayload (format : Format) (tally : Tally) (bytes : List ℕ) : Type 0 where
+  pub desks : HasDesksOf format tally
+  pub spelling : payload_spelling format tally ≡ bytes

@@ -1,5 +1,5 @@
 -- What an accepted command does to the count.
-use Rattle.std.specs.Prelude.{◌≡◌, ◌+◌, ◌≤◌, List, [], ◌∷◌, Some, None, fold}
+use Rattle.std.specs.Prelude.{ℕ, ◌≡◌, ◌+◌, ◌≤◌, List, [], ◌∷◌, Some, None, fold, filter}
 use Rattle.std.specs.Ordering.{nat_cmp}
 use Rattle.std.specs.FinMap as map
 use Rattle.std.specs.FinSet as set
@@ -13,33 +13,46 @@ use Rattle.zh_returns.specs.declared.verdict.Verdict.{Verdict}
 use Rattle.zh_returns.specs.declared.verdict.Verdict.TheVariants.{Accept, Same, Refused}
 use Rattle.zh_records.specs.Keys.{key_cmp}
 use Rattle.zh_returns.specs.Tally.{Tally}
-use Rattle.zh_returns.specs.Judgement.{judge}
+use Rattle.zh_returns.specs.Judgement.{judge, judge_row, is_accept}
 use Rattle.zh_returns.specs.Limits.{most_votes}
 use Rattle.zh_records.specs.Rows.{row_key}
 
--- what is held after a return
-abbrev pub entry_of : Row → Entry
-entry_of row = record { number = row.number; votes = Some row.votes }
+-- the desk that a command names
+abbrev pub desk_of : Command → ℕ
+desk_of (commands.Return desk row) = desk
+desk_of (commands.Withdraw desk municipality list number) = desk
+desk_of (commands.Close municipality) = 0
+desk_of (commands.Reopen municipality) = 0
+desk_of (commands.Batch desk rows) = desk
 
--- the entries of these rows, put over those that are held
-abbrev pub with_rows : map.FinMap key_cmp Entry → List Row → map.FinMap key_cmp Entry
-with_rows = fold (λ entries row. map.insert entries (row_key row) (entry_of row))
+-- what is held after a desk's return
+abbrev pub entry_of : ℕ → Row → Entry
+entry_of desk row = record { desk = desk; number = row.number; votes = Some row.votes }
+
+-- the entries of a desk's rows, put over those that are held
+abbrev pub with_rows : ℕ → map.FinMap key_cmp Entry → List Row → map.FinMap key_cmp Entry
+with_rows desk = fold (λ entries row. map.insert entries (row_key row) (entry_of desk row))
+
+-- of a batch, the rows that are accepted: of an accepted batch the others are held already, and their entries keep their desks
+abbrev pub accepted_rows : Tally → List Row → List Row
+accepted_rows tally = filter (λ row. is_accept (judge_row tally row))
 
 -- what is held after a command
 abbrev pub entries_after : Tally → Command → map.FinMap key_cmp Entry
-entries_after tally (commands.Return row) = map.insert tally.entries (row_key row) (entry_of row)
-entries_after tally (commands.Withdraw municipality list number) = map.insert tally.entries (municipality, list) (record { number = number; votes = None })
+entries_after tally (commands.Return desk row) = map.insert tally.entries (row_key row) (entry_of desk row)
+entries_after tally (commands.Withdraw desk municipality list number) =
+    map.insert tally.entries (municipality, list) (record { desk = desk; number = number; votes = None })
 entries_after tally (commands.Close municipality) = tally.entries
 entries_after tally (commands.Reopen municipality) = tally.entries
-entries_after tally (commands.Batch rows) = with_rows tally.entries rows
+entries_after tally (commands.Batch desk rows) = with_rows desk tally.entries (accepted_rows tally rows)
 
 -- the closed municipalities after a command
 abbrev pub closed_after : Tally → Command → set.FinSet nat_cmp
-closed_after tally (commands.Return row) = tally.closed
-closed_after tally (commands.Withdraw municipality list number) = tally.closed
+closed_after tally (commands.Return desk row) = tally.closed
+closed_after tally (commands.Withdraw desk municipality list number) = tally.closed
 closed_after tally (commands.Close municipality) = set.insert tally.closed municipality
 closed_after tally (commands.Reopen municipality) = set.remove tally.closed municipality
-closed_after tally (commands.Batch rows) = tally.closed
+closed_after tally (commands.Batch desk rows) = tally.closed
 
 -- the count with what the command says put over it, and one command more
 abbrev pub changed : Tally → Command → Tally

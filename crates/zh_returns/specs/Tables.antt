@@ -6,7 +6,8 @@ use Rattle.std.specs.FinSet as set
 use Rattle.zh_returns.specs.declared.entry.Entry.{Entry}
 use Rattle.zh_districts.specs.Canton.{Canton}
 use Rattle.zh_districts.specs.Misplaced.{misplaced}
-use Rattle.zh_returns.specs.Limits.{IsEntry}
+use Rattle.zh_records.specs.declared.format.Format.{Format}
+use Rattle.zh_returns.specs.Limits.{IsEntryOf}
 use Rattle.zh_records.specs.Keys.{key_cmp}
 use Rattle.zh_returns.specs.Tally.{Tally}
 
@@ -40,14 +41,14 @@ closed_of flags = set.from_list (flagged_from 1 flags)
 abbrev pub tally_from : Canton → List (Option Entry) → List Bool → ℕ → Tally
 tally_from canton table flags accepted = record { canton = canton; entries = entries_of table; closed = closed_of flags; accepted = accepted }
 
--- an entry within its limits, of a list that stands in its municipality
-pub record IsHeldAt (canton : Canton) (key : ℕ × ℕ) (entry : Entry) : Type 0 where
-  pub limits : IsEntry entry
+-- an entry within the limits of a format, of a list that stands in its municipality
+pub record IsHeldAt (format : Format) (canton : Canton) (key : ℕ × ℕ) (entry : Entry) : Type 0 where
+  pub limits : IsEntryOf format entry
   pub place : misplaced canton key.0 key.1 ≡ None
 
 -- what a table holds are such entries
-abbrev pub IsTable : Canton → List (Option Entry) → Type 0
-IsTable canton table = (place : ℕ) → IfSome (get_or table place None) (IsHeldAt canton (key_of place))
+abbrev pub IsTable : Format → Canton → List (Option Entry) → Type 0
+IsTable format canton table = (place : ℕ) → IfSome (get_or table place None) (IsHeldAt format canton (key_of place))
 
 -- whether a bit of a number is set, where bit 0 is the lowest
 abbrev pub bit_of : ℕ → ℕ → Bool

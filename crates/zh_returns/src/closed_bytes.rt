@@ -1,6 +1,6 @@
 //! The bytes of the closed municipalities, a bit for each, the lowest first.
 
-ghost use Rattle.std.specs.Prelude.{◌≡◌, ℕ, ◌+◌, ◌*◌, ◌/◌, ◌%◌, ◌<◌, ◌≤◌, Bool, not, false, length, take, drop, get_or, slice_index};
+ghost use Rattle.std.specs.Prelude.{◌≡◌, ℕ, ◌+◌, ◌*◌, ◌/◌, ◌%◌, ◌<◌, ◌≤◌, not, false, length, take, drop, get_or, slice_index};
 ghost use Rattle.std.specs.List.{list_all};
 ghost use Rattle.zh_districts.specs.Spelling.{mask_of};
 ghost use Rattle.zh_returns.specs.Tables.{bit_of};

@@ -4,7 +4,8 @@ ghost use Rattle.std.specs.Prelude.{◌≡◌, ◌+◌, ◌-◌, ◌++◌, ◌�
 ghost use Rattle.std.specs.FinMap as map;
 ghost use Rattle.std.specs.FinSet as set;
 ghost use Rattle.zh_returns.specs.Limits.{IsTally, IsEntry};
-ghost use Rattle.zh_returns.specs.Payload.{payload_spelling};
+ghost use Rattle.zh_records.specs.declared.format.Format.{Format};
+ghost use Rattle.zh_returns.specs.Payload.{IsPayload, payload_spelling};
 ghost use Rattle.zh_returns.specs.Tables.{place_of};
 ghost use Rattle.zh_returns.specs.Tally.{Tally, empty, held};
 ghost use Rattle.zh_districts.specs.Canton.{has_municipality};
@@ -150,21 +151,22 @@ impl<'s> Count<'s> {
         self.closed[(municipality - 1) as usize]
     }
 
-    /// Writes the count to the front of `out`, as docs/FORMATS.md has its bytes.
+    /// Writes the count to the front of `out` in format Two, as docs/FORMATS.md has its bytes.
     pub fn encode(&self, out: &mut [u8])
         requires room { PAYLOAD_LENGTH ≤ length out.old }
-        ensures { out.new ≡ payload_spelling self.now ++ drop PAYLOAD_LENGTH out.old }
+        ensures spelling { out.new ≡ payload_spelling Format.Two self.now ++ drop PAYLOAD_LENGTH out.old }
+        ensures limits { IsTally self.now }
     {
         write_tables(&self.entries, &self.closed, self.accepted, out);
     }
 
-    /// Becomes the count for the set-up that has these bytes. Where there is none, it says so and is the count before
-    /// the first return.
+    /// Becomes the count for the set-up that has these bytes in one of the formats. Where there is none, it says so and
+    /// is the count before the first return.
     pub fn decode(&mut self, bytes: &[u8]) -> bool
         ensures canton { self.new.canton ≡ self.old.canton }
         ensures limits { IsTally self.new }
-        ensures read { result ≡ true → payload_spelling self.new ≡ bytes.now }
-        ensures refused { result ≡ false → (tally : Tally) → tally.canton ≡ self.old.canton → IsTally tally → payload_spelling tally ≡ bytes.now → ⊥ }
+        ensures read { result ≡ true → (format : Format) × IsPayload format self.new bytes.now }
+        ensures refused { result ≡ false → (format : Format) (tally : Tally) → tally.canton ≡ self.old.canton → IsTally tally → IsPayload format tally bytes.now → ⊥ }
         ensures empty { result ≡ false → self.new ≡ empty self.old.canton }
     {
         match read_tables(self.setup, bytes, &mut self.entries, &mut self.closed) {

@@ -1,7 +1,7 @@
 //! What becomes of a command.
 
 ghost use Rattle.std.specs.Prelude.{◌≡◌, map};
-ghost use Rattle.zh_returns.specs.Judgement.{against, judge, judge_content, judge_row, judge_close, judge_reopen, of_all};
+ghost use Rattle.zh_returns.specs.Judgement.{against, judge, judge_content, judge_row, judge_close, judge_reopen, is_accept, of_all};
 
 use crate::count::{Count, MOST_VOTES};
 use crate::entry::Entry;
@@ -34,21 +34,22 @@ impl<'s> Count<'s> {
     /// 6. The number held is `n`: a lower number is `Stale`; `n` is `Same` with the votes held, else `Conflict`; `n + 1`
     ///    is accepted; a higher one is `Gap`. A withdrawn list holds no votes, which differs from 0 votes.
     ///
-    /// A withdrawal is judged like a return without votes. Of a batch each row is judged against this count: the first
+    /// A withdrawal is judged like a return without votes, and which desk asks is not looked at. Of a batch each row is judged against this count: the first
     /// row that is refused gives its reason to all.
     pub fn judge(&self, command: &Command<'_>) -> Verdict
         ensures { result ≡ judge self.now command.now }
     {
         match command {
-            Command::Return(row) => self.judge_row(*row),
+            Command::Return { row, .. } => self.judge_row(*row),
             Command::Withdraw {
                 municipality,
                 list,
                 number,
+                ..
             } => self.judge_content(*municipality, *list, *number, None),
             Command::Close { municipality } => self.judge_close(*municipality),
             Command::Reopen { municipality } => self.judge_reopen(*municipality),
-            Command::Batch(rows) => self.judge_rows(rows),
+            Command::Batch { rows, .. } => self.judge_rows(rows),
         }
     }
 
@@ -94,6 +95,13 @@ impl<'s> Count<'s> {
         ensures { result ≡ judge_row self.now row }
     {
         self.judge_content(row.municipality, row.list, row.number, Some(row.votes))
+    }
+
+    /// Whether a row is accepted.
+    pub(crate) fn accepts(&self, row: Row) -> bool
+        ensures { result ≡ is_accept (judge_row self.now row) }
+    {
+        self.judge_row(row) == Verdict::Accept
     }
 
     /// What becomes of a content, votes or none for a withdrawn list, for a key under a replacement number.

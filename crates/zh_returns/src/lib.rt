@@ -17,10 +17,10 @@ mod verdict;
 pub use count::{Count, MOST_VOTES};
 pub use entry::Entry;
 pub use follower::Follower;
-pub use laws::{accepted_fits, accepted_is_speakable, one_payload};
-pub use payload::PAYLOAD_LENGTH;
+pub use laws::{accepted_fits, accepted_is_speakable, batch_is_held, one_payload};
+pub use payload::{PAYLOAD_LENGTH, payload_format};
 pub use verdict::{Reason, Verdict};
 pub use zh_records::{
-    BatchWriter, COMMAND_LENGTH, Command, MOST_ROWS, Row, Rows, decode_command, encode_command,
-    one_command, speakable_fits,
+    BatchWriter, COMMAND_LENGTH, Command, Format, LAST_DESK, MOST_ROWS, Row, Rows, decode_command,
+    encode_command, one_command, speakable_fits,
 };

@@ -1,13 +1,15 @@
 //! What an accepted command does to the count.
 
-ghost use Rattle.std.specs.Prelude.{◌≡◌, ◌-◌, ◌<◌, ◌^◌, map, None};
+ghost use Rattle.std.specs.Prelude.{◌≡◌, ◌-◌, ◌≤◌, ◌<◌, ◌^◌, map, None};
 ghost use Rattle.std.specs.FinMap as map_of;
 ghost use Rattle.zh_districts.specs.Misplaced.{misplaced};
 ghost use Rattle.zh_returns.specs.declared.verdict.Verdict.TheVariants.{Accept};
 ghost use Rattle.zh_returns.specs.Judgement.{judge, judge_row, of_all};
 ghost use Rattle.zh_returns.specs.Limits.{IsEntry};
 ghost use Rattle.zh_records.specs.Rows.{row_key};
-ghost use Rattle.zh_returns.specs.Step.{step, changed, entry_of, with_rows, MayStand};
+ghost use Rattle.zh_records.specs.Spelling.{last_desk};
+ghost use Rattle.zh_records.specs.declared.format.Format.{Format};
+ghost use Rattle.zh_returns.specs.Step.{step, changed, desk_of, entry_of, with_rows, accepted_rows, MayStand};
 
 use crate::count::Count;
 use crate::entry::Entry;
@@ -15,8 +17,10 @@ use crate::follower::Follower;
 use zh_records::{Command, Row, Rows};
 
 impl<'s> Count<'s> {
-    /// Applies a command, which has been judged and is accepted, to the count, and counts it.
+    /// Applies a command, which has been judged and is accepted, to the count, and counts it. What is then held under its
+    /// keys names its desk; of a batch only the rows that are accepted do.
     pub fn apply(&mut self, command: &Command<'_>)
+        requires desk { desk_of command.now ≤ last_desk Format.Two }
         requires accept { judge self.old command.now ≡ Accept }
         requires room { self.old.accepted < 2 ^ 64 - 1 }
         ensures step { self.new ≡ step self.old command.now }
@@ -27,6 +31,7 @@ impl<'s> Count<'s> {
 
     /// Applies a command as `apply` does, and keeps a follower of the count up to date, entry by entry.
     pub fn apply_followed<F: Follower>(&mut self, command: &Command<'_>, follower: &mut F)
+        requires desk { desk_of command.now ≤ last_desk Format.Two }
         requires accept { judge self.old command.now ≡ Accept }
         requires room { self.old.accepted < 2 ^ 64 - 1 }
         requires follows { F.follows follower.old self.old.canton self.old.entries }
@@ -35,13 +40,15 @@ impl<'s> Count<'s> {
         ensures follows { F.follows follower.new self.new.canton self.new.entries }
     {
         match command {
-            Command::Return(row) => self.put_row(*row, follower),
+            Command::Return { desk, row } => self.put_row(*desk, *row, follower),
             Command::Withdraw {
+                desk,
                 municipality,
                 list,
                 number,
             } => {
                 let withdrawn = Entry {
+                    desk: *desk,
                     number: *number,
                     votes: None,
                 };
@@ -49,31 +56,38 @@ impl<'s> Count<'s> {
             }
             Command::Close { municipality } => self.close(*municipality),
             Command::Reopen { municipality } => self.reopen(*municipality),
-            Command::Batch(rows) => self.put_rows(rows, follower),
+            Command::Batch { desk, rows } => self.put_rows(*desk, rows, follower),
         }
         self.count_accepted();
     }
 
-    /// Puts the entries of rows over what is held.
-    fn put_rows<F: Follower>(&mut self, rows: &Rows<'_>, follower: &mut F)
+    /// Puts the entries of a desk's rows that are accepted over what is held. The others are held already.
+    fn put_rows<F: Follower>(&mut self, desk: u8, rows: &Rows<'_>, follower: &mut F)
+        requires desk { desk ≤ last_desk Format.Two }
         requires accept { of_all (map (judge_row self.old) rows.now) ≡ Accept }
         requires follows { F.follows follower.old self.old.canton self.old.entries }
-        ensures put { self.new ≡ record self.old { entries = with_rows self.old.entries rows.now } }
+        ensures put { self.new ≡ record self.old { entries = with_rows desk self.old.entries (accepted_rows self.old rows.now) } }
         ensures follows { F.follows follower.new self.new.canton self.new.entries }
     {
         for i in 0..rows.len() {
-            self.put_row(rows.get(i), follower);
+            let row = rows.get(i);
+            // The verdict is that against the count before the batch, since each row has a key of its own.
+            if self.accepts(row) {
+                self.put_row(desk, row, follower);
+            }
         }
     }
 
-    /// Puts the entry of a row over what is held.
-    fn put_row<F: Follower>(&mut self, row: Row, follower: &mut F)
+    /// Puts the entry of a desk's row over what is held.
+    fn put_row<F: Follower>(&mut self, desk: u8, row: Row, follower: &mut F)
+        requires desk { desk ≤ last_desk Format.Two }
         requires stand { MayStand self.old.canton row }
         requires follows { F.follows follower.old self.old.canton self.old.entries }
-        ensures put { self.new ≡ record self.old { entries = map_of.insert self.old.entries (row_key row) (entry_of row) } }
+        ensures put { self.new ≡ record self.old { entries = map_of.insert self.old.entries (row_key row) (entry_of desk row) } }
         ensures follows { F.follows follower.new self.new.canton self.new.entries }
     {
         let entry = Entry {
+            desk,
             number: row.number,
             votes: Some(row.votes),
         };

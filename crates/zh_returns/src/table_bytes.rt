@@ -1,6 +1,6 @@
 //! The bytes of a table of entries.
 
-ghost use Rattle.std.specs.Prelude.{◌≡◌, ℕ, ◌*◌, ◌≤◌, ◌<◌, Option, List, false, true, length, IfSome, IfNone};
+ghost use Rattle.std.specs.Prelude.{◌≡◌, ◌*◌, ◌≤◌, ◌<◌, Option, List, false, true, length, IfSome, IfNone};
 ghost use Rattle.std.specs.List.{flat_map};
 ghost use Rattle.zh_returns.specs.declared.entry.Entry.{Entry};
 ghost use Rattle.zh_returns.specs.Payload.{entry_spelling};
@@ -11,6 +11,7 @@ use crate::entry::Entry;
 use crate::entry_bytes::{ENTRY_LENGTH, read_entry, write_entry};
 use crate::places::misplaced_at;
 use zh_districts::Setup;
+use zh_records::Format;
 
 pub(crate) fn write_entries(table: &[Option<Entry>], out: &mut [u8])
     requires { length out.old ≡ ENTRY_LENGTH * length table.now }
@@ -22,17 +23,22 @@ pub(crate) fn write_entries(table: &[Option<Entry>], out: &mut [u8])
     }
 }
 
-/// Fills a table from its bytes, if they are those of a table for the set-up.
-pub(crate) fn read_entries(setup: &Setup, bytes: &[u8], table: &mut [Option<Entry>]) -> bool
+/// Fills a table from its bytes of a format, if they are those of a table for the set-up.
+pub(crate) fn read_entries(
+    setup: &Setup,
+    format: Format,
+    bytes: &[u8],
+    table: &mut [Option<Entry>],
+) -> bool
     requires length { length bytes.now ≡ ENTRY_LENGTH * length table.old }
     requires places { length table.old ≤ PLACES }
     ensures length { length table.new ≡ length table.old }
-    ensures read { result ≡ true → (flat_map entry_spelling table.new ≡ bytes.now) × IsTable setup.now table.new }
-    ensures refused { result ≡ false → (other : List (Option Entry)) → length other ≡ length table.old → IsTable setup.now other → flat_map entry_spelling other ≡ bytes.now → ⊥ }
+    ensures read { result ≡ true → (flat_map entry_spelling table.new ≡ bytes.now) × IsTable format setup.now table.new }
+    ensures refused { result ≡ false → (other : List (Option Entry)) → length other ≡ length table.old → IsTable format setup.now other → flat_map entry_spelling other ≡ bytes.now → ⊥ }
 {
     for place in 0..table.len() {
         let at = ENTRY_LENGTH * place;
-        match read_held(setup, place, &bytes[at..at + ENTRY_LENGTH]) {
+        match read_held(setup, format, place, &bytes[at..at + ENTRY_LENGTH]) {
             Some(held) => table[place] = held,
             None => return false,
         }
@@ -40,14 +46,14 @@ pub(crate) fn read_entries(setup: &Setup, bytes: &[u8], table: &mut [Option<Entr
     true
 }
 
-/// What is held at a place by these bytes.
-fn read_held(setup: &Setup, place: usize, bytes: &[u8]) -> Option<Option<Entry>>
+/// What is held at a place by these bytes of a format.
+fn read_held(setup: &Setup, format: Format, place: usize, bytes: &[u8]) -> Option<Option<Entry>>
     requires length { length bytes.now ≡ ENTRY_LENGTH }
     requires place { place < PLACES }
-    ensures read { IfSome result (λ held. IfSome held (IsHeldAt setup.now (key_of place)) × (entry_spelling held ≡ bytes.now)) }
-    ensures refused { IfNone result ((held : Option Entry) → IfSome held (IsHeldAt setup.now (key_of place)) → entry_spelling held ≡ bytes.now → ⊥) }
+    ensures read { IfSome result (λ held. IfSome held (IsHeldAt format setup.now (key_of place)) × (entry_spelling held ≡ bytes.now)) }
+    ensures refused { IfNone result ((held : Option Entry) → IfSome held (IsHeldAt format setup.now (key_of place)) → entry_spelling held ≡ bytes.now → ⊥) }
 {
-    let held = read_entry(bytes)?;
+    let held = read_entry(format, bytes)?;
     if held.is_some() && misplaced_at(setup, place).is_some() {
         return None;
     }

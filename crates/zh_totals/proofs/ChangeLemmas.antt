@@ -27,9 +27,9 @@ pub votes_can : (tally : Tally) (m l votes : ℕ) → IsTally tally → has_muni
     IsChange (totals_of tally) (change_to tally m l votes)
 votes_can tally m l votes limits there standing enough =
     let key = standing_there tally m l limits there standing in
-    let entry : Entry = record { number = 1; votes = Some votes } in
+    let entry : Entry = record { desk = 0; number = 1; votes = Some votes } in
     let can = can_note_entry tally m l votes key in
-    let most = few_votes (with_entry tally m l entry) (IsTally-insert tally m l entry limits there standing (record { number = (omega arith, omega arith); votes = enough })) in
+    let most = few_votes (with_entry tally m l entry) (IsTally-insert tally m l entry limits there standing (record { desk = omega arith; number = (omega arith, omega arith); votes = enough })) in
     let same : all_votes (totals_of (with_entry tally m l entry)) ≡ all_votes (noted (totals_of tally) (change_to tally m l votes)) = ap all_votes (noted_entry tally m l entry key) in
     record { constituency = key.constituency; list = key.list; before = can.before; after = enough; most = omega arith }
 

@@ -41,7 +41,7 @@ agree a b None same = nothing a ∙ sym (nothing b)
 agree a b (Some entry) same = ap (λ (t : Bool). cond t (Some entry) None) (same entry refl)
 
 -- equal entries make equal counts
-same_tally : (tally : Tally) (a b : map_of.FinMap key_cmp Entry) → ((key : ℕ × ℕ) → map_of.get a key ≡ map_of.get b key) → ◌≡◌ {A = Tally} (record tally { entries = a }) (record tally { entries = b })
+pub same_tally : (tally : Tally) (a b : map_of.FinMap key_cmp Entry) → ((key : ℕ × ℕ) → map_of.get a key ≡ map_of.get b key) → ◌≡◌ {A = Tally} (record tally { entries = a }) (record tally { entries = b })
 same_tally tally a b same = ap (λ entries. record tally { entries = entries }) (map_of.same_map keys_total exact_keys a b same)
 
 -- two restrictions that agree on the keys that are held are one

@@ -50,8 +50,8 @@ row_change tally row = change_to tally row.municipality row.list row.votes
 
 -- what an accepted command changes, against the count before it
 abbrev pub changes_of : Tally → Command → List Change
-changes_of tally (commands.Return row) = row_change tally row ∷ []
-changes_of tally (commands.Withdraw municipality list number) = change_to tally municipality list 0 ∷ []
+changes_of tally (commands.Return desk row) = row_change tally row ∷ []
+changes_of tally (commands.Withdraw desk municipality list number) = change_to tally municipality list 0 ∷ []
 changes_of tally (commands.Close municipality) = []
 changes_of tally (commands.Reopen municipality) = []
-changes_of tally (commands.Batch rows) = map (row_change tally) rows
+changes_of tally (commands.Batch desk rows) = map (row_change tally) rows

@@ -24,5 +24,5 @@ pub returns-clause-read : goal.returns-clause-read
 returns-clause-read c =
     let bytes = c.args.bytes.now in (
       (omega arith, omega (arith, c.type_inv.bytes 2), omega arith, omega arith),
-      ap (λ (rest : List ℕ). 2 ∷ rest) (withdrawal_read bytes c.read_u16-municipality.result c.read_u32-number.result (omega arith) (λ i. omega (arith, c.type_inv.bytes i)) c.read_u16-municipality.ensures c.read_u32-number.ensures),
+      withdrawal_read bytes c.read_u16-municipality.result c.read_u32-number.result (omega arith) (λ i. omega (arith, c.type_inv.bytes i)) c.read_u16-municipality.ensures c.read_u32-number.ensures,
     )

@@ -1,14 +1,16 @@
-use Rattle.std.proofs.Common.{◌∙◌, length, sym, ap, arith}
+use Rattle.std.proofs.Common.{length, ap, arith}
 use Rattle.zh_records.specs.declared.command.Command.{Command}
+use Rattle.zh_records.specs.declared.format.Format.TheVariants.{Two}
 use Rattle.zh_records.specs.Spelling.{command_spelling}
 use Rattle.zh_records.proofs.RowBytesLemmas.{length-batch}
 use Rattle.zh_records.proofs.encoder.encode_command.Goals as goal
 
 pub write_batch-requires : goal.write_batch-requires
 write_batch-requires c =
-    let whole = ap (λ (x : Command). length (command_spelling x)) c.in-Batch.is ∙ length-batch c.in-Batch.rows in
-    omega (arith, c.requires.room)
+    let whole = ap (λ (x : Command). length (command_spelling Two x)) c.in-Batch.is in
+    omega (arith, whole, length-batch c.in-Batch.rows, c.requires.room)
 
 pub returns-in-Batch-clause-length : goal.returns-in-Batch-clause-length
 returns-in-Batch-clause-length c =
-    c.write_batch.ensures.length ∙ sym (ap (λ (x : Command). length (command_spelling x)) c.in-Batch.is ∙ length-batch c.in-Batch.rows)
+    let whole = ap (λ (x : Command). length (command_spelling Two x)) c.in-Batch.is in
+    omega (arith, whole, length-batch c.in-Batch.rows, c.write_batch.ensures.length)

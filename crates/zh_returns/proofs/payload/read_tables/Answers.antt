@@ -1,33 +1,35 @@
-use Rattle.std.proofs.Common.{◌≡◌, ◌<◌, ◌≤◌, ◌+◌, ◌*◌, ◌/◌, ◌%◌, ◌∙◌, ◌==◌, ℕ, List, true, not, length, get_or, drop, take, map, ap, sym, subst, refl, arith}
+use Rattle.std.proofs.Common.{◌≡◌, ◌<◌, ◌≤◌, ◌+◌, ◌*◌, ◌/◌, ◌%◌, ◌∙◌, ℕ, List, true, not, length, get_or, drop, take, map, ap, sym, subst, arith, refl}
 use Rattle.std.specs.List.{list_all, flat_map, slice_index}
 use Rattle.std.proofs.lemmas.Bool.{false≢true}
 use Rattle.std.proofs.lemmas.List.{take_rest, take_all, length-take, get_or-drop}
 use Rattle.zh_districts.specs.Canton.{Canton}
-use Rattle.zh_returns.specs.Payload.{entry_spelling, table_of, closed_byte, numbers, zeros}
+use Rattle.zh_returns.specs.Payload.{entry_spelling, table_of, closed_byte, numbers}
 use Rattle.zh_returns.specs.Tables.{IsTable, tally_from, bit_of}
 use Rattle.zh_returns.proofs.ClosedBytesLemmas.{none_above, packed, unpacked}
+use Rattle.zh_returns.proofs.OnePayloadLemmas.{format_once}
 use Rattle.zh_returns.proofs.TallyTableLemmas.{table_within, length-table_of, table_is}
 use Rattle.zh_records.proofs.CallerLemmas.{eight_read, first_fit}
-use Rattle.zh_returns.proofs.PayloadLemmas.{parts, parts_read, tables_within}
-use Rattle.zh_returns.proofs.ZeroLemmas.{all_zeros, zeros_from_all}
+use Rattle.zh_returns.proofs.PayloadLemmas.{parts, parts_read, tables_within, tables_said}
 use Rattle.zh_returns.proofs.payload.read_tables.Goals as goal
-use Rattle.zh_returns.proofs.payload.read_tables.Goals.{then-not-is_zero-via-then-not-is_zero, then-not-is_zero-via-else-not-is_zero+then-not-none_set}
+use Rattle.zh_returns.proofs.payload.read_tables.Goals.{then-not-none_set-via-then-not-none_set, then-not-none_set-via-else-not-none_set+then-not-read_entries}
 
 pub returns-then-bytes-ne-PAYLOAD_LENGTH-clause-refused :
     goal.returns-then-bytes-ne-PAYLOAD_LENGTH-clause-refused
-returns-then-bytes-ne-PAYLOAD_LENGTH-clause-refused c = λ tally canton limits spelled.
-    c.if-bytes-ne-PAYLOAD_LENGTH.true ((parts tally c.args.bytes.now spelled).whole)
+returns-then-bytes-ne-PAYLOAD_LENGTH-clause-refused c = λ format tally canton limits payload.
+    c.if-bytes-ne-PAYLOAD_LENGTH.true ((parts format tally c.args.bytes.now payload.spelling).whole)
 
-pub returns-then-not-is_zero-clause-refused : goal.returns-then-not-is_zero-clause-refused
-returns-then-not-is_zero-clause-refused c = λ tally canton limits spelled.
-    let p = parts tally c.args.bytes.now spelled in
+pub returns-in_default-clause-refused : goal.returns-in_default-clause-refused
+returns-in_default-clause-refused c = λ format tally canton limits payload.
+    c.in_default.ensures.refused format (
+    sym (c.split_at-3.ensures.front ∙ ap (take 175) (c.split_at-2.ensures.back ∙ ap (drop 64) c.split_at.ensures.back) ∙ (parts format tally c.args.bytes.now payload.spelling).says)
+    )
+
+pub returns-then-not-none_set-clause-refused : goal.returns-then-not-none_set-clause-refused
+returns-then-not-none_set-clause-refused c = λ format tally canton limits payload.
+    let p = parts format tally c.args.bytes.now payload.spelling in
     let first = c.split_at.ensures.back in
-    elim c.then-not-is_zero.branch [
-      | then-not-is_zero-via-then-not-is_zero w ↦
-          let unused : c.split_at-3.result.0.now ≡ zeros 175 =
-          c.split_at-3.ensures.front ∙ ap (take 175) (c.split_at-2.ensures.back ∙ ap (drop 64) first) ∙ p.unused in
-          absurd (false≢true (sym w.if-not-is_zero.true ∙ c.is_zero.ensures ∙ ap (list_all (λ byte. byte == 0)) unused ∙ all_zeros 175))
-      | then-not-is_zero-via-else-not-is_zero+then-not-none_set w ↦
+    elim c.then-not-none_set.branch [
+      | then-not-none_set-via-then-not-none_set w ↦
           let flags = c.read_flags.new.flags in
           let closed : c.split_at-2.result.0.now ≡ map (closed_byte tally) (numbers 0 64) = c.split_at-2.ensures.front ∙ ap (take 64) first ∙ p.closed in
           let whole : length flags ≡ 8 * 64 = c.read_flags.ensures.length ∙ c.requires.closed in
@@ -36,23 +38,32 @@ returns-then-not-is_zero-clause-refused c = λ tally canton limits spelled.
           c.read_flags.ensures.flags place (omega (arith, c.read_flags.ensures.length)) ∙ ap (λ (b : List ℕ). bit_of (slice_index b (place / 8)) (place % 8)) closed
           ) in
           absurd (false≢true (
-          sym w.if-not-none_set.true ∙ w.none_set.ensures ∙ ap (list_all not) (take_rest flags c.municipalities-municipalities.result)
+          sym w.if-not-none_set.true ∙ c.none_set.ensures ∙ ap (list_all not) (take_rest flags c.municipalities-municipalities.result)
           ∙ ap (λ (n : ℕ). list_all not (drop n flags)) (sym last) ∙ none
           ))
+      | then-not-none_set-via-else-not-none_set+then-not-read_entries w ↦
+          let one_format : c.in-Some.format ≡ format = format_once c.in-Some.format format (
+          c.in-Some.ensures.read ∙ c.split_at-3.ensures.front ∙ ap (take 175) (c.split_at-2.ensures.back ∙ ap (drop 64) first) ∙ p.says
+          ) in
+          w.read_entries.ensures.refused w.if-not-read_entries.true (table_of tally 512)
+          (length-table_of tally 512 ∙ sym c.requires.entries)
+          (subst (λ f. IsTable f c.args.setup.now (table_of tally 512)) (sym one_format) (subst (λ s. IsTable format s (table_of tally 512)) canton (table_within format tally 512 limits payload.desks)))
+          (sym p.entries ∙ sym (c.split_at-3.ensures.back ∙ ap (drop 175) (c.split_at-2.ensures.back ∙ ap (drop 64) first)))
     ]
 
-pub returns-then-not-read_entries-clause-refused :
-    goal.returns-then-not-read_entries-clause-refused
-returns-then-not-read_entries-clause-refused c = λ tally canton limits spelled.
-    let p = parts tally c.args.bytes.now spelled in
-    c.read_entries.ensures.refused c.if-not-read_entries.true (table_of tally 512)
-    (length-table_of tally 512 ∙ sym c.requires.entries)
-    (subst (λ s. IsTable s (table_of tally 512)) canton (table_within tally 512 limits))
-    (sym p.entries ∙ sym (c.split_at-3.ensures.back ∙ ap (drop 175) (c.split_at-2.ensures.back ∙ ap (drop 64) c.split_at.ensures.back)))
+pub returns-clause-limits : goal.returns-clause-limits
+returns-clause-limits c =
+    let flags = c.read_flags.new.flags in
+    let canton = c.args.setup.now in
+    let none : list_all not (drop (length canton.municipalities) flags) ≡ true =
+    ap (λ (n : ℕ). list_all not (drop n flags)) (sym c.municipalities-municipalities.ensures.count) ∙ ap (list_all not) (sym (take_rest flags c.municipalities-municipalities.result))
+    ∙ sym c.none_set.ensures ∙ c.if-not-none_set.false in
+    tables_within c.in-Some.format canton c.read_entries.new.table flags c.read_u64.result c.municipalities-municipalities.ensures.limits (c.read_entries.ensures.read c.if-not-read_entries.false).1 none (omega (arith, c.read_u64.type_inv))
 
 pub returns-clause-read : goal.returns-clause-read
 returns-clause-read c =
     let bytes = c.args.bytes.now in
+    let format = c.in-Some.format in
     let flags = c.read_flags.new.flags in
     let table = c.read_entries.new.table in
     let canton = c.args.setup.now in
@@ -68,19 +79,19 @@ returns-clause-read c =
     let flag_count : length flag_bytes ≡ 64 = c.split_at-2.ensures.front_len in
     let whole : length flags ≡ 8 * length flag_bytes = c.read_flags.ensures.length ∙ c.requires.closed ∙ ap (λ (n : ℕ). 8 * n) (sym flag_count) in
     let flags_are = packed flags flag_bytes tally refl whole (unpacked flags flag_bytes whole flag_bytes_fit (λ place within. c.read_flags.ensures.flags place (omega (arith, c.read_flags.ensures.length)))) in
-    let unused_are : c.split_at-3.result.0.now ≡ take 175 (drop 64 (drop 8 bytes)) = c.split_at-3.ensures.front ∙ ap (take 175) (c.split_at-2.ensures.back ∙ ap (drop 64) c.split_at.ensures.back) in
-    let unused = zeros_from_all c.split_at-3.result.0.now (sym c.is_zero.ensures ∙ c.if-not-is_zero.false) ∙ ap zeros c.split_at-3.ensures.front_len in
-    let entries = c.read_entries.ensures.read c.if-not-read_entries.false in
-    let none : list_all not (drop (length canton.municipalities) flags) ≡ true =
-    ap (λ (n : ℕ). list_all not (drop n flags)) (sym c.municipalities-municipalities.ensures.count) ∙ ap (list_all not) (sym (take_rest flags c.municipalities-municipalities.result))
-    ∙ sym c.none_set.ensures ∙ c.if-not-none_set.false in (
-      tables_within canton table flags c.read_u64.result c.municipalities-municipalities.ensures.limits entries.1 none (omega (arith, c.read_u64.type_inv)),
-      parts_read tally bytes
-          (accepted ∙ ap (take 8) c.split_at.ensures.front ∙ take_all 8 (take 8 bytes) (omega (arith, length-take 8 bytes)))
-          (ap (λ (n : ℕ). map (closed_byte tally) (numbers 0 n)) (sym flag_count) ∙ sym flags_are ∙ flag_bytes_are)
-          (sym unused ∙ unused_are)
-          (
-          ap (flat_map entry_spelling) (sym (table_is tally table 512 refl (c.read_entries.ensures.length ∙ c.requires.entries)))
-          ∙ entries.0 ∙ c.split_at-3.ensures.back ∙ ap (drop 175) (c.split_at-2.ensures.back ∙ ap (drop 64) c.split_at.ensures.back)
-          ),
+    let says_are : c.split_at-3.result.0.now ≡ take 175 (drop 64 (drop 8 bytes)) = c.split_at-3.ensures.front ∙ ap (take 175) (c.split_at-2.ensures.back ∙ ap (drop 64) c.split_at.ensures.back) in
+    let entries = c.read_entries.ensures.read c.if-not-read_entries.false in (
+      format,
+      record {
+        desks = tables_said format canton table flags c.read_u64.result entries.1;
+        spelling =
+            parts_read format tally bytes
+            (accepted ∙ ap (take 8) c.split_at.ensures.front ∙ take_all 8 (take 8 bytes) (omega (arith, length-take 8 bytes)))
+            (ap (λ (n : ℕ). map (closed_byte tally) (numbers 0 n)) (sym flag_count) ∙ sym flags_are ∙ flag_bytes_are)
+            (c.in-Some.ensures.read ∙ says_are)
+            (
+            ap (flat_map entry_spelling) (sym (table_is tally table 512 refl (c.read_entries.ensures.length ∙ c.requires.entries)))
+            ∙ entries.0 ∙ c.split_at-3.ensures.back ∙ ap (drop 175) (c.split_at-2.ensures.back ∙ ap (drop 64) c.split_at.ensures.back)
+            );
+      },
     )

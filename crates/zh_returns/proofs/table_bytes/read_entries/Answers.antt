@@ -6,7 +6,7 @@ use Rattle.zh_returns.proofs.table_bytes.read_entries.Goals as goal
 
 pub returns-in-None-clause-refused : goal.returns-in-None-clause-refused
 returns-in-None-clause-refused c = λ _ other len limits spelled.
-    place_refused c.args.setup.now c.args.bytes.now other c.loop-place.place (omega arith) limits spelled c.in-None.ensures.refused
+    place_refused c.args.format c.args.setup.now c.args.bytes.now other c.loop-place.place (omega arith) limits spelled c.in-None.ensures.refused
 
 pub loop-place-preserved : goal.loop-place-preserved
 loop-place-preserved c =
@@ -15,5 +15,5 @@ loop-place-preserved c =
     let width : 16 * at + 16 - 16 * at ≡ 16 = omega arith in
     record {
       spelled = blocks_more entry_spelling 16 c.args.bytes.now c.loop-place.table at c.in-Some.held within c.loop-place.invariant.spelled (c.in-Some.ensures.read.1 ∙ ap (λ (n : ℕ). take n (drop (16 * at) c.args.bytes.now)) width);
-      held = held_more c.args.setup.now c.loop-place.table at c.in-Some.held within c.in-Some.ensures.read.0 c.loop-place.invariant.held;
+      held = held_more c.args.format c.args.setup.now c.loop-place.table at c.in-Some.held within c.in-Some.ensures.read.0 c.loop-place.invariant.held;
     }

@@ -8,5 +8,5 @@ use Rattle.zh_returns.proofs.table_bytes.read_entries.Given as goal
 abbrev pub invariant-loop-place : goal.invariant-loop-place
 invariant-loop-place l = record {
   spelled : take (16 * l.place) l.bytes ≡ flat_map entry_spelling (take l.place l.table);
-  held : (k : ℕ) → k < l.place → IfSome (get_or l.table k None) (IsHeldAt l.setup (key_of k));
+  held : (k : ℕ) → k < l.place → IfSome (get_or l.table k None) (IsHeldAt l.format l.setup (key_of k));
 }

@@ -6,7 +6,7 @@ use Rattle.std.specs.List.{All}
 use Rattle.zh_districts.specs.Canton.{Canton}
 use Rattle.zh_returns.specs.declared.entry.Entry.{Entry}
 use Rattle.zh_returns.specs.Limits.{IsTally}
-use Rattle.zh_returns.specs.Payload.{payload_spelling}
+use Rattle.zh_returns.specs.Payload.{IsPayload}
 use Rattle.zh_returns.specs.Tables.{entries_of, closed_of, tally_from}
 use Rattle.zh_returns.specs.Tally.{Tally, empty}
 use Rattle.zh_returns.proofs.EntryTableLemmas.{entries_of-absent}
@@ -48,8 +48,8 @@ returns-in-None-clause-empty c = λ _.
     ∙ ap (λ (t : Tally). empty t.canton) c.self.view_is
 
 pub returns-in-None-clause-refused : goal.returns-in-None-clause-refused
-returns-in-None-clause-refused c _ tally canton is spelled =
-    c.in-None.ensures.refused tally (canton ∙ sym (ap (λ (t : Tally). t.canton) c.self.view_is)) is spelled
+returns-in-None-clause-refused c _ format tally canton is spelled =
+    c.in-None.ensures.refused format tally (canton ∙ sym (ap (λ (t : Tally). t.canton) c.self.view_is)) is spelled
 
 pub read_tables-requires : goal.read_tables-requires
 read_tables-requires c = record {
@@ -66,12 +66,12 @@ read_for canton entries closed table flags accepted table_length flags_length =
 pub returns-in-Some-clause-limits : goal.returns-in-Some-clause-limits
 returns-in-Some-clause-limits c =
     let same = read_for c.self.inside.setup.now c.self.inside.entries c.self.inside.closed c.read_tables.new.entries c.read_tables.new.closed c.in-Some.accepted (c.read_tables.ensures.entries_length ∙ c.deref_mut.ensures.len) (c.read_tables.ensures.closed_length ∙ c.deref_mut-2.ensures.len) in
-    subst IsTally (sym same) c.in-Some.ensures.read.0
+    subst IsTally (sym same) c.in-Some.ensures.limits
 
 pub returns-in-Some-clause-read : goal.returns-in-Some-clause-read
 returns-in-Some-clause-read c = λ _.
-    ap payload_spelling (read_for c.self.inside.setup.now c.self.inside.entries c.self.inside.closed c.read_tables.new.entries c.read_tables.new.closed c.in-Some.accepted (c.read_tables.ensures.entries_length ∙ c.deref_mut.ensures.len) (c.read_tables.ensures.closed_length ∙ c.deref_mut-2.ensures.len))
-    ∙ c.in-Some.ensures.read.1
+    let same = read_for c.self.inside.setup.now c.self.inside.entries c.self.inside.closed c.read_tables.new.entries c.read_tables.new.closed c.in-Some.accepted (c.read_tables.ensures.entries_length ∙ c.deref_mut.ensures.len) (c.read_tables.ensures.closed_length ∙ c.deref_mut-2.ensures.len) in
+    (c.in-Some.ensures.read.0, subst (λ (t : Tally). IsPayload c.in-Some.ensures.read.0 t c.args.bytes.now) (sym same) c.in-Some.ensures.read.1)
 
 pub invariant_of-self : goal.invariant_of-self
 invariant_of-self c = grind (arith, common_steps)

@@ -1,0 +1,35 @@
+//! The formats of commands, and the first byte of each command.
+
+/// How commands are spelled. A command of format One names no desk; it is read, and no longer written.
+#[derive(Clone, Copy, Debug, PartialEq, Eq)]
+pub enum Format {
+    One,
+    Two,
+}
+
+/// The last desk that a command can name.
+pub const LAST_DESK: u8 = 8;
+
+/// The first byte of a return in format One.
+pub(crate) const RETURN_ONE: u8 = 1;
+
+/// The first byte of a withdrawal in format One.
+pub(crate) const WITHDRAW_ONE: u8 = 2;
+
+/// The first byte of a closing.
+pub(crate) const CLOSE: u8 = 3;
+
+/// The first byte of a reopening.
+pub(crate) const REOPEN: u8 = 4;
+
+/// The first byte of a batch in format One.
+pub(crate) const BATCH_ONE: u8 = 5;
+
+/// The first byte of a return in format Two.
+pub(crate) const RETURN_TWO: u8 = 6;
+
+/// The first byte of a withdrawal in format Two.
+pub(crate) const WITHDRAW_TWO: u8 = 7;
+
+/// The first byte of a batch in format Two.
+pub(crate) const BATCH_TWO: u8 = 8;
