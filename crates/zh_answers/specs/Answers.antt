@@ -21,7 +21,7 @@ use Rattle.zh_commands.specs.declared.lines.Line.{Line}
 use Rattle.zh_commands.specs.declared.lines.Request.{Request}
 use Rattle.zh_commands.specs.declared.lines.Request.TheVariants as requests
 use Rattle.zh_commands.specs.declared.replies.Reply.{Reply}
-use Rattle.zh_commands.specs.declared.replies.Reply.TheVariants.{Stored, Same, Held, Dropped, Nothing, Shows, ShowsWithdrawn, Refused}
+use Rattle.zh_commands.specs.declared.replies.Reply.TheVariants.{Stored, Same, Held, Dropped, Nothing, Shows, ShowsWithdrawn, LastDesk, Refused}
 use Rattle.zh_commands.specs.declared.replies.Refusal.{Refusal}
 use Rattle.zh_commands.specs.declared.replies.Refusal.TheVariants as refusals
 use Rattle.zh_answers.specs.Sheets.{MayGive, MayAnswerFinal}
@@ -48,6 +48,11 @@ abbrev pub shown : Option Entry → Reply
 shown None = Nothing
 shown (Some entry) = shown_content entry.number entry.votes
 
+-- the desk that set an entry
+abbrev pub last_desk : Option Entry → Reply
+last_desk None = Nothing
+last_desk (Some entry) = LastDesk entry.desk
+
 -- the name under which a list that has no place is refused
 abbrev pub place_refusal : Misplaced → Refusal
 place_refusal places.Municipality = refusals.Municipality
@@ -60,6 +65,9 @@ unless_misplaced None reply = reply
 
 abbrev pub answer_to_show : Tally → ℕ → ℕ → Reply
 answer_to_show tally municipality list = unless_misplaced (misplaced tally.canton municipality list) (shown (held tally municipality list))
+
+abbrev pub answer_to_last : Tally → ℕ → ℕ → Reply
+answer_to_last tally municipality list = unless_misplaced (misplaced tally.canton municipality list) (last_desk (held tally municipality list))
 
 -- the answer to the opening of a batch
 abbrev pub answer_to_open : Option (List Row) → Reply
@@ -108,6 +116,7 @@ MayReplyTo tally batches desk (requests.Row row) reply = MayAnswerRow tally (row
 MayReplyTo tally batches desk requests.Commit reply = reply ≡ answer_to_commit (rows_of batches desk)
 MayReplyTo tally batches desk requests.Drop reply = reply ≡ answer_to_drop (rows_of batches desk)
 MayReplyTo tally batches desk (requests.Show municipality list) reply = reply ≡ answer_to_show tally municipality list
+MayReplyTo tally batches desk (requests.Last municipality list) reply = reply ≡ answer_to_last tally municipality list
 MayReplyTo tally batches desk request reply = ⊥
 
 -- the same of all answers: a sheet is given for a line of sheets alone
@@ -117,16 +126,16 @@ MayAnswerTo tally batches desk requests.Final answer = MayAnswerFinal tally answ
 MayAnswerTo tally batches desk request (answers.Reply reply) = MayReplyTo tally batches desk request reply
 MayAnswerTo tally batches desk request (answers.Sheet sheet is_final) = ⊥
 
--- the command that a commit gives
-abbrev pub batch_of : Option (List Row) → Option Command
-batch_of None = None
-batch_of (Some []) = None
-batch_of (Some (row ∷ rows)) = Some (commands.Batch (row ∷ rows))
+-- the command that a commit of a desk gives
+abbrev pub batch_of : ℕ → Option (List Row) → Option Command
+batch_of desk None = None
+batch_of desk (Some []) = None
+batch_of desk (Some (row ∷ rows)) = Some (commands.Batch desk (row ∷ rows))
 
 -- the command that a line of a desk that holds these rows gives
-abbrev pub command_of : Option (List Row) → Request → Option Command
-command_of rows requests.Commit = batch_of rows
-command_of rows request = own_command request
+abbrev pub command_of : ℕ → Option (List Row) → Request → Option Command
+command_of desk rows requests.Commit = batch_of desk rows
+command_of desk rows request = own_command desk request
 
 -- the batch of a desk after a line of it that was answered so
 abbrev pub batch_after : Option (List Row) → Request → Reply → Option (List Row)

@@ -3,7 +3,7 @@
 ghost use Rattle.std.specs.Prelude.{◌≡◌, IfNone};
 ghost use Rattle.zh_records.specs.Rows.{FitsRow};
 ghost use Rattle.zh_districts.specs.Misplaced.{misplaced};
-ghost use Rattle.zh_answers.specs.Answers.{refusal_of, shown, place_refusal, answer_to_show, row_refusal, refusal_by};
+ghost use Rattle.zh_answers.specs.Answers.{refusal_of, shown, last_desk, place_refusal, answer_to_show, answer_to_last, row_refusal, refusal_by};
 
 use zh_commands::{Refusal, Reply};
 use zh_desks::RowFault;
@@ -45,14 +45,25 @@ fn shown(entry: Option<Entry>) -> Reply
             Entry {
                 number,
                 votes: Some(votes),
+                ..
             },
         ) => Reply::Shows(number, votes),
         Some(
             Entry {
                 number,
                 votes: None,
+                ..
             },
         ) => Reply::ShowsWithdrawn(number),
+    }
+}
+
+fn last_desk(entry: Option<Entry>) -> Reply
+    ensures { result ≡ last_desk entry }
+{
+    match entry {
+        None => Reply::Nothing,
+        Some(entry) => Reply::LastDesk(entry.desk),
     }
 }
 
@@ -74,6 +85,16 @@ pub(crate) fn answer_to_show(count: &Count<'_>, municipality: u32, list: u32) ->
         Some(place) => Reply::Refused(place_refusal(place)),
         None => shown(count.entry(municipality, list)),
     }
+}
+
+/// The desk that set what is held of a list in a municipality.
+pub(crate) fn answer_to_last(count: &Count<'_>, municipality: u32, list: u32) -> Reply
+    ensures { result ≡ answer_to_last count.now municipality list }
+{
+    if let Some(place) = count.setup().misplaced(municipality, list) {
+        return Reply::Refused(place_refusal(place));
+    }
+    last_desk(count.entry(municipality, list))
 }
 
 /// Why a row is refused whatever the batch holds, if it is: the first that applies.

@@ -8,7 +8,7 @@ ghost use Rattle.zh_commands.specs.declared.lines.Request.TheVariants as request
 ghost use Rattle.zh_desks.specs.Batches.{rows_of, with_batch};
 ghost use Rattle.zh_totals.specs.Counting.{totals_of};
 
-use crate::answer::{Answer, answer_to_show, refusal_by, row_refusal};
+use crate::answer::{Answer, answer_to_last, answer_to_show, refusal_by, row_refusal};
 use crate::sheets::{answer_to_final, answer_with_sheet};
 use std::alloc::Global;
 use zh_commands::{Line, Refusal, Reply, Request};
@@ -26,7 +26,7 @@ pub fn answer_without_command<'s>(
     line: Line,
 ) -> Answer<'s>
     requires line { IsLine line }
-    requires none { own_command line.request ≡ None }
+    requires none { own_command line.desk line.request ≡ None }
     requires no_commit { line.request ≢ requests.Commit }
     requires totals { totals.now ≡ totals_of count.now }
     ensures answer { MayAnswerTo count.now desks.old line.desk line.request result }
@@ -39,6 +39,9 @@ pub fn answer_without_command<'s>(
         Request::Drop => Answer::Reply(drop_batch(desks, desk)),
         Request::Show { municipality, list } => {
             Answer::Reply(answer_to_show(count, municipality, list))
+        }
+        Request::Last { municipality, list } => {
+            Answer::Reply(answer_to_last(count, municipality, list))
         }
         Request::Sheet => answer_with_sheet(alloc, totals, false),
         Request::Final => answer_to_final(alloc, count, totals),

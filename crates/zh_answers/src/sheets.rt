@@ -1,6 +1,6 @@
 //! Answers to the lines of sheets.
 
-ghost use Rattle.std.specs.Prelude.{◌≡◌, false, MatchOption};
+ghost use Rattle.std.specs.Prelude.{◌≡◌, MatchOption};
 ghost use Rattle.zh_totals.specs.Counting.{totals_of};
 ghost use Rattle.zh_answers.specs.Sheets.{sheet_refusal, MayGiveFor, MayAnswerFinal, AreClosed, IsFirstOpen};
 

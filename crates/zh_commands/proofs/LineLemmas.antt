@@ -1,17 +1,15 @@
 -- A line has one spelling, of at most 120 bytes, and a text is read in one way.
-use Rattle.std.proofs.Common.{◌≡◌, ℕ, ◌<◌, ◌≤◌, ◌^◌, ◌+◌, ◌*◌, List, [], ◌∷◌, ◌++◌, length, drop, decimal, sym, ap, ◌∙◌, refl, arith, length-append, subst, rules, tests, Result, Ok, Err}
-use Rattle.std.specs.List.{AllByRecursion}
+use Rattle.std.proofs.Common.{◌≡◌, ℕ, ◌≤◌, ◌+◌, ◌*◌, List, [], ◌∷◌, ◌++◌, length, drop, decimal, sym, ap, ◌∙◌, refl, arith, length-append, subst, rules, tests, Result, Ok, Err}
 use Rattle.std.proofs.lemmas.Fmt.{decimal_injective, decimal_digit, length-decimal-le}
-use Rattle.std.proofs.lemmas.List.Elements.{recursion_from_All}
 use Rattle.zh_commands.specs.declared.lines.Request.{Request}
 use Rattle.zh_commands.specs.declared.lines.Request.TheVariants as requests
 use Rattle.zh_commands.specs.declared.lines.Line.{Line}
 use Rattle.zh_commands.specs.declared.lines.LineFault.{LineFault}
 use Rattle.zh_commands.specs.declared.lines.LineFault.TheVariants.{Syntax, Desk}
-use Rattle.zh_commands.specs.Words.{first_word, numerals}
+use Rattle.zh_commands.specs.Words.{first_word, numerals, AreNumerals}
 use Rattle.zh_commands.specs.Lines.{request_text, word_of, numbers_of, spelling, IsDesk, IsRequest, IsLine, NamesNoDesk, ParsesAs, desk_of}
 use Rattle.zh_commands.proofs.SplitLemmas.{IsWord-decimal, first_word-append, split_is}
-use Rattle.zh_commands.proofs.RequestLemmas.{AreNumerals-numbers_of, request_text-parts, request_injective}
+use Rattle.zh_commands.proofs.RequestLemmas.{request_injective}
 
 -- a text that is split at its first space, where it spells a line
 pub split_spelling : (bytes first left : List ℕ) (line : Line) → first ≡ first_word bytes → bytes ≡ first ++ left → IsLine line → bytes ≡ spelling line → (first ≡ decimal line.desk) × (left ≡ 32 ∷ request_text line.request)
@@ -25,30 +23,21 @@ NamesDesk bytes first desk is named word (_, (n, small, other, e)) =
     other (omega (arith, same, named.0), omega (arith, same, named.1))
 
 -- a numeral has at most ten digits
-numerals-short : (ns : List ℕ) → AllByRecursion (λ n. n < 2 ^ 32) ns → length (numerals ns) ≤ 11 * length ns
+numerals-short : (ns : List ℕ) → AreNumerals ns → length (numerals ns) ≤ 11 * length ns
 numerals-short [] all = omega arith
 numerals-short (n ∷ ns) all =
     let digits = length-decimal-le 10 n (omega arith) (omega (arith, all.0)) (omega (arith, all.0)) in
     omega (arith, digits, numerals-short ns all.1, length-append (decimal n) (numerals ns))
 
 length-word_of : (request : Request) → (length (word_of request) ≤ 10) × (length (numbers_of request) ≤ 4)
-length-word_of (requests.Return row) = (omega arith, omega arith)
-length-word_of (requests.Withdraw m l n) = (omega arith, omega arith)
-length-word_of (requests.Close m) = (omega arith, omega arith)
-length-word_of (requests.Reopen m) = (omega arith, omega arith)
 length-word_of requests.Open = (omega arith, omega arith)
-length-word_of (requests.Row row) = (omega arith, omega arith)
-length-word_of requests.Commit = (omega arith, omega arith)
-length-word_of requests.Drop = (omega arith, omega arith)
-length-word_of (requests.Show m l) = (omega arith, omega arith)
-length-word_of requests.Sheet = (omega arith, omega arith)
-length-word_of requests.Final = (omega arith, omega arith)
+length-word_of request = (omega arith, omega arith)
 
 length-request_text : (request : Request) → IsRequest request → length (request_text request) ≤ 54
 length-request_text request is =
-    let short = numerals-short (numbers_of request) (recursion_from_All (λ n. n < 2 ^ 32) (numbers_of request) (AreNumerals-numbers_of request is)) in
+    let short = numerals-short (numbers_of request) is.0 in
     let (word, numbers) = length-word_of request in
-    omega (arith, short, word, numbers, ap length (request_text-parts request), length-append (word_of request) (numerals (numbers_of request)))
+    omega (arith, short, word, numbers, length-append (word_of request) (numerals (numbers_of request)))
 
 -- a line's spelling is short enough to be read
 pub length-spelling : (line : Line) → IsLine line → length (spelling line) ≤ 120

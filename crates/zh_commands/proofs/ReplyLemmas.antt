@@ -8,7 +8,7 @@ use Rattle.std.proofs.lemmas.List.{append_cancel_right}
 use Rattle.std.proofs.lemmas.Bool.{le-ltb}
 use Rattle.std.proofs.lemmas.Str.Parse.{digit_at}
 use Rattle.zh_commands.specs.declared.replies.Reply.{Reply}
-use Rattle.zh_commands.specs.declared.replies.Reply.TheVariants.{Stored, Same, Held, Dropped, Nothing, Shows, ShowsWithdrawn, Refused}
+use Rattle.zh_commands.specs.declared.replies.Reply.TheVariants.{Stored, Same, Held, Dropped, Nothing, Shows, ShowsWithdrawn, LastDesk, Refused}
 use Rattle.zh_commands.specs.declared.replies.Refusal.{Refusal}
 use Rattle.zh_commands.specs.declared.replies.Refusal.TheVariants as refusals
 use Rattle.zh_commands.specs.Words.{first_word}
@@ -57,6 +57,7 @@ answer_words (Dropped rows) = codes "dropped" ∷ decimal rows ∷ []
 answer_words Nothing = codes "none" ∷ []
 answer_words (Shows number votes) = codes "shows" ∷ decimal number ∷ decimal votes ∷ []
 answer_words (ShowsWithdrawn number) = codes "shows" ∷ decimal number ∷ codes "withdrawn" ∷ []
+answer_words (LastDesk desk) = codes "last" ∷ decimal desk ∷ []
 answer_words (Refused refusal) = codes "refused" ∷ name_words refusal
 
 -- a numeral's number
@@ -100,8 +101,9 @@ reply_from words =
     (cond (bytes_eq word (codes "held")) (Held number)
     (cond (bytes_eq word (codes "dropped")) (Dropped number)
     (cond (bytes_eq word (codes "none")) Nothing
+    (cond (bytes_eq word (codes "last")) (LastDesk number)
     (cond (bytes_eq word (codes "refused")) (Refused (refusal_from (drop 1 words)))
-    (cond (ltb 57 (get_or last 0 0)) (ShowsWithdrawn number) (Shows number (number_of last))))))))
+    (cond (ltb 57 (get_or last 0 0)) (ShowsWithdrawn number) (Shows number (number_of last)))))))))
 
 -- what the words of a refusal are
 record IsNamed (refusal : Refusal) : Type 0 where
@@ -193,6 +195,11 @@ phrased (ShowsWithdrawn n) is = record {
   spelled = simp (append_assoc, append-nil);
   words = (refl, (IsWord-decimal n (omega (arith, is)), (refl, tt)));
   back = ap ShowsWithdrawn (number_of-decimal n (omega (arith, is)));
+}
+phrased (LastDesk d) is = record {
+  spelled = simp append-nil;
+  words = (refl, (IsWord-decimal d (omega (arith, is)), tt));
+  back = ap LastDesk (number_of-decimal d (omega (arith, is)));
 }
 phrased (Refused refusal) is =
     let of = named refusal is in

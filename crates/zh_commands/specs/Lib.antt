@@ -1,4 +1,5 @@
 pub mod Words
+pub mod Forms
 pub mod Lines
 pub mod Commands
 pub mod Replies

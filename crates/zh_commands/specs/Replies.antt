@@ -1,7 +1,7 @@
 -- The replies to the desks as bytes: 32 is the space, 10 the end of a line.
 use Rattle.std.specs.Prelude.{ℕ, ◌^◌, ◌<◌, List, [], ◌∷◌, ◌++◌, codes, decimal}
 use Rattle.zh_commands.specs.declared.replies.Reply.{Reply}
-use Rattle.zh_commands.specs.declared.replies.Reply.TheVariants.{Stored, Same, Held, Dropped, Nothing, Shows, ShowsWithdrawn, Refused}
+use Rattle.zh_commands.specs.declared.replies.Reply.TheVariants.{Stored, Same, Held, Dropped, Nothing, Shows, ShowsWithdrawn, LastDesk, Refused}
 use Rattle.zh_commands.specs.declared.replies.Refusal.{Refusal}
 use Rattle.zh_commands.specs.declared.replies.Refusal.TheVariants as refusals
 
@@ -52,6 +52,7 @@ answer (Dropped rows) = codes "dropped " ++ decimal rows
 answer Nothing = codes "none"
 answer (Shows number votes) = codes "shows " ++ decimal number ++ 32 ∷ decimal votes
 answer (ShowsWithdrawn number) = codes "shows " ++ decimal number ++ codes " withdrawn"
+answer (LastDesk desk) = codes "last " ++ decimal desk
 answer (Refused refusal) = codes "refused " ++ name refusal
 
 -- the bytes of a reply: the desk, a space, the answer, the end of the line
@@ -72,6 +73,7 @@ IsReply (Held rows) = rows < 2 ^ 32
 IsReply (Dropped rows) = rows < 2 ^ 32
 IsReply (Shows number votes) = (number < 2 ^ 32) × (votes < 2 ^ 32)
 IsReply (ShowsWithdrawn number) = number < 2 ^ 32
+IsReply (LastDesk desk) = desk < 2 ^ 8
 IsReply (Refused refusal) = IsRefusal refusal
 IsReply Same = Unit {0}
 IsReply Nothing = Unit {0}

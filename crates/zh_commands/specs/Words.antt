@@ -1,6 +1,6 @@
 -- The words of a line, separated by one space each, 32.
-use Rattle.std.specs.Prelude.{◌==◌, ◌^◌, ◌<◌, ℕ, List, [], ◌∷◌, ◌++◌, decimal, All}
-use Rattle.std.specs.List.{before_first}
+use Rattle.std.specs.Prelude.{◌==◌, ◌^◌, ◌<◌, ℕ, List, [], ◌∷◌, ◌++◌, decimal}
+use Rattle.std.specs.List.{AllByRecursion, before_first}
 
 -- the bytes up to the first space, or all of them
 abbrev pub first_word : List ℕ → List ℕ
@@ -8,7 +8,7 @@ first_word bytes = before_first (λ byte. byte == 32) bytes
 
 -- the numbers have numerals of 32 bits
 abbrev pub AreNumerals : List ℕ → Type 0
-AreNumerals numbers = All (λ n. n < 2 ^ 32) numbers
+AreNumerals numbers = AllByRecursion (λ n. n < 2 ^ 32) numbers
 
 -- the numerals, a space before each
 abbrev pub numerals : List ℕ → List ℕ

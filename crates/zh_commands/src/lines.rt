@@ -1,7 +1,7 @@
 ghost use Rattle.std.specs.Prelude.{◌≡◌, IfSome};
 ghost use Rattle.zh_records.specs.Spelling.{HasNumbers};
 ghost use Rattle.zh_commands.specs.Commands.{own_command};
-ghost use Rattle.zh_commands.specs.Lines.{IsRequest};
+ghost use Rattle.zh_commands.specs.Lines.{IsLine};
 
 use thiserror::Error;
 use zh_records::{Command, Row};
@@ -47,39 +47,40 @@ pub enum Request {
         municipality: u32,
         list: u32,
     },
+    /// `last M L`: the desk that set what is held for a list in a municipality.
+    Last {
+        municipality: u32,
+        list: u32,
+    },
     /// `sheet`: the seats by what is held.
     Sheet,
     /// `final`: the same, where every municipality is closed.
     Final,
 }
 
-impl Request {
-    /// The command that a line gives by itself. The command of a `commit` has the rows that its desk holds, and is not
-    /// given here.
+impl Line {
+    /// The command that a line gives by itself, with its desk. The command of a `commit` has the rows that its desk holds,
+    /// and is not given here.
     pub fn command(self) -> Option<Command<'static>>
-        ensures command { result ≡ own_command self }
-        ensures numbers { IsRequest self → IfSome result HasNumbers }
+        ensures command { result ≡ own_command self.desk self.request }
+        ensures numbers { IsLine self → IfSome result HasNumbers }
     {
-        match self {
-            Request::Return(row) => Some(Command::Return(row)),
+        let desk = self.desk;
+        match self.request {
+            Request::Return(row) => Some(Command::Return { desk, row }),
             Request::Withdraw {
                 municipality,
                 list,
                 number,
             } => Some(Command::Withdraw {
+                desk,
                 municipality,
                 list,
                 number,
             }),
             Request::Close { municipality } => Some(Command::Close { municipality }),
             Request::Reopen { municipality } => Some(Command::Reopen { municipality }),
-            Request::Open
-            | Request::Row(_)
-            | Request::Commit
-            | Request::Drop
-            | Request::Show { .. }
-            | Request::Sheet
-            | Request::Final => None,
+            _ => None,
         }
     }
 }

@@ -64,7 +64,7 @@ fn request_of(text: &[u8]) -> Option<Request>
 // The request that is this word, with no number after it.
 fn lone_request(word: &str) -> Option<Request>
     ensures { MatchOption result ((request : Request) → numbers_of request ≡ [] → word.now ≢ word_of request)
-        (λ request. (numbers_of request ≡ []) × (word.now ≡ word_of request)) }
+        (λ request. IsRequest request × (numbers_of request ≡ []) × (word.now ≡ word_of request)) }
 {
     match word {
         "open" => Some(Request::Open),
@@ -104,6 +104,10 @@ fn numbered_request(word: &str, text: &[u8]) -> Option<Request>
         "show" => {
             let [municipality, list] = numbers::<2>(text)?;
             Some(Request::Show { municipality, list })
+        }
+        "last" => {
+            let [municipality, list] = numbers::<2>(text)?;
+            Some(Request::Last { municipality, list })
         }
         _ => None,
     }

@@ -15,6 +15,8 @@ pub enum Reply {
     Shows(u32, u32),
     /// The replacement number of a withdrawal.
     ShowsWithdrawn(u32),
+    /// The desk that set what is held, 1 to 8, or 0 if that is not known: it was loaded, or stored before desks were.
+    LastDesk(u8),
     /// Nothing was changed, for this reason.
     Refused(Refusal),
 }

@@ -42,6 +42,7 @@ fn push_answer(text: &mut Text, reply: &Reply)
             text.push_numbered(b"shows ", *number);
             text.push(b" withdrawn");
         }
+        Reply::LastDesk(desk) => text.push_numbered(b"last ", u32::from(*desk)),
         Reply::Refused(refusal) => {
             text.push(b"refused ");
             push_name(text, refusal);

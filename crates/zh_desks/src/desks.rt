@@ -12,10 +12,10 @@ use crate::batch::Batch;
 use crate::fault::RowFault;
 use std::alloc::{AllocError, Global};
 use std::marker::Model;
-use zh_records::Row;
+use zh_records::{LAST_DESK, Row};
 
 /// How many desks there are.
-const DESKS: usize = 8;
+const DESKS: usize = LAST_DESK as usize;
 
 /// Of each desk its batch, if it has one. Desks are numbered from 1 to 8.
 #[derive(Drop)]
@@ -44,7 +44,7 @@ impl Desks {
     /// The batch of a desk.
     pub fn batch(&self, desk: u8) -> Option<&Batch>
         requires from_one { 1 ≤ desk }
-        requires there { desk ≤ 8 }
+        requires there { desk ≤ LAST_DESK }
         ensures { option_copied result ≡ rows_of self.now desk }
     {
         self.batches[desk as usize - 1].as_ref()
@@ -53,7 +53,7 @@ impl Desks {
     /// Gives a desk a batch without rows. It takes no memory.
     pub fn open(&mut self, desk: u8, alloc: Global)
         requires from_one { 1 ≤ desk }
-        requires there { desk ≤ 8 }
+        requires there { desk ≤ LAST_DESK }
         ensures { self.new ≡ with_batch self.old desk (Some []) }
     {
         self.batches[desk as usize - 1] = Some(Batch::new(alloc));
@@ -62,7 +62,7 @@ impl Desks {
     /// Ends a desk's batch, if it has one.
     pub fn close(&mut self, desk: u8)
         requires from_one { 1 ≤ desk }
-        requires there { desk ≤ 8 }
+        requires there { desk ≤ LAST_DESK }
         ensures { self.new ≡ with_batch self.old desk None }
     {
         self.batches[desk as usize - 1] = None;
@@ -72,7 +72,7 @@ impl Desks {
     /// Where memory is refused all batches are as before.
     pub fn push(&mut self, desk: u8, row: Row) -> Result<(), AllocError>
         requires from_one { 1 ≤ desk }
-        requires there { desk ≤ 8 }
+        requires there { desk ≤ LAST_DESK }
         requires open { is_some (rows_of self.old desk) ≡ true }
         requires few { IfSome (rows_of self.old desk) (λ rows. length rows < most_rows) }
         requires new { IfSome (rows_of self.old desk) (λ rows. has_key rows (row_key row) ≡ false) }
@@ -90,7 +90,7 @@ impl Desks {
     /// before.
     pub fn hold(&mut self, desk: u8, row: Row) -> Result<usize, RowFault>
         requires from_one { 1 ≤ desk }
-        requires there { desk ≤ 8 }
+        requires there { desk ≤ LAST_DESK }
         requires speakable { IsSpeakableRow row }
         ensures count { (rows : List Row) → rows_of self.old desk ≡ Some rows → IfOk result (λ count. count ≡ length rows + 1) }
         ensures held { (rows : List Row) → rows_of self.old desk ≡ Some rows → OnOk result (self.new ≡ with_batch self.old desk (Some (rows ++ row ∷ []))) }

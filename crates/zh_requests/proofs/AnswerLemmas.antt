@@ -1,5 +1,5 @@
 -- What is answered to a line that gives no command, and to one that gives a command by itself.
-use Rattle.std.proofs.Common.{◌≡◌, ◌≢◌, List, Bool, false, Option, Some, None, refl, sym, subst, ap, rules}
+use Rattle.std.proofs.Common.{◌≡◌, ◌≢◌, ℕ, List, Bool, false, Option, Some, None, refl, sym, subst, ap, rules}
 use Rattle.std.proofs.lemmas.List.{set-get_or}
 use Rattle.zh_records.specs.declared.row.Row.{Row}
 use Rattle.zh_records.specs.declared.command.Command.{Command}
@@ -21,47 +21,29 @@ use Rattle.zh_answers.specs.declared.answer.Answer.TheVariants as answers
 use Rattle.zh_requests.specs.Requests.{Acts, MayAnswerWhere, UnlessStored, reply_to}
 
 -- a line that gives a command by itself is no commit
-own_is : (rows : Option (List Row)) (request : Request) (command : Command) → Some command ≡ own_command request → Some command ≡ command_of rows request
-own_is rows requests.Commit command e = cc
-own_is rows (requests.Return row) command e = e
-own_is rows (requests.Withdraw municipality list number) command e = e
-own_is rows (requests.Close municipality) command e = e
-own_is rows (requests.Reopen municipality) command e = e
-own_is rows requests.Open command e = cc
-own_is rows (requests.Row row) command e = cc
-own_is rows requests.Drop command e = cc
-own_is rows (requests.Show municipality list) command e = cc
-own_is rows requests.Sheet command e = cc
-own_is rows requests.Final command e = cc
+own_is : (desk : ℕ) (rows : Option (List Row)) (request : Request) (command : Command) → Some command ≡ own_command desk request → Some command ≡ command_of desk rows request
+own_is desk rows requests.Commit command e = cc
+own_is desk rows request command e = e
 
 -- it is answered as its command is
-pub own_acts : (honest : Type 0) (old : ledger.OnDisk) (rows : Option (List Row)) (request : Request) (command : Command) (May : Answer → Type 0) (reply : Reply) (new : ledger.OnDisk)
-    → Some command ≡ own_command request
+pub own_acts : (honest : Type 0) (old : ledger.OnDisk) (desk : ℕ) (rows : Option (List Row)) (request : Request) (command : Command) (May : Answer → Type 0) (reply : Reply) (new : ledger.OnDisk)
+    → Some command ≡ own_command desk request
     → (outcome : Outcome) × Submission honest old command outcome new × (reply ≡ reply_to outcome)
-    → Acts honest old (command_of rows request) May (answers.Reply reply) new
-own_acts honest old rows request command May reply new own reported =
-    subst (λ (given : Option Command). Acts honest old given May (answers.Reply reply) new) (own_is rows request command own)
+    → Acts honest old (command_of desk rows request) May (answers.Reply reply) new
+own_acts honest old desk rows request command May reply new own reported =
+    subst (λ (given : Option Command). Acts honest old given May (answers.Reply reply) new) (own_is desk rows request command own)
     (reported.0, reported.1, ap answers.Reply reported.2)
 
-none_is : (rows : Option (List Row)) (request : Request) → own_command request ≡ None → request ≢ requests.Commit → None ≡ command_of rows request
-none_is rows requests.Commit e other = absurd (other refl)
-none_is rows (requests.Return row) e other = cc
-none_is rows (requests.Withdraw municipality list number) e other = cc
-none_is rows (requests.Close municipality) e other = cc
-none_is rows (requests.Reopen municipality) e other = cc
-none_is rows requests.Open e other = refl
-none_is rows (requests.Row row) e other = refl
-none_is rows requests.Drop e other = refl
-none_is rows (requests.Show municipality list) e other = refl
-none_is rows requests.Sheet e other = refl
-none_is rows requests.Final e other = refl
+none_is : (desk : ℕ) (rows : Option (List Row)) (request : Request) → own_command desk request ≡ None → request ≢ requests.Commit → None ≡ command_of desk rows request
+none_is desk rows requests.Commit e other = absurd (other refl)
+none_is desk rows request e other = sym e
 
 -- a line without a command is answered from memory, and nothing changes
 pub quiet_acts : (honest : Type 0) (old : ledger.OnDisk) (rows : Option (List Row)) (tally count : Tally) (held : Held) (line : Line) (answer : Answer)
-    → old.ledger.store.broken ≡ false → count ≡ tally → own_command line.request ≡ None → line.request ≢ requests.Commit → MayAnswerTo count held line.desk line.request answer
-    → Acts honest old (command_of rows line.request) (MayAnswerWhere old.ledger.store.broken tally held line) answer old
+    → old.ledger.store.broken ≡ false → count ≡ tally → own_command line.desk line.request ≡ None → line.request ≢ requests.Commit → MayAnswerTo count held line.desk line.request answer
+    → Acts honest old (command_of line.desk rows line.request) (MayAnswerWhere old.ledger.store.broken tally held line) answer old
 quiet_acts honest old rows tally count held line answer broken counted own other may =
-    subst (λ (given : Option Command). Acts honest old given (MayAnswerWhere old.ledger.store.broken tally held line) answer old) (none_is rows line.request own other) (
+    subst (λ (given : Option Command). Acts honest old given (MayAnswerWhere old.ledger.store.broken tally held line) answer old) (none_is line.desk rows line.request own other) (
       subst (λ (b : Bool). MayAnswerWhere b tally held line answer) (sym broken)
           (subst (λ (t : Tally). MayAnswerTo t held line.desk line.request answer) counted may),
       refl,
@@ -72,45 +54,26 @@ pub quiet_disk : {D : Type 0} (answer : Answer) (disk : D) → UnlessStored answ
 quiet_disk answer disk = search rules
 
 refused_batch : (rows : Option (List Row)) (request : Request) (refusal : Refusal) → batch_after rows request (Refused refusal) ≡ rows
-refused_batch rows (requests.Return row) refusal = refl
-refused_batch rows (requests.Withdraw municipality list number) refusal = refl
-refused_batch rows (requests.Close municipality) refusal = refl
-refused_batch rows (requests.Reopen municipality) refusal = refl
-refused_batch rows requests.Open refusal = refl
-refused_batch None (requests.Row row) refusal = refl
-refused_batch (Some rows) (requests.Row row) refusal = refl
-refused_batch rows requests.Commit refusal = refl
-refused_batch rows requests.Drop refusal = refl
-refused_batch rows (requests.Show municipality list) refusal = refl
-refused_batch rows requests.Sheet refusal = refl
-refused_batch rows requests.Final refusal = refl
+refused_batch None requests.Open refusal = refl
+refused_batch (Some rows) requests.Open refusal = refl
+refused_batch rows request refusal = refl
 
 -- a refusal leaves the batches
 pub refused_held : (held : Held) (line : Line) (refusal : Refusal) → held ≡ held_after held line (answers.Reply (Refused refusal))
 refused_held held line refusal = rw refused_batch (sym (set-get_or _ _ _))
 
-own_batch : (rows : Option (List Row)) (request : Request) (command : Command) (reply : Reply) → Some command ≡ own_command request → batch_after rows request reply ≡ rows
-own_batch rows requests.Commit command reply e = cc
-own_batch rows (requests.Return row) command reply e = refl
-own_batch rows (requests.Withdraw municipality list number) command reply e = refl
-own_batch rows (requests.Close municipality) command reply e = refl
-own_batch rows (requests.Reopen municipality) command reply e = refl
-own_batch rows requests.Open command reply e = cc
-own_batch rows (requests.Row row) command reply e = cc
-own_batch rows requests.Drop command reply e = cc
-own_batch rows (requests.Show municipality list) command reply e = cc
-own_batch rows requests.Sheet command reply e = cc
-own_batch rows requests.Final command reply e = cc
+own_batch : (desk : ℕ) (rows : Option (List Row)) (request : Request) (command : Command) (reply : Reply) → Some command ≡ own_command desk request → batch_after rows request reply ≡ rows
+own_batch desk rows requests.Open command reply e = cc
+own_batch desk rows request command reply e = cc
 
 -- so does a command
-pub own_held : (held : Held) (line : Line) (command : Command) (reply : Reply) → Some command ≡ own_command line.request → held ≡ held_after held line (answers.Reply reply)
-own_held held line command reply own = rw (own_batch _ line.request command reply own) (sym (set-get_or _ _ _))
+pub own_held : (held : Held) (line : Line) (command : Command) (reply : Reply) → Some command ≡ own_command line.desk line.request → held ≡ held_after held line (answers.Reply reply)
+own_held held line command reply own = rw (own_batch line.desk _ line.request command reply own) (sym (set-get_or _ _ _))
 
--- a commit is answered so while the disk need not be opened again
+-- a commit is answered so
 pub commit_acts : (honest : Type 0) (old : ledger.OnDisk) (tally : Tally) (held : Held) (line : Line) (answer : Answer) (new : ledger.OnDisk)
-    → old.ledger.store.broken ≡ false → line.request ≡ requests.Commit
-    → Acts honest old (batch_of (rows_of held line.desk)) (MayAnswerTo tally held line.desk requests.Commit) answer new
-    → Acts honest old (command_of (rows_of held line.desk) line.request) (MayAnswerWhere old.ledger.store.broken tally held line) answer new
-commit_acts honest old tally held line answer new broken commit acts =
-    subst (λ (b : Bool). Acts honest old (command_of (rows_of held line.desk) line.request) (MayAnswerWhere b tally held line) answer new) (sym broken)
-    (subst (λ (request : Request). Acts honest old (command_of (rows_of held line.desk) request) (MayAnswerTo tally held line.desk request) answer new) (sym commit) acts)
+    → line.request ≡ requests.Commit
+    → Acts honest old (batch_of line.desk (rows_of held line.desk)) (MayAnswerWhere old.ledger.store.broken tally held (record { desk = line.desk; request = requests.Commit })) answer new
+    → Acts honest old (command_of line.desk (rows_of held line.desk) line.request) (MayAnswerWhere old.ledger.store.broken tally held line) answer new
+commit_acts honest old tally held line answer new commit acts =
+    subst (λ (request : Request). Acts honest old (command_of line.desk (rows_of held line.desk) request) (MayAnswerWhere old.ledger.store.broken tally held (record { desk = line.desk; request = request })) answer new) (sym commit) acts

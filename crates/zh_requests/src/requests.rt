@@ -4,7 +4,7 @@ ghost use Rattle.std.specs.Prelude.{◌≡◌, ◌≤◌, length};
 ghost use Rattle.zh_records.specs.Rows.{rows_length};
 ghost use Rattle.zh_records.specs.declared.command.Command.TheVariants as commands;
 ghost use Rattle.zh_records.specs.Spelling.{HasNumbers};
-ghost use Rattle.zh_answers.specs.Answers.{MayAnswerTo, batch_of, batch_after, command_of, held_after};
+ghost use Rattle.zh_answers.specs.Answers.{batch_of, batch_after, command_of, held_after};
 ghost use Rattle.zh_answers.specs.declared.answer.Answer.TheVariants as answers;
 ghost use Rattle.zh_commands.specs.Lines.{IsLine};
 ghost use Rattle.zh_desks.specs.Batches.{rows_of, with_batch};
@@ -34,23 +34,26 @@ fn submit<D: Disk>(ledger: &mut Ledger<'_>, disk: &mut D, command: &Command<'_>)
     reply_to(ledger.submit(disk, command))
 }
 
-/// Submits the rows of a batch, of which there is one at least, as one command, and reports its outcome.
+/// Submits the rows of a desk's batch, of which there is one at least, as one command, and reports its outcome. Desk 0
+/// stands for a batch that no desk holds.
 pub fn submit_batch<D: Disk>(
     ledger: &mut Ledger<'_>,
     disk: &mut D,
+    desk: u8,
     batch: &Batch,
     bytes: &mut [u8],
 ) -> Reply
+    requires desk { desk ≤ 8 }
     requires some { 1 ≤ length batch.now }
     requires room { rows_length ≤ length bytes.old }
     ensures kept { D.honest disk.new → D.honest disk.old }
 
-    ensures reported { (outcome : Outcome) × Submission (D.honest disk.new) (on_disk ledger.old (D.failures disk.old) (D.trail disk.old)) (commands.Batch batch.now) outcome (on_disk ledger.new (D.failures disk.new) (D.trail disk.new)) × (result ≡ reply_to outcome) }
+    ensures reported { (outcome : Outcome) × Submission (D.honest disk.new) (on_disk ledger.old (D.failures disk.old) (D.trail disk.old)) (commands.Batch desk batch.now) outcome (on_disk ledger.new (D.failures disk.new) (D.trail disk.new)) × (result ≡ reply_to outcome) }
 
     ensures untouched { UnlessStored (answers.Reply result) disk.old disk.new }
 {
     let rows = batch.write(bytes);
-    submit(ledger, disk, &Command::Batch(rows))
+    submit(ledger, disk, &Command::Batch { desk, rows })
 }
 
 /// Answers what a desk asks for: a command is submitted, and every other line answered from memory. In `rows` there is
@@ -67,22 +70,22 @@ pub fn answer_to<'s, D: Disk>(
     requires room { rows_length ≤ length rows.old }
     ensures kept { D.honest disk.new → D.honest disk.old }
 
-    ensures acts { Acts (D.honest disk.new) (on_disk ledger.old (D.failures disk.old) (D.trail disk.old)) (command_of (rows_of desks.old line.desk) line.request) (MayAnswerWhere ledger.old.store.broken ledger.old.tally desks.old line) result (on_disk ledger.new (D.failures disk.new) (D.trail disk.new)) }
+    ensures acts { Acts (D.honest disk.new) (on_disk ledger.old (D.failures disk.old) (D.trail disk.old)) (command_of line.desk (rows_of desks.old line.desk) line.request) (MayAnswerWhere ledger.old.store.broken ledger.old.tally desks.old line) result (on_disk ledger.new (D.failures disk.new) (D.trail disk.new)) }
 
     ensures held { desks.new ≡ held_after desks.old line result }
     ensures untouched { UnlessStored result disk.old disk.new }
 {
-    // Whether the disk failed before is asked by the ledger where a command is submitted, and here for every other line.
-    if let Some(command) = line.request.command() {
+    // Whether the disk failed before is asked once: by the ledger where a command is submitted, and else here or in `commit`.
+    if let Some(command) = line.command() {
         return Answer::Reply(submit(ledger, disk, &command));
+    }
+    if let Request::Commit = line.request {
+        return Answer::Reply(commit(ledger, desks, rows, disk, line.desk));
     }
     if ledger.is_broken() {
         return Answer::Reply(Reply::Refused(Refusal::ReopenDisk));
     }
-    match line.request {
-        Request::Commit => Answer::Reply(commit(ledger, desks, rows, disk, line.desk)),
-        _ => answer_without_command(alloc, ledger.count(), ledger.totals(), desks, line),
-    }
+    answer_without_command(alloc, ledger.count(), ledger.totals(), desks, line)
 }
 
 /// Submits a desk's batch as one command. It ends where it is stored, or held already.
@@ -98,18 +101,16 @@ fn commit<D: Disk>(
     requires room { rows_length ≤ length rows.old }
     ensures kept { D.honest disk.new → D.honest disk.old }
 
-    ensures acts { Acts (D.honest disk.new) (on_disk ledger.old (D.failures disk.old) (D.trail disk.old)) (batch_of (rows_of desks.old desk)) (MayAnswerTo ledger.old.tally desks.old desk requests.Commit) (answers.Reply result) (on_disk ledger.new (D.failures disk.new) (D.trail disk.new)) }
+    ensures acts { Acts (D.honest disk.new) (on_disk ledger.old (D.failures disk.old) (D.trail disk.old)) (batch_of desk (rows_of desks.old desk)) (MayAnswerWhere ledger.old.store.broken ledger.old.tally desks.old (record { desk = desk; request = requests.Commit })) (answers.Reply result) (on_disk ledger.new (D.failures disk.new) (D.trail disk.new)) }
 
     ensures held { desks.new ≡ with_batch desks.old desk (batch_after (rows_of desks.old desk) requests.Commit result) }
     ensures untouched { UnlessStored (answers.Reply result) disk.old disk.new }
 {
-    let Some(batch) = desks.batch(desk) else {
-        return Reply::Refused(Refusal::NoBatch);
-    };
-    let reply = if batch.len() == 0 {
-        Reply::Same
-    } else {
-        submit_batch(ledger, disk, batch, rows)
+    let reply = match desks.batch(desk) {
+        Some(batch) if batch.len() > 0 => submit_batch(ledger, disk, desk, batch, rows),
+        _ if ledger.is_broken() => Reply::Refused(Refusal::ReopenDisk),
+        Some(_) => Reply::Same,
+        None => Reply::Refused(Refusal::NoBatch),
     };
     if matches!(reply, Reply::Stored(_) | Reply::Same) {
         desks.close(desk);

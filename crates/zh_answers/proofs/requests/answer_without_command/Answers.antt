@@ -33,6 +33,13 @@ pub returns-in-Show-clause-answer : goal.returns-in-Show-clause-answer
 returns-in-Show-clause-answer c =
     subst (λ r. MayAnswerTo c.args.count.now c.args.desks.now c.args.line.desk r (answers.Reply c.answer_to_show.result)) (sym c.in-Show.is) c.answer_to_show.ensures
 
+pub returns-in-Last-clause-answer : goal.returns-in-Last-clause-answer
+returns-in-Last-clause-answer c =
+    subst (λ r. MayAnswerTo c.args.count.now c.args.desks.now c.args.line.desk r (answers.Reply c.answer_to_last.result)) (sym c.in-Last.is) c.answer_to_last.ensures
+
+pub returns-in-Last-clause-held : goal.returns-in-Last-clause-held
+returns-in-Last-clause-held c = grind (arith, common_steps)
+
 pub returns-in-Row-clause-answer : goal.returns-in-Row-clause-answer
 returns-in-Row-clause-answer c =
     subst (λ r. MayAnswerTo c.args.count.now c.args.desks.now c.args.line.desk r (answers.Reply c.hold.result)) (sym c.in-Row.is) c.hold.ensures.answer

@@ -10,8 +10,8 @@ returns-in_default c =
 pub returns-in-Some : goal.returns-in-Some
 returns-in-Some c =
     let split = c.split_word.ensures in
-    let found = c.in-Some.ensures in
-    Reads-lone _ _ _ _ _ split.word split.whole found.0 (sym c.in-Ok.ensures.cases.0 ∙ found.1) c.alone.ensures
+    let (fits, none, word) = c.in-Some.ensures in
+    Reads-lone _ _ _ _ _ split.word split.whole fits none (sym c.in-Ok.ensures.cases.0 ∙ word) c.alone.ensures
 
 pub returns-in-None : goal.returns-in-None
 returns-in-None c =

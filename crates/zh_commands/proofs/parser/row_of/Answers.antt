@@ -1,32 +1,25 @@
-use Rattle.std.proofs.Common.{◌≡◌, ◌<◌, refl, length, get_or, ap, arith, sym, ◌∙◌, List, ℕ, [], ◌∷◌}
-use Rattle.zh_commands.specs.Words.{numerals}
-use Rattle.zh_commands.proofs.RequestLemmas.{AreNumerals-row, row_numbers, numerals_injective}
+use Rattle.std.proofs.Common.{◌≡◌, refl, length, get_or, ap, arith, sym, ◌∙◌, List, ℕ, [], ◌∷◌, subst}
+use Rattle.zh_commands.specs.Forms.{row_numbers}
+use Rattle.zh_commands.specs.Words.{numerals, AreNumerals}
+use Rattle.zh_commands.proofs.RequestLemmas.{numerals_injective}
 use Rattle.zh_commands.proofs.parser.row_of.Goals as goal
 
 pub returns-in_err-municipality : goal.returns-in_err-municipality
-returns-in_err-municipality c = rw c.from_residual.ensures (λ row is e.
-    c.in_err-municipality.ensures (row_numbers row) refl (AreNumerals-row row is) e)
+returns-in_err-municipality c = rw c.from_residual.ensures (λ row is e. c.in_err-municipality.ensures (row_numbers row) refl is.0 e)
 
 pub returns-then-number-eq0 : goal.returns-then-number-eq0
 returns-then-number-eq0 c row is e =
     let found = c.in_ok-municipality.ensures in
-    let same = numerals_injective (row_numbers row) c.in_ok-municipality.field-0 (AreNumerals-row row is) found.1 (sym e ∙ found.2) in
-    absurd (omega (arith, ap (λ (ns : List ℕ). get_or ns 2 0) same, is.2, c.if-number-eq0.true))
+    let same = numerals_injective (row_numbers row) c.in_ok-municipality.field-0 is.0 found.1 (sym e ∙ found.2) in
+    absurd (omega (arith, ap (λ (ns : List ℕ). get_or ns 2 0) same, is.1, c.if-number-eq0.true))
 
 -- a list of four is its four numbers
 four : (ns : List ℕ) → length ns ≡ 4 → ns ≡ get_or ns 0 0 ∷ get_or ns 1 0 ∷ get_or ns 2 0 ∷ get_or ns 3 0 ∷ []
-four [] e = absurd (omega (arith, e))
-four (m ∷ []) e = absurd (omega (arith, e))
-four (m ∷ l ∷ []) e = absurd (omega (arith, e))
-four (m ∷ l ∷ n ∷ []) e = absurd (omega (arith, e))
 four (m ∷ l ∷ n ∷ v ∷ []) e = refl
-four (m ∷ l ∷ n ∷ v ∷ w ∷ ns) e = absurd (omega (arith, e))
+four ns e = absurd (omega (arith, e))
 
 pub returns : goal.returns
 returns c =
     let found = c.in_ok-municipality.ensures in
-    let sized : length c.in_ok-municipality.field-0 ≡ 4 = found.0 in
-    let fits = λ (i : ℕ) (below : i < 4). found.1 i 0 (omega (arith, below, sized)) in (
-      (fits 0 (omega arith), fits 1 (omega arith), omega (arith, c.if-number-eq0.false), fits 2 (omega arith), fits 3 (omega arith)),
-      found.2 ∙ ap numerals (four c.in_ok-municipality.field-0 sized),
-    )
+    let whole = four c.in_ok-municipality.field-0 found.0 in
+    ((subst AreNumerals whole found.1, omega (arith, c.if-number-eq0.false)), found.2 ∙ ap numerals whole)

@@ -1,5 +1,5 @@
 use Rattle.std.proofs.Common.{◌<◌, length, get_or, drop, ◌+◌, ◌^◌, arith, length-set, sym, ◌∙◌}
-use Rattle.std.proofs.lemmas.List.Elements.{All-set}
+use Rattle.std.proofs.lemmas.List.Elements.{All-set, All-from_recursion, recursion_from_All}
 use Rattle.std.proofs.lemmas.Bool.{eqb-true}
 use Rattle.zh_commands.proofs.SplitLemmas.{numerals-drop, numerals_more, numerals_whole}
 use Rattle.zh_commands.proofs.words.numbers.Goals as goal
@@ -9,7 +9,7 @@ returns-in_err-value g c = rw c.from_residual.ensures (λ ns sized all e.
     let i = c.loop-number.number-index in
     let within : i < length ns = omega arith in
     let next = numerals-drop _ ns i within (c.loop-number.invariant.only ns sized all e) in
-    absurd (c.in_err-value.ensures.only (get_or ns i 0) (drop (i + 1) ns) (all i 0 within) next))
+    absurd (c.in_err-value.ensures.only (get_or ns i 0) (drop (i + 1) ns) (All-from_recursion (λ n. n < 2 ^ 32) ns all i 0 within) next))
 
 pub loop-number-preserved : goal.loop-number-preserved
 loop-number-preserved g c =
@@ -22,10 +22,10 @@ loop-number-preserved g c =
       only = λ ns sized all e.
           let within : i < length ns = omega arith in
           let next = numerals-drop _ ns i within (known.only ns sized all e) in
-          c.in_ok-value.ensures.only (get_or ns i 0) (drop (i + 1) ns) (all i 0 within) next;
+          c.in_ok-value.ensures.only (get_or ns i 0) (drop (i + 1) ns) (All-from_recursion (λ n. n < 2 ^ 32) ns all i 0 within) next;
     }
 
 pub returns-then-is_empty : goal.returns-then-is_empty
 returns-then-is_empty g c =
     let known = c.loop-number.invariant in
-    (known.sized, known.fit, numerals_whole _ _ _ c.loop-number.number-index (omega arith) (eqb-true _ 0 (sym c.if-is_empty.ensures)) known.read)
+    (known.sized, recursion_from_All (λ n. n < 2 ^ 32) _ known.fit, numerals_whole _ _ _ c.loop-number.number-index (omega arith) (eqb-true _ 0 (sym c.if-is_empty.ensures)) known.read)

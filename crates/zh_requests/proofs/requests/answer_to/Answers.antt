@@ -18,18 +18,18 @@ pub returns-then-is_broken-clause-untouched : goal.returns-then-is_broken-clause
 returns-then-is_broken-clause-untouched g c = refl
 
 pub returns-in-Some-clause-acts : goal.returns-in-Some-clause-acts
-returns-in-Some-clause-acts g c = own_acts _ _ _ c.args.line.request c.in-Some.command _ _ _ c.in-Some.ensures.command c.submit.ensures.reported
+returns-in-Some-clause-acts g c = own_acts _ _ c.args.line.desk _ c.args.line.request c.in-Some.command _ _ _ c.in-Some.ensures.command c.submit.ensures.reported
 
-pub returns-in_default-request-clause-acts : goal.returns-in_default-request-clause-acts
-returns-in_default-request-clause-acts g c =
+pub returns-clause-acts : goal.returns-clause-acts
+returns-clause-acts g c =
     let whole : c.args.ledger.now.store.broken ≡ false = cc in
     quiet_acts _ _ _ c.args.ledger.now.tally _ c.args.desks.now c.args.line _ whole c.count.ensures (sym c.in_default.ensures.command) c.in_default-request.not-Commit c.answer_without_command.ensures.answer
 
-pub returns-in_default-request-clause-untouched : goal.returns-in_default-request-clause-untouched
-returns-in_default-request-clause-untouched g c = quiet_disk c.answer_without_command.result c.args.disk.now
+pub returns-clause-untouched : goal.returns-clause-untouched
+returns-clause-untouched g c = quiet_disk c.answer_without_command.result c.args.disk.now
 
-pub returns-in_default-request-clause-held : goal.returns-in_default-request-clause-held
-returns-in_default-request-clause-held g c = c.answer_without_command.ensures.held
+pub returns-clause-held : goal.returns-clause-held
+returns-clause-held g c = c.answer_without_command.ensures.held
 
 pub returns-in-Some-clause-held : goal.returns-in-Some-clause-held
 returns-in-Some-clause-held g c = own_held c.args.desks.now c.args.line c.in-Some.command c.submit.result c.in-Some.ensures.command
@@ -39,10 +39,9 @@ returns-in-Some-clause-untouched g c = c.submit.ensures.untouched
 
 pub returns-in-Commit-clause-acts : goal.returns-in-Commit-clause-acts
 returns-in-Commit-clause-acts g c =
-    let whole : c.args.ledger.now.store.broken ≡ false = cc in
     let before = on_disk c.args.ledger.now (g.D.Disk.failures c.args.disk.now) (g.D.Disk.trail c.args.disk.now) in
     let after = on_disk c.commit.new.ledger (g.D.Disk.failures c.commit.new.disk) (g.D.Disk.trail c.commit.new.disk) in
-    commit_acts _ before c.args.ledger.now.tally c.args.desks.now c.args.line (answers.Reply c.commit.result) after whole c.in-Commit.is c.commit.ensures.acts
+    commit_acts _ before c.args.ledger.now.tally c.args.desks.now c.args.line (answers.Reply c.commit.result) after c.in-Commit.is c.commit.ensures.acts
 
 pub returns-in-Commit-clause-untouched : goal.returns-in-Commit-clause-untouched
 returns-in-Commit-clause-untouched g c = c.commit.ensures.untouched
@@ -50,5 +49,5 @@ returns-in-Commit-clause-untouched g c = c.commit.ensures.untouched
 pub returns-in-Commit-clause-kept : goal.returns-in-Commit-clause-kept
 returns-in-Commit-clause-kept g c = c.commit.ensures.kept
 
-pub returns-in_default-request-clause-kept : goal.returns-in_default-request-clause-kept
-returns-in_default-request-clause-kept g c = λ honest. honest
+pub returns-clause-kept : goal.returns-clause-kept
+returns-clause-kept g c = λ honest. honest

@@ -1,5 +1,5 @@
 use Rattle.std.proofs.Common.{rules}
-use Rattle.zh_commands.proofs.lines.Request.command.Goals as goal
+use Rattle.zh_commands.proofs.lines.Line.command.Goals as goal
 
 pub returns-in-Close-clause-command : goal.returns-in-Close-clause-command
 returns-in-Close-clause-command c = search rules
