@@ -3,6 +3,8 @@ pub use Rattle.zh_ledger.proofs.SubmissionLemmas.{has_none, none_logged, submits
 pub use Rattle.zh_ledger.proofs.StretchLemmas.{left_by, only_image, IsSure}
 pub use Rattle.zh_ledger.proofs.NightLemmas.{one_event, fresh_sure}
 pub use Rattle.zh_ledger.proofs.OpenedLemmas.{err_of}
+pub use Rattle.zh_ledger.proofs.ReopeningLemmas.{found_count, knows_images}
+pub use Rattle.zh_ledger.proofs.MigrationLemmas.{Alters, leaves_altered, migrated_holds, read_now}
 pub use Rattle.zh_ledger.proofs.StandsLemmas.{stands_alike, one_count}
 pub use Rattle.zh_ledger.proofs.RoomLemmas.{ready_already, ready_switched}
 pub use Rattle.zh_ledger.proofs.OutsideLemmas.{outside_untouched}

@@ -12,11 +12,14 @@ use Rattle.zh_records.specs.Spelling.{command_spelling, IsSpeakable}
 use Rattle.zh_returns.specs.Step.{step, after, changed, on_verdict}
 use Rattle.zh_returns.specs.Tally.{Tally}
 use Rattle.zh_records.specs.declared.command.Command.{Command}
+use Rattle.zh_records.specs.declared.format.Format.{Format}
+use Rattle.zh_records.specs.declared.format.Format.TheVariants.{Two}
 use Rattle.zh_returns.specs.declared.verdict.Verdict.{Verdict}
 use Rattle.zh_returns.specs.declared.verdict.Verdict.TheVariants.{Accept}
 use Rattle.zh_snapshot.specs.Image.{Content, IsClean, with_record}
-use Rattle.zh_snapshot.specs.Store.{StoreAdds, StoreAddsOrNot, longer}
+use Rattle.zh_snapshot.specs.Store.{State, StoreAdds, StoreAddsOrNot, longer}
 use Rattle.zh_ledger.specs.Ledger.{Ledger, has_room}
+use Rattle.zh_ledger.specs.Kept.{ledger_of}
 use Rattle.zh_ledger.specs.Stands.{AreAccepted, Replays, StandsFor, Holds, IsKept}
 use Rattle.zh_ledger.specs.Images.{KeepsOrSteps, Stores}
 use Rattle.zh_ledger.proofs.RoomLemmas.{ready_already}
@@ -30,23 +33,23 @@ pub accepted_more : (tally : Tally) (cs : List Command) (c : Command) → AreAcc
 accepted_more tally [] c each accept room = (accept, (room, tt))
 accepted_more tally (d ∷ cs) c each accept room = (each.0, (each.1.0, accepted_more (step tally d) cs c each.1.1 accept room))
 
-pub speakable_more : (cs : List Command) (c : Command) → All IsSpeakable cs → IsSpeakable c → All IsSpeakable (cs ++ c ∷ [])
-speakable_more cs c each one = grind (arith, common_steps, All-append)
+pub speakable_more : (format : Format) (cs : List Command) (c : Command) → All (IsSpeakable format) cs → IsSpeakable format c → All (IsSpeakable format) (cs ++ c ∷ [])
+speakable_more format cs c each one = grind (arith, common_steps, All-append)
 
 -- an accepted command leaves the set-up as it is
 pub step_canton : (tally : Tally) (command : Command) → judge tally command ≡ Accept → (step tally command).canton ≡ tally.canton
 step_canton tally command accept = ap (λ (v : Verdict). (on_verdict v (changed tally command) tally).canton) accept
 
-pub replays_more : (start tally : Tally) (rs : List (List ℕ)) (c : Command) → Replays start rs tally → IsSpeakable c → judge tally c ≡ Accept → tally.accepted < 2 ^ 64 - 1 → Replays start (rs ++ command_spelling c ∷ []) (step tally c)
-replays_more start tally rs c by speakable accept room = record {
+pub replays_more : {format : Format} (start tally : Tally) (rs : List (List ℕ)) (c : Command) → Replays format start rs tally → IsSpeakable format c → judge tally c ≡ Accept → tally.accepted < 2 ^ 64 - 1 → Replays format start (rs ++ command_spelling format c ∷ []) (step tally c)
+replays_more {format} start tally rs c by speakable accept room = record {
   commands = by.commands ++ c ∷ [];
-  speakable = speakable_more by.commands c by.speakable speakable;
-  spelled = ap (λ (l : List (List ℕ)). l ++ command_spelling c ∷ []) by.spelled ∙ sym (map-append command_spelling by.commands (c ∷ []));
+  speakable = speakable_more format by.commands c by.speakable speakable;
+  spelled = ap (λ (l : List (List ℕ)). l ++ command_spelling format c ∷ []) by.spelled ∙ sym (map-append (command_spelling format) by.commands (c ∷ []));
   accepted = accepted_more start by.commands c by.accepted (subst (λ (t : Tally). judge t c ≡ Accept) by.count accept) (subst (λ (t : Tally). t.accepted < 2 ^ 64 - 1) by.count room);
   count = ap (λ (t : Tally). step t c) by.count ∙ sym (after_more start by.commands c);
 }
 
-pub stands_more : (x : Content) (tally : Tally) (c : Command) → StandsFor x tally → IsSpeakable c → judge tally c ≡ Accept → tally.accepted < 2 ^ 64 - 1 → StandsFor (with_record x (command_spelling c)) (step tally c)
+pub stands_more : {format : Format} (x : Content) (tally : Tally) (c : Command) → StandsFor format x tally → IsSpeakable format c → judge tally c ≡ Accept → tally.accepted < 2 ^ 64 - 1 → StandsFor format (with_record x (command_spelling format c)) (step tally c)
 stands_more x tally c by speakable accept room =
     let same = step_canton tally c accept in
     record {
@@ -58,36 +61,37 @@ stands_more x tally c by speakable accept room =
       replays = replays_more by.start tally x.records c by.replays speakable accept room;
     }
 
-module _ (s : Ledger) (c : Command) (speakable : IsSpeakable c) (accept : judge s.tally c ≡ Accept) (number : s.tally.accepted < 2 ^ 64 - 1) (room : has_room s c ≡ true) where
-  added : (old new : List ℕ) (x : Content) (j : ℕ) → StandsFor x s.tally → IsClean (with_record x (command_spelling c)) (j + pages_of (length (command_spelling c))) new
-      → Holds (step s.tally c) new
+module _ (tally : Tally) (store : State) (c : Command) (speakable : IsSpeakable Two c) (accept : judge tally c ≡ Accept) (number : tally.accepted < 2 ^ 64 - 1) (room : has_room (ledger_of tally store) c ≡ true) where
+  added : (old new : List ℕ) (x : Content) (j : ℕ) → StandsFor Two x tally → IsClean (with_record x (command_spelling Two c)) (j + pages_of (length (command_spelling Two c))) new
+      → Holds (step tally c) new
   added old new x j stands clean = record {
-    content = with_record x (command_spelling c);
-    end = j + pages_of (length (command_spelling c));
+    content = with_record x (command_spelling Two c);
+    end = j + pages_of (length (command_spelling Two c));
+    format = Two;
     clean = clean;
-    stands = stands_more x s.tally c stands speakable accept number;
+    stands = stands_more x tally c stands speakable accept number;
   }
 
-  pub stores : (old new : List ℕ) → StoreAdds s.store (command_spelling c) old new → Stores s c old new
+  pub stores : (old new : List ℕ) → StoreAdds store (command_spelling Two c) old new → Stores (ledger_of tally store) c old new
   stores old new adds kept =
       let more = adds kept.content kept.end kept.clean kept.fits in
-      subst (λ (l : Ledger). IsKept (record { tally = step s.tally c; store = longer l.store (length (command_spelling c)) }) new) (sym (ready_already s c room)) (record {
-        content = with_record kept.content (command_spelling c);
-        end = kept.end + pages_of (length (command_spelling c));
+      subst (λ (l : Ledger). IsKept (record { tally = step tally c; store = longer l.store (length (command_spelling Two c)); format = Two }) new) (sym (ready_already (ledger_of tally store) c room)) (record {
+        content = with_record kept.content (command_spelling Two c);
+        end = kept.end + pages_of (length (command_spelling Two c));
         clean = more.0;
         fits = more.1;
-        stands = stands_more kept.content s.tally c kept.stands speakable accept number;
+        stands = stands_more kept.content tally c kept.stands speakable accept number;
       })
 
-  pub keeps_or_steps : (old new : List ℕ) → StoreAddsOrNot s.store (command_spelling c) old new → KeepsOrSteps s c old new
+  pub keeps_or_steps : (old new : List ℕ) → StoreAddsOrNot store (command_spelling Two c) old new → KeepsOrSteps (ledger_of tally store) c old new
   keeps_or_steps old new adds kept =
       ⊎_elim
-      (λ still. inl (record { content = kept.content; end = kept.end; clean = still; stands = kept.stands }))
+      (λ still. inl (record { content = kept.content; end = kept.end; format = Two; clean = still; stands = kept.stands }))
       (λ more. inr (added old new kept.content kept.end kept.stands more))
       (adds kept.content kept.end kept.clean kept.fits)
 
-  pub each_moment : (t u : Trail) → Leaves (StoreAddsOrNot s.store (command_spelling c)) t u → Leaves (KeepsOrSteps s c) t u
+  pub each_moment : (t u : Trail) → Leaves (StoreAddsOrNot store (command_spelling Two c)) t u → Leaves (KeepsOrSteps (ledger_of tally store) c) t u
   each_moment t u run = leaves_weaken _ _ t u (λ d e image by. keeps_or_steps d e by) run
 
-  pub last_moment : (t u : Trail) → Moves (StoreAdds s.store (command_spelling c)) t.now u.now → Moves (Stores s c) t.now u.now
+  pub last_moment : (t u : Trail) → Moves (StoreAdds store (command_spelling Two c)) t.now u.now → Moves (Stores (ledger_of tally store) c) t.now u.now
   last_moment t u moves = λ d image. let from = moves d image in (from.0, from.1, stores from.0 d from.2)

@@ -2,8 +2,10 @@ pub mod CallerLemmas
 mod CommandLemmas
 mod JudgedLemmas
 mod KeptLemmas
+mod MigrationLemmas
 mod NightLemmas
 mod OpenedLemmas
+mod OpeningLemmas
 mod OutsideLemmas
 mod ReadyLemmas
 mod ReopeningLemmas

@@ -1,12 +1,15 @@
 -- A night, event by event.
-use Rattle.std.proofs.Common.{◌+◌, ◌≤◌, List, [], ◌∷◌, ◌++◌, length, take, refl, sym, subst, arith, Option}
+use Rattle.std.proofs.Common.{◌≡◌, ◌∙◌, ◌+◌, ◌≤◌, List, [], ◌∷◌, ◌++◌, length, take, refl, sym, ap, subst, arith, Option, Some}
 use Rattle.std.specs.Prelude.{IfSome}
+use Rattle.zh_disk.specs.Disk.{Moment, settled}
 use Rattle.zh_districts.specs.Canton.{Canton}
 use Rattle.zh_returns.specs.Tally.{empty}
 use Rattle.zh_records.specs.declared.command.Command.{Command}
 use Rattle.zh_ledger.specs.Ledger.{Ledger}
 use Rattle.zh_ledger.specs.Images.{HasSome}
-use Rattle.zh_ledger.specs.Submissions.{Log}
+use Rattle.zh_ledger.specs.Opened.{IsOpened}
+use Rattle.zh_ledger.specs.Opening.{IsCause}
+use Rattle.zh_ledger.specs.Submissions.{Log, nothing}
 use Rattle.zh_ledger.specs.Night.{Event, Stretch, Allows, IsNight, IsCurrent, Says, IsKeptAllNight, IsFresh, Law}
 use Rattle.zh_ledger.specs.Night.Event.{submitted, stopped_within, stopped, opened, refused, stopped_opening}
 use Rattle.zh_ledger.proofs.SubmissionLemmas.{has_none}
@@ -22,13 +25,14 @@ one_event canton kept s t (submitted command outcome) Then (old, new, begins, by
 one_event canton kept s t (stopped_within command) Then (old, new, outcome, c, begins, by, left, is) sure go =
     go kept (subst (IsSure canton kept) (sym is) (left_sure canton kept s old command outcome new begins by sure c left))
 one_event canton kept s t stopped Then (c, image, is) sure go = go kept (subst (IsSure canton kept) (sym is) (stopped_sure canton kept s sure c image))
-one_event canton kept s t (opened ledger) Then (found, is) sure go =
-    let finding = finds canton kept s sure ledger found in
-    (finding, go (kept ++ take finding.number s.log.accepted) (subst (IsSure canton (kept ++ take finding.number s.log.accepted)) (sym is) (opened_sure canton kept s sure ledger found)))
-one_event canton kept s t (refused fault) Then (old, new, now, leaves, cause, is) sure go =
-    (only_faults canton kept s sure fault cause, go kept (subst (IsSure canton kept) (sym is) (refused_sure canton kept s sure old new now leaves)))
-one_event canton kept s t stopped_opening Then (old, new, c, now, leaves, left, is) sure go =
-    go kept (subst (IsSure canton kept) (sym is) (stopped_opening_sure canton kept s sure old new c now leaves left))
+one_event canton kept s t (opened ledger) Then (old, new, now, opens, is) sure go =
+    let finding = finds canton kept s sure old new now ledger opens in
+    (finding, go (kept ++ take finding.number s.log.accepted) (subst (IsSure canton (kept ++ take finding.number s.log.accepted)) (sym is) (opened_sure canton kept s sure old new now ledger opens)))
+one_event canton kept s t (refused fault) Then (old, new, now, opens, is) sure go =
+    let cause : IsCause canton s.now.bytes fault = subst (λ (m : Moment). IsCause canton m.bytes fault) (sym now) opens.refused in
+    (only_faults canton kept s sure fault cause, go kept (subst (IsSure canton kept) (sym is) (refused_sure canton kept s sure old new now opens.moments)))
+one_event canton kept s t stopped_opening Then (old, new, result, c, now, opens, left, is) sure go =
+    go kept (subst (IsSure canton kept) (sym is) (stopped_opening_sure canton kept s sure old new c now opens.moments left))
 
 holds : (canton : Canton) (kept : List Command) (s : Stretch) (night : List (Event × Stretch)) → IsSure canton kept s → IsNight canton s night → IsKeptAllNight canton kept s night
 holds canton kept s [] sure is = sure.sound

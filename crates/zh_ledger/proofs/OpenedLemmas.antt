@@ -1,6 +1,6 @@
 -- What formatting leaves, and what opening finds.
 use Rattle.std.proofs.Common.{◌≡◌, ◌∙◌, ℕ, ◌≤◌, List, [], ◌++◌, Bool, true, false, Result, Err, length, take, drop, refl, sym, ap, subst, arith, append-nil}
-use Rattle.std.specs.Prelude.{◌↔◌, IsTrue}
+use Rattle.std.specs.Prelude.{◌↔◌, IsTrue, Some, slice_get}
 use Rattle.std.specs.Result.{IsErrAnd}
 use Rattle.std.proofs.lemmas.List.{take-append-le, take_all, drop_all}
 use Rattle.zh_districts.specs.Canton.{Canton}
@@ -10,18 +10,19 @@ use Rattle.zh_journal.specs.Pages.{Frames}
 use Rattle.zh_journal.specs.Place.{Rest}
 use Rattle.zh_disk.proofs.CallerLemmas.{synced_image}
 use Rattle.zh_returns.specs.Limits.{IsTally}
-use Rattle.zh_returns.specs.Payload.{payload_spelling}
+use Rattle.zh_records.specs.declared.format.Format.{Format}
+use Rattle.zh_records.specs.declared.format.Format.TheVariants.{Two}
+use Rattle.zh_returns.specs.Payload.{payload_spelling, format_byte, IsPayload}
 use Rattle.zh_returns.specs.Tally.{Tally, empty}
 use Rattle.zh_snapshot.specs.Format.{Formats, IsFormatted}
-use Rattle.zh_returns.proofs.CallerLemmas.{tally_once}
+use Rattle.zh_returns.proofs.CallerLemmas.{tally_once, one_format, format_at, format_said, desks_said}
 use Rattle.zh_snapshot.specs.Image.{Content, IsBlank, IsFramed, IsClean}
 use Rattle.zh_snapshot.specs.Store.{State, Fits}
-use Rattle.zh_snapshot.specs.declared.fault.OpenFault as store
-use Rattle.zh_snapshot.specs.declared.fault.OpenFault.TheVariants as of_store
-use Rattle.zh_snapshot.proofs.CallerLemmas.{framed_once}
-use Rattle.zh_ledger.specs.Opened.{IsNew, IsDamaged, IsLeft, IsWrong, OpenedAs}
+use Rattle.zh_snapshot.specs.declared.fault.FormatFault.TheVariants as formatting
+use Rattle.zh_snapshot.proofs.CallerLemmas.{before, framed_once}
+use Rattle.zh_ledger.specs.Opened.{IsNew, IsDamaged, IsLeft, IsWrong}
+use Rattle.zh_ledger.specs.Opening.{DiskState, Formatting}
 use Rattle.zh_ledger.specs.Stands.{StandsFor, Replays}
-use Rattle.zh_ledger.specs.declared.fault.OpenFault.TheVariants as faults
 use Rattle.zh_ledger.proofs.ReplayLemmas.{replays_none}
 
 -- bytes that fill a buffer are all of it
@@ -41,24 +42,34 @@ pub one_image : (m : Moment) (c : List ℕ) → m.pending ≡ [] → IsImage m c
 one_image m c rest image = synced_image m c (record { size = image.size; same = λ k s. image.same k (subst (λ (p : List (ℕ × ℕ)). IsSettled p k) (sym rest) tt) })
 
 -- the content that a formatting leaves stands for the count before the first line
-new_stands : (canton : Canton) (setup first : List ℕ) → setup ≡ setup_spelling canton → first ≡ payload_spelling (empty canton) → IsTally (empty canton)
-    → StandsFor (record { setup = setup; generation = 1; snapshot = first; records = [] }) (empty canton)
+new_stands : (canton : Canton) (setup first : List ℕ) → setup ≡ setup_spelling canton → first ≡ payload_spelling Two (empty canton) → IsTally (empty canton)
+    → StandsFor Two (record { setup = setup; generation = 1; snapshot = first; records = [] }) (empty canton)
 new_stands canton setup first same_setup same_first limits = record {
   setup = same_setup;
   start = empty canton;
   canton = refl;
   limits = limits;
-  snapshot = sym same_first;
+  snapshot = record { desks = desks_said (empty canton) limits; spelling = sym same_first };
   replays = replays_none (empty canton);
 }
 
-pub new_image : (canton : Canton) (setup first : List ℕ) (m : Moment) → setup ≡ setup_spelling canton → first ≡ payload_spelling (empty canton) → IsTally (empty canton)
+-- a formatting ends where memory is refused, before the first call of the device
+pub not_formatted : (honest : Type 0) (canton : Canton) (disk : DiskState) → Formatting honest canton disk disk (Err formatting.Memory)
+not_formatted honest canton disk = record {
+  later = omega arith;
+  cause = λ is. absurd (cc);
+  counted = tt;
+  makes = λ h. record { moments = before _ _ _; formatted = tt; fresh = tt; settled = tt };
+}
+
+pub new_image : (canton : Canton) (setup first : List ℕ) (m : Moment) → setup ≡ setup_spelling canton → first ≡ payload_spelling Two (empty canton) → IsTally (empty canton)
     → (m.pending ≡ []) × IsFormatted setup first m.bytes → (c : List ℕ) → IsImage m c → IsNew canton c
 new_image canton setup first m same_setup same_first limits formatted c image =
     let content : Content = record { setup = setup; generation = 1; snapshot = first; records = [] } in
     record {
       content = content;
       end = 0;
+      format = Two;
       clean = subst (IsClean content 0) (sym (one_image m c formatted.0 image)) formatted.1.clean;
       stands = new_stands canton setup first same_setup same_first limits;
     }
@@ -67,18 +78,12 @@ new_image canton setup first m same_setup same_first limits formatted c image =
 pub err_of : {T E : Type 0} (r : Result T E) (P : E → Type 0) (e : E) → IsErrAnd r P → r ≡ Err e → P e
 err_of r P e and is = subst (λ (x : Result _ _). IsErrAnd x P) is and
 
-pub store_damaged : (e : store.OpenFault) → OpenedAs e faults.Damaged → e ≡ of_store.Damaged
-store_damaged of_store.Device is = absurd (cc)
-store_damaged of_store.Blank is = absurd (cc)
-store_damaged of_store.Damaged is = refl
-store_damaged of_store.Memory is = absurd (cc)
-
 -- a disk on which no store stands
 pub damaged_all : (canton : Canton) (bytes : List ℕ) → (IsBlank bytes → ⊥) × ((x : Content) (j : ℕ) → IsFramed x j bytes → ⊥) → IsDamaged canton bytes
 damaged_all canton bytes none = record {
   gate = none.0;
   setup = λ x j framed. absurd (none.1 x j framed);
-  nothing = λ x j framed tally same stands. none.1 x j framed;
+  nothing = λ x j framed format tally same stands. none.1 x j framed;
 }
 
 -- a disk whose one content is wrong
@@ -86,8 +91,8 @@ pub damaged_one : (canton : Canton) (bytes : List ℕ) (x : Content) (j : ℕ) �
 damaged_one canton bytes x j long framed wrong = record {
   gate = λ blank. blank framed.gate;
   setup = λ y k other. ap (λ (z : Content). z.setup) (framed_once y x k j bytes long other framed) ∙ wrong.own;
-  nothing = λ y k other tally same_canton stands.
-      wrong.nothing tally same_canton (subst (λ (z : Content). StandsFor z tally) (framed_once y x k j bytes long other framed) stands);
+  nothing = λ y k other format tally same_canton stands.
+      wrong.nothing format tally same_canton (subst (λ (z : Content). StandsFor format z tally) (framed_once y x k j bytes long other framed) stands);
 }
 
 -- what a store's opening found and settled, and its reader has left
@@ -106,32 +111,51 @@ pub record IsRead (canton : Canton) (x : Content) (payload : List ℕ) : Type 0 
   pub own : x.setup ≡ setup_spelling canton
   pub snapshot : payload ≡ x.snapshot
 
+-- where the snapshot says no format
+pub wrong_format : (canton : Canton) (x : Content) (payload : List ℕ) → IsRead canton x payload → ((format : Format) → slice_get payload 72 ≡ Some (format_byte format) → ⊥) → IsWrong canton x
+wrong_format canton x payload read none = record {
+  own = read.own;
+  nothing = λ format tally same stands.
+      none format (ap (λ (b : List ℕ). slice_get b 72) (read.snapshot ∙ sym stands.snapshot.spelling) ∙ format_at format stands.start);
+}
+
 -- where no count of the set-up has the snapshot
 pub wrong_snapshot : (canton : Canton) (x : Content) (payload : List ℕ) → IsRead canton x payload
-    → ((start : Tally) → start.canton ≡ canton → IsTally start → payload_spelling start ≡ payload → ⊥) → IsWrong canton x
+    → ((format : Format) (start : Tally) → start.canton ≡ canton → IsTally start → IsPayload format start payload → ⊥) → IsWrong canton x
 wrong_snapshot canton x payload read none = record {
   own = read.own;
-  nothing = λ tally same stands. none stands.start (stands.canton ∙ same) stands.limits (stands.snapshot ∙ sym read.snapshot);
+  nothing = λ format tally same stands.
+      none format stands.start (stands.canton ∙ same) stands.limits (record { desks = stands.snapshot.desks; spelling = stands.snapshot.spelling ∙ sym read.snapshot });
 }
 
--- where the records lead nowhere from the one count that has it
-pub wrong_records : (canton : Canton) (x : Content) (payload : List ℕ) → IsRead canton x payload → (start : Tally) → start.canton ≡ canton → IsTally start → payload_spelling start ≡ payload
-    → ((tally : Tally) → Replays start x.records tally → ⊥) → IsWrong canton x
-wrong_records canton x payload read start its limits spelled none = record {
-  own = read.own;
-  nothing = λ tally same stands.
-      let once : stands.start ≡ start = tally_once stands.start start stands.limits limits (stands.canton ∙ same ∙ sym its) (stands.snapshot ∙ sym read.snapshot ∙ sym spelled) in
-      none tally (subst (λ (t : Tally). Replays t x.records tally) once stands.replays);
-}
+-- the snapshot says a format, and is that of a count
+pub record IsCounted (canton : Canton) (payload : List ℕ) (format : Format) (start : Tally) : Type 0 where
+  pub says : slice_get payload 72 ≡ Some (format_byte format)
+  pub its : start.canton ≡ canton
+  pub limits : IsTally start
+  pub spelled : (f : Format) × IsPayload f start payload
 
--- where they lead to a count
-pub found_stands : (canton : Canton) (x : Content) (payload : List ℕ) → IsRead canton x payload → (start tally : Tally) → start.canton ≡ canton → tally.canton ≡ start.canton → IsTally start → payload_spelling start ≡ payload
-    → Replays start x.records tally → StandsFor x tally
-found_stands canton x payload read start tally its same limits spelled replays = record {
-  setup = read.own ∙ ap setup_spelling (sym (same ∙ its));
-  start = start;
-  canton = sym same;
-  limits = limits;
-  snapshot = spelled ∙ read.snapshot;
-  replays = replays;
-}
+module _ (canton : Canton) (x : Content) (payload : List ℕ) (read : IsRead canton x payload) (format : Format) (start : Tally) (counted : IsCounted canton payload format start) where
+  same_format : counted.spelled.0 ≡ format
+  same_format = format_said counted.spelled.0 format start payload counted.spelled.1 counted.says
+
+  -- where the records lead nowhere from the one count that has it
+  pub wrong_records : ((tally : Tally) → Replays format start x.records tally → ⊥) → IsWrong canton x
+  wrong_records none = record {
+    own = read.own;
+    nothing = λ f tally same stands.
+        let once : stands.start ≡ start = tally_once f counted.spelled.0 stands.start start stands.limits counted.limits (stands.canton ∙ same ∙ sym counted.its) (stands.snapshot.spelling ∙ sym read.snapshot ∙ sym counted.spelled.1.spelling) in
+        let alike : f ≡ format = one_format f counted.spelled.0 stands.start start (stands.snapshot.spelling ∙ sym read.snapshot ∙ sym counted.spelled.1.spelling) ∙ same_format in
+        none tally (subst (λ (g : Format). Replays g start x.records tally) alike (subst (λ (t : Tally). Replays f t x.records tally) once stands.replays));
+  }
+
+  -- where they lead to a count
+  pub found_stands : (tally : Tally) → tally.canton ≡ start.canton → Replays format start x.records tally → StandsFor format x tally
+  found_stands tally same replays = record {
+    setup = read.own ∙ ap setup_spelling (sym (same ∙ counted.its));
+    start = start;
+    canton = sym same;
+    limits = counted.limits;
+    snapshot = subst (λ (f : Format). IsPayload f start x.snapshot) same_format (record { desks = counted.spelled.1.desks; spelling = counted.spelled.1.spelling ∙ read.snapshot });
+    replays = replays;
+  }

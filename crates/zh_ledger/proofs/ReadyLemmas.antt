@@ -3,6 +3,7 @@ use Rattle.std.proofs.Common.{inl, ⊎_elim, ℕ, sym, ◌∙◌, subst}
 use Rattle.zh_disk.specs.Disk.{Trail, Moves, Leaves}
 use Rattle.zh_disk.proofs.CallerLemmas.{leaves_join, leaves_weaken}
 use Rattle.zh_records.specs.declared.command.Command.{Command}
+use Rattle.zh_records.specs.declared.format.Format.TheVariants.{Two}
 use Rattle.zh_records.specs.Spelling.{IsSpeakable}
 use Rattle.zh_ledger.specs.declared.outcome.Outcome.{Outcome}
 use Rattle.zh_ledger.specs.Ledger.{Ledger, StoredOrDevice, IsFaulted, Becomes, ready}
@@ -11,7 +12,7 @@ use Rattle.zh_ledger.specs.Images.{KeepsOrSteps, Keeps, Readies, Stores, LeavesB
 use Rattle.zh_ledger.proofs.RoomLemmas.{stored_ready}
 
 -- what it becomes
-pub becomes_ready : (s : Ledger) (c : Command) (accepted failures failures' : ℕ) (outcome : Outcome) (new : Ledger) → IsSpeakable c → StoredOrDevice accepted failures failures' outcome → Becomes (ready s c) c outcome new → Becomes s c outcome new
+pub becomes_ready : (s : Ledger) (c : Command) (accepted failures failures' : ℕ) (outcome : Outcome) (new : Ledger) → IsSpeakable Two c → StoredOrDevice accepted failures failures' outcome → Becomes (ready s c) c outcome new → Becomes s c outcome new
 becomes_ready s c accepted failures failures' outcome new speakable results by = ⊎_elim
     (λ is. subst (λ (o : Outcome). Becomes s c o new) (sym is.0) (subst (λ (o : Outcome). Becomes (ready s c) c o new) is.0 by ∙ stored_ready s c speakable))
     (λ is.
@@ -23,7 +24,7 @@ pub while_made_ready : (s : Ledger) (c : Command) (t u : Trail) → Leaves (Keep
 while_made_ready s c t u run = leaves_weaken (Keeps s) (KeepsOrSteps s c) t u (λ x f image by kept. inl (by kept)) run
 
 -- it is made ready, and then stores
-module _ (s : Ledger) (c : Command) (speakable : IsSpeakable c) (t0 t1 t2 : Trail) (first : Leaves (Keeps s) t0 t1) (readied : Moves (Readies s c) t0.now t1.now) where
+module _ (s : Ledger) (c : Command) (speakable : IsSpeakable Two c) (t0 t1 t2 : Trail) (first : Leaves (Keeps s) t0 t1) (readied : Moves (Readies s c) t0.now t1.now) where
   each_moment : Leaves (KeepsOrSteps (ready s c) c) t1 t2 → Leaves (KeepsOrSteps s c) t0 t2
   each_moment run = leaves_join (Keeps s) (KeepsOrSteps (ready s c) c) (KeepsOrSteps s c) t0 t1 t2 first run
       (λ x f image by kept. inl (by kept))

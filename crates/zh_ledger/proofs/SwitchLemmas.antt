@@ -1,55 +1,77 @@
 -- How an image that the ledger knows comes to hold the count in its other slot.
-use Rattle.std.proofs.Common.{◌≡◌, ⊎_elim, ℕ, List, false, refl, sym, subst}
-use Rattle.zh_disk.specs.Disk.{Trail, Moves, Leaves}
+use Rattle.std.proofs.Common.{◌≡◌, ◌∙◌, ◌++◌, [], ⊎_elim, ℕ, List, false, length, drop, refl, sym, ap, subst, arith}
+use Rattle.std.proofs.lemmas.List.{append-nil, drop_all}
+use Rattle.zh_disk.specs.Disk.{Moment, Trail, Moves, Leaves}
 use Rattle.zh_disk.proofs.CallerLemmas.{leaves_weaken}
 use Rattle.zh_returns.specs.Limits.{IsTally}
 use Rattle.zh_returns.specs.Payload.{payload_spelling}
 use Rattle.zh_returns.specs.Tally.{Tally}
+use Rattle.zh_returns.proofs.CallerLemmas.{desks_said}
 use Rattle.zh_records.specs.declared.command.Command.{Command}
+use Rattle.zh_records.specs.declared.format.Format.{Format}
+use Rattle.zh_records.specs.declared.format.Format.TheVariants.{Two}
 use Rattle.zh_snapshot.specs.Image.{Content, with_snapshot}
-use Rattle.zh_snapshot.specs.Store.{StoreSwitches, StoreSwitchesOrNot}
+use Rattle.zh_snapshot.specs.Store.{State, StoreSwitches, StoreSwitchesOrNot, switched}
 use Rattle.zh_ledger.specs.Ledger.{Ledger, has_room}
+use Rattle.zh_ledger.specs.Kept.{ledger_in, ledger_of}
+use Rattle.zh_ledger.specs.Opened.{IsFound}
 use Rattle.zh_ledger.specs.Stands.{StandsFor, IsKept}
 use Rattle.zh_ledger.specs.Images.{Keeps, Readies}
 use Rattle.zh_ledger.proofs.ReplayLemmas.{replays_none}
 use Rattle.zh_ledger.proofs.RoomLemmas.{ready_switched}
 
+-- what fills the buffer is all that is there
+pub whole_payload : (n : ℕ) (tally tally' : Tally) (before out : List ℕ) → length before ≡ n → tally' ≡ tally → out ≡ payload_spelling Two tally' ++ drop n before → out ≡ payload_spelling Two tally
+whole_payload n tally tally' before out size same is =
+    let none : drop n before ≡ [] = drop_all n before (omega arith) in
+    is ∙ ap (λ rest. payload_spelling Two tally' ++ rest) none ∙ append-nil (payload_spelling Two tally') ∙ ap (payload_spelling Two) same
+
 -- the snapshot of a count stands for it
-stands_anew : (x : Content) (tally : Tally) → StandsFor x tally → IsTally tally → StandsFor (with_snapshot x (payload_spelling tally)) tally
-stands_anew x tally by limits = record {
+pub stands_anew : (format : Format) (x : Content) (tally : Tally) → StandsFor format x tally → IsTally tally → StandsFor Two (with_snapshot x (payload_spelling Two tally)) tally
+stands_anew format x tally by limits = record {
   setup = by.setup;
   start = tally;
   canton = refl;
   limits = limits;
-  snapshot = refl;
+  snapshot = record { desks = desks_said tally limits; spelling = refl };
   replays = replays_none tally;
 }
 
-module _ (s : Ledger) (limits : IsTally s.tally) where
-  keeps : (old new : List ℕ) → StoreSwitchesOrNot s.store (payload_spelling s.tally) old new → Keeps s old new
-  keeps old new by kept = ⊎_elim
-      (λ still. record { content = kept.content; end = kept.end; clean = still; stands = kept.stands })
+module _ (tally : Tally) (store : State) (limits : IsTally tally) where
+  still_holds : (old new : List ℕ) → StoreSwitchesOrNot store (payload_spelling Two tally) old new → Keeps (ledger_of tally store) old new
+  still_holds old new by kept = ⊎_elim
+      (λ still. record { content = kept.content; end = kept.end; format = Two; clean = still; stands = kept.stands })
       (λ anew. record {
-        content = with_snapshot kept.content (payload_spelling s.tally);
+        content = with_snapshot kept.content (payload_spelling Two tally);
         end = 0;
+        format = Two;
         clean = anew;
-        stands = stands_anew kept.content s.tally kept.stands limits;
+        stands = stands_anew Two kept.content tally kept.stands limits;
       })
       (by.clean kept.content kept.end kept.clean kept.fits)
 
-  readies : (c : Command) → has_room s c ≡ false → (old new : List ℕ) → StoreSwitches s.store (payload_spelling s.tally) old new → Readies s c old new
-  readies c none old new by kept =
-      let anew = by kept.content kept.end kept.clean.framed kept.fits in
-      subst (λ (l : Ledger). IsKept l new) (sym (ready_switched s c none)) (record {
-        content = with_snapshot kept.content (payload_spelling s.tally);
+  -- at each moment of a switch an image that the ledger knows holds its count
+  pub keeps_count : (t u : Trail) → Leaves (StoreSwitchesOrNot store (payload_spelling Two tally)) t u → Leaves (Keeps (ledger_of tally store)) t u
+  keeps_count t u run = leaves_weaken _ _ t u (λ d e image by. still_holds d e by) run
+
+  -- after it the ledger knows the new one, which is clean, whatever the format was
+  pub knows_switched : (format : Format) (old new : List ℕ) → StoreSwitches store (payload_spelling Two tally) old new → IsFound old (ledger_in format tally store) → IsKept (ledger_of tally (switched store)) new
+  knows_switched format old new by found =
+      let anew = by found.content found.end found.framed found.fits in
+      record {
+        content = with_snapshot found.content (payload_spelling Two tally);
         end = 0;
         clean = anew.0;
         fits = anew.1;
-        stands = stands_anew kept.content s.tally kept.stands limits;
-      })
+        stands = stands_anew format found.content tally found.stands limits;
+      }
 
-  pub while_switching : (t u : Trail) → Leaves (StoreSwitchesOrNot s.store (payload_spelling s.tally)) t u → Leaves (Keeps s) t u
-  while_switching t u run = leaves_weaken _ _ t u (λ d e image by. keeps d e by) run
-
-  pub once_switched : (c : Command) → has_room s c ≡ false → (t u : Trail) → Moves (StoreSwitches s.store (payload_spelling s.tally)) t.now u.now → Moves (Readies s c) t.now u.now
-  once_switched c none t u moves = λ d image. let from = moves d image in (from.0, from.1, readies c none from.0 d from.2)
+  -- so it is made ready for a command for which it lacked room
+  pub made_ready : (c : Command) → has_room (ledger_of tally store) c ≡ false → (old new : Moment) → Moves (StoreSwitches store (payload_spelling Two tally)) old new → Moves (Readies (ledger_of tally store) c) old new
+  made_ready c none old new moves = λ d image.
+      let from = moves d image in (
+        from.0,
+        from.1,
+        λ kept. subst (λ (l : Ledger). IsKept l d) (sym (ready_switched (ledger_of tally store) c none))
+            (knows_switched Two from.0 d from.2 (record { content = kept.content; end = kept.end; framed = kept.clean.framed; fits = kept.fits; stands = kept.stands })),
+      )

@@ -1,6 +1,7 @@
 -- What submitted commands leave on an honest disk, moment by moment.
 use Rattle.std.specs.Prelude.{◌≡◌, ◌⊎◌, ◌≤◌, ℕ, List, length, take}
 use Rattle.zh_disk.specs.Disk.{Trail, Moves, Leaves, SameOutside}
+use Rattle.zh_snapshot.specs.Layout.{head_length, slots_length}
 use Rattle.zh_returns.specs.Tally.{Tally}
 use Rattle.zh_returns.specs.Step.{step, after}
 use Rattle.zh_records.specs.declared.command.Command.{Command}
@@ -34,7 +35,7 @@ LeavesBy s command outcome old new = new ≡ old
 
 -- nothing outside the two slots is changed: not the gate of the disk, its header, its set-up bytes, or what is between
 abbrev pub SameOutsideSlots : List ℕ → List ℕ → Type 0
-SameOutsideSlots = SameOutside 69632 1049088
+SameOutsideSlots = SameOutside head_length slots_length
 
 -- a clean image that stands for the count after the first of these commands, in order, at least so many of them
 pub record HasSome (tally : Tally) (commands : List Command) (least : ℕ) (c : List ℕ) : Type 0 where

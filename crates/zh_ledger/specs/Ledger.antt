@@ -5,6 +5,8 @@ use Rattle.zh_returns.specs.Judgement.{judge}
 use Rattle.zh_records.specs.Spelling.{command_spelling}
 use Rattle.zh_returns.specs.Step.{step}
 use Rattle.zh_records.specs.declared.command.Command.{Command}
+use Rattle.zh_records.specs.declared.format.Format.{Format}
+use Rattle.zh_records.specs.declared.format.Format.TheVariants.{One, Two}
 use Rattle.zh_returns.specs.declared.verdict.Verdict.{Verdict}
 use Rattle.zh_returns.specs.declared.verdict.Verdict.TheVariants as verdicts
 use Rattle.zh_journal.specs.Pages.{pages_of}
@@ -14,14 +16,15 @@ use Rattle.zh_snapshot.specs.Store as store
 use Rattle.zh_ledger.specs.declared.outcome.Outcome.{Outcome}
 use Rattle.zh_ledger.specs.declared.outcome.Outcome.TheVariants.{Stored, Same, Refused, Spent, Device, Broken}
 
--- the count, and what is known of the disk that keeps it
+-- the count, what is known of the disk that keeps it, and the format of the slot in use
 pub record Ledger : Type 0 where
   pub tally : Tally
   pub store : store.State
+  pub format : Format
 
 -- the pages that the record of a command takes
 abbrev pub pages_for : Command → ℕ
-pages_for command = pages_of (length (command_spelling command))
+pages_for command = pages_of (length (command_spelling Two command))
 
 -- the slot in use has that many pages left
 abbrev pub has_room : Ledger → Command → Bool
@@ -31,9 +34,14 @@ has_room ledger command = nat_le (pages_for command) (pages_left ledger.store.ar
 abbrev pub lacks_room : Ledger → Command → Bool
 lacks_room ledger command = not (has_room ledger command) && (ledger.store.generation == 2 ^ 64 - 1)
 
--- no number is left for a command, or no room for this one
+abbrev pub is_one : Format → Bool
+is_one One = true
+is_one Two = false
+
+-- the slot in use is of format One, in which nothing is written any more; or no number is left for a command, or no room for
+-- this one
 abbrev pub is_spent : Ledger → Command → Bool
-is_spent ledger command = (ledger.tally.accepted == 2 ^ 64 - 1) || lacks_room ledger command
+is_spent ledger command = is_one ledger.format || ((ledger.tally.accepted == 2 ^ 64 - 1) || lacks_room ledger command)
 
 -- it is stored as the next one, and no call of the disk failed; or the device failed, and then the disk's failure count rose
 abbrev pub StoredOrDevice : ℕ → ℕ → ℕ → Outcome → Type 0
@@ -62,13 +70,17 @@ MayResultWhere false ledger command failures failures' outcome = MayFollow (judg
 abbrev pub MayResult : Ledger → Command → ℕ → ℕ → Outcome → Type 0
 MayResult ledger = MayResultWhere ledger.store.broken ledger
 
+-- switched to its disk's other slot, with the count as its snapshot, in format Two
+abbrev pub switched : Ledger → Ledger
+switched ledger = record { tally = ledger.tally; store = store.switched ledger.store; format = Two }
+
 -- ready to store a command: where too few pages are left, the store has switched
 abbrev pub ready : Ledger → Command → Ledger
-ready ledger command = record { tally = ledger.tally; store = if has_room ledger command then ledger.store else store.switched ledger.store }
+ready ledger command = record { tally = ledger.tally; store = if has_room ledger command then ledger.store else store.switched ledger.store; format = ledger.format }
 
 -- with this command stored: the count is stepped, and the journal has its record
 abbrev pub stored : Ledger → Command → Ledger
-stored ledger command = record { tally = step ledger.tally command; store = store.longer (ready ledger command).store (length (command_spelling command)) }
+stored ledger command = record { tally = step ledger.tally command; store = store.longer (ready ledger command).store (length (command_spelling Two command)); format = ledger.format }
 
 -- after a fault of the device: the count is as it was, and the store must be opened again
 pub record IsFaulted (old new : Ledger) : Type 0 where

@@ -1,16 +1,15 @@
 -- A night of a ledger: commands, stops and openings on an honest disk that was formatted for it.
-use Rattle.std.specs.Prelude.{◌≡◌, ◌⊎◌, ◌≤◌, ℕ, ◌+◌, List, [], ◌∷◌, ◌++◌, length, take, false, Option, Some, None, IfSome}
-use Rattle.zh_disk.specs.Disk.{Moment, Trail, IsImage, Leaves, settled}
+use Rattle.std.specs.Prelude.{◌≡◌, ◌⊎◌, ◌≤◌, ℕ, ◌+◌, List, [], ◌∷◌, ◌++◌, length, take, false, Option, Some, None, IfSome, Result, Ok, Err}
+use Rattle.zh_disk.specs.Disk.{Moment, Trail, IsImage, settled}
 use Rattle.zh_districts.specs.Canton.{Canton}
 use Rattle.zh_returns.specs.Tally.{empty}
 use Rattle.zh_returns.specs.Step.{after}
 use Rattle.zh_records.specs.declared.command.Command.{Command}
-use Rattle.zh_snapshot.specs.Image.{IsBlank}
-use Rattle.zh_snapshot.specs.Store.{Settles}
 use Rattle.zh_ledger.specs.Ledger.{Ledger}
 use Rattle.zh_ledger.specs.Stands.{IsKept}
 use Rattle.zh_ledger.specs.Images.{HasSome}
-use Rattle.zh_ledger.specs.Opened.{IsNew, IsOpened, Differs, IsDamaged}
+use Rattle.zh_ledger.specs.Opened.{IsNew}
+use Rattle.zh_ledger.specs.Opening.{Opens}
 use Rattle.zh_ledger.specs.Submissions.{OnDisk, Submission, Log, nothing, followed_by, logged}
 use Rattle.zh_ledger.specs.declared.outcome.Outcome.{Outcome}
 use Rattle.zh_ledger.specs.declared.fault.OpenFault.{OpenFault}
@@ -59,13 +58,6 @@ pub record IsLeft (old new : Trail) (c : List ℕ) : Type 0 where
 abbrev pub Begins : Stretch → OnDisk → Type 0
 Begins s old = (s.ledger ≡ Some old.ledger) × (s.now ≡ old.trail.now)
 
--- what a fault of an opening says of the bytes that it read
-abbrev pub IsCause : Canton → OpenFault → List ℕ → Type 0
-IsCause canton faults.Blank bytes = IsBlank bytes
-IsCause canton faults.SetupDiffers bytes = Differs canton bytes
-IsCause canton faults.Damaged bytes = IsDamaged canton bytes
-IsCause canton fault bytes = Unit {0}
-
 -- what the contract of each call, and a stop, make of a stretch
 abbrev pub Allows : Canton → Stretch → Event → Stretch → Type 0
 Allows canton s (submitted command outcome) t =
@@ -76,12 +68,12 @@ Allows canton s (stopped_within command) t =
     × IsLeft old.trail new.trail c × (t ≡ after_stop c (followed_by s.log (unacknowledged (logged command outcome))))
 Allows canton s stopped t = (c : List ℕ) × IsImage s.now c × (t ≡ after_stop c s.log)
 Allows canton s (opened ledger) t =
-    IsOpened canton s.now.bytes ledger × (t ≡ record { now = settled s.now.bytes; ledger = Some ledger; log = nothing })
+    (old : Trail) × (new : Trail) × (s.now ≡ old.now) × Opens canton old new (Ok ledger) × (t ≡ record { now = new.now; ledger = Some ledger; log = nothing })
 Allows canton s (refused fault) t =
-    (old : Trail) × (new : Trail) × (s.now ≡ old.now) × Leaves (Settles s.now.bytes) old new × IsCause canton fault s.now.bytes
-    × (t ≡ record { now = new.now; ledger = None; log = s.log })
+    (old : Trail) × (new : Trail) × (s.now ≡ old.now) × Opens canton old new (Err fault) × (t ≡ record { now = new.now; ledger = None; log = s.log })
 Allows canton s stopped_opening t =
-    (old : Trail) × (new : Trail) × (c : List ℕ) × (s.now ≡ old.now) × Leaves (Settles s.now.bytes) old new × IsLeft old new c × (t ≡ after_stop c s.log)
+    (old : Trail) × (new : Trail) × (result : Result Ledger OpenFault) × (c : List ℕ) × (s.now ≡ old.now) × Opens canton old new result × IsLeft old new c
+    × (t ≡ after_stop c s.log)
 
 -- the events of a night, each with what it makes of the stretch
 abbrev pub IsNight : Canton → Stretch → List (Event × Stretch) → Type 0

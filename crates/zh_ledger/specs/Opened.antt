@@ -1,7 +1,9 @@
 -- What formatting leaves, and what opening finds.
-use Rattle.std.specs.Prelude.{◌≡◌, ◌≢◌, ℕ, List, Result, Ok, Err, false}
+use Rattle.std.specs.Prelude.{◌≡◌, ◌≢◌, ◌-◌, ◌^◌, ℕ, List, Result, Ok, Err, false}
 use Rattle.zh_districts.specs.Canton.{Canton}
 use Rattle.zh_districts.specs.Spelling.{setup_spelling}
+use Rattle.zh_records.specs.declared.format.Format.{Format}
+use Rattle.zh_records.specs.declared.format.Format.TheVariants.{One}
 use Rattle.zh_returns.specs.Tally.{Tally, empty}
 use Rattle.zh_snapshot.specs.Image.{Content, IsBlank, IsFramed}
 use Rattle.zh_journal.specs.Pages.{Frames}
@@ -18,10 +20,11 @@ use Rattle.zh_ledger.specs.Stands.{StandsFor, Holds}
 abbrev pub IsNew : Canton → List ℕ → Type 0
 IsNew canton c = Holds (empty canton) c
 
--- a ledger of this set-up that met no fault of the device
+-- a ledger of this set-up that met no fault of the device; it has a slot of format One only at the last generation
 pub record IsReady (canton : Canton) (s : Ledger) : Type 0 where
   pub set_up : s.tally.canton ≡ canton
   pub whole : s.store.broken ≡ false
+  pub last : s.format ≡ One → s.store.generation ≡ 2 ^ 64 - 1
 
 -- these bytes of a disk are framed, with a content that the ledger's store knows and that stands for its count
 pub record IsFound (bytes : List ℕ) (s : Ledger) : Type 0 where
@@ -29,7 +32,7 @@ pub record IsFound (bytes : List ℕ) (s : Ledger) : Type 0 where
   pub end : ℕ
   pub framed : IsFramed content end bytes
   pub fits : Fits s.store content end bytes
-  pub stands : StandsFor content s.tally
+  pub stands : StandsFor s.format content s.tally
 
 -- a ledger of this set-up that holds what these bytes stand for
 pub record IsOpened (canton : Canton) (bytes : List ℕ) (s : Ledger) : Type 0 where
@@ -47,7 +50,7 @@ pub record Differs (canton : Canton) (bytes : List ℕ) : Type 0 where
 pub record IsDamaged (canton : Canton) (bytes : List ℕ) : Type 0 where
   pub gate : IsBlank bytes → ⊥
   pub setup : (x : Content) (j : ℕ) → IsFramed x j bytes → x.setup ≡ setup_spelling canton
-  pub nothing : (x : Content) (j : ℕ) → IsFramed x j bytes → (tally : Tally) → tally.canton ≡ canton → StandsFor x tally → ⊥
+  pub nothing : (x : Content) (j : ℕ) → IsFramed x j bytes → (format : Format) (tally : Tally) → tally.canton ≡ canton → StandsFor format x tally → ⊥
 
 -- these bytes are framed with this content, which the store fits, and the reader has its records left
 pub record IsLeft (s : State) (rest : Rest) (x : Content) (bytes : List ℕ) : Type 0 where
@@ -59,7 +62,7 @@ pub record IsLeft (s : State) (rest : Rest) (x : Content) (bytes : List ℕ) : T
 -- the content is one of this set-up, and stands for no count
 pub record IsWrong (canton : Canton) (x : Content) : Type 0 where
   pub own : x.setup ≡ setup_spelling canton
-  pub nothing : (tally : Tally) → tally.canton ≡ canton → StandsFor x tally → ⊥
+  pub nothing : (format : Format) (tally : Tally) → tally.canton ≡ canton → StandsFor format x tally → ⊥
 
 -- the fault of a store's opening as one of a ledger's
 abbrev pub OpenedAs : store.OpenFault → OpenFault → Type 0

@@ -5,11 +5,12 @@ use Rattle.zh_returns.specs.Tally.{Tally}
 use Rattle.zh_returns.specs.Limits.{IsTally}
 use Rattle.zh_returns.specs.Judgement.{judge}
 use Rattle.zh_returns.specs.Step.{step, after}
-use Rattle.zh_returns.specs.Payload.{payload_spelling}
+use Rattle.zh_returns.specs.Payload.{IsPayload}
 use Rattle.zh_records.specs.Spelling.{command_spelling, IsSpeakable}
 use Rattle.zh_records.specs.declared.command.Command.{Command}
+use Rattle.zh_records.specs.declared.format.Format.{Format}
 use Rattle.zh_returns.specs.declared.verdict.Verdict.TheVariants.{Accept}
-use Rattle.zh_snapshot.specs.Image.{Content, IsClean}
+use Rattle.zh_snapshot.specs.Image.{Content, IsClean, IsFramed}
 use Rattle.zh_snapshot.specs.Store.{Fits}
 use Rattle.zh_ledger.specs.Ledger.{Ledger}
 
@@ -18,29 +19,39 @@ abbrev pub AreAccepted : Tally → List Command → Type 0
 AreAccepted tally [] = Unit {0}
 AreAccepted tally (command ∷ commands) = (judge tally command ≡ Accept) × ((tally.accepted < 2 ^ 64 - 1) × AreAccepted (step tally command) commands)
 
--- the records are those of these commands, which are accepted in turn from the one count on and give the other
-pub record Replays (start : Tally) (records : List (List ℕ)) (tally : Tally) : Type 0 where
+-- the records are those of these commands in this format, which are accepted in turn from the one count on and give the other
+pub record Replays (format : Format) (start : Tally) (records : List (List ℕ)) (tally : Tally) : Type 0 where
   pub commands : List Command
-  pub speakable : All IsSpeakable commands
-  pub spelled : records ≡ map command_spelling commands
+  pub speakable : All (IsSpeakable format) commands
+  pub spelled : records ≡ map (command_spelling format) commands
   pub accepted : AreAccepted start commands
   pub count : tally ≡ after start commands
 
--- the set-up bytes are those of this count's set-up, and its records lead from the count of its snapshot to this one
-pub record StandsFor (x : Content) (tally : Tally) : Type 0 where
+-- the set-up bytes are those of this count's set-up, and its records lead from the count of its snapshot to this one, both
+-- in this format
+pub record StandsFor (format : Format) (x : Content) (tally : Tally) : Type 0 where
   pub setup : x.setup ≡ setup_spelling tally.canton
   pub start : Tally
   pub canton : start.canton ≡ tally.canton
   pub limits : IsTally start
-  pub snapshot : payload_spelling start ≡ x.snapshot
-  pub replays : Replays start x.records tally
+  pub snapshot : IsPayload format start x.snapshot
+  pub replays : Replays format start x.records tally
+
+-- these bytes are framed, with a content that stands for this count
+pub record Stands (tally : Tally) (bytes : List ℕ) : Type 0 where
+  pub content : Content
+  pub end : ℕ
+  pub format : Format
+  pub framed : IsFramed content end bytes
+  pub stands : StandsFor format content tally
 
 -- a clean image that stands for this count
 pub record Holds (tally : Tally) (c : List ℕ) : Type 0 where
   pub content : Content
   pub end : ℕ
+  pub format : Format
   pub clean : IsClean content end c
-  pub stands : StandsFor content tally
+  pub stands : StandsFor format content tally
 
 -- a clean image that is the one that the ledger knows, and stands for the ledger's count
 pub record IsKept (s : Ledger) (c : List ℕ) : Type 0 where
@@ -48,4 +59,4 @@ pub record IsKept (s : Ledger) (c : List ℕ) : Type 0 where
   pub end : ℕ
   pub clean : IsClean content end c
   pub fits : Fits s.store content end c
-  pub stands : StandsFor content s.tally
+  pub stands : StandsFor s.format content s.tally

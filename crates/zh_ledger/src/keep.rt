@@ -5,6 +5,7 @@ ghost use Rattle.zh_disk.specs.Disk.{Leaves, Moves};
 ghost use Rattle.zh_journal.specs.Cause.{HasRisen};
 ghost use Rattle.zh_returns.specs.Judgement.{judge};
 ghost use Rattle.zh_returns.specs.Limits.{IsTally};
+ghost use Rattle.zh_records.specs.declared.format.Format.{Format};
 ghost use Rattle.zh_records.specs.Spelling.{HasNumbers, IsSpeakable, command_spelling};
 ghost use Rattle.zh_ledger.specs.Ledger.{MayStore, StoredOrDevice, Becomes, ready, has_room, lacks_room};
 ghost use Rattle.zh_ledger.specs.Images.{LeavesBy, Keeps, Readies, SameOutsideSlots};
@@ -12,6 +13,7 @@ ghost use Rattle.zh_ledger.specs.Kept.{ledger_of};
 ghost use Rattle.zh_ledger.specs.Submissions.{UnlessStored};
 
 use crate::outcome::Outcome;
+use crate::switch::switch;
 use zh_disk::Disk;
 use zh_journal::pages_of;
 use zh_returns::{Command, PAYLOAD_LENGTH, Verdict, encode_command};
@@ -62,10 +64,9 @@ fn make_room<D: Disk>(
 ) -> Result<usize, SwitchFault>
     requires buffer { length buffer.old ≡ PAYLOAD_LENGTH }
     requires whole { store.old.broken ≡ false }
-    requires limits { IsTally count.now }
-    requires speakable { IsSpeakable command.now }
-    ensures length { IfOk result (λ len. len ≡ length (command_spelling command.now)) }
-    ensures written { IfOk result (λ len. take len buffer.new ≡ command_spelling command.now) }
+    requires speakable { IsSpeakable Format.Two command.now }
+    ensures length { IfOk result (λ len. len ≡ length (command_spelling Format.Two command.now)) }
+    ensures written { IfOk result (λ len. take len buffer.new ≡ command_spelling Format.Two command.now) }
     ensures ok { OnOk result (ledger_of count.now store.new ≡ ready (ledger_of count.now store.old) command.now) }
     ensures device { IsErrOf result SwitchFault.Device → store.new.broken ≡ true }
     ensures spent { (result ≡ Err SwitchFault.Spent) ↔ (lacks_room (ledger_of count.now store.old) command.now ≡ true) }
@@ -83,8 +84,7 @@ fn make_room<D: Disk>(
     if pages_of(len as u32) <= store.pages_left() {
         return Ok(len);
     }
-    count.count().encode(buffer);
-    store.switch(disk, buffer)?;
+    switch(count, store, buffer, disk)?;
     Ok(encode_command(command, buffer))
 }
 
@@ -99,8 +99,8 @@ fn append<D: Disk>(
     requires accept { judge count.old command.now ≡ Verdict.Accept }
     requires whole { store.old.broken ≡ false }
     requires number { count.old.accepted < 2 ^ 64 - 1 }
-    requires speakable { IsSpeakable command.now }
-    requires spelled { payload.now ≡ command_spelling command.now }
+    requires speakable { IsSpeakable Format.Two command.now }
+    requires spelled { payload.now ≡ command_spelling Format.Two command.now }
     requires room { has_room (ledger_of count.old store.old) command.now ≡ true }
     ensures results { StoredOrDevice count.old.accepted (D.failures disk.old) (D.failures disk.new) result }
     ensures after { Becomes (ledger_of count.old store.old) command.now result (ledger_of count.new store.new) }

@@ -3,16 +3,17 @@
 ghost use Rattle.std.specs.Prelude.{◌≡◌, ℕ, List};
 ghost use Rattle.zh_returns.specs.Tally.{Tally};
 ghost use Rattle.zh_records.specs.declared.command.Command.{Command};
+ghost use Rattle.zh_records.specs.declared.format.Format.{Format};
 ghost use Rattle.zh_snapshot.specs.Image.{Content, IsFramed};
 ghost use Rattle.zh_ledger.specs.Night.{Law};
 ghost use Rattle.zh_ledger.specs.Stands.{StandsFor};
 ghost use Rattle.zh_ledger.specs.Submissions.{OnDisk, Log, Submits, IsLogged};
 ghost use Rattle.zh_ledger.specs.declared.outcome.Outcome.{Outcome};
 
-/// The bytes of a disk stand for one count of a set-up at most.
+/// The bytes of a disk stand for one count of a set-up at most, in one format.
 pub fn one_count()
-    ensures { (bytes : List ℕ) (x y : Content) (j k : ℕ) (tally other : Tally) → IsFramed x j bytes → IsFramed y k bytes →
-        StandsFor x tally → StandsFor y other → tally.canton ≡ other.canton → tally ≡ other }
+    ensures { (bytes : List ℕ) (x y : Content) (j k : ℕ) (f g : Format) (tally other : Tally) → IsFramed x j bytes → IsFramed y k bytes →
+        StandsFor f x tally → StandsFor g y other → tally.canton ≡ other.canton → (f ≡ g) × (tally ≡ other) }
 {}
 
 /// What commands that are submitted one after the other leave on an honest disk, at each moment and at the end.

@@ -9,7 +9,7 @@ use crate::keep::keep;
 use crate::outcome::Outcome;
 use std::marker::Model;
 use zh_disk::Disk;
-use zh_returns::{Command, Count, Verdict};
+use zh_returns::{Command, Count, Format, Verdict};
 use zh_snapshot::Store;
 use zh_totals::{RunningCount, Totals};
 
@@ -21,12 +21,15 @@ use zh_totals::{RunningCount, Totals};
 pub struct Ledger<'s> {
     pub(crate) count: RunningCount<'s>,
     pub(crate) store: Store,
+    // of the slot in use: format One only where no switch is left
+    pub(crate) format: Format,
     // room for a snapshot or a record
     pub(crate) buffer: Vec<u8>,
 }
 
 impl<'s> Model for Ledger<'s> {
     ghost use Rattle.std.specs.Prelude.{◌≡◌, length};
+    ghost use Rattle.zh_snapshot.specs.declared.layout.TheConstants.{SNAPSHOT_LENGTH};
     ghost use Rattle.zh_ledger.specs.Ledger as ledger;
 
     ghost Value = { ledger.Ledger };
@@ -35,9 +38,9 @@ impl<'s> Model for Ledger<'s> {
 
     ghost coded = { ledger_code };
 
-    ghost view = { λ ledger. record { tally = ledger.count; store = ledger.store } };
+    ghost view = { λ ledger. record { tally = ledger.count; store = ledger.store; format = ledger.format } };
 
-    ghost invariant = { λ ledger. length ledger.buffer.items ≡ 262391 };
+    ghost invariant = { λ ledger. length ledger.buffer.items ≡ SNAPSHOT_LENGTH };
 }
 
 impl<'s> Ledger<'s> {
@@ -77,6 +80,7 @@ impl<'s> Ledger<'s> {
             return Outcome::Broken;
         }
         match self.count().judge(command) {
+            Verdict::Accept if self.format == Format::One => Outcome::Spent,
             Verdict::Accept => keep(
                 &mut self.count,
                 &mut self.store,

@@ -11,6 +11,7 @@ mod ledger;
 mod opening;
 mod outcome;
 mod replay;
+mod switch;
 
 pub use fault::OpenFault;
 pub use laws::{nights, one_count, submissions};

@@ -1,26 +1,26 @@
 //! Formatting a disk, and opening the ledger that stands there.
 
-ghost use Rattle.std.specs.Prelude.{◌≡◌, ◌≢◌, ◌≤◌, ℕ, length, List, [], IfOk, OnOk, IsErrOf};
+ghost use Rattle.std.specs.Prelude.{◌≡◌, ◌≢◌, ◌≤◌, ◌-◌, ◌^◌, false, length, IfOk, OnOk, IsErrOf};
+ghost use Rattle.zh_disk.specs.Disk.{Leaves};
 ghost use Rattle.zh_districts.specs.Spelling.{setup_spelling};
-ghost use Rattle.zh_disk.specs.Disk.{IsImage, Leaves, settled};
 ghost use Rattle.zh_journal.specs.Cause.{HasRisen};
 ghost use Rattle.zh_returns.specs.Tally.{empty};
-ghost use Rattle.zh_returns.specs.Payload.{payload_spelling};
-ghost use Rattle.zh_snapshot.specs.Image.{Content, IsBlank};
-ghost use Rattle.zh_snapshot.specs.Store.{Settles};
-ghost use Rattle.zh_snapshot.specs.Format.{Formats, IsFormatted};
-ghost use Rattle.zh_ledger.specs.Opened.{IsNew, IsReady, IsOpened, Differs, IsDamaged, IsLeft, IsWrong, UnlessDevice};
+ghost use Rattle.zh_snapshot.specs.Image.{Content};
+ghost use Rattle.zh_ledger.specs.Opened.{IsLeft, IsWrong, UnlessDevice};
+ghost use Rattle.zh_ledger.specs.Kept.{ledger_in};
+ghost use Rattle.zh_ledger.specs.Opening.{Formatting, IsAtRest, MayLeave, Opening, disk_state};
 ghost use Rattle.zh_ledger.specs.Stands.{StandsFor};
 
 use crate::fault::OpenFault;
 use crate::ledger::Ledger;
 use crate::replay::replay;
+use crate::switch::switch;
 use std::alloc::{AllocError, Global};
 use zh_disk::Disk;
 use zh_districts::{Setup, setup_bytes};
 use zh_journal::Reader;
-use zh_returns::{Count, PAYLOAD_LENGTH};
-use zh_snapshot::{FormatFault, Store};
+use zh_returns::{Count, Format, PAYLOAD_LENGTH, payload_format};
+use zh_snapshot::{FormatFault, Store, StoreFault, SwitchFault};
 use zh_totals::RunningCount;
 
 /// Room for a snapshot or a record.
@@ -36,19 +36,10 @@ impl<'s> Ledger<'s> {
     pub fn format<D: Disk>(alloc: Global, setup: &Setup, disk: &mut D) -> Result<(), FormatFault>
         ensures kept { D.honest disk.new → D.honest disk.old }
 
-        // The disk gate is closed, the disk is written, the gate is opened: docs/FORMATS.md has the moments.
-        ensures any_moment { D.honest disk.new → Formats (setup_spelling setup.now) (payload_spelling (empty setup.now)) (D.trail disk.old) (D.trail disk.new) }
+        // While the disk is honest this also says what each image is at each moment since the call began.
+        ensures formatting { Formatting (D.honest disk.new) setup.now (disk_state (D.failures disk.old) (D.trail disk.old)) (disk_state (D.failures disk.new) (D.trail disk.new)) result }
 
-        ensures formatted { D.honest disk.new → OnOk result ((c : List ℕ) → IsImage (D.trail disk.new).now c → IsNew setup.now c) }
-
-        // It is of the first generation, with zeros in its journal, and nothing of an older count counts any more.
-        ensures fresh { D.honest disk.new → OnOk result (IsFormatted (setup_spelling setup.now) (payload_spelling (empty setup.now)) (D.trail disk.new).now.bytes) }
-
-        ensures settled { D.honest disk.new → OnOk result ((D.trail disk.new).now.pending ≡ []) }
         ensures untouched { IsErrOf result FormatFault.Memory → disk.new ≡ disk.old }
-        ensures later { D.failures disk.old ≤ D.failures disk.new }
-        ensures cause { IsErrOf result FormatFault.Device → HasRisen (D.failures disk.old) (D.failures disk.new) }
-        ensures counted { OnOk result (D.failures disk.new ≡ D.failures disk.old) }
     {
         let bytes = setup_bytes(alloc, setup)?;
         let mut first = buffer(alloc)?;
@@ -56,7 +47,8 @@ impl<'s> Ledger<'s> {
         Store::format(alloc, disk, &bytes, &first)
     }
 
-    /// Opens the ledger that a disk holds: a sync, then reads alone. Memory is taken before the first of them.
+    /// Opens the ledger that a disk holds: a sync, then reads alone, and where the slot in use is of format One a switch to
+    /// the same count in format Two, if a generation is left for it. Memory is taken before the first of them.
     ///
     /// `Blank` comes where the disk gate is closed; `Damaged` where header, slot or records break a rule of
     /// docs/FORMATS.md; `SetupDiffers` where they are right and the disk's set-up is another; and `Damaged` again where
@@ -68,36 +60,28 @@ impl<'s> Ledger<'s> {
     ) -> Result<Ledger<'s>, OpenFault>
         ensures kept { D.honest disk.new → D.honest disk.old }
 
-        // At each moment an image is one from the start, and after the sync what a read gave.
-        ensures any_moment { D.honest disk.new → Leaves (Settles (D.trail disk.old).now.bytes) (D.trail disk.old) (D.trail disk.new) }
+        // While the disk is honest this also says what each image is at each moment since the call began.
+        ensures opening { Opening (D.honest disk.new) setup.now (disk_state (D.failures disk.old) (D.trail disk.old)) (disk_state (D.failures disk.new) (D.trail disk.new)) result }
 
-        ensures settled { D.honest disk.new → OnOk result ((D.trail disk.new).now ≡ settled (D.trail disk.old).now.bytes) }
-
-        ensures ready { IfOk result (IsReady setup.now) }
-        ensures opened { D.honest disk.new → IfOk result (IsOpened setup.now (D.trail disk.old).now.bytes) }
-        ensures blank { D.honest disk.new → IsErrOf result OpenFault.Blank → IsBlank (D.trail disk.old).now.bytes }
-        ensures differs { D.honest disk.new → IsErrOf result OpenFault.SetupDiffers → Differs setup.now (D.trail disk.old).now.bytes }
-        ensures damaged { D.honest disk.new → IsErrOf result OpenFault.Damaged → IsDamaged setup.now (D.trail disk.old).now.bytes }
         ensures untouched { IsErrOf result OpenFault.Memory → disk.new ≡ disk.old }
-        ensures later { D.failures disk.old ≤ D.failures disk.new }
-        ensures cause { IsErrOf result OpenFault.Device → HasRisen (D.failures disk.old) (D.failures disk.new) }
-        ensures counted { UnlessDevice result (D.failures disk.new ≡ D.failures disk.old) }
     {
         let bytes = setup_bytes(alloc, setup)?;
         let mut buffer = buffer(alloc)?;
         let mut count = RunningCount::new(alloc, setup)?;
-        let (store, mut reader) = Store::open(alloc, disk)?;
-        read_count(disk, &store, &bytes, &mut reader, &mut buffer, &mut count)?;
+        let (mut store, mut reader) = Store::open(alloc, disk)?;
+        let found = read_count(disk, &store, &bytes, &mut reader, &mut buffer, &mut count)?;
+        let format = migrate(found, &count, &mut store, &mut buffer, disk)?;
         Ok(Ledger {
             count,
             store,
+            format,
             buffer,
         })
     }
 }
 
-/// Reads the count that stands on a store's disk: the snapshot, and over it the records that the reader has left. The
-/// count given is the one before the first return, of the set-up that has these bytes.
+/// Reads the count that stands on a store's disk, and gives its format: the snapshot, and over it the records that the
+/// reader has left. The count given is the one before the first return, of the set-up that has these bytes.
 fn read_count<D: Disk>(
     disk: &mut D,
     store: &Store,
@@ -105,14 +89,14 @@ fn read_count<D: Disk>(
     reader: &mut Reader,
     buffer: &mut [u8],
     count: &mut RunningCount<'_>,
-) -> Result<(), OpenFault>
+) -> Result<Format, OpenFault>
     requires setup { setup.now ≡ setup_spelling count.old.canton }
     requires buffer { PAYLOAD_LENGTH ≤ length buffer.old }
     requires count { count.old ≡ empty count.old.canton }
     ensures kept { D.honest disk.new → D.honest disk.old }
     ensures same { D.honest disk.new → D.trail disk.new ≡ D.trail disk.old }
     ensures canton { count.new.canton ≡ count.old.canton }
-    ensures found { D.honest disk.new → (x : Content) → IsLeft store.now reader.old x (D.trail disk.old).now.bytes → OnOk result (StandsFor x count.new) }
+    ensures found { D.honest disk.new → (x : Content) → IsLeft store.now reader.old x (D.trail disk.old).now.bytes → IfOk result (λ format. StandsFor format x count.new) }
     ensures differs { D.honest disk.new → IsErrOf result OpenFault.SetupDiffers → (x : Content) → IsLeft store.now reader.old x (D.trail disk.old).now.bytes → x.setup ≢ setup.now }
     ensures damaged { D.honest disk.new → IsErrOf result OpenFault.Damaged → (x : Content) → IsLeft store.now reader.old x (D.trail disk.old).now.bytes → IsWrong count.old.canton x }
     ensures blank { result ≢ Err OpenFault.Blank }
@@ -124,11 +108,47 @@ fn read_count<D: Disk>(
     if !store.setup_equals(disk, setup)? {
         return Err(OpenFault::SetupDiffers);
     }
-    if !count.decode(store.snapshot(disk, buffer)?) {
+    let payload = store.snapshot(disk, buffer)?;
+    let Some(format) = payload_format(payload) else {
+        return Err(OpenFault::Damaged);
+    };
+    if !count.decode(payload) {
         return Err(OpenFault::Damaged);
     }
-    if !replay(reader, buffer, count) {
+    if !replay(reader, format, buffer, count) {
         return Err(OpenFault::Damaged);
     }
-    Ok(())
+    Ok(format)
+}
+
+/// Where the slot in use is of format One, switches to the same count in format Two, and gives the format of the slot that
+/// is in use then. At the last generation no switch is left.
+fn migrate<D: Disk>(
+    format: Format,
+    count: &RunningCount<'_>,
+    store: &mut Store,
+    buffer: &mut [u8],
+    disk: &mut D,
+) -> Result<Format, StoreFault>
+    requires buffer { length buffer.old ≡ PAYLOAD_LENGTH }
+    requires whole { store.old.broken ≡ false }
+
+    ensures kept { D.honest disk.new → D.honest disk.old }
+    ensures moments { D.honest disk.new → IsAtRest (ledger_in format count.now store.old) (D.trail disk.old).now → Leaves (MayLeave count.now.canton (D.trail disk.old).now.bytes) (D.trail disk.old) (D.trail disk.new) }
+    ensures rests { D.honest disk.new → IsAtRest (ledger_in format count.now store.old) (D.trail disk.old).now → IfOk result (λ format. IsAtRest (ledger_in format count.now store.new) (D.trail disk.new).now) }
+    ensures whole { OnOk result (store.new.broken ≡ false) }
+    ensures last { IfOk result (λ format. format ≡ Format.One → store.new.generation ≡ 2 ^ 64 - 1) }
+    ensures later { D.failures disk.old ≤ D.failures disk.new }
+    ensures cause { IsErrOf result StoreFault.Device → HasRisen (D.failures disk.old) (D.failures disk.new) }
+    ensures counted { OnOk result (D.failures disk.new ≡ D.failures disk.old) }
+{
+    match format {
+        Format::Two => Ok(Format::Two),
+        Format::One => match switch(count, store, buffer, disk) {
+            Ok(()) => Ok(Format::Two),
+            Err(SwitchFault::Spent) => Ok(Format::One),
+            Err(SwitchFault::Device) => Err(StoreFault::Device),
+            Err(SwitchFault::Broken) => unreachable!(),
+        },
+    }
 }

@@ -13,12 +13,12 @@ pub returns-clause-replayed : goal.returns-clause-replayed
 returns-clause-replayed c = λ is.
     let judged : judge c.args.count.now c.in-Some.command ≡ Accept = search rules in
     let room : c.args.count.now.accepted < 2 ^ 64 - 1 = omega (arith, ap (λ (t : Tally). t.accepted) c.count-now.ensures) in
-    let next : IsNext c.args.count.now c.args.payload.now c.in-Some.command = record { speakable = c.in-Some.ensures.read.0; spelled = c.in-Some.ensures.read.1; accepted = judged; room = room } in
-    subst (λ (tally : Tally). Replays c.args.count.now (c.args.payload.now ∷ []) tally) (sym c.apply.ensures)
+    let next : IsNext c.args.format c.args.count.now c.args.payload.now c.in-Some.command = record { speakable = c.in-Some.ensures.read.0; spelled = c.in-Some.ensures.read.1; accepted = judged; room = room } in
+    subst (λ (tally : Tally). Replays c.args.format c.args.count.now (c.args.payload.now ∷ []) tally) (sym c.apply.ensures)
     (replays_one c.args.count.now c.args.payload.now c.in-Some.command next)
 
 pub returns-then-ne-clause-refused : goal.returns-then-ne-clause-refused
 returns-then-ne-clause-refused c = λ _ command speakable spelled accept room.
-    let same : command ≡ c.in-Some.command = command_once command c.in-Some.command speakable c.in-Some.ensures.read.0 (spelled ∙ sym c.in-Some.ensures.read.1) in
+    let same : command ≡ c.in-Some.command = command_once c.args.format command c.in-Some.command speakable c.in-Some.ensures.read.0 (spelled ∙ sym c.in-Some.ensures.read.1) in
     let judged : judge c.args.count.now c.in-Some.command ≡ Accept = subst (λ (x : Command). judge c.args.count.now x ≡ Accept) same accept in
     elim c.then-ne.branch [ then-ne-via-then-ne w ↦ search rules | then-ne-via-else-ne+then-accepted w ↦ absurd (omega (arith, ap (λ (t : Tally). t.accepted) c.count-now.ensures)) ]

@@ -1,44 +1,59 @@
-use Rattle.std.proofs.Common.{◌≡◌, ◌∙◌, ap, subst, length, arith}
+use Rattle.std.proofs.Common.{rules, ◌≡◌, ◌∙◌, Err, ap, subst, length, arith}
 use Rattle.std.proofs.lemmas.List.{with_items_is}
 use Rattle.std.proofs.lemmas.Result.{on_ok_weaker}
 use Rattle.zh_districts.specs.Spelling.{setup_spelling}
 use Rattle.zh_returns.specs.Limits.{IsTally}
+use Rattle.zh_records.specs.declared.format.Format.TheVariants.{Two}
 use Rattle.zh_returns.specs.Payload.{payload_spelling}
 use Rattle.zh_returns.specs.Tally.{empty}
-use Rattle.zh_snapshot.proofs.CallerLemmas.{before}
-use Rattle.zh_ledger.proofs.OpenedLemmas.{filled, formats_as, new_image}
+use Rattle.zh_snapshot.specs.declared.fault.FormatFault.TheVariants as formatting
+use Rattle.zh_ledger.proofs.OpenedLemmas.{filled, formats_as, new_image, not_formatted}
 use Rattle.zh_ledger.proofs.ledger.Ledger.format.Given.{Over}
 use Rattle.zh_ledger.proofs.ledger.Ledger.format.Goals as goal
 
-pub returns-in_err-bytes-clause-any_moment : goal.returns-in_err-bytes-clause-any_moment
-returns-in_err-bytes-clause-any_moment g c = λ h. before _ _ _
+pub returns-in_err-bytes-clause-formatting : goal.returns-in_err-bytes-clause-formatting
+returns-in_err-bytes-clause-formatting g c =
+    let is : c.from_residual.result ≡ Err formatting.Memory = search rules in
+    rw is (not_formatted _ _ _)
 
-pub returns-in_err-first-clause-any_moment : goal.returns-in_err-first-clause-any_moment
-returns-in_err-first-clause-any_moment g c = λ h. before _ _ _
+pub returns-in_err-first-clause-formatting : goal.returns-in_err-first-clause-formatting
+returns-in_err-first-clause-formatting g c =
+    let is : c.from_residual-in_err-first.result ≡ Err formatting.Memory = search rules in
+    rw is (not_formatted _ _ _)
 
-pub returns-in_err-new-clause-any_moment : goal.returns-in_err-new-clause-any_moment
-returns-in_err-new-clause-any_moment g c = λ h. before _ _ _
+pub returns-in_err-new-clause-formatting : goal.returns-in_err-new-clause-formatting
+returns-in_err-new-clause-formatting g c =
+    let is : c.from_residual-in_err-new.result ≡ Err formatting.Memory = search rules in
+    rw is (not_formatted _ _ _)
 
 setup_is : (g : Over) (c : goal.After-drop-bytes-2 g) → c.deref.result.now ≡ setup_spelling c.args.setup.now
 setup_is g c = c.deref.ensures.value ∙ c.in_ok-bytes.ensures.spelling
 
-first_is : (g : Over) (c : goal.After-drop-bytes-2 g) → c.deref-2.result.now ≡ payload_spelling (empty c.args.setup.now)
+first_is : (g : Over) (c : goal.After-drop-bytes-2 g) → c.deref-2.result.now ≡ payload_spelling Two (empty c.args.setup.now)
 first_is g c =
     let first = c.in_ok-first.first in
     let size : first.len ≡ 262391 = omega (arith, first.ok.0, c.in_ok-first.ensures) in
     let room : length c.deref_mut.result.now ≡ 262391 = omega (arith, c.deref_mut.ensures.len, size) in
     let whole : length c.encode-2.new.out ≡ 262391 = omega (arith, c.encode-2.auto.out, room) in
-    filled 262391 first.len (payload_spelling c.in_ok-new.field-0) c.encode-2.new.out c.deref_mut.result.now _ c.deref-2.result.now size room whole c.encode-2.ensures c.deref-2.ensures.value
-    ∙ ap payload_spelling c.in_ok-new.ensures
+    filled 262391 first.len (payload_spelling Two c.in_ok-new.field-0) c.encode-2.new.out c.deref_mut.result.now _ c.deref-2.result.now size room whole c.encode-2.ensures.spelling c.deref-2.ensures.value
+    ∙ ap (payload_spelling Two) c.in_ok-new.ensures
 
-pub returns-clause-any_moment : goal.returns-clause-any_moment
-returns-clause-any_moment g c = λ h.
-    formats_as c.deref.result.now _ c.deref-2.result.now _ (g.D.Disk.trail c.args.disk.now) (g.D.Disk.trail c.format.new.disk) (setup_is g c) (first_is g c) (c.format.ensures.moments h)
-
-pub returns-clause-formatted : goal.returns-clause-formatted
-returns-clause-formatted g c = λ h.
-    let limits = subst IsTally (c.encode.view_is ∙ c.in_ok-new.ensures) c.encode.invariant.tally in
-    on_ok_weaker c.format.result (new_image c.args.setup.now c.deref.result.now c.deref-2.result.now (g.D.Disk.trail c.format.new.disk).now (setup_is g c) (first_is g c) limits) (c.format.ensures.formatted h)
+pub returns-clause-formatting : goal.returns-clause-formatting
+returns-clause-formatting g c =
+    let new = g.D.Disk.trail c.format.new.disk in
+    record {
+      later = c.format.ensures.later;
+      cause = c.format.ensures.cause;
+      counted = c.format.ensures.counted;
+      makes = λ h. record {
+        moments = formats_as c.deref.result.now _ c.deref-2.result.now _ (g.D.Disk.trail c.args.disk.now) new (setup_is g c) (first_is g c) (c.format.ensures.moments h);
+        formatted =
+            let limits = subst IsTally (c.encode.view_is ∙ c.in_ok-new.ensures) c.encode.invariant.tally in
+            on_ok_weaker c.format.result (new_image c.args.setup.now c.deref.result.now c.deref-2.result.now new.now (setup_is g c) (first_is g c) limits) (c.format.ensures.formatted h);
+        fresh = rw (← setup_is g c, ← first_is g c) (on_ok_weaker c.format.result (λ both. both.1) (c.format.ensures.formatted h));
+        settled = on_ok_weaker c.format.result (λ both. both.0) (c.format.ensures.formatted h);
+      };
+    }
 
 pub format-requires-clause-setup : goal.format-requires-clause-setup
 format-requires-clause-setup g c = omega (arith, ap length c.deref.ensures.value, c.in_ok-bytes.ensures.length)
@@ -49,7 +64,3 @@ format-requires-clause-first g c =
     let size : first.len ≡ 262391 = omega (arith, first.ok.0, c.in_ok-first.ensures) in
     let whole : length c.encode-2.new.out ≡ first.len = omega (arith, c.encode-2.auto.out, c.deref_mut.ensures.len) in
     ap length (c.deref-2.ensures.value ∙ with_items_is first c.encode-2.new.out whole) ∙ whole ∙ size
-
-pub returns-clause-fresh : goal.returns-clause-fresh
-returns-clause-fresh g c = λ h.
-    rw (← setup_is g c, ← first_is g c) (on_ok_weaker c.format.result (λ both. both.1) (c.format.ensures.formatted h))

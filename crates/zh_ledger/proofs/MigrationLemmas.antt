@@ -1,0 +1,131 @@
+-- What a migration leaves of its disk.
+use Rattle.std.proofs.Common.{◌≡◌, ◌≢◌, ◌∙◌, ◌-◌, ◌^◌, ◌⊎◌, inl, inr, ⊎_elim, ℕ, List, [], ◌∷◌, ◌++◌, sym, ap, subst, refl}
+use Rattle.std.proofs.lemmas.List.{append_cancel_right}
+use Rattle.zh_disk.specs.Disk.{Moment, Trail, IsImage, AllMove, Moves, Leaves, SameOutside, settled}
+use Rattle.zh_disk.proofs.CallerLemmas.{image_now, leaves_join, leaves_weaken}
+use Rattle.zh_districts.specs.Canton.{Canton}
+use Rattle.zh_records.specs.declared.format.Format.{Format}
+use Rattle.zh_records.specs.declared.format.Format.TheVariants.{One, Two}
+use Rattle.zh_returns.specs.Limits.{IsTally}
+use Rattle.zh_returns.specs.Payload.{payload_spelling}
+use Rattle.zh_returns.specs.Tally.{Tally}
+use Rattle.zh_snapshot.specs.Image.{Content, IsClean, with_snapshot}
+use Rattle.zh_snapshot.specs.Layout.{other, slot_at, slot_length}
+use Rattle.zh_snapshot.specs.Store.{State, Settles, StoreSwitches, StoreSwitchesOrNot, switched}
+use Rattle.zh_snapshot.proofs.CallerLemmas.{framed_alike}
+use Rattle.zh_ledger.specs.Kept.{ledger_in, ledger_of}
+use Rattle.zh_ledger.specs.Ledger.{Ledger}
+use Rattle.zh_ledger.specs.Opened.{IsFound}
+use Rattle.zh_ledger.specs.Opening.{IsAtRest, MayLeave, Migrates}
+use Rattle.zh_ledger.specs.Stands.{Holds, StandsFor}
+use Rattle.zh_ledger.proofs.OpenedLemmas.{one_image}
+use Rattle.zh_ledger.proofs.StandsLemmas.{one_count}
+use Rattle.zh_ledger.proofs.SwitchLemmas.{knows_switched, stands_anew}
+
+-- where each image comes by two relations, it comes by both
+both_all : (R S T : List ℕ → List ℕ → Type 0) (old : Moment) → ((x y f : List ℕ) → IsImage old x → IsImage old y → R x f → S y f → T x f) → (ms : List Moment) → AllMove R old ms → AllMove S old ms → AllMove T old ms
+both_all R S T old both [] r s = tt
+both_all R S T old both (m ∷ ms) r s = (
+  λ c image.
+      let a = r.0 c image in
+      let b = s.0 c image in
+      (a.0, a.1, both a.0 b.0 c a.1 b.1 a.2 b.2),
+  both_all R S T old both ms r.1 s.1,
+)
+
+leaves_both : (R S T : List ℕ → List ℕ → Type 0) (a b : Trail) → ((x y f : List ℕ) → IsImage a.now x → IsImage a.now y → R x f → S y f → T x f) → Leaves R a b → Leaves S a b → Leaves T a b
+leaves_both R S T a b both r s =
+    let same : s.between ≡ r.between = append_cancel_right s.between r.between (a.now ∷ a.past) (sym s.run ∙ r.run) in
+    record { between = r.between; run = r.run; each = both_all R S T a.now both r.between r.each (subst (AllMove S a.now) same s.each) }
+
+-- a switch from a slot of format One, from a moment at which nothing is pending
+module _ (tally : Tally) (store : State) (limits : IsTally tally) (room : store.generation ≢ 2 ^ 64 - 1) (t u : Trail) (rest : IsAtRest (ledger_in One tally store) t.now) where
+  migrates : (x y f : List ℕ) → IsImage t.now x → IsImage t.now y → StoreSwitchesOrNot store (payload_spelling Two tally) x f → SameOutside (slot_at (other store.slot)) slot_length y f → MayLeave tally.canton t.now.bytes x f
+  migrates x y f first second by outside =
+      let found = rest.found in
+      let here : x ≡ t.now.bytes = one_image t.now x rest.pending first in
+      let there : y ≡ t.now.bytes = one_image t.now y rest.pending second in
+      let from : StoreSwitchesOrNot store (payload_spelling Two tally) t.now.bytes f = subst (λ (b : List ℕ). StoreSwitchesOrNot store (payload_spelling Two tally) b f) here by in (
+        here,
+        inr (record {
+          content = found.content;
+          end = found.end;
+          tally = tally;
+          slot = store.slot;
+          framed = found.framed;
+          in_use = found.fits.slot;
+          own = refl;
+          stands = found.stands;
+          limits = limits;
+          generation = λ last. room (sym found.fits.generation ∙ last);
+          outside = subst (λ (b : List ℕ). SameOutside (slot_at (other store.slot)) slot_length b f) there outside;
+          kept = from.framed found.content found.end found.framed found.fits;
+          clean = λ clean. from.clean found.content found.end clean found.fits;
+        }),
+      )
+
+  pub while_migrating : Leaves (StoreSwitchesOrNot store (payload_spelling Two tally)) t u → Leaves (SameOutside (slot_at (other store.slot)) slot_length) t u → Leaves (MayLeave tally.canton t.now.bytes) t u
+  while_migrating by outside = leaves_both _ _ _ t u migrates by outside
+
+-- after it the ledger knows the bytes
+pub migrated : (tally : Tally) (store : State) → IsTally tally → (old new : Moment) → IsAtRest (ledger_in One tally store) old → Moves (StoreSwitches store (payload_spelling Two tally)) old new → new.pending ≡ [] → IsAtRest (ledger_of tally (switched store)) new
+migrated tally store limits old new rest moves pending =
+    let from = moves new.bytes (image_now new) in
+    let here : from.0 ≡ old.bytes = one_image old from.0 rest.pending from.1 in
+    let kept = knows_switched tally store limits One from.0 new.bytes from.2 (subst (λ (b : List ℕ). IsFound b (ledger_in One tally store)) (sym here) rest.found) in
+    record {
+      pending = pending;
+      found = record { content = kept.content; end = kept.end; framed = kept.clean.framed; fits = kept.fits; stands = kept.stands };
+    }
+
+-- an opening reads, and may then migrate
+pub reads_then : (canton : Canton) (old mid new : Trail) → mid.now ≡ settled old.now.bytes → Leaves (Settles old.now.bytes) old mid → Leaves (MayLeave canton mid.now.bytes) mid new → Leaves (MayLeave canton old.now.bytes) old new
+reads_then canton old mid new rests first second =
+    let same : mid.now.bytes ≡ old.now.bytes = ap (λ (m : Moment). m.bytes) rests in
+    leaves_join (Settles old.now.bytes) (MayLeave canton mid.now.bytes) (MayLeave canton old.now.bytes) old mid new first second
+    (λ x f image by. (by.0, inl by.1))
+    (λ x f image by. (
+      old.now.bytes,
+      image_now old.now,
+      (refl, ⊎_elim (λ still. inl (still ∙ same)) (λ moved. inr (subst (λ (b : List ℕ). Migrates canton b f) same moved)) by.1),
+    ))
+
+pub reads_alone : (canton : Canton) (old new : Trail) → Leaves (Settles old.now.bytes) old new → Leaves (MayLeave canton old.now.bytes) old new
+reads_alone canton old new leaves = leaves_weaken (Settles old.now.bytes) (MayLeave canton old.now.bytes) old new (λ x f image by. (by.0, inl by.1)) leaves
+
+-- what a migration makes of bytes that hold a count holds it
+pub migrated_holds : (canton : Canton) (bytes new : List ℕ) (tally : Tally) → tally.canton ≡ canton → Holds tally bytes → Migrates canton bytes new → Holds tally new
+migrated_holds canton bytes new tally own holds m =
+    let alike = framed_alike holds.content m.content holds.end m.end bytes holds.clean.framed m.framed in
+    let one = one_count bytes m.content holds.content m.end holds.end One holds.format m.tally tally m.framed holds.clean.framed m.stands holds.stands (m.own ∙ sym own) in
+    let clean : IsClean m.content m.end bytes = subst (λ (j : ℕ). IsClean m.content j bytes) alike.1 (subst (λ (x : Content). IsClean x holds.end bytes) alike.0 holds.clean) in
+    subst (λ (t : Tally). Holds t new) one.1 (
+    ⊎_elim
+    (λ still. record { content = m.content; end = m.end; format = One; clean = still; stands = m.stands })
+    (λ anew. record {
+      content = with_snapshot m.content (payload_spelling Two m.tally);
+      end = 0;
+      format = Two;
+      clean = anew;
+      stands = stands_anew One m.content m.tally m.stands m.limits;
+    })
+    (m.clean clean)
+    )
+
+-- an image that an opening leaves is one from its start, or one that a migration made
+abbrev pub Alters : Canton → List ℕ → List ℕ → List ℕ → Type 0
+Alters canton bytes old new = (new ≡ old) ⊎ Migrates canton bytes new
+
+pub leaves_altered : (canton : Canton) (old new : Trail) → Leaves (MayLeave canton old.now.bytes) old new → Leaves (Alters canton old.now.bytes) old new
+leaves_altered canton old new leaves = leaves_weaken (MayLeave canton old.now.bytes) (Alters canton old.now.bytes) old new (λ x f image by. ⊎_elim (λ still. inl (still ∙ sym by.0)) (λ moved. inr moved) by.1) leaves
+
+-- what a read gives after an opening is what it gave before, or what a migration made of it
+pub read_now : (canton : Canton) (old new : Trail) → Leaves (MayLeave canton old.now.bytes) old new → Alters canton old.now.bytes old.now.bytes new.now.bytes
+read_now canton old new leaves = by_between leaves.between leaves.run leaves.each
+  where
+    by_between : (between : List Moment) → new.now ∷ new.past ≡ between ++ old.now ∷ old.past → AllMove (MayLeave canton old.now.bytes) old.now between → Alters canton old.now.bytes old.now.bytes new.now.bytes
+    by_between [] run each = let now : new.now ≡ old.now = cc in inl (ap (λ (m : Moment). m.bytes) now)
+    by_between (m ∷ ms) run each =
+        let now : new.now ≡ m = cc in
+        let from = each.0 m.bytes (image_now m) in
+        subst (λ (x : Moment). Alters canton old.now.bytes old.now.bytes x.bytes) (sym now) from.2.1

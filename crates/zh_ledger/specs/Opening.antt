@@ -1,0 +1,107 @@
+-- What a call leaves that formats a disk, or opens the ledger that stands there.
+use Rattle.std.specs.Prelude.{◌≡◌, ◌≢◌, ◌≤◌, ◌-◌, ◌^◌, ◌⊎◌, ℕ, List, [], Result, IfErr, IfOk, IsErrOf, OnOk}
+use Rattle.zh_disk.specs.Disk.{Moment, Trail, IsImage, Leaves, SameOutside}
+use Rattle.zh_districts.specs.Canton.{Canton}
+use Rattle.zh_districts.specs.Spelling.{setup_spelling}
+use Rattle.zh_journal.specs.Cause.{HasRisen}
+use Rattle.zh_records.specs.declared.format.Format.TheVariants.{One, Two}
+use Rattle.zh_returns.specs.Payload.{payload_spelling}
+use Rattle.zh_returns.specs.Limits.{IsTally}
+use Rattle.zh_returns.specs.Tally.{Tally, empty}
+use Rattle.zh_snapshot.specs.Image.{Content, IsBlank, IsFramed, IsClean, with_snapshot}
+use Rattle.zh_snapshot.specs.Layout.{other, slot_at, slot_length}
+use Rattle.zh_snapshot.specs.Slots.{IsInUse}
+use Rattle.zh_snapshot.specs.declared.layout.Slot.{Slot}
+use Rattle.zh_snapshot.specs.Format.{Formats, IsFormatted}
+use Rattle.zh_snapshot.specs.Store.{Settles}
+use Rattle.zh_snapshot.specs.declared.fault.FormatFault.{FormatFault}
+use Rattle.zh_snapshot.specs.declared.fault.FormatFault.TheVariants as formatting
+use Rattle.zh_ledger.specs.Ledger.{Ledger}
+use Rattle.zh_ledger.specs.Opened.{IsNew, IsReady, IsFound, IsOpened, Differs, IsDamaged, UnlessDevice}
+use Rattle.zh_ledger.specs.Stands.{Stands, StandsFor}
+use Rattle.zh_ledger.specs.declared.fault.OpenFault.{OpenFault}
+use Rattle.zh_ledger.specs.declared.fault.OpenFault.TheVariants as faults
+
+-- of a disk, how often it has failed, and what it holds and has held
+pub record DiskState : Type 0 where
+  pub failures : ℕ
+  pub trail : Trail
+
+abbrev pub disk_state : ℕ → Trail → DiskState
+disk_state failures trail = record { failures = failures; trail = trail }
+
+-- a clean image with the count of this content as its snapshot in format Two, one generation later
+abbrev pub IsMigrated : Content → Tally → List ℕ → Type 0
+IsMigrated content tally c = IsClean (with_snapshot content (payload_spelling Two tally)) 0 c
+
+-- What a migration may make of bytes that stand for a count in format One, if their generation is not the last: nothing
+-- outside the other slot is changed, and the content stays as it is, or is that count in format Two; clean bytes stay clean.
+pub record Migrates (canton : Canton) (bytes new : List ℕ) : Type 0 where
+  pub content : Content
+  pub end : ℕ
+  pub tally : Tally
+  pub slot : Slot
+  pub framed : IsFramed content end bytes
+  pub in_use : IsInUse slot bytes
+  pub own : tally.canton ≡ canton
+  pub stands : StandsFor One content tally
+  pub limits : IsTally tally
+  pub generation : content.generation ≢ 2 ^ 64 - 1
+  pub outside : SameOutside (slot_at (other slot)) slot_length bytes new
+  pub kept : IsFramed content end new ⊎ IsMigrated content tally new
+  pub clean : IsClean content end bytes → IsClean content end new ⊎ IsMigrated content tally new
+
+-- what an opening may leave of an image from its start, where these are the bytes that a read gave: those alone, or what a
+-- migration makes of them
+abbrev pub MayLeave : Canton → List ℕ → List ℕ → List ℕ → Type 0
+MayLeave canton bytes old new = (old ≡ bytes) × ((new ≡ bytes) ⊎ Migrates canton bytes new)
+
+-- what a fault of an opening says of the bytes that it read; memory and the device say nothing of them
+abbrev pub IsCause : Canton → List ℕ → OpenFault → Type 0
+IsCause canton bytes faults.Blank = IsBlank bytes
+IsCause canton bytes faults.SetupDiffers = Differs canton bytes
+IsCause canton bytes faults.Damaged = IsDamaged canton bytes
+IsCause canton bytes fault = Unit {0}
+
+-- the ledger holds what these bytes stood for; now nothing is pending, and it is one that the bytes on the disk open
+pub record IsOpenedFrom (canton : Canton) (bytes : List ℕ) (now : Moment) (ledger : Ledger) : Type 0 where
+  pub stood : Stands ledger.tally bytes
+  pub pending : now.pending ≡ []
+  pub opened : IsOpened canton now.bytes ledger
+
+-- at this moment nothing is pending, and the bytes are those of this ledger
+pub record IsAtRest (ledger : Ledger) (now : Moment) : Type 0 where
+  pub pending : now.pending ≡ []
+  pub found : IsFound now.bytes ledger
+
+-- An opening takes an honest disk from the one trail to the other, with this result.
+pub record Opens (canton : Canton) (old new : Trail) (result : Result Ledger OpenFault) : Type 0 where
+  pub moments : Leaves (MayLeave canton old.now.bytes) old new
+  pub opened : IfOk result (IsOpenedFrom canton old.now.bytes new.now)
+  pub refused : IfErr result (IsCause canton old.now.bytes)
+  -- an opening that ends so migrates nothing; nor does one of a slot in format Two or at the last generation, as `moments` says
+  pub unchanged : IfErr result (λ fault. (fault ≡ faults.Device → ⊥) → Leaves (Settles old.now.bytes) old new)
+
+-- An opening takes a disk from the one state to the other, with this result; of what the disk holds only while it is honest.
+pub record Opening (honest : Type 0) (canton : Canton) (old new : DiskState) (result : Result Ledger OpenFault) : Type 0 where
+  pub later : old.failures ≤ new.failures
+  pub cause : IsErrOf result faults.Device → HasRisen old.failures new.failures
+  pub counted : UnlessDevice result (new.failures ≡ old.failures)
+  pub ready : IfOk result (IsReady canton)
+  pub opens : honest → Opens canton old.trail new.trail result
+
+-- A formatting takes an honest disk from the one trail to the other, with this result.
+pub record MakesNew (canton : Canton) (old new : Trail) (result : Result (Unit {0}) FormatFault) : Type 0 where
+  -- the disk gate is closed, the disk is written, the gate is opened: docs/FORMATS.md has the moments
+  pub moments : Formats (setup_spelling canton) (payload_spelling Two (empty canton)) old new
+  pub formatted : OnOk result ((c : List ℕ) → IsImage new.now c → IsNew canton c)
+  -- of the first generation, with zeros in its journal, so that nothing of an older count counts any more
+  pub fresh : OnOk result (IsFormatted (setup_spelling canton) (payload_spelling Two (empty canton)) new.now.bytes)
+  pub settled : OnOk result (new.now.pending ≡ [])
+
+-- A formatting takes a disk from the one state to the other, with this result.
+pub record Formatting (honest : Type 0) (canton : Canton) (old new : DiskState) (result : Result (Unit {0}) FormatFault) : Type 0 where
+  pub later : old.failures ≤ new.failures
+  pub cause : IsErrOf result formatting.Device → HasRisen old.failures new.failures
+  pub counted : OnOk result (new.failures ≡ old.failures)
+  pub makes : honest → MakesNew canton old.trail new.trail result
