@@ -1,5 +1,5 @@
 -- When a fault of the device is reported: the disk's failure count rose.
-use Rattle.std.proofs.Common.{◌≡◌, inl, inr, ⊎_elim, ◌<◌, ◌≤◌, ℕ, Bool, true, false, List, [], ◌∷◌, Option, Some, None, Result, Ok, Err, IfErr, IsErrOf, refl, sym, ◌∙◌, ap, subst, arith}
+use Rattle.std.proofs.Common.{◌≡◌, inl, inr, ⊎_elim, ◌<◌, ◌≤◌, ℕ, Bool, true, false, List, [], ◌∷◌, Option, Some, None, Result, Ok, Err, IfErr, refl, sym, ◌∙◌, ap, subst, arith}
 use Rattle.zh_records.specs.declared.command.Command.{Command}
 use Rattle.zh_returns.specs.Judgement.{judge}
 use Rattle.zh_returns.specs.declared.verdict.Verdict.{Verdict}
@@ -9,6 +9,7 @@ use Rattle.zh_districts.specs.Canton.{Canton}
 use Rattle.zh_journal.specs.Cause.{HasRisen}
 use Rattle.zh_snapshot.proofs.CallerLemmas.{risen_since}
 use Rattle.zh_ledger.specs.Ledger.{Ledger, Becomes, MayFollow, MayResultWhere, MayStoreWhere, has_room, is_spent, stored}
+use Rattle.zh_ledger.specs.Opening.{DiskState, Opening}
 use Rattle.zh_ledger.specs.Submissions as ledger
 use Rattle.zh_ledger.specs.Submissions.{Log, Submission}
 use Rattle.zh_ledger.specs.declared.fault.OpenFault.{OpenFault}
@@ -122,8 +123,8 @@ pub record EndsBy {E : Type 0} (OfDevice : E → Type 0) (failures failures' : �
 abbrev pub RefusedBy : ℕ → ℕ → OpenFault → Type 0
 RefusedBy failures failures' fault = (failures ≤ failures') × (fault ≡ opening.Device → HasRisen failures failures')
 
-pub opened_by : {T : Type 0} (failures failures' : ℕ) (result : Result T OpenFault) (fault : OpenFault) → result ≡ Err fault → failures ≤ failures' → (IsErrOf result opening.Device → HasRisen failures failures') → RefusedBy failures failures' fault
-opened_by failures failures' result fault is later cause = (later, λ device. cause (is ∙ ap Err device))
+pub opened_by : (honest : Type 0) (canton : Canton) (old new : DiskState) (fault : OpenFault) → Opening honest canton old new (Err fault) → RefusedBy old.failures new.failures fault
+opened_by honest canton old new fault by = (by.later, λ device. by.cause (ap Err device))
 
 pub run_refused : (failures failures' : ℕ) (fault : OpenFault) → RefusedBy failures failures' fault → EndsBy IsOfDevice failures failures' (Err (runs.Open fault))
 run_refused failures failures' opening.Device by = record { later = by.0; cause = λ _. by.1 refl }
@@ -157,11 +158,11 @@ module _ (honest : Type 0) (canton : Canton) (failures : ℕ) (first : Trail) (f
   From = IsFrom honest canton failures first failures' last
 
   from_later : (start end : OnDisk) → From start end → FaresOn start end → failures ≤ failures'
-  from_later start end from fares = omega (arith, from.0.later, fares.later, from.2)
+  from_later start end from fares = omega (arith, from.0.opening.later, fares.later, from.2)
 
   from_broke : (start end : OnDisk) → From start end → FaresOn start end → end.office.ledger.store.broken ≡ true → HasRisen failures failures'
   from_broke start end from fares broken =
-      subst (HasRisen failures) from.2 (risen_since failures start.failures end.failures from.0.later (fares.broke from.0.ready.ledger.whole broken))
+      subst (HasRisen failures) from.2 (risen_since failures start.failures end.failures from.0.opening.later (fares.broke from.0.opening.ready.whole broken))
 
   -- where an office was opened
   pub serves_end : (r r' w w' : Option (List ℕ)) (result : Result (Unit {0}) RunFault) → Serves honest (λ fault. ⊥) r r' w w' From result → EndsBy IsOfDevice failures failures' result
@@ -182,7 +183,7 @@ module _ (honest : Type 0) (canton : Canton) (failures : ℕ) (first : Trail) (f
   replied_later reply by = from_later by.start by.end by.spans (load_fares honest by.start _ _ reply by.end by.turn)
 
   opened_later : (start : OnDisk) → From start start → failures ≤ failures'
-  opened_later start from = omega (arith, from.0.later, from.2)
+  opened_later start from = omega (arith, from.0.opening.later, from.2)
 
   pub loads_end : (unwritten : Type 0) (w w' : Option (List ℕ)) (result : Result (Unit {0}) LoadFault) → Loads honest (λ fault. ⊥) unwritten w w' From result → EndsBy IsLoadOfDevice failures failures' result
   loads_end unwritten w w' (Ok done) (reply, taken, by) = record { later = replied_later reply by.replied; cause = tt }

@@ -1,15 +1,11 @@
 -- What a task on a disk has done, by how it ended.
 use Rattle.std.proofs.Common.{◌≡◌, ℕ, List, Option, Result, Ok, Err, IsErrOf, subst}
-use Rattle.zh_districts.specs.Canton.{Canton}
-use Rattle.zh_snapshot.specs.Image.{IsBlank}
-use Rattle.zh_ledger.specs.Opened.{Differs, IsDamaged}
 use Rattle.zh_ledger.specs.declared.fault.OpenFault.{OpenFault}
-use Rattle.zh_ledger.specs.declared.fault.OpenFault.TheVariants as opening
 use Rattle.zh_office.specs.Runs.{OnDisk}
 use Rattle.zh_office.specs.Served.{ServesEnded, ServesFront, TakesFewerReads, TakesReads, TakesReadsUpTo}
 use Rattle.zh_office.specs.declared.service.ServeFault.{ServeFault}
 use Rattle.zh_office.specs.declared.service.ServeFault.TheVariants as serving
-use Rattle.zh_disk_tasks.specs.Tasks.{IsReadWithin, Refuses, Serves}
+use Rattle.zh_disk_tasks.specs.Tasks.{IsReadWithin, Serves}
 use Rattle.zh_disk_tasks.specs.declared.fault.RunFault.{RunFault}
 use Rattle.zh_disk_tasks.specs.declared.fault.RunFault.TheVariants as runs
 
@@ -51,13 +47,3 @@ begun_as honest Refused Refused' r r' w w' Spans Spans' (Err (runs.Serve serving
 begun_as honest Refused Refused' r r' w w' Spans Spans' (Err (runs.Serve serving.Write)) refused turn serves = record { start = serves.start; end = serves.end; spans = turn serves.start serves.end serves.spans; front = serves.front }
 begun_as honest Refused Refused' r r' w w' Spans Spans' (Err (runs.Serve serving.Turns)) refused turn serves = record { start = serves.start; end = serves.end; spans = turn serves.start serves.end serves.spans; ended = serves.ended }
 begun_as honest Refused Refused' r r' w w' Spans Spans' (Err runs.Faulted) refused turn serves = record { start = serves.start; end = serves.end; count = serves.count; spans = turn serves.start serves.end serves.spans; all = serves.all; device = serves.device }
-
--- why an office was not opened
-pub refused : {T : Type 0} (canton : Canton) (bytes : List ℕ) (result : Result T OpenFault) (fault : OpenFault) → result ≡ Err fault
-    → (IsErrOf result opening.Blank → IsBlank bytes) → (IsErrOf result opening.SetupDiffers → Differs canton bytes) → (IsErrOf result opening.Damaged → IsDamaged canton bytes)
-    → Refuses canton bytes fault
-refused canton bytes result opening.Memory is blank differs damaged = tt
-refused canton bytes result opening.Device is blank differs damaged = tt
-refused canton bytes result opening.Blank is blank differs damaged = blank is
-refused canton bytes result opening.Damaged is blank differs damaged = damaged is
-refused canton bytes result opening.SetupDiffers is blank differs damaged = differs is

@@ -2,19 +2,20 @@
 use Rattle.std.specs.Prelude.{◌≡◌, ◌≤◌, ◌+◌, ◌⊎◌, ℕ, Bool, true, false, List, length, Option, Result, Ok, Err}
 use Rattle.zh_districts.specs.Canton.{Canton}
 use Rattle.zh_districts.specs.Spelling.{setup_spelling}
+use Rattle.zh_records.specs.declared.format.Format.TheVariants.{Two}
 use Rattle.zh_returns.specs.Tally.{Tally, empty}
 use Rattle.zh_returns.specs.Payload.{payload_spelling}
-use Rattle.zh_disk.specs.Disk.{Trail, IsImage, Leaves, settled}
+use Rattle.zh_desks.specs.Batches.{no_batches}
+use Rattle.zh_disk.specs.Disk.{Trail, IsImage, Leaves}
 use Rattle.zh_snapshot.specs.Image.{Content, IsBlank, IsClean}
 use Rattle.zh_snapshot.specs.Store.{Settles}
 use Rattle.zh_snapshot.specs.Format.{Formats}
-use Rattle.zh_ledger.specs.Opened.{Differs, IsDamaged}
+use Rattle.zh_ledger.specs.Opening.{Opening, Opens, disk_state}
 use Rattle.zh_ledger.specs.Images.{HasSome}
 use Rattle.zh_ledger.specs.Stands.{IsKept}
 use Rattle.zh_ledger.specs.Submissions.{Log}
 use Rattle.zh_ledger.specs.declared.fault.OpenFault.{OpenFault}
 use Rattle.zh_ledger.specs.declared.fault.OpenFault.TheVariants as opening
-use Rattle.zh_office.specs.Opened.{IsOpened, IsReady}
 use Rattle.zh_office.specs.Runs.{OnDisk}
 use Rattle.zh_office.specs.Served.{ServesAll, ServesEnded, ServesFront, TakesFewerReads, TakesReads, TakesReadsUpTo}
 use Rattle.zh_office.specs.declared.service.ServeFault.TheVariants as serving
@@ -23,11 +24,8 @@ use Rattle.zh_disk_tasks.specs.declared.fault.RunFault.TheVariants as runs
 
 -- the office that stood on the disk of this trail, once it is opened there; before that the disk had failed so often
 pub record IsStart (honest : Type 0) (canton : Canton) (failures : ℕ) (trail : Trail) (start : OnDisk) : Type 0 where
-  pub ready : IsReady canton start.office
-  pub later : failures ≤ start.failures
-  pub opening : honest → Leaves (Settles trail.now.bytes) trail start.trail
-  pub opened : honest → IsOpened canton trail.now.bytes start.office
-  pub settled : honest → start.trail.now ≡ settled trail.now.bytes
+  pub opening : Opening honest canton (disk_state failures trail) (disk_state start.failures start.trail) (Ok start.office.ledger)
+  pub held : start.office.held ≡ no_batches
   -- where those bytes were clean, as a formatting and each run leave them, it knows each image of its disk
   pub kept : honest → (x : Content) (j : ℕ) → IsClean x j trail.now.bytes → (c : List ℕ) → IsImage start.trail.now c → IsKept start.office.ledger c
 
@@ -90,21 +88,12 @@ IsOfDevice (runs.Open opening.Device) = Unit {0}
 IsOfDevice runs.Faulted = Unit {0}
 IsOfDevice fault = ⊥
 
--- why no office is opened on a disk that held these bytes; memory and the device say nothing of them
-abbrev pub Refuses : Canton → List ℕ → OpenFault → Type 0
-Refuses canton bytes opening.Blank = IsBlank bytes
-Refuses canton bytes opening.Damaged = IsDamaged canton bytes
-Refuses canton bytes opening.SetupDiffers = Differs canton bytes
-Refuses canton bytes fault = Unit {0}
-
--- No office was opened on this disk. It is as it was: at each moment a stop leaves an image from the start, and once it
--- is synced what a read gave there.
-pub record IsRefused (canton : Canton) (first last : Trail) (fault : OpenFault) : Type 0 where
-  pub moments : Leaves (Settles first.now.bytes) first last
-  pub cause : Refuses canton first.now.bytes fault
+-- no office was opened on this disk
+abbrev pub IsRefused : Canton → Trail → Trail → OpenFault → Type 0
+IsRefused canton first last fault = Opens canton first last (Err fault)
 
 -- What a formatting leaves of a disk, moment by moment: it is opened, and formatted only where it is blank.
 pub record FormatsBlank (canton : Canton) (old new : Trail) : Type 0 where
   pub opened : Trail
   pub opening : Leaves (Settles old.now.bytes) old opened
-  pub after : (new ≡ opened) ⊎ (IsBlank old.now.bytes × Formats (setup_spelling canton) (payload_spelling (empty canton)) opened new)
+  pub after : (new ≡ opened) ⊎ (IsBlank old.now.bytes × Formats (setup_spelling canton) (payload_spelling Two (empty canton)) opened new)

@@ -1,5 +1,6 @@
 pub mod CallerLemmas
 mod BlockLemmas
+mod CalmAnswerLemmas
 mod InputLemmas
 mod LiftingLemmas
 mod LoadLemmas

@@ -52,7 +52,7 @@ empty_turn honest old text failed (row ∷ rows) whole none loads = absurd (omeg
 -- rows that are submitted
 pub submitted_turn : (honest : Type 0) (old new : OnDisk) (text : Option (List ℕ)) (failed : Bool) (rows : List Row) (reply : Reply) → old.office.ledger.store.broken ≡ false → 1 ≤ length rows → new.office.held ≡ old.office.held
     → LoadsFrom old.office.ledger.tally.canton text failed (Ok rows)
-    → (outcome : Outcome) × Submission honest (ledger_of old) (commands.Batch rows) outcome (ledger_of new) × (reply ≡ reply_to outcome) → LoadTurn honest old text failed reply new
+    → (outcome : Outcome) × Submission honest (ledger_of old) (commands.Batch 0 rows) outcome (ledger_of new) × (reply ≡ reply_to outcome) → LoadTurn honest old text failed reply new
 submitted_turn honest old new text failed [] reply whole some held loads acts = absurd (omega arith)
 submitted_turn honest old new text failed (row ∷ rows) reply whole some held loads acts = record {
   loaded = Ok (row ∷ rows);

@@ -17,6 +17,7 @@ use Rattle.zh_requests.specs.Requests.{Acts}
 use Rattle.zh_office.specs.Runs.{OnDisk, Turn, logged}
 use Rattle.zh_office.specs.Night.{Event, Stretch, ledger_of, Begins, Allows, IsNight, Says, IsKeptAllNight, Law}
 use Rattle.zh_office.specs.Load.{load_command, load_reply}
+use Rattle.zh_office.specs.Opened.{ledger_of_opened}
 use Rattle.zh_office.specs.Night.Event.{answered, stopped_within, loaded, stopped_within_load, stopped, opened, refused, stopped_opening}
 use Rattle.zh_answers.specs.declared.answer.Answer.{Answer}
 use Rattle.zh_answers.specs.declared.answer.Answer.TheVariants as answers
@@ -72,12 +73,12 @@ one_line canton kept s t (stopped_within_load text) Then (old, new, failed, repl
     (left_sure canton kept (ledger_of s) sure (runs.ledger_of old) (runs.ledger_of new) (begins_below s old begins) c left (load_command old.office.ledger.store.broken turn.loaded) (λ a. a ≡ answers.Reply (load_reply old.office.ledger.store.broken turn.loaded)) (answers.Reply reply) turn.acts))
 one_line canton kept s t stopped Then (c, image, is) sure go =
     one_event canton kept (ledger_of s) (ledger_of t) ledger_stopped Then (c, image, ap ledger_of is) sure go
-one_line canton kept s t (opened office) Then (found, is) sure go =
-    one_event canton kept (ledger_of s) (ledger_of t) (ledger_opened office.ledger) Then (found.ledger, ap ledger_of is) sure go
-one_line canton kept s t (refused fault) Then (old, new, now, leaves, cause, is) sure go =
-    one_event canton kept (ledger_of s) (ledger_of t) (ledger_refused fault) Then (old, new, now, leaves, cause, ap ledger_of is) sure go
-one_line canton kept s t stopped_opening Then (old, new, c, now, leaves, left, is) sure go =
-    one_event canton kept (ledger_of s) (ledger_of t) ledger_stopped_opening Then (old, new, c, now, leaves, left, ap ledger_of is) sure go
+one_line canton kept s t (opened office) Then (old, new, now, opens, held, is) sure go =
+    one_event canton kept (ledger_of s) (ledger_of t) (ledger_opened office.ledger) Then (old, new, now, opens, ap ledger_of is) sure go
+one_line canton kept s t (refused fault) Then (old, new, now, opens, is) sure go =
+    one_event canton kept (ledger_of s) (ledger_of t) (ledger_refused fault) Then (old, new, now, opens, ap ledger_of is) sure go
+one_line canton kept s t stopped_opening Then (old, new, result, c, now, opens, left, is) sure go =
+    one_event canton kept (ledger_of s) (ledger_of t) ledger_stopped_opening Then (old, new, ledger_of_opened result, c, now, opens, left, ap ledger_of is) sure go
 
 holds : (canton : Canton) (kept : List Command) (s : Stretch) (night : List (Event × Stretch)) → IsSure canton kept (ledger_of s) → IsNight canton s night → IsKeptAllNight canton kept s night
 holds canton kept s [] sure is = sure.sound

@@ -3,13 +3,15 @@ use Rattle.std.proofs.Common.{◌≡◌, ◌≤◌, ◌<◌, ◌+◌, ◌-◌, �
 use Rattle.std.specs.Prelude.{not}
 use Rattle.std.proofs.lemmas.Bool.{ne_eqb}
 use Rattle.zh_records.specs.declared.command.Command.{Command}
+use Rattle.zh_records.specs.declared.format.Format.{Format}
+use Rattle.zh_records.specs.declared.format.Format.TheVariants.{Two}
 use Rattle.zh_returns.specs.Tally.{Tally}
 use Rattle.zh_returns.specs.Judgement.{judge}
 use Rattle.zh_returns.specs.Step.{step, changed, on_verdict}
 use Rattle.zh_returns.specs.declared.verdict.Verdict.{Verdict}
 use Rattle.zh_returns.specs.declared.verdict.Verdict.TheVariants as verdicts
 use Rattle.zh_journal.specs.Cause.{HasRisen}
-use Rattle.zh_ledger.specs.Ledger.{Ledger, Becomes, MayFollow, MayResultWhere, MayStoreWhere, has_room, is_spent, stored}
+use Rattle.zh_ledger.specs.Ledger.{Ledger, Becomes, MayFollow, MayResultWhere, MayStoreWhere, has_room, is_one, is_spent, lacks_room, stored}
 use Rattle.zh_ledger.specs.Submissions as ledger
 use Rattle.zh_ledger.specs.declared.outcome.Outcome.{Outcome}
 use Rattle.zh_ledger.specs.declared.outcome.Outcome.TheVariants as outcomes
@@ -34,9 +36,10 @@ below a b n low less = omega arith
 pub no_less : (a b c : ℕ) → a ≤ b → b ≤ c → a ≤ c
 no_less a b c low high = omega arith
 
--- the ledger is whole, and neither its commands nor its generation became fewer
+-- the ledger is whole, its format is the same, and neither its commands nor its generation became fewer
 pub record Steady (old new : Ledger) : Type 0 where
   pub whole : new.store.broken ≡ false
+  pub format : new.format ≡ old.format
   pub accepted : old.tally.accepted ≤ new.tally.accepted
   pub generation : old.store.generation ≤ new.store.generation
 
@@ -44,11 +47,11 @@ pub stays : (old new : Ledger) → old.store.broken ≡ false → new ≡ old �
 stays old new whole same =
     let accepted : new.tally.accepted ≡ old.tally.accepted = ap (λ (l : Ledger). l.tally.accepted) same in
     let generation : new.store.generation ≡ old.store.generation = ap (λ (l : Ledger). l.store.generation) same in
-    record { whole = ap (λ (l : Ledger). l.store.broken) same ∙ whole; accepted = omega arith; generation = omega arith }
+    record { whole = ap (λ (l : Ledger). l.store.broken) same ∙ whole; format = ap (λ (l : Ledger). l.format) same; accepted = omega arith; generation = omega arith }
 
 pub both_steady : (a b c : Ledger) → Steady a b → Steady b c → Steady a c
 both_steady a b c first then =
-    record { whole = then.whole; accepted = no_less _ _ _ first.accepted then.accepted; generation = no_less _ _ _ first.generation then.generation }
+    record { whole = then.whole; format = then.format ∙ first.format; accepted = no_less _ _ _ first.accepted then.accepted; generation = no_less _ _ _ first.generation then.generation }
 
 step_counts : (t : Tally) (c : Command) → t.accepted ≤ (step t c).accepted
 step_counts t c = by (judge t c)
@@ -65,11 +68,11 @@ stored_steady s c whole = by (has_room s c) refl
     by true room =
         let broken : (stored s c).store.broken ≡ s.store.broken = ap (λ (l : Ledger). l.store.broken) (ready_already s c room) in
         let generation : (stored s c).store.generation ≡ s.store.generation = ap (λ (l : Ledger). l.store.generation) (ready_already s c room) in
-        record { whole = broken ∙ whole; accepted = step_counts s.tally c; generation = omega (arith, generation) }
+        record { whole = broken ∙ whole; format = refl; accepted = step_counts s.tally c; generation = omega (arith, generation) }
     by false none =
         let broken : (stored s c).store.broken ≡ s.store.broken = ap (λ (l : Ledger). l.store.broken) (ready_switched s c none) in
         let generation : (stored s c).store.generation ≡ s.store.generation + 1 = ap (λ (l : Ledger). l.store.generation) (ready_switched s c none) in
-        record { whole = broken ∙ whole; accepted = step_counts s.tally c; generation = omega (arith, generation) }
+        record { whole = broken ∙ whole; format = refl; accepted = step_counts s.tally c; generation = omega (arith, generation) }
 
 -- the outcomes of a device that failed, now or before
 abbrev pub fails : Outcome → Bool
@@ -115,8 +118,9 @@ unspent : (a g n : ℕ) (room : Bool) → a < n → g < n → ((a == n) || (not 
 unspent a g n true few low = rw (ne_eqb a n (λ same. omega arith)) refl
 unspent a g n false few low = rw (ne_eqb a n (λ same. omega arith), ne_eqb g n (λ same. omega arith)) refl
 
-pub has_numbers : (l : Ledger) (c : Command) → l.tally.accepted < 2 ^ 64 - 1 → l.store.generation < 2 ^ 64 - 1 → is_spent l c ≡ false
-has_numbers l c few low = unspent l.tally.accepted l.store.generation (2 ^ 64 - 1) (has_room l c) few low
+pub has_numbers : (l : Ledger) (c : Command) → l.format ≡ Two → l.tally.accepted < 2 ^ 64 - 1 → l.store.generation < 2 ^ 64 - 1 → is_spent l c ≡ false
+has_numbers l c two few low =
+    ap (λ (format : Format). is_one format || ((l.tally.accepted == 2 ^ 64 - 1) || lacks_room l c)) two ∙ unspent l.tally.accepted l.store.generation (2 ^ 64 - 1) (has_room l c) few low
 
 -- what it becomes
 becomes_steady : (old new : Ledger) (c : Command) (outcome : Outcome) → fails outcome ≡ false → Becomes old c outcome new → old.store.broken ≡ false → Steady old new

@@ -27,11 +27,11 @@ load_refusal faults.BatchFull = refusals.BatchFull
 load_refusal faults.Memory = refusals.Memory
 load_refusal faults.Read = refusals.Csv
 
--- the command that was loaded, if any: all the rows of a text, as one batch; after a fault of the device none is
+-- the command that was loaded, if any: all the rows of a text, as one batch of no desk; after a fault of the device none is
 abbrev pub load_command : Bool → Result (List Row) LoadFault → Option Command
 load_command true loaded = None
 load_command false (Err fault) = None
-load_command false (Ok rows) = batch_of (Some rows)
+load_command false (Ok rows) = batch_of 0 (Some rows)
 
 -- the reply where there is none: the disk must be opened again, or the text is refused, or it has no rows
 abbrev pub load_reply : Bool → Result (List Row) LoadFault → Reply

@@ -1,18 +1,19 @@
 -- A night of an office: lines, loaded texts, stops and openings on an honest disk that was formatted for it.
-use Rattle.std.specs.Prelude.{◌≡◌, ℕ, Bool, List, ◌∷◌, [], Option, Some, None, option_map}
-use Rattle.zh_disk.specs.Disk.{Moment, Trail, IsImage, Leaves, settled}
+use Rattle.std.specs.Prelude.{◌≡◌, ℕ, Bool, List, ◌∷◌, [], Option, Some, None, option_map, Result, Ok, Err}
+use Rattle.zh_desks.specs.Batches.{no_batches}
+use Rattle.zh_disk.specs.Disk.{Moment, Trail, IsImage, settled}
 use Rattle.zh_districts.specs.Canton.{Canton}
 use Rattle.zh_records.specs.declared.command.Command.{Command}
-use Rattle.zh_snapshot.specs.Store.{Settles}
 use Rattle.zh_ledger.specs.Night as ledger
-use Rattle.zh_ledger.specs.Night.{IsLeft, IsCause, IsSound, unacknowledged}
+use Rattle.zh_ledger.specs.Night.{IsLeft, IsSound, unacknowledged}
 use Rattle.zh_ledger.specs.Night.Event.{opened as ledger_opened, refused as ledger_refused}
+use Rattle.zh_ledger.specs.Opening.{Opens}
 use Rattle.zh_ledger.specs.Submissions.{Log, nothing, followed_by}
 use Rattle.zh_ledger.specs.declared.fault.OpenFault.{OpenFault}
 use Rattle.zh_office.specs.Office.{State, command_read}
 use Rattle.zh_commands.specs.declared.replies.Reply.{Reply}
 use Rattle.zh_office.specs.Load.{LoadTurn, load_logged}
-use Rattle.zh_office.specs.Opened.{IsOpened}
+use Rattle.zh_office.specs.Opened.{ledger_of_opened}
 use Rattle.zh_office.specs.Runs.{OnDisk, Turn, logged}
 use Rattle.zh_answers.specs.declared.answer.Answer.{Answer}
 
@@ -68,12 +69,13 @@ Allows canton s (stopped_within_load text) t =
     × IsLeft old.trail new.trail c × (t ≡ after_stop c (followed_by s.log (unacknowledged (load_logged old turn.loaded reply))))
 Allows canton s stopped t = (c : List ℕ) × IsImage s.now c × (t ≡ after_stop c s.log)
 Allows canton s (opened office) t =
-    IsOpened canton s.now.bytes office × (t ≡ record { now = settled s.now.bytes; office = Some office; log = nothing })
+    (old : Trail) × (new : Trail) × (s.now ≡ old.now) × Opens canton old new (Ok office.ledger) × (office.held ≡ no_batches)
+    × (t ≡ record { now = new.now; office = Some office; log = nothing })
 Allows canton s (refused fault) t =
-    (old : Trail) × (new : Trail) × (s.now ≡ old.now) × Leaves (Settles s.now.bytes) old new × IsCause canton fault s.now.bytes
-    × (t ≡ record { now = new.now; office = None; log = s.log })
+    (old : Trail) × (new : Trail) × (s.now ≡ old.now) × Opens canton old new (Err fault) × (t ≡ record { now = new.now; office = None; log = s.log })
 Allows canton s stopped_opening t =
-    (old : Trail) × (new : Trail) × (c : List ℕ) × (s.now ≡ old.now) × Leaves (Settles s.now.bytes) old new × IsLeft old new c × (t ≡ after_stop c s.log)
+    (old : Trail) × (new : Trail) × (result : Result State OpenFault) × (c : List ℕ) × (s.now ≡ old.now) × Opens canton old new (ledger_of_opened result) × IsLeft old new c
+    × (t ≡ after_stop c s.log)
 
 -- the events of a night, each with what it makes of the stretch
 abbrev pub IsNight : Canton → Stretch → List (Event × Stretch) → Type 0

@@ -28,7 +28,7 @@ MayAnswer state (Ok line) answer = MayAnswerWhere state.ledger.store.broken stat
 -- the command that these bytes give, if they are a line that gives one
 abbrev pub command_read : State → Result Line LineFault → Option Command
 command_read state (Err fault) = None
-command_read state (Ok line) = command_of (rows_of state.held line.desk) line.request
+command_read state (Ok line) = command_of line.desk (rows_of state.held line.desk) line.request
 
 -- the batches after bytes that were read so and answered so
 abbrev pub batches_after : desks.Held → Result Line LineFault → Answer → desks.Held

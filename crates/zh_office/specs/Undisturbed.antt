@@ -6,6 +6,7 @@ use Rattle.zh_commands.specs.declared.lines.Request.{Request}
 use Rattle.zh_commands.specs.declared.lines.Request.TheVariants as requests
 use Rattle.zh_commands.specs.declared.replies.Reply.TheVariants.{Refused}
 use Rattle.zh_commands.specs.declared.replies.Refusal.TheVariants as refusals
+use Rattle.zh_records.specs.declared.format.Format.TheVariants.{Two}
 use Rattle.zh_ledger.specs.Submissions.{Log}
 use Rattle.zh_answers.specs.declared.answer.Answer.{Answer}
 use Rattle.zh_answers.specs.declared.answer.Answer.TheVariants as answers
@@ -39,10 +40,11 @@ pub record IsUndisturbed (reading : Result Line LineFault) (answer : Answer) : T
   pub calm : is_disturbed answer ≡ false
   pub memory : is_memory answer ≡ true → TakesMemory reading
 
--- The office had met no fault of the device, and no call of its disk failed since; in the end a number is left for the
--- failures, for a command and for a switch.
+-- The office had met no fault of the device and has a slot of format Two, and no call of its disk failed since; in the end
+-- a number is left for the failures, for a command and for a switch.
 pub record MeetsNoFault (old new : OnDisk) : Type 0 where
   pub whole : old.office.ledger.store.broken ≡ false
+  pub format : old.office.ledger.format ≡ Two
   pub failures : new.failures ≡ old.failures
   pub counted : new.failures < 2 ^ 64 - 1
   pub accepted : new.office.ledger.tally.accepted < 2 ^ 64 - 1

@@ -27,8 +27,8 @@ pub fn law_nights()
     ensures { Law }
 {}
 
-/// An office that had met no fault of the device, under which no call of its disk fails, and whose numbers are not used up,
-/// answers no line and no text with `device`, `reopen-disk` or `spent`, and goes on so. Only `row`, `sheet`, `final` and a
+/// An office with a slot of format Two that had met no fault of the device, under which no call of its disk fails, and whose
+/// numbers are not used up, answers no line and no text with `device`, `reopen-disk` or `spent`, and goes on so. Only `row`, `sheet`, `final` and a
 /// loading can be answered with `memory`.
 ///
 /// This holds on every disk, whether it keeps its word or not.

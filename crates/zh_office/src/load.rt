@@ -16,6 +16,9 @@ use zh_desks::Batch;
 use zh_disk::Disk;
 use zh_requests::submit_batch;
 
+/// The desk of what no desk sent.
+const NO_DESK: u8 = 0;
+
 /// The name under which a text is refused.
 fn load_refusal(fault: LoadFault) -> Refusal
     ensures { result ≡ load_refusal fault }
@@ -66,6 +69,6 @@ impl<'s> Office<'s> {
         if batch.len() == 0 {
             return Reply::Same;
         }
-        submit_batch(&mut self.ledger, disk, batch, &mut self.rows)
+        submit_batch(&mut self.ledger, disk, NO_DESK, batch, &mut self.rows)
     }
 }

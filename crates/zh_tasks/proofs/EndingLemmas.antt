@@ -1,19 +1,17 @@
 -- What a task has done, by how it ended.
-use Rattle.std.proofs.Common.{◌≡◌, ◌≤◌, ◌<◌, ◌-◌, ◌^◌, ◌∙◌, ⊎_elim, ℕ, List, [], Option, Result, Ok, Err, refl, sym, ap, subst, arith, IfErr, IsErrOf, OnOk}
+use Rattle.std.proofs.Common.{◌≡◌, ◌≤◌, ◌<◌, ◌-◌, ◌^◌, ◌∙◌, ⊎_elim, ℕ, List, [], Option, Result, Ok, Err, refl, ap, subst, arith, IfErr, IsErrOf, OnOk}
 use Rattle.zh_districts.specs.Canton.{Canton, IsCanton}
 use Rattle.zh_setups.specs.Rehearsal.{rehearsal}
 use Rattle.zh_disk.specs.Disk.{Moment, Trail, IsImage, fresh_trail}
 use Rattle.zh_file.specs.Held.{BeginsOrFills}
 use Rattle.zh_journal.specs.Cause.{HasRisen}
 use Rattle.zh_returns.specs.Tally.{empty}
-use Rattle.zh_snapshot.specs.Image.{Content, IsBlank}
-use Rattle.zh_snapshot.proofs.CallerLemmas.{framed_alike}
-use Rattle.zh_ledger.specs.Opened.{IsNew}
-use Rattle.zh_ledger.specs.Stands.{StandsFor}
-use Rattle.zh_ledger.proofs.CallerLemmas.{stands_alike}
+use Rattle.zh_snapshot.specs.Image.{IsBlank}
+use Rattle.zh_ledger.specs.Ledger.{Ledger}
+use Rattle.zh_ledger.specs.Opened.{IsNew, IsReady}
+use Rattle.zh_ledger.specs.Stands.{Stands}
+use Rattle.zh_ledger.proofs.CallerLemmas.{one_count}
 use Rattle.zh_ledger.specs.declared.fault.OpenFault.{OpenFault}
-use Rattle.zh_office.specs.Office.{State}
-use Rattle.zh_office.specs.Opened.{IsOpened}
 use Rattle.zh_office.specs.Runs.{OnDisk}
 use Rattle.zh_disk_tasks.specs.Tasks.{FormatsBlank, IsFrom, IsRefused, IsStart, Serves}
 use Rattle.zh_disk_tasks.specs.declared.fault.FormatFault.{FormatFault}
@@ -72,19 +70,17 @@ formats_file canton bytes first last result ended limits begins is moments blank
     })
 
 -- an office that is opened on a new disk has an empty count
-pub opened_empty : (canton : Canton) (m : Moment) (s : State) → ((c : List ℕ) → IsImage m c → IsNew canton c) → IsOpened canton m.bytes s → s.ledger.tally ≡ empty canton
-opened_empty canton m s formatted opened =
+pub opened_empty : (canton : Canton) (m : Moment) (s : Ledger) → ((c : List ℕ) → IsImage m c → IsNew canton c) → IsReady canton s → Stands s.tally m.bytes → s.tally ≡ empty canton
+opened_empty canton m s formatted ready stood =
     let new = formatted m.bytes (record { size = refl; same = λ k settled. refl }) in
-    let found = opened.ledger.found in
-    let same = (framed_alike found.content new.content found.end new.end m.bytes found.framed new.clean.framed).0 in
-    stands_alike found.content s.ledger.tally (empty canton) opened.ledger.ready.set_up found.stands (subst (λ (x : Content). StandsFor x (empty canton)) (sym same) new.stands)
+    (one_count m.bytes stood.content new.content stood.end new.end stood.format new.format s.tally (empty canton) stood.framed new.clean.framed stood.stands new.stands ready.set_up).1
 
 -- the office of the rehearsal
 pub rehearses : (canton : Canton) (honest : Type 0) (failures : ℕ) (trail : Trail) (start : OnDisk) → canton ≡ rehearsal → honest → ((c : List ℕ) → IsImage trail.now c → IsNew canton c) → IsStart honest canton failures trail start → IsRehearsal start
 rehearses canton honest failures trail start is h formatted begins = record {
-  count = opened_empty canton trail.now start.office formatted (begins.opened h) ∙ ap empty is;
-  held = begins.ready.held;
-  whole = begins.ready.ledger.whole;
+  count = opened_empty canton trail.now start.office.ledger formatted begins.opening.ready (begins.opening.opens h).opened.stood ∙ ap empty is;
+  held = begins.held;
+  whole = begins.opening.ready.whole;
 }
 
 -- lines that were served on the disk of the rehearsal

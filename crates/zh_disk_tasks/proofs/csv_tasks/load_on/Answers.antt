@@ -5,20 +5,17 @@ use Rattle.zh_disk_tasks.specs.Tasks.{IsFrom, IsStart}
 use Rattle.zh_disk_tasks.specs.declared.csv_fault.LoadFault.TheVariants as loading
 use Rattle.zh_disk_tasks.proofs.CsvLemmas.{loads_as, unread}
 use Rattle.zh_disk_tasks.proofs.DeviceLemmas.{load_refused, load_unread, loads_end, opened_by}
-use Rattle.zh_disk_tasks.proofs.EndingLemmas.{refused}
 use Rattle.zh_disk_tasks.proofs.StartLemmas.{starts}
 use Rattle.zh_disk_tasks.proofs.csv_tasks.load_on.Goals as goal
 
 pub returns-in_err-office : goal.returns-in_err-office
 returns-in_err-office g c =
     let is : c.from_residual.result ≡ Err (loading.Open c.in_err-office.field-0.0) = search rules in
-    let met : c.open.result ≡ Err c.in_err-office.field-0.0 = search rules in
-    let why = λ (h : g.D.Disk.honest c.open.new.disk). refused c.args.setup.now (g.D.Disk.trail c.args.disk.now).now.bytes c.open.result c.in_err-office.field-0.0 met (c.open.ensures.blank h) (c.open.ensures.differs h) (c.open.ensures.damaged h) in
-    let ends = load_refused (g.D.Disk.failures c.args.disk.now) (g.D.Disk.failures c.open.new.disk) c.in_err-office.field-0.0 (opened_by _ _ c.open.result c.in_err-office.field-0.0 met c.open.ensures.later c.open.ensures.cause) in
+    let ends = load_refused _ _ c.in_err-office.field-0.0 (opened_by _ _ _ _ _ c.in_err-office.ensures.opening) in
     rw is (record {
       kept = c.open.ensures.kept;
-      loaded = (refl, λ h. record { moments = c.open.ensures.any_moment h; cause = why h });
-      later = c.open.ensures.later;
+      loaded = (refl, c.in_err-office.ensures.opening.opens);
+      later = ends.later;
       cause = ends.cause;
     })
 
@@ -30,12 +27,12 @@ returns-in_err-text g c =
     let last = g.D.Disk.trail c.open.new.disk in
     let From = IsFrom honest c.args.setup.now (g.D.Disk.failures c.args.disk.now) (g.D.Disk.trail c.args.disk.now) after last in
     let start = on_disk c.in_ok-office.office after last in
-    let begins : From start start = (starts _ _ _ _ _ c.in_ok-office.ensures.ready c.open.ensures.later c.open.ensures.any_moment c.in_ok-office.ensures.opened c.in_ok-office.ensures.settled, refl, refl) in
-    let ends = load_unread (g.D.Disk.failures c.args.disk.now) after c.in_err-text.field-0.0 c.in_err-text.ensures c.open.ensures.later in
+    let begins : From start start = (starts _ _ _ _ _ start (λ h. h) c.in_ok-office.ensures.opening c.in_ok-office.ensures.held, refl, refl) in
+    let ends = load_unread (g.D.Disk.failures c.args.disk.now) after c.in_err-text.field-0.0 c.in_err-text.ensures c.in_ok-office.ensures.opening.later in
     rw is (record {
       kept = c.open.ensures.kept;
       loaded = unread honest _ _ (g.O.Write.contents c.args.out.now) (g.O.Write.contents c.args.out.now) From start c.in_err-text.field-0.0 c.in_err-text.ensures refl begins;
-      later = c.open.ensures.later;
+      later = ends.later;
       cause = ends.cause;
     })
 
@@ -47,10 +44,7 @@ returns g c =
     let first = g.D.Disk.trail c.args.disk.now in
     let last = g.D.Disk.trail c.load_text.new.disk in
     let start = on_disk c.in_ok-office.office (g.D.Disk.failures c.open.new.disk) (g.D.Disk.trail c.open.new.disk) in
-    let is_start : IsStart honest c.args.setup.now before first start = starts honest c.args.setup.now before first start c.in_ok-office.ensures.ready c.open.ensures.later
-    (λ h. c.open.ensures.any_moment (c.load_text.ensures.kept h))
-    (λ h. c.in_ok-office.ensures.opened (c.load_text.ensures.kept h))
-    (λ h. c.in_ok-office.ensures.settled (c.load_text.ensures.kept h)) in
+    let is_start : IsStart honest c.args.setup.now before first start = starts _ honest c.args.setup.now before first start c.load_text.ensures.kept c.in_ok-office.ensures.opening c.in_ok-office.ensures.held in
     let From = IsFrom honest c.args.setup.now before first after last in
     let begins : (s e : OnDisk) → IsThis start after last s e → From s e = λ s e this. (subst (λ (o : OnDisk). IsStart honest c.args.setup.now before first o) (sym this.0) is_start, this.1, this.2) in
     let ends = loads_end honest c.args.setup.now before first after last _ _ _ c.load_text.result

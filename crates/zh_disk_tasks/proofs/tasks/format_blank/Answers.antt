@@ -4,7 +4,7 @@ use Rattle.zh_disk_tasks.proofs.tasks.format_blank.Goals.{in-Err-Blank+in_ok-for
 
 pub returns-clause-formatted : goal.returns-clause-formatted
 returns-clause-formatted g c honest = elim c.match-open.branch [
-  | in-Err-Blank+in_ok-format-in-Err-Blank w ↦ rw (w.result-is, w.disk-is) (w.in_ok-format-in-Err-Blank.ensures.formatted (rw w.disk-is at honest))
+  | in-Err-Blank+in_ok-format-in-Err-Blank w ↦ rw (w.result-is, w.disk-is) (w.in_ok-format-in-Err-Blank.ensures.formatting.makes (rw w.disk-is at honest)).formatted
   | in-Err-Device w ↦ rw w.result-is tt
   | in-Err-Memory w ↦ rw w.result-is tt
   | in-Err-Damaged w ↦ rw w.result-is tt
@@ -36,7 +36,7 @@ returns-clause-any_moment g c honest = elim c.match-open.branch [
       rw w.disk-is (record {
         opened = g.D.Disk.trail c.open.new.disk;
         opening = c.open.ensures.any_moment h;
-        after = inr (c.open.ensures.blank h (search rules), w.format.ensures.any_moment (rw w.disk-is at honest));
+        after = inr (c.open.ensures.blank h (search rules), (w.format.ensures.formatting.makes (rw w.disk-is at honest)).moments);
       })
   | in-Err-Device w ↦ rw w.disk-is (record { opened = g.D.Disk.trail c.open.new.disk; opening = c.open.ensures.any_moment (rw w.disk-is at honest); after = inl refl })
   | in-Err-Memory w ↦ rw w.disk-is (record { opened = g.D.Disk.trail c.open.new.disk; opening = c.open.ensures.any_moment (rw w.disk-is at honest); after = inl refl })

@@ -4,21 +4,19 @@ use Rattle.zh_disk_tasks.specs.Csv.{IsThis}
 use Rattle.zh_disk_tasks.specs.Tasks.{IsFrom, IsStart}
 use Rattle.zh_disk_tasks.specs.declared.fault.RunFault.TheVariants as runs
 use Rattle.zh_disk_tasks.proofs.DeviceLemmas.{opened_by, run_refused, serves_end}
-use Rattle.zh_disk_tasks.proofs.EndingLemmas.{begun_as, refused}
+use Rattle.zh_disk_tasks.proofs.EndingLemmas.{begun_as}
 use Rattle.zh_disk_tasks.proofs.StartLemmas.{starts}
 use Rattle.zh_disk_tasks.proofs.tasks.serve_on.Goals as goal
 
 pub returns-in_err-office : goal.returns-in_err-office
 returns-in_err-office g c =
     let is : c.from_residual.result ≡ Err (runs.Open c.in_err-office.field-0.0) = search rules in
-    let met : c.open.result ≡ Err c.in_err-office.field-0.0 = search rules in
-    let why = λ (h : g.D.Disk.honest c.open.new.disk). refused c.args.setup.now (g.D.Disk.trail c.args.disk.now).now.bytes c.open.result c.in_err-office.field-0.0 met (c.open.ensures.blank h) (c.open.ensures.differs h) (c.open.ensures.damaged h) in
-    let ends = run_refused (g.D.Disk.failures c.args.disk.now) (g.D.Disk.failures c.open.new.disk) c.in_err-office.field-0.0 (opened_by _ _ c.open.result c.in_err-office.field-0.0 met c.open.ensures.later c.open.ensures.cause) in
+    let ends = run_refused _ _ c.in_err-office.field-0.0 (opened_by _ _ _ _ _ c.in_err-office.ensures.opening) in
     rw is (record {
       kept = c.open.ensures.kept;
-      served = ((refl, refl), λ h. record { moments = c.open.ensures.any_moment h; cause = why h });
+      served = ((refl, refl), c.in_err-office.ensures.opening.opens);
       reads = tt;
-      later = c.open.ensures.later;
+      later = ends.later;
       cause = ends.cause;
     })
 
@@ -30,10 +28,7 @@ returns g c =
     let first = g.D.Disk.trail c.args.disk.now in
     let last = g.D.Disk.trail c.serve_lines.new.disk in
     let start = on_disk c.in_ok-office.office (g.D.Disk.failures c.open.new.disk) (g.D.Disk.trail c.open.new.disk) in
-    let is_start : IsStart honest c.args.setup.now before first start = starts honest c.args.setup.now before first start c.in_ok-office.ensures.ready c.open.ensures.later
-    (λ h. c.open.ensures.any_moment (c.serve_lines.ensures.kept h))
-    (λ h. c.in_ok-office.ensures.opened (c.serve_lines.ensures.kept h))
-    (λ h. c.in_ok-office.ensures.settled (c.serve_lines.ensures.kept h)) in
+    let is_start : IsStart honest c.args.setup.now before first start = starts _ honest c.args.setup.now before first start c.serve_lines.ensures.kept c.in_ok-office.ensures.opening c.in_ok-office.ensures.held in
     let From = IsFrom honest c.args.setup.now before first after last in
     let begins : (s e : OnDisk) → IsThis start after last s e → From s e = λ s e this. (subst (λ (o : OnDisk). IsStart honest c.args.setup.now before first o) (sym this.0) is_start, this.1, this.2) in
     let ends = serves_end honest c.args.setup.now before first after last _ _ _ _ c.serve_lines.result
