@@ -10,6 +10,8 @@ mod program;
 mod serving;
 mod setups;
 mod streams;
+#[cfg(test)]
+mod tests;
 mod turn;
 mod words;
 

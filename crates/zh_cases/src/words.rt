@@ -5,6 +5,24 @@ use std::alloc::Global;
 use zh_disk::Stop;
 use zh_transcripts::{read_bytes, read_number};
 
+/// The first of the set-up bytes.
+const SETUP: usize = 4_096;
+
+/// The gate of the first slot.
+const SLOT_1: usize = 69_632;
+
+/// The gate of the second slot.
+const SLOT_2: usize = 594_176;
+
+/// The generation, counted from its slot's gate, as the next two are.
+const GENERATION: usize = 1;
+
+/// The payload of the snapshot.
+const PAYLOAD: usize = 9;
+
+/// The journal.
+const JOURNAL: usize = 262_400;
+
 /// What a stop leaves of the pending bytes: `keep`, `old`, or two hexadecimal digits.
 pub(crate) fn read_stop(word: &str) -> Result<Stop, Fault> {
     match word {
@@ -17,10 +35,39 @@ pub(crate) fn read_stop(word: &str) -> Result<Stop, Fault> {
     }
 }
 
+/// Where the part of a disk with this name begins.
+fn start_of(name: &str) -> Option<usize> {
+    match name {
+        "head" => Some(0),
+        "setup" => Some(SETUP),
+        "slot1" | "slot1.gate" => Some(SLOT_1),
+        "slot1.generation" => Some(SLOT_1 + GENERATION),
+        "slot1.payload" => Some(SLOT_1 + PAYLOAD),
+        "journal1" => Some(SLOT_1 + JOURNAL),
+        "slot2" | "slot2.gate" => Some(SLOT_2),
+        "slot2.generation" => Some(SLOT_2 + GENERATION),
+        "slot2.payload" => Some(SLOT_2 + PAYLOAD),
+        "journal2" => Some(SLOT_2 + JOURNAL),
+        _ => None,
+    }
+}
+
+/// The place of a number, of a name, or of `NAME+N`.
+fn place_of(word: &str) -> Result<usize, Fault> {
+    if word.starts_with(|c: char| c.is_ascii_digit()) {
+        return Ok(read_number(word)? as usize);
+    }
+    let (name, further) = word.split_once('+').unwrap_or((word, "0"));
+    match start_of(name) {
+        Some(start) => Ok(start.saturating_add(read_number(further)? as usize)),
+        None => Err(Fault::Text("there is no such place")),
+    }
+}
+
 /// A place on the disk, and bytes.
 pub(crate) fn read_place(alloc: Global, text: &str) -> Result<(usize, Vec<u8>), Fault> {
     let Some((place, bytes)) = text.split_once(' ') else {
         return Err(Fault::Text("a place and bytes are needed"));
     };
-    Ok((read_number(place)? as usize, read_bytes(alloc, bytes)?))
+    Ok((place_of(place)?, read_bytes(alloc, bytes)?))
 }

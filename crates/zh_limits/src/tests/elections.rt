@@ -81,7 +81,7 @@ fn accept_all(rt: &impl Abort, count: &mut Count<'_>, votes: &[&[u32]]) {
 }
 
 fn accept(rt: &impl Abort, count: &mut Count<'_>, row: Row) {
-    let command = Command::Return(row);
+    let command = Command::Return { desk: 1, row };
     assert!(rt; count.accepted() < 2000 && count.judge(&command) == Verdict::Accept);
     count.apply(&command);
 }
