@@ -1,7 +1,8 @@
 //! A disk that fails in one call alone.
-ghost use Rattle.std.specs.Prelude.{◌≡◌, ◌+◌, ◌≤◌, true, length, Some, OnOk};
+ghost use Rattle.std.specs.Prelude.{◌≡◌, ◌+◌, ◌≤◌, true, length, Some, is_err};
 ghost use Rattle.zh_disk.specs.declared.disk.TheConstants.{DISK_LENGTH};
-ghost use Rattle.zh_disk.specs.Disk.{HasCause, Reads, Writes, Syncs, failures_after};
+ghost use Rattle.zh_disk.specs.Disk.{Reads, Writes, Syncs};
+ghost use Rattle.zh_disk.specs.History.{Call};
 ghost use Rattle.zh_disk.specs.Fuse.{fails_once};
 
 use crate::disk::{DISK_LENGTH, Disk, DiskFault};
@@ -39,13 +40,9 @@ impl<D: Disk + Drop> OnceDisk<D> {
 
 impl<D: Disk + Drop> Disk for OnceDisk<D> {
     ghost use Rattle.zh_disk.specs.Fuse.{IsSame, ReachesWrite};
-    ghost use Rattle.zh_disk.specs.Once.{disk_inside, once_failures, FailsOnce};
+    ghost use Rattle.zh_disk.specs.Once.{disk_inside, once_history, FailsOnce};
 
-    ghost honest = { λ d. D.honest (disk_inside d) };
-
-    ghost trail = { λ d. D.trail (disk_inside d) };
-
-    ghost failures = { once_failures };
+    ghost history = { once_history };
 
     ghost leaves = { λ d. D.leaves (disk_inside d) };
 
@@ -55,39 +52,24 @@ impl<D: Disk + Drop> Disk for OnceDisk<D> {
 
     fn read_at(&mut self, at: u64, into: &mut [u8]) -> Result<(), DiskFault>
         requires { at + length into.old ≤ DISK_LENGTH }
-        ensures kept { D.honest (disk_inside self.new) → D.honest (disk_inside self.old) }
-        ensures read { D.honest (disk_inside self.new) → Reads (D.trail (disk_inside self.old))
-            (D.trail (disk_inside self.new)) at (length into.old) into.new result }
-        ensures cause { HasCause (once_failures self.old) (once_failures self.new) result }
-        ensures counted { OnOk result (once_failures self.new ≡ once_failures self.old) }
-        ensures rises { once_failures self.new ≡ failures_after (once_failures self.old) result }
-        ensures once { FailsOnce D.failures IsSame self.old self.new result }
+        ensures call { Call is_err (Reads at (length into.old) into.new)
+            (once_history self.old) (once_history self.new) result }
+        ensures once { FailsOnce IsSame self.old self.new result }
     {
         self.fuse.read_at(at, into)
     }
 
     fn write_at(&mut self, at: u64, from: &[u8]) -> Result<(), DiskFault>
         requires { at + length from.now ≤ DISK_LENGTH }
-        ensures kept { D.honest (disk_inside self.new) → D.honest (disk_inside self.old) }
-        ensures written { D.honest (disk_inside self.new) → Writes (D.trail (disk_inside self.old))
-            (D.trail (disk_inside self.new)) at from.now result }
-        ensures cause { HasCause (once_failures self.old) (once_failures self.new) result }
-        ensures counted { OnOk result (once_failures self.new ≡ once_failures self.old) }
-        ensures rises { once_failures self.new ≡ failures_after (once_failures self.old) result }
-        ensures once { FailsOnce D.failures (ReachesWrite D.honest D.trail D.failures at from.now)
-            self.old self.new result }
+        ensures call { Call is_err (Writes at from.now) (once_history self.old) (once_history self.new) result }
+        ensures once { FailsOnce (ReachesWrite D.history at from.now) self.old self.new result }
     {
         self.fuse.write_at(at, from)
     }
 
     fn sync(&mut self) -> Result<(), DiskFault>
-        ensures kept { D.honest (disk_inside self.new) → D.honest (disk_inside self.old) }
-        ensures synced { D.honest (disk_inside self.new) → Syncs (D.trail (disk_inside self.old))
-            (D.trail (disk_inside self.new)) result }
-        ensures cause { HasCause (once_failures self.old) (once_failures self.new) result }
-        ensures counted { OnOk result (once_failures self.new ≡ once_failures self.old) }
-        ensures rises { once_failures self.new ≡ failures_after (once_failures self.old) result }
-        ensures once { FailsOnce D.failures IsSame self.old self.new result }
+        ensures call { Call is_err Syncs (once_history self.old) (once_history self.new) result }
+        ensures once { FailsOnce IsSame self.old self.new result }
     {
         self.fuse.sync()
     }

@@ -1,32 +1,37 @@
 -- What a stored disk holds and has held.
-use Rattle.std.specs.Prelude.{◌≡◌, ◌+◌, ◌⊎◌, Bool, true, List, ℕ, Result, IsErr, IsTrue, OnErr}
+use Rattle.std.specs.Prelude.{◌≡◌, ◌+◌, ◌⊎◌, Bool, true, false, ℕ, Result, IsErr, OnOk, OnErr}
 use Rattle.sqlite_disk.specs.Disk.{MoreFaults}
 use Rattle.sqlite_disk.specs.declared.Disk.{Ghosts}
 use Rattle.zh_disk.specs.declared.disk.DiskFault.{DiskFault}
-use Rattle.zh_disk.specs.Disk.{Trail}
+use Rattle.zh_disk.specs.History.{History}
 use Rattle.zh_file.specs.declared.stored.Stored.{Stored}
-use Rattle.zh_file.specs.Held.{trail_of}
+use Rattle.zh_file.specs.Held.{file_trail}
 
 module _ {D : Type 0} {g : Ghosts D} where
-  -- no answer of the file so far was wrong
-  abbrev pub stored_honest : (D → Bool) → Stored D g → Type 0
-  stored_honest is_clean d = IsTrue (is_clean d.held.file)
-
-  -- since it was opened
-  abbrev pub stored_trail : (D → List ℕ) → Stored D g → Trail
-  stored_trail seen d = trail_of seen d.held d.before
-
   -- how many calls of its file have failed, as the record of these calls says
-  abbrev pub stored_faults : (D → ℕ) → Stored D g → ℕ
-  stored_faults faults d = faults d.held.file
+  abbrev pub stored_faults : Stored D g → ℕ
+  stored_faults d = g.faults d.held.file
 
   -- how often it has failed: the failed calls of its file, and the calls that it refused once it was over
-  abbrev pub stored_failures : (D → ℕ) → Stored D g → ℕ
-  stored_failures faults d = stored_faults faults d + d.refusals
+  abbrev pub stored_failures : Stored D g → ℕ
+  stored_failures d = stored_faults d + d.refusals
+
+  -- since it was opened; it is honest while no answer of the file was wrong
+  abbrev pub stored_history : Stored D g → History
+  stored_history d = record {
+    honest = g.is_clean d.held.file;
+    failures = stored_failures d;
+    trail = file_trail g.seen d.held d.before;
+  }
 
   -- a write or a sync has failed
   abbrev pub is_over : Stored D g → Bool
   is_over d = d.is_over
+
+  -- a disk of which no call has failed
+  pub record IsWhole (d : Stored D g) : Type 0 where
+    pub failures : stored_failures d ≡ 0
+    pub begun : is_over d ≡ false
 
   -- A call of a disk that is over fails, and asks nothing of the file.
   pub record StaysOver (old new : Stored D g) (result : Result (Unit {0}) DiskFault) : Type 0 where
@@ -34,6 +39,9 @@ module _ {D : Type 0} {g : Ghosts D} where
     pub over : new.is_over ≡ true
     pub same : new.held.file ≡ old.held.file
 
-  -- A call fails only where the disk was over, or a call of the file failed.
-  abbrev pub HasFailed : (D → ℕ) → Stored D g → Stored D g → Result (Unit {0}) DiskFault → Type 0
-  HasFailed faults old new result = OnErr result ((is_over old ≡ true) ⊎ MoreFaults (stored_faults faults old) (stored_faults faults new))
+  -- What an answer says of the file: no call of it failed where this one succeeded, and this one fails
+  -- only where the disk was over, or a call of the file failed.
+  pub record Reports (old new : Stored D g) (result : Result (Unit {0}) DiskFault) : Type 0 where
+    pub unfailed : OnOk result (stored_faults new ≡ stored_faults old)
+    pub caused : OnErr result ((is_over old ≡ true) ⊎ MoreFaults (stored_faults old) (stored_faults new))
+    pub over : is_over old ≡ true → StaysOver old new result

@@ -1,9 +1,9 @@
 //! A disk over a file at a path.
-ghost use Rattle.std.specs.Prelude.{◌≡◌, ◌⊎◌, [], false, IfOk, IsTrue};
+ghost use Rattle.std.specs.Prelude.{◌≡◌, ◌⊎◌, [], IfOk, IsTrue};
 ghost use Rattle.sqlite_disk.specs.Disk.{Only};
 ghost use Rattle.zh_disk.specs.Disk.{fresh_trail};
 ghost use Rattle.zh_file.specs.Held.{BeginsOrFills};
-ghost use Rattle.zh_file.specs.Stored.{is_over};
+ghost use Rattle.zh_file.specs.Stored.{stored_history, IsWhole};
 
 use crate::FileDisk;
 use crate::fault::OpenFault;
@@ -13,16 +13,15 @@ use sqlite_std_file::{FileFrom, Start};
 use std::fs::{self, OpenOptions};
 use std::io::{self, ErrorKind};
 use std::os::unix::fs::OpenOptionsExt;
-use zh_disk::{DISK_LENGTH, Disk};
+use zh_disk::DISK_LENGTH;
 
 /// Opens the file at this path, which has [`DISK_LENGTH`] bytes, for this program alone.
 ///
 /// `S` stands for what the file holds, which no code can tell. Its value is used up, so that code over
 /// any `S` opens one file.
 pub fn open<S: Start>(rt: &HostRuntime, path: &str, start: S) -> Result<FileDisk<S>, OpenFault>
-    ensures begins { IfOk result (λ d. ⟦<FileDisk<S> as Disk>⟧.trail d ≡ fresh_trail S.Start.db) }
-    ensures failures { IfOk result (λ d. ⟦<FileDisk<S> as Disk>⟧.failures d ≡ 0) }
-    ensures whole { IfOk result (λ d. is_over d ≡ false) }
+    ensures begins { IfOk result (λ d. (stored_history d).trail ≡ fresh_trail S.Start.db) }
+    ensures whole { IfOk result IsWhole }
 {
     // What is no disk is left alone: the lock makes a file that is missing, and one beside it.
     if length_at(rt, path)? != DISK_LENGTH {
@@ -41,9 +40,9 @@ pub fn open_or_make<S: Start>(
     path: &str,
     start: S,
 ) -> Result<FileDisk<S>, OpenFault>
-    ensures begins { IfOk result (λ d. ⟦<FileDisk<S> as Disk>⟧.honest d → BeginsOrFills S.Start.db (⟦<FileDisk<S> as Disk>⟧.trail d)) }
-    ensures failures { IfOk result (λ d. ⟦<FileDisk<S> as Disk>⟧.failures d ≡ 0) }
-    ensures whole { IfOk result (λ d. is_over d ≡ false) }
+    ensures begins { IfOk result (λ d. IsTrue (stored_history d).honest
+        → BeginsOrFills S.Start.db (stored_history d).trail) }
+    ensures whole { IfOk result IsWhole }
 {
     make(rt, path)?;
     let length = length_at(rt, path)?;

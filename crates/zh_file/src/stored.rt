@@ -1,9 +1,10 @@
 //! A disk over a file, as the trait of files has it.
-ghost use Rattle.std.specs.Prelude.{◌≡◌, ◌≤◌, ◌+◌, ℕ, List, length, slice_index, true, false, is_ok, IsTrue, IfOk, IsErr, OnErr, OnOk};
+ghost use Rattle.std.specs.Prelude.{◌≡◌, ◌≤◌, ◌+◌, ◌||◌, ℕ, List, length, slice_index, true, false, is_ok, is_err, IsTrue, IfOk, IsErr};
 ghost use Rattle.std.proofs.Common.{sym, ◌∙◌};
 ghost use Rattle.sqlite_disk.specs.Disk.{Only};
 ghost use Rattle.zh_disk.specs.declared.disk.TheConstants.{DISK_LENGTH};
-ghost use Rattle.zh_disk.specs.Disk.{HasCause, IsSettled, Reads, Writes, Syncs, fresh_trail};
+ghost use Rattle.zh_disk.specs.Disk.{IsSettled, Reads, Writes, Syncs, fresh_trail};
+ghost use Rattle.zh_disk.specs.History.{Call, Counts};
 ghost use Rattle.zh_file.specs.Ranges.{pairs};
 
 use crate::fault::OpenFault;
@@ -16,7 +17,7 @@ use zh_disk::{DISK_LENGTH, Disk, DiskFault};
 
 /// A file, and the ranges that were written since its last sync, which only clauses read.
 #[derive(Drop)]
-pub struct Held<D: File + Drop> {
+pub struct HeldFile<D: File + Drop> {
     pub(crate) file: D,
     pub(crate) written: Ranges,
 }
@@ -26,9 +27,9 @@ pub struct Held<D: File + Drop> {
 /// what was lost.
 #[derive(Drop)]
 pub struct Stored<D: File + Drop> {
-    held: Held<D>,
+    held: HeldFile<D>,
     // what was held before each write and each sync that succeeded
-    before: Past<Held<D>>,
+    before: Past<HeldFile<D>>,
     // a write or a sync has failed
     is_over: bool,
     // the calls since then, of which nothing was asked of the file
@@ -43,22 +44,22 @@ pub struct Stored<D: File + Drop> {
 }
 
 impl<D: File + Drop> Stored<D> {
-    ghost use Rattle.zh_file.specs.Stored.{stored_honest, stored_trail, stored_failures, is_over};
+    ghost use Rattle.zh_file.specs.Stored.{stored_history, is_over};
 
     /// The disk that a file holds, as it was synced.
     pub(crate) fn start(mut file: D) -> Result<Stored<D>, OpenFault>
         requires usable { IsTrue (D.is_usable file) }
         requires synced { Only (D.seen file) (D.may_leave file) }
-        ensures kept { IfOk result (λ d. stored_honest D.is_clean d → IsTrue (D.is_clean file)) }
-        ensures begins { IfOk result (λ d. stored_trail D.seen d ≡ fresh_trail (D.seen file)) }
-        ensures failures { IfOk result (λ d. stored_failures D.faults d ≡ D.faults file) }
+        ensures kept { IfOk result (λ d. IsTrue (stored_history d).honest → IsTrue (D.is_clean file)) }
+        ensures begins { IfOk result (λ d. (stored_history d).trail ≡ fresh_trail (D.seen file)) }
+        ensures failures { IfOk result (λ d. (stored_history d).failures ≡ D.faults file) }
         ensures whole { IfOk result (λ d. is_over d ≡ false) }
     {
         if file.len()? as u64 != DISK_LENGTH {
             return Err(OpenFault::Size);
         }
         Ok(Stored {
-            held: Held {
+            held: HeldFile {
                 file,
                 written: Ranges::new(),
             },
@@ -79,20 +80,16 @@ fn reported(done: io::Result<()>) -> Result<(), DiskFault>
 /// The answer of a call of which nothing is asked of the file. It is counted.
 fn refused(refusals: &mut u64) -> Result<(), DiskFault>
     ensures fails { IsErr result }
-    ensures cause { HasCause refusals.old refusals.new result }
+    ensures counts { Counts (is_err result) refusals.old refusals.new }
 {
     *refusals = refusals.saturating_add(1);
     Err(DiskFault::Device)
 }
 
 impl<D: File + Drop> Disk for Stored<D> {
-    ghost use Rattle.zh_file.specs.Stored.{stored_honest, stored_trail, stored_faults, stored_failures, is_over, StaysOver, HasFailed};
+    ghost use Rattle.zh_file.specs.Stored.{stored_history, is_over, Reports};
 
-    ghost honest = { stored_honest D.is_clean };
-
-    ghost trail = { stored_trail D.seen };
-
-    ghost failures = { stored_failures D.faults };
+    ghost history = { stored_history };
 
     ghost leaves = { λ d. D.may_leave d.held.file };
 
@@ -102,13 +99,9 @@ impl<D: File + Drop> Disk for Stored<D> {
 
     fn read_at(&mut self, at: u64, into: &mut [u8]) -> Result<(), DiskFault>
         requires { at + length into.old ≤ DISK_LENGTH }
-        ensures kept { stored_honest D.is_clean self.new → stored_honest D.is_clean self.old }
-        ensures read { stored_honest D.is_clean self.new → Reads (stored_trail D.seen self.old) (stored_trail D.seen self.new) at (length into.old) into.new result }
-        ensures cause { HasCause (stored_failures D.faults self.old) (stored_failures D.faults self.new) result }
-        ensures counted { OnOk result (stored_failures D.faults self.new ≡ stored_failures D.faults self.old) }
-        ensures unfailed { OnOk result (stored_faults D.faults self.new ≡ stored_faults D.faults self.old) }
-        ensures caused { HasFailed D.faults self.old self.new result }
-        ensures over { is_over self.old ≡ true → StaysOver self.old self.new result }
+        ensures call { Call is_err (Reads at (length into.old) into.new)
+            (stored_history self.old) (stored_history self.new) result }
+        ensures reports { Reports self.old self.new result }
         ensures stays { is_over self.new ≡ is_over self.old }
     {
         if self.is_over {
@@ -120,15 +113,9 @@ impl<D: File + Drop> Disk for Stored<D> {
 
     fn write_at(&mut self, at: u64, from: &[u8]) -> Result<(), DiskFault>
         requires { at + length from.now ≤ DISK_LENGTH }
-        ensures kept { stored_honest D.is_clean self.new → stored_honest D.is_clean self.old }
-        ensures written { stored_honest D.is_clean self.new → Writes (stored_trail D.seen self.old) (stored_trail D.seen self.new) at from.now result }
-        ensures cause { HasCause (stored_failures D.faults self.old) (stored_failures D.faults self.new) result }
-        ensures counted { OnOk result (stored_failures D.faults self.new ≡ stored_failures D.faults self.old) }
-        ensures unfailed { OnOk result (stored_faults D.faults self.new ≡ stored_faults D.faults self.old) }
-        ensures caused { HasFailed D.faults self.old self.new result }
-        ensures over { is_over self.old ≡ true → StaysOver self.old self.new result }
-        ensures stays { OnOk result (is_over self.new ≡ is_over self.old) }
-        ensures ends { OnErr result (is_over self.new ≡ true) }
+        ensures call { Call is_err (Writes at from.now) (stored_history self.old) (stored_history self.new) result }
+        ensures reports { Reports self.old self.new result }
+        ensures ends { is_over self.new ≡ (is_err result || is_over self.old) }
     {
         if self.is_over {
             return refused(&mut self.refusals);
@@ -141,15 +128,9 @@ impl<D: File + Drop> Disk for Stored<D> {
     }
 
     fn sync(&mut self) -> Result<(), DiskFault>
-        ensures kept { stored_honest D.is_clean self.new → stored_honest D.is_clean self.old }
-        ensures synced { stored_honest D.is_clean self.new → Syncs (stored_trail D.seen self.old) (stored_trail D.seen self.new) result }
-        ensures cause { HasCause (stored_failures D.faults self.old) (stored_failures D.faults self.new) result }
-        ensures counted { OnOk result (stored_failures D.faults self.new ≡ stored_failures D.faults self.old) }
-        ensures unfailed { OnOk result (stored_faults D.faults self.new ≡ stored_faults D.faults self.old) }
-        ensures caused { HasFailed D.faults self.old self.new result }
-        ensures over { is_over self.old ≡ true → StaysOver self.old self.new result }
-        ensures stays { OnOk result (is_over self.new ≡ is_over self.old) }
-        ensures ends { OnErr result (is_over self.new ≡ true) }
+        ensures call { Call is_err Syncs (stored_history self.old) (stored_history self.new) result }
+        ensures reports { Reports self.old self.new result }
+        ensures ends { is_over self.new ≡ (is_err result || is_over self.old) }
     {
         if self.is_over {
             return refused(&mut self.refusals);
