@@ -1,10 +1,14 @@
 -- The moments of a whole append: the pages behind their gates, then the gate of the first.
-use Rattle.std.proofs.Common.{◌≡◌, inl, inr, ⊎_elim, ℕ, ◌+◌, ◌*◌, ◌≤◌, List, [], ◌∷◌, length, sym, ◌∙◌, ap, subst, arith}
+use Rattle.std.proofs.Common.{◌≡◌, inl, inr, ⊎_elim, ℕ, ◌+◌, ◌*◌, ◌≤◌, List, [], ◌∷◌, length, sym, ◌∙◌, ap, subst, arith, Ok, Err}
 use Rattle.std.specs.Prelude.{slice_index}
 use Rattle.zh_disk.specs.Disk.{Moment, Trail, IsImage, SameOutside, Moves, Leaves, splice}
 use Rattle.zh_disk.proofs.CallerLemmas.{splice_inside, splice_same, image_now, leaves_now, leaves_weaken, leaves_join, synced_image}
 use Rattle.zh_journal.specs.Pages.{pages_of, HasSize, IsWritten, SameButBodies, AddsOrNot, Adds}
 use Rattle.zh_journal.specs.Gate.{FromBytes}
+use Rattle.zh_journal.specs.Place.{Place}
+use Rattle.zh_journal.specs.Calls.{Stages, OpensGate, Appends}
+use Rattle.zh_journal.specs.declared.fault.AppendFault.{AppendFault}
+use Rattle.zh_disk.specs.declared.disk.DiskFault.{DiskFault}
 use Rattle.zh_journal.proofs.PageLemmas.{but_refl}
 use Rattle.zh_journal.proofs.AppendLemmas.{still, opening, opened}
 
@@ -55,3 +59,33 @@ module _ (at n : ℕ) (some : 1 ≤ n) (t0 t1 : Trail) (staging : Leaves (SameBu
       (λ x f image by.
       let same : SameOutside at 1 t1.now.bytes f = subst (λ (b : List ℕ). SameOutside at 1 b f) by.0 by.1 in
       (came.0, came.1, gate_within came.0 t1.now.bytes f (bodies_within came.0 t1.now.bytes came.2) same))
+
+-- A whole append: one that failed at its pages, one that failed at its gate, and one that succeeded.
+module _ (p : Place) (r : List ℕ) (sized : HasSize r) (room : p.end + pages_of (length r) ≤ 1024) (t0 t1 : Trail) (long : p.base + 262144 ≤ length t0.now.bytes) where
+  pub append_staged : (d : DiskFault) (e : AppendFault) → Stages (p.base + 256 * p.end) r (Err d) t0 t1 → Appends p r (Err e) t0 t1
+  append_staged d e staged = record {
+    moments = at_staging p.base p.end r sized room t0 t1 long staged.moments;
+    outside = within_staging (p.base + 256 * p.end) (pages_of (length r)) (omega arith) t0 t1 staged.moments;
+    done = tt;
+    calls = tt;
+  }
+
+  module _ (t2 : Trail) (staged : Stages (p.base + 256 * p.end) r (Ok tt) t0 t1) where
+    pub append_shut : (d : DiskFault) (e : AppendFault) → OpensGate (p.base + 256 * p.end) (Err d) t1 t2 → Appends p r (Err e) t0 t2
+    append_shut d e opens = record {
+      moments = at_opening p.base p.end r sized room t0 t1 long staged.moments t2 staged.done opens.moments;
+      outside = within_opening (p.base + 256 * p.end) (pages_of (length r)) (omega arith) t0 t1 staged.moments t2 opens.moments;
+      done = tt;
+      calls = tt;
+    }
+
+    pub append_done : OpensGate (p.base + 256 * p.end) (Ok tt) t1 t2 → Appends p r (Ok tt) t0 t2
+    append_done opens = record {
+      moments = at_opening p.base p.end r sized room t0 t1 long staged.moments t2 staged.done opens.moments;
+      outside = within_opening (p.base + 256 * p.end) (pages_of (length r)) (omega arith) t0 t1 staged.moments t2 opens.moments;
+      done = record {
+        moves = at_end p.base p.end r sized room t0 t1 long staged.moments t2 staged.done opens.done;
+        settled = ap (λ (m : Moment). m.pending) opens.done;
+      };
+      calls = omega (arith, staged.calls, opens.calls);
+    }

@@ -1,11 +1,13 @@
 //! An area of records.
-ghost use Rattle.std.specs.Prelude.{◌≡◌, ◌+◌, ◌*◌, ◌↔◌, ◌⊎◌, ◌<◌, ◌≤◌, ℕ, List, None, Some, [], length, slice_get, slice_index, IfOk, OnOk, OnErr, IsErrOf};
-ghost use Rattle.zh_disk.specs.Disk.{Leaves, Moves, SameOutside};
+ghost use Rattle.std.specs.Prelude.{◌≡◌, ◌+◌, ◌↔◌, ◌<◌, ◌≤◌, ℕ, length, slice_index};
+ghost use Rattle.std.specs.Prelude.{IfOk, OnOk, OnErr, IsErrOf, is_err};
+ghost use Rattle.zh_disk.specs.Disk.{Asks};
+ghost use Rattle.zh_disk.specs.History.{Call};
 ghost use Rattle.zh_disk.specs.declared.disk.TheConstants.{DISK_LENGTH};
-ghost use Rattle.zh_journal.specs.Cause.{HasRisen, UnlessDevice};
-ghost use Rattle.zh_journal.specs.Pages.{Frames, IsRecord, Reads, AddsOrNot, Adds, IsCleared, pages_of};
+ghost use Rattle.zh_journal.specs.Calls.{FindsArea, GivesPayload, Appends, Clears};
+ghost use Rattle.zh_journal.specs.Faults.{area_append_fails, area_open_fails};
+ghost use Rattle.zh_journal.specs.Pages.{pages_of};
 ghost use Rattle.zh_journal.specs.Place.{pages_left, grown};
-ghost use Rattle.zh_journal.specs.Records.{records_of};
 
 use crate::extent::extent_of;
 use crate::fault::{AppendFault, AreaFault, OpenFault};
@@ -52,24 +54,8 @@ impl Area {
         requires base { base + AREA_LENGTH ≤ DISK_LENGTH }
         requires size { length pages.items ≡ AREA_LENGTH }
 
-        ensures kept { D.honest disk.new → D.honest disk.old }
-        ensures found { D.honest disk.new → IfOk result (λ opened. (rs : List (List ℕ)) × Reads base (D.trail disk.old).now.bytes rs opened.0.end × (length rs ≡ opened.0.count)) }
-
-        // These are the records of the area, which are one list at most.
-        ensures records { D.honest disk.new → IfOk result (λ opened. (rs : List (List ℕ)) × (records_of base (D.trail disk.old).now.bytes ≡ Some rs) × (length rs ≡ opened.0.count)) }
-
+        ensures call { Call area_open_fails (Asks (FindsArea base)) (D.history disk.old) (D.history disk.new) result }
         ensures base { IfOk result (λ opened. opened.0.base ≡ base) }
-
-        // The reader has all of them left.
-        ensures left { D.honest disk.new → (rs : List (List ℕ)) (j : ℕ) → Reads base (D.trail disk.old).now.bytes rs j → IfOk result (λ opened. Frames 0 opened.1.pages opened.1.page rs opened.1.end) }
-
-        // It is damaged exactly where the rules give no records.
-        ensures damaged { D.honest disk.new → IsErrOf result OpenFault.Damaged → records_of base (D.trail disk.old).now.bytes ≡ None }
-
-        ensures same { D.honest disk.new → D.trail disk.new ≡ D.trail disk.old }
-        ensures later { D.failures disk.old ≤ D.failures disk.new }
-        ensures cause { IsErrOf result OpenFault.Device → HasRisen (D.failures disk.old) (D.failures disk.new) }
-        ensures counted { UnlessDevice result (D.failures disk.new ≡ D.failures disk.old) }
     {
         disk.read_at(base, &mut pages)?;
         let Some(extent) = extent_of(&pages) else {
@@ -111,18 +97,11 @@ impl Area {
         requires i { i < self.now.count }
         requires buffer { LONGEST_PAYLOAD ≤ length buffer.old }
 
-        ensures kept { D.honest disk.new → D.honest disk.old }
-        ensures payload { D.honest disk.new → (rs : List (List ℕ)) (j : ℕ) → Reads self.now.base (D.trail disk.old).now.bytes rs j → i < length rs → IfOk result (λ payload. slice_get rs i ≡ Some payload.now) }
-
-        // It is empty where the disk has no record i any more, and else that record.
-        ensures found { D.honest disk.new → IfOk result (λ payload. (payload.now ≡ [])
-            ⊎ IsRecord self.now.base i (D.trail disk.old).now.bytes payload.now) }
+        ensures call { Call is_err
+            (Asks (λ bytes answer. IfOk answer (λ payload. GivesPayload self.now.base i bytes payload.now)))
+            (D.history disk.old) (D.history disk.new) result }
 
         ensures most { IfOk result (λ payload. length payload.now ≤ LONGEST_PAYLOAD) }
-        ensures same { D.honest disk.new → D.trail disk.new ≡ D.trail disk.old }
-        ensures later { D.failures disk.old ≤ D.failures disk.new }
-        ensures cause { IsErrOf result AreaFault.Device → HasRisen (D.failures disk.old) (D.failures disk.new) }
-        ensures counted { OnOk result (D.failures disk.new ≡ D.failures disk.old) }
     {
         let page = find_page(disk, self.base, i)?;
         let at = self.base + PAGE_LENGTH * (page as u64);
@@ -136,31 +115,13 @@ impl Area {
         requires some { 1 ≤ length payload.now }
         requires most { length payload.now ≤ LONGEST_PAYLOAD }
 
-        ensures kept { D.honest disk.new → D.honest disk.old }
-
-        // Each image at each moment is one from the start, with the record or without it.
-        ensures any_moment { D.honest disk.new → Leaves (AddsOrNot self.old.base self.old.end payload.now) (D.trail disk.old) (D.trail disk.new) }
-
-        // And nothing but the record's pages is changed, whatever the images were.
-        ensures outside { D.honest disk.new → Leaves (SameOutside (self.old.base + 256 * self.old.end)
-            (256 * pages_of (length payload.now))) (D.trail disk.old) (D.trail disk.new) }
-
-        // It is a write a page, and the three calls that open the gate.
-        ensures calls { D.honest disk.new → OnOk result (length (D.trail disk.new).past
-            ≡ length (D.trail disk.old).past + pages_of (length payload.now) + 3) }
-
-        ensures added { D.honest disk.new → OnOk result (Moves (Adds self.old.base self.old.end payload.now) (D.trail disk.old).now (D.trail disk.new).now) }
-
-        ensures settled { D.honest disk.new → OnOk result ((D.trail disk.new).now.pending ≡ []) }
-
+        ensures call { Call area_append_fails (Appends self.old payload.now)
+            (D.history disk.old) (D.history disk.new) result }
         ensures ok { OnOk result (self.new ≡ grown self.old (length payload.now)) }
         ensures err { OnErr result (self.new ≡ self.old) }
 
         ensures full { (result ≡ Err AppendFault.Full) ↔ (pages_left self.old < pages_of (length payload.now)) }
         ensures untouched { IsErrOf result AppendFault.Full → disk.new ≡ disk.old }
-        ensures later { D.failures disk.old ≤ D.failures disk.new }
-        ensures cause { IsErrOf result AppendFault.Device → HasRisen (D.failures disk.old) (D.failures disk.new) }
-        ensures counted { OnOk result (D.failures disk.new ≡ D.failures disk.old) }
     {
         let pages = pages_of(payload.len() as u32);
         if self.pages_left() < pages {
@@ -181,16 +142,8 @@ impl Area {
         requires size { length zeros.now ≡ AREA_LENGTH }
         requires zero { (k : ℕ) → slice_index zeros.now k ≡ 0 }
 
-        ensures kept { D.honest disk.new → D.honest disk.old }
-        ensures any_moment { D.honest disk.new → Leaves (SameOutside base AREA_LENGTH) (D.trail disk.old) (D.trail disk.new) }
-
-        ensures cleared { D.honest disk.new → OnOk result (IsCleared base (D.trail disk.old).now.bytes (D.trail disk.new).now.bytes) }
-
-        ensures calls { D.honest disk.new → OnOk result (length (D.trail disk.new).past ≡ length (D.trail disk.old).past + 1) }
+        ensures call { Call is_err (Clears base) (D.history disk.old) (D.history disk.new) result }
         ensures empty { IfOk result (λ a. a ≡ record { base = base; end = 0; count = 0 }) }
-        ensures later { D.failures disk.old ≤ D.failures disk.new }
-        ensures cause { IsErrOf result AreaFault.Device → HasRisen (D.failures disk.old) (D.failures disk.new) }
-        ensures counted { OnOk result (D.failures disk.new ≡ D.failures disk.old) }
     {
         disk.write_at(base, zeros)?;
         Ok(Area {

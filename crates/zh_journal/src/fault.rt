@@ -3,22 +3,7 @@ use thiserror::Error;
 use zh_disk::DiskFault;
 
 /// Why an area was not read or cleared.
-#[derive(Clone, Copy, Debug, PartialEq, Eq, Error)]
-pub enum AreaFault {
-    #[error("the device failed")]
-    Device,
-}
-
-impl From<DiskFault> for AreaFault {
-    ghost use Rattle.std.specs.Prelude.{◌≡◌};
-    ghost use Rattle.zh_journal.specs.declared.fault.AreaFault.TheVariants.{Device};
-
-    ghost from_gives = { λ _ e. e ≡ Device };
-
-    fn from(_: DiskFault) -> Self {
-        AreaFault::Device
-    }
-}
+pub type AreaFault = DiskFault;
 
 /// Why an area was not opened.
 #[derive(Clone, Copy, Debug, PartialEq, Eq, Error)]

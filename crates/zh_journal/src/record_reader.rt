@@ -1,8 +1,10 @@
 //! Reading a record to the caller's buffer.
-ghost use Rattle.std.specs.Prelude.{◌≡◌, ◌+◌, ◌-◌, ◌*◌, ◌<◌, ◌≤◌, ℕ, List, length, take, drop, slice_index, IfOk, OnOk};
-ghost use Rattle.zh_disk.specs.Disk.{HasCause};
+ghost use Rattle.std.specs.Prelude.{◌≡◌, ◌+◌, ◌*◌, ◌<◌, ◌≤◌, ℕ, length, slice_index, IfOk, OnOk, is_err};
+ghost use Rattle.zh_disk.specs.Disk.{Asks};
+ghost use Rattle.zh_disk.specs.History.{Call};
 ghost use Rattle.zh_disk.specs.declared.disk.TheConstants.{DISK_LENGTH};
-ghost use Rattle.zh_journal.specs.Pages.{pages_of, IsStaged, HasSize, Frames, Reads};
+ghost use Rattle.zh_journal.specs.Calls.{IsOnPage, HasPayload, GivesRecord, FindsPage};
+ghost use Rattle.zh_journal.specs.Pages.{pages_of};
 
 use crate::head::{Head, read_head};
 use crate::page::{AREA_LENGTH, AREA_PAGES, LONGEST_PAYLOAD, PAGE_LENGTH, pages_of};
@@ -22,14 +24,10 @@ fn read_page<D: Disk>(
     requires room { at + 256 * pages_of len ≤ DISK_LENGTH }
     requires buffer { len ≤ length buffer.old }
 
-    ensures kept { D.honest disk.new → D.honest disk.old }
-    ensures read { D.honest disk.new → OnOk result ((k : ℕ) → 255 * i ≤ k + 3 → k + 3 < 255 * i + 255 → k < len → slice_index buffer.new k ≡ slice_index (D.trail disk.old).now.bytes (at + 4 + k + i)) }
+    ensures call { Call is_err (Asks (λ bytes answer. OnOk answer (IsOnPage i at len bytes buffer.new)))
+        (D.history disk.old) (D.history disk.new) result }
 
     ensures rest { (k : ℕ) → k + 3 < 255 * i → slice_index buffer.new k ≡ slice_index buffer.old k }
-
-    ensures same { D.honest disk.new → D.trail disk.new ≡ D.trail disk.old }
-    ensures cause { HasCause (D.failures disk.old) (D.failures disk.new) result }
-    ensures counted { OnOk result (D.failures disk.new ≡ D.failures disk.old) }
 {
     let from = (255 * i).saturating_sub(3);
     let to = (255 * i + 252).min(len);
@@ -50,12 +48,8 @@ fn read_payload<D: Disk>(
     requires room { at + 256 * pages_of len ≤ DISK_LENGTH }
     requires buffer { len ≤ length buffer.old }
 
-    ensures kept { D.honest disk.new → D.honest disk.old }
-    ensures read { D.honest disk.new → OnOk result ((r : List ℕ) → IsStaged (D.trail disk.old).now.bytes at r → length r ≡ len → take len buffer.new ≡ r) }
-
-    ensures same { D.honest disk.new → D.trail disk.new ≡ D.trail disk.old }
-    ensures cause { HasCause (D.failures disk.old) (D.failures disk.new) result }
-    ensures counted { OnOk result (D.failures disk.new ≡ D.failures disk.old) }
+    ensures call { Call is_err (Asks (λ bytes answer. OnOk answer (HasPayload at len bytes buffer.new)))
+        (D.history disk.old) (D.history disk.new) result }
 {
     for i in 0..pages_of(len) {
         read_page(disk, at, len, i, buffer)?;
@@ -74,17 +68,9 @@ pub(crate) fn read_record<D: Disk>(
     requires room { at + 256 * left ≤ DISK_LENGTH }
     requires buffer { LONGEST_PAYLOAD ≤ length buffer.old }
 
-    ensures kept { D.honest disk.new → D.honest disk.old }
-    ensures read { D.honest disk.new → (r : List ℕ) → slice_index (D.trail disk.old).now.bytes at ≡ 165 → IsStaged (D.trail disk.old).now.bytes at r → HasSize r → pages_of (length r) ≤ left → IfOk result (λ len. (len ≡ length r) × (take len buffer.new ≡ r)) }
-
-    // What is given is what stands there.
-    ensures stands { D.honest disk.new → IfOk result (λ len. 1 ≤ len → (slice_index (D.trail disk.old).now.bytes at ≡ 165)
-        × IsStaged (D.trail disk.old).now.bytes at (take len buffer.new) × HasSize (take len buffer.new)) }
-
+    ensures call { Call is_err (Asks (λ bytes answer. IfOk answer (GivesRecord at left bytes buffer.new)))
+        (D.history disk.old) (D.history disk.new) result }
     ensures len { IfOk result (λ len. (len ≤ LONGEST_PAYLOAD) × (1 ≤ len → pages_of len ≤ left)) }
-    ensures same { D.honest disk.new → D.trail disk.new ≡ D.trail disk.old }
-    ensures cause { HasCause (D.failures disk.old) (D.failures disk.new) result }
-    ensures counted { OnOk result (D.failures disk.new ≡ D.failures disk.old) }
 {
     if left == 0 {
         return Ok(0);
@@ -101,17 +87,9 @@ pub(crate) fn read_record<D: Disk>(
 pub(crate) fn find_page<D: Disk>(disk: &mut D, base: u64, i: u32) -> Result<u32, DiskFault>
     requires { base + AREA_LENGTH ≤ DISK_LENGTH }
 
-    ensures kept { D.honest disk.new → D.honest disk.old }
-    ensures found { D.honest disk.new → (rs : List (List ℕ)) (j : ℕ) → Reads base (D.trail disk.old).now.bytes rs j → i < length rs → IfOk result (λ page. Frames base (D.trail disk.old).now.bytes page (drop i rs) j) }
-
-    // Before the page stand i records.
-    ensures stands { D.honest disk.new → IfOk result (λ page. page < AREA_PAGES
-        → (rs : List (List ℕ)) × Frames base (D.trail disk.old).now.bytes 0 rs page × (length rs ≡ i)) }
-
+    ensures call { Call is_err (Asks (λ bytes answer. IfOk answer (FindsPage base i bytes)))
+        (D.history disk.old) (D.history disk.new) result }
     ensures inside { IfOk result (λ page. page ≤ AREA_PAGES) }
-    ensures same { D.honest disk.new → D.trail disk.new ≡ D.trail disk.old }
-    ensures cause { HasCause (D.failures disk.old) (D.failures disk.new) result }
-    ensures counted { OnOk result (D.failures disk.new ≡ D.failures disk.old) }
 {
     let mut page = 0;
     for _passed in 0..i {

@@ -4,10 +4,11 @@ use Rattle.std.specs.Prelude.{slice_index, slice_range}
 use Rattle.std.specs.Int.{w64, to_be_bytes, from_be_bytes}
 use Rattle.std.proofs.lemmas.Bool.{cases_eq}
 use Rattle.zh_disk.specs.declared.disk.DiskFault.{DiskFault}
-use Rattle.zh_disk.specs.Disk.{Moment, Trail, IsSettled, SameOutside, Writes, Leaves, splice}
-use Rattle.zh_disk.proofs.CallerLemmas.{same_refl, write_leaves, leaves_weaken, leaves_more}
+use Rattle.zh_disk.specs.Disk.{Moment, Trail, IsSettled, SameOutside, Writes, Leaves, Changes, splice}
+use Rattle.zh_disk.proofs.CallerLemmas.{same_refl, write_leaves, leaves_weaken, leaves_more, write_changes}
 use Rattle.zh_journal.specs.Gate.{FromBytes}
-use Rattle.zh_journal.specs.Pages.{HoldsArea, IsCleared, zeros}
+use Rattle.zh_journal.specs.Calls.{Clears}
+use Rattle.zh_journal.specs.Pages.{HoldsArea, IsCleared, zero_bytes}
 use Rattle.zh_journal.proofs.CallerLemmas.{slice_at, zeros_at, holds_same}
 use Rattle.zh_snapshot.specs.declared.layout.Slot.TheVariants.{First, Second}
 use Rattle.zh_snapshot.specs.Layout.{slot_at, snapshot_at, journal_at}
@@ -18,12 +19,34 @@ use Rattle.zh_snapshot.specs.Parts.{HasParts, IsEmptied}
 use Rattle.zh_snapshot.proofs.RangeLemmas.{same_trans, same_wider, slice_kept, slice_part, placed}
 
 -- a write after the disk gate
-pub after_gate : (t u : Trail) (at : ℕ) (bytes : List ℕ) (result : Result (Unit {0}) DiskFault) → length t.now.bytes ≡ 1118720 → 1 ≤ at → at + length bytes ≤ 1118720 → Writes t u at bytes result → Leaves (SameOutside 1 1118719) t u
+pub after_gate : (t u : Trail) (at : ℕ) (bytes : List ℕ) (result : Result (Unit {0}) DiskFault) → length t.now.bytes ≡ 1118720 → 1 ≤ at → at + length bytes ≤ 1118720 → Writes at bytes result t u → Leaves (SameOutside 1 1118719) t u
 after_gate t u at bytes result long low fits writes =
     leaves_weaken _ _ t u (λ x f image by. same_wider at (length bytes) 1 1118719 low (omega arith) x f by) (write_leaves t u at bytes result (omega arith) writes)
 
 pub one_more : (a b c : Trail) → Leaves (SameOutside 1 1118719) a b → Leaves (SameOutside 1 1118719) b c → Leaves (SameOutside 1 1118719) a c
 one_more a b c = leaves_more (SameOutside 1 1118719) a b c (same_refl 1 1118719) (same_trans 1 1118719)
+
+-- the same as a change, at a place and of bytes that were named otherwise
+pub after_gate_is : (t u : Trail) (at at' : ℕ) (bytes bytes' : List ℕ) (result : Result (Unit {0}) DiskFault) → length t.now.bytes ≡ 1118720 → at ≡ at' → bytes ≡ bytes' → 1 ≤ at' → at' + length bytes' ≤ 1118720
+    → Writes at bytes result t u → Changes (SameOutside 1 1118719) (λ old new. new.bytes ≡ splice at' bytes' old.bytes) result t u
+after_gate_is t u at at' bytes bytes' result long place same low fits writes =
+    let here = subst (λ (n : ℕ). Writes n bytes' result t u) place (subst (λ (l : List ℕ). Writes at l result t u) same writes) in
+    record {
+      moments = after_gate t u at' bytes' result long low fits here;
+      done = (write_changes t u at' (length bytes') bytes' result refl (omega arith) here).done;
+    }
+
+-- so zeros at the second slot's head
+pub head_zeroed : (t u : Trail) (at : ℕ) → at ≡ slot_at Second → (result : Result (Unit {0}) DiskFault) → length t.now.bytes ≡ 1118720 → Writes at (0 ∷ 0 ∷ 0 ∷ 0 ∷ 0 ∷ 0 ∷ 0 ∷ 0 ∷ 0 ∷ []) result t u
+    → Changes (SameOutside 1 1118719) (λ old new. new.bytes ≡ splice (slot_at Second) (0 ∷ 0 ∷ 0 ∷ 0 ∷ 0 ∷ 0 ∷ 0 ∷ 0 ∷ 0 ∷ []) old.bytes) result t u
+head_zeroed t u at place result long writes = after_gate_is t u at (slot_at Second) _ _ result long place refl (omega arith) (omega arith) writes
+
+-- so a clearing of the first slot's journal
+pub cleared_is : {T : Type 0} (t u : Trail) (at : ℕ) (result : Result T DiskFault) → at ≡ journal_at First → Clears at result t u
+    → Changes (SameOutside 1 1118719) (λ old new. IsCleared (journal_at First) old.bytes new.bytes) result t u
+cleared_is t u at result place clears =
+    let here = subst (λ (n : ℕ). Clears n result t u) place clears in
+    record { moments = leaves_weaken _ _ t u (λ x f image by. same_wider (journal_at First) 262144 1 1118719 (omega arith) (omega arith) x f by) here.moments; done = here.done }
 
 pub parts : (setup first b0 b1 b2 b3 b4 : List ℕ) → length b0 ≡ 1118720 → length setup ≤ 65536 → length first ≡ 262391
     → b1 ≡ splice 1 (header_bytes (length setup)) b0 → b2 ≡ splice 4096 setup b1 → b3 ≡ splice (slot_at First) (165 ∷ to_be_bytes w64 1) b2 → b4 ≡ splice (snapshot_at First) first b3 → HasParts setup first b4
@@ -50,7 +73,7 @@ parts setup first b0 b1 b2 b3 b4 long most wide one two three four =
     }
 
 nine_zeros : (k : ℕ) → slice_index (0 ∷ 0 ∷ 0 ∷ 0 ∷ 0 ∷ 0 ∷ 0 ∷ 0 ∷ 0 ∷ []) k ≡ 0
-unfolding zeros
+unfolding zero_bytes
 nine_zeros k = zeros_at 9 k
 
 pub emptied : (b0 b1 b2 : List ℕ) → length b0 ≡ 1118720 → IsCleared (journal_at First) b0 b1 → b2 ≡ splice (slot_at Second) (0 ∷ 0 ∷ 0 ∷ 0 ∷ 0 ∷ 0 ∷ 0 ∷ 0 ∷ 0 ∷ []) b1 → IsEmptied b0 b2

@@ -1,9 +1,13 @@
 -- Framed and clean images.
-use Rattle.std.proofs.Common.{◌≡◌, ◌≢◌, ◌⊎◌, ◌↔◌, inl, inr, ⊎_elim, ℕ, ◌+◌, ◌≤◌, Bool, false, List, [], ◌∷◌, ◌++◌, length, length-append, refl, sym, ◌∙◌, ap, subst, arith, None}
+use Rattle.std.proofs.Common.{◌≡◌, ◌≢◌, ◌⊎◌, ◌↔◌, inl, inr, ⊎_elim, ℕ, ◌+◌, ◌*◌, ◌≤◌, Bool, false, List, [], ◌∷◌, ◌++◌, length, length-append, refl, sym, ◌∙◌, ap, subst, arith, None, Ok, Err}
 use Rattle.std.specs.Prelude.{slice_index, slice_range, IsTrue}
 use Rattle.zh_disk.specs.Disk.{Trail, SameOutside, Moves, Leaves}
 use Rattle.zh_disk.proofs.CallerLemmas.{leaves_weaken}
-use Rattle.zh_journal.specs.Pages.{Reads, HoldsArea, Adds, AddsOrNot, pages_of}
+use Rattle.zh_journal.specs.declared.fault.AppendFault as area
+use Rattle.zh_snapshot.specs.declared.fault.AppendFault.{AppendFault}
+use Rattle.zh_snapshot.specs.Calls.{StoreAppends}
+use Rattle.zh_journal.specs.Calls.{Appends}
+use Rattle.zh_journal.specs.Pages.{ReadsRecords, HoldsArea, Adds, AddsOrNot, pages_of}
 use Rattle.zh_journal.specs.Place.{Place}
 use Rattle.zh_journal.specs.Records.{records_of}
 use Rattle.zh_journal.proofs.CallerLemmas.{holds_reads, length-slice, reads_records}
@@ -79,28 +83,49 @@ module _ (s : State) (r d c : List ℕ) (long : length d ≡ 1118720) where
       )
 
   pub area_adds_or_not : AddsOrNot (journal_at s.slot) s.area.end r d c → StoreAddsOrNot s r d c
-  area_adds_or_not by = λ x j clean fits.
-      let holds = subst (λ (n : ℕ). HoldsArea (journal_at s.slot) n x.records d) fits.end (clean_holds s.slot x j d fits.slot clean) in ⊎_elim
-      (λ still. inl (clean_by s.slot d c long by.around fits.slot x x.records j j clean (subst (λ (n : ℕ). HoldsArea (journal_at s.slot) n x.records c) (sym fits.end) still)))
-      (λ more. inr (clean_by s.slot d c long by.around fits.slot x (x.records ++ r ∷ []) j (j + pages_of (length r)) clean
-      (subst (λ (n : ℕ). HoldsArea (journal_at s.slot) (n + pages_of (length r)) (x.records ++ r ∷ []) c) (sym fits.end) more)))
-      (by.area x.records holds)
+  area_adds_or_not by = record {
+    around = by.around;
+    clean = λ x j clean fits.
+        let holds = subst (λ (n : ℕ). HoldsArea (journal_at s.slot) n x.records d) fits.end (clean_holds s.slot x j d fits.slot clean) in ⊎_elim
+        (λ still. inl (clean_by s.slot d c long by.around fits.slot x x.records j j clean (subst (λ (n : ℕ). HoldsArea (journal_at s.slot) n x.records c) (sym fits.end) still)))
+        (λ more. inr (clean_by s.slot d c long by.around fits.slot x (x.records ++ r ∷ []) j (j + pages_of (length r)) clean
+        (subst (λ (n : ℕ). HoldsArea (journal_at s.slot) (n + pages_of (length r)) (x.records ++ r ∷ []) c) (sym fits.end) more)))
+        (by.area x.records holds);
+  }
 
-module _ (base end : ℕ) (r : List ℕ) (s : State) (t u : Trail) (here : base ≡ journal_at s.slot) (at_end : end ≡ s.area.end) (long : length t.now.bytes ≡ 1118720) where
-  pub at_moments : Leaves (AddsOrNot base end r) t u → Leaves (StoreAddsOrNot s r) t u
+-- an append to the area, as one to the store
+module _ (p : Place) (r : List ℕ) (s : State) (t u : Trail) (is : p ≡ s.area) (here : p.base ≡ journal_at s.slot) (long : length t.now.bytes ≡ 1118720) where
+  end : p.end ≡ s.area.end
+  end = ap (λ (q : Place). q.end) is
+
+  at_moments : Leaves (AddsOrNot p.base p.end r) t u → Leaves (StoreAddsOrNot s r) t u
   at_moments run =
-      leaves_weaken _ _ t u (λ d c image by. area_adds_or_not s r d c (image.size ∙ long) (subst (λ (n : ℕ). AddsOrNot n s.area.end r d c) here (subst (λ (n : ℕ). AddsOrNot base n r d c) at_end by))) run
+      leaves_weaken _ _ t u (λ d c image by. area_adds_or_not s r d c (image.size ∙ long) (subst (λ (n : ℕ). AddsOrNot n s.area.end r d c) here (subst (λ (n : ℕ). AddsOrNot p.base n r d c) end by))) run
 
-  pub at_ok : Moves (Adds base end r) t.now u.now → Moves (StoreAdds s r) t.now u.now
+  at_ok : Moves (Adds p.base p.end r) t.now u.now → Moves (StoreAdds s r) t.now u.now
   at_ok moves = λ c image.
       let from = moves c image in
-      (from.0, from.1, area_adds s r from.0 c (from.1.size ∙ long) (subst (λ (n : ℕ). Adds n s.area.end r from.0 c) here (subst (λ (n : ℕ). Adds base n r from.0 c) at_end from.2)))
+      (from.0, from.1, area_adds s r from.0 c (from.1.size ∙ long) (subst (λ (n : ℕ). Adds n s.area.end r from.0 c) here (subst (λ (n : ℕ). Adds p.base n r from.0 c) end from.2)))
+
+  at_pages : Leaves (SameOutside (p.base + 256 * p.end) (256 * pages_of (length r))) t u → Leaves (SameOutside (s.area.base + 256 * s.area.end) (256 * pages_of (length r))) t u
+  at_pages = subst (λ (q : Place). Leaves (SameOutside (q.base + 256 * q.end) (256 * pages_of (length r))) t u) is
+
+  pub store_fails : (e : area.AppendFault) (d : AppendFault) → Appends p r (Err e) t u → StoreAppends s r (Err d) t u
+  store_fails e d appends = record { moments = at_moments appends.moments; pages = at_pages appends.outside; done = tt; calls = tt }
+
+  pub store_appends : Appends p r (Ok tt) t u → StoreAppends s r (Ok tt) t u
+  store_appends appends = record {
+    moments = at_moments appends.moments;
+    pages = at_pages appends.outside;
+    done = record { moves = at_ok appends.done.moves; settled = appends.done.settled };
+    calls = appends.calls;
+  }
 
 -- what an opening reads is a content
 pub framed_all : (b : List ℕ) (len : ℕ) (slot : Slot) (generation : ℕ) (other_open : Bool) (p : Place) (rs : List (List ℕ)) → length b ≡ 1118720
     → (slice_index b 0 ≡ 165) × (len ≤ 65536) × (slice_range b 1 15 ≡ header_bytes len)
     → IsInUse slot b × (generation_of slot b ≡ generation) × (IsOpen (other slot) b ↔ IsTrue other_open)
-    → Reads (journal_at slot) b rs p.end → length rs ≡ p.count
+    → ReadsRecords (journal_at slot) b rs p.end → length rs ≡ p.count
     → (x : Content) × (j : ℕ) × IsFramed x j b × Fits (record { setup_length = len; slot = slot; generation = generation; other_open = other_open; area = p; broken = false }) x j b
 framed_all b len slot generation other_open p rs long head found reads count =
     let wide : length (slice_range b 4096 (4096 + len)) ≡ len = omega (arith, length-slice b 4096 (4096 + len) (omega arith) (omega (arith, head.1))) in (

@@ -1,14 +1,22 @@
 -- The moments while a slot is written anew: its gate is closed, it is filled, its gate is opened.
-use Rattle.std.proofs.Common.{◌≡◌, inl, inr, ℕ, ◌+◌, ◌-◌, ◌≤◌, Bool, List, [], ◌∷◌, length, sym, ◌∙◌, ap, subst, arith}
+use Rattle.std.proofs.Common.{◌≡◌, inl, inr, ℕ, ◌+◌, ◌-◌, ◌≤◌, Bool, List, [], ◌∷◌, length, sym, ◌∙◌, ap, subst, arith, Result, Ok, Err}
 use Rattle.std.specs.Prelude.{slice_index}
-use Rattle.zh_disk.specs.Disk.{Moment, Trail, IsImage, SameOutside, Moves, Leaves, splice, settled}
+use Rattle.zh_disk.specs.Disk.{Moment, Trail, IsImage, SameOutside, Moves, Leaves, Lands, Changes, splice, settled}
 use Rattle.zh_disk.proofs.CallerLemmas.{splice_same, splice_in, image_now, synced_image, same_refl, leaves_now, leaves_weaken, leaves_join}
+use Rattle.zh_disk.specs.declared.disk.DiskFault.{DiskFault}
+use Rattle.zh_journal.specs.Calls.{OpensGate}
 use Rattle.zh_journal.specs.Gate.{FromBytes}
+use Rattle.zh_snapshot.specs.Calls.{ClosesSlot, FillsSlot}
 use Rattle.zh_snapshot.specs.declared.layout.Slot.{Slot}
 use Rattle.zh_snapshot.specs.Layout.{slot_at, generation_at, snapshot_at, journal_at}
 use Rattle.zh_snapshot.specs.Slots.{Closes, IsClosed, HasNew, Refills, IsRefilled}
 use Rattle.zh_snapshot.proofs.RangeLemmas.{same_trans, same_wider, slice_kept}
 use Rattle.zh_snapshot.proofs.SlotLemmas.{bounds, generation_kept}
+
+-- a slot is written anew
+abbrev pub RefillsSlot : {T : Type 0} → Slot → Bool → ℕ → List ℕ → Result T DiskFault → Trail → Trail → Type 0
+RefillsSlot slot is_open generation payload =
+    Changes (Refills slot is_open generation payload) (Lands (IsRefilled slot generation payload))
 
 -- what was written after the gate, when the gate alone has changed since
 new_kept : (slot : Slot) (generation : ℕ) (payload d c : List ℕ) → length d ≡ 1118720 → SameOutside (slot_at slot) 1 d c → HasNew slot generation payload d → HasNew slot generation payload c
@@ -87,3 +95,25 @@ module _ (slot : Slot) (is_open : Bool) (generation : ℕ) (payload : List ℕ) 
               new_is = new_kept slot generation payload b c long2 here filled;
             },
           )
+
+-- A slot written anew: one that failed at its gate, at what stands after it, at the gate again, and one that succeeded.
+module _ {T : Type 0} (slot : Slot) (is_open : Bool) (generation : ℕ) (payload : List ℕ) (t0 t1 : Trail) (long : length t0.now.bytes ≡ 1118720) where
+  pub refill_closing : (d : DiskFault) → ClosesSlot slot is_open (Err d) t0 t1 → RefillsSlot {T = T} slot is_open generation payload (Err d) t0 t1
+  refill_closing d closes = record { moments = at_closing slot is_open generation payload t0 t1 long closes.moments; done = tt }
+
+  module _ (closes : ClosesSlot slot is_open (Ok tt) t0 t1) (t2 : Trail) where
+    pub refill_filling : {U : Type 0} (d : DiskFault) → FillsSlot {T = U} slot generation payload (Err d) t1 t2 → RefillsSlot {T = T} slot is_open generation payload (Err d) t0 t2
+    refill_filling d fills = record { moments = at_filling slot is_open generation payload t0 t1 long closes.moments closes.done t2 fills.moments; done = tt }
+
+    module _ {U : Type 0} (x : U) (fills : FillsSlot {T = U} slot generation payload (Ok x) t1 t2) (long2 : length t2.now.bytes ≡ 1118720) (t3 : Trail) where
+      pub refill_opening : (d : DiskFault) → OpensGate (slot_at slot) (Err d) t2 t3 → RefillsSlot {T = T} slot is_open generation payload (Err d) t0 t3
+      refill_opening d opens = record { moments = at_opening slot is_open generation payload t0 t1 long closes.moments closes.done t2 fills.moments long2 fills.done t3 opens.moments; done = tt }
+
+      pub refill_done : (y : T) → OpensGate (slot_at slot) (Ok tt) t2 t3 → RefillsSlot {T = T} slot is_open generation payload (Ok y) t0 t3
+      refill_done y opens = record {
+        moments = at_opening slot is_open generation payload t0 t1 long closes.moments closes.done t2 fills.moments long2 fills.done t3 opens.moments;
+        done = record {
+          moves = at_end slot is_open generation payload t0 t1 long closes.moments closes.done t2 fills.moments long2 fills.done t3 opens.done;
+          settled = ap (λ (m : Moment). m.pending) opens.done;
+        };
+      }

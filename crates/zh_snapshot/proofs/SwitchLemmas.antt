@@ -1,9 +1,13 @@
 -- What a switch makes of an image that fits.
-use Rattle.std.proofs.Common.{◌≡◌, ◌⊎◌, inl, inr, ⊎_elim, ℕ, ◌+◌, ◌*◌, ◌<◌, ◌≤◌, Bool, List, [], length, refl, sym, ◌∙◌, ap, subst, arith}
+use Rattle.std.proofs.Common.{◌≡◌, ◌⊎◌, inl, inr, ⊎_elim, ℕ, ◌+◌, ◌*◌, ◌<◌, ◌≤◌, Bool, List, [], length, refl, sym, ◌∙◌, ap, subst, arith, Ok, Err}
 use Rattle.std.specs.Prelude.{slice_index, slice_range}
 use Rattle.std.proofs.lemmas.Bool.{cases_eq}
 use Rattle.zh_disk.specs.Disk.{Trail, SameOutside, Moves, Leaves}
 use Rattle.zh_disk.proofs.CallerLemmas.{leaves_weaken}
+use Rattle.zh_disk.specs.declared.disk.DiskFault.{DiskFault}
+use Rattle.zh_journal.specs.Place.{Place}
+use Rattle.zh_snapshot.specs.declared.fault.SwitchFault.{SwitchFault}
+use Rattle.zh_snapshot.specs.Calls.{StoreSwitch}
 use Rattle.zh_journal.specs.Pages.{HoldsArea}
 use Rattle.zh_journal.proofs.CallerLemmas.{reads_same, holds_reads, zero_holds}
 use Rattle.zh_snapshot.specs.declared.layout.Slot.{Slot}
@@ -13,6 +17,7 @@ use Rattle.zh_snapshot.specs.Slots.{IsOpen, IsInUse, HasNew, Refills, IsRefilled
 use Rattle.zh_snapshot.specs.Image.{Content, IsFramed, IsClean, with_snapshot}
 use Rattle.zh_snapshot.specs.Store.{State, Fits, StoreSwitches, StoreSwitchesOrNot}
 use Rattle.zh_snapshot.proofs.RangeLemmas.{slice_kept}
+use Rattle.zh_snapshot.proofs.RefillLemmas.{RefillsSlot}
 use Rattle.zh_snapshot.proofs.SlotLemmas.{bounds, apart, other_other, head_kept, held, closed_there}
 
 -- writes in the other slot alone
@@ -123,6 +128,7 @@ module _ (s : State) (payload d c : List ℕ) (long : length d ≡ 1118720) (by 
 
   pub switches_or_not : StoreSwitchesOrNot s payload d c
   switches_or_not = record {
+    around = by.around;
     framed = λ x j framed fits. case x j framed fits (λ older. stays_framed s.slot d c long by.around fits.slot older x j framed);
     clean = λ x j clean fits. case x j clean.framed fits (λ older. stays_clean s.slot d c long by.around fits.slot older x j clean);
   }
@@ -144,9 +150,6 @@ switches s payload d c long by = λ x j framed fits.
 -- the moments of a switch, by what the store knew before
 module _ (s : State) (slot : Slot) (other_open : Bool) (generation : ℕ) (payload : List ℕ) (t u : Trail)
     (to : slot ≡ other s.slot) (known : other_open ≡ s.other_open) (next : generation ≡ s.generation + 1) where
-  pub switch_around : Leaves (Refills slot other_open generation payload) t u → Leaves (SameOutside (slot_at (other s.slot)) 524544) t u
-  switch_around run = subst (λ (a : Slot). Leaves (SameOutside (slot_at a) 524544) t u) to (leaves_weaken _ _ t u (λ d c image by. by.around) run)
-
   pub switch_moments : length t.now.bytes ≡ 1118720 → Leaves (Refills slot other_open generation payload) t u → Leaves (StoreSwitchesOrNot s payload) t u
   switch_moments long run = leaves_weaken _ _ t u
       (λ d c image by. switches_or_not s payload d c (image.size ∙ long)
@@ -161,3 +164,12 @@ module _ (s : State) (slot : Slot) (other_open : Bool) (generation : ℕ) (paylo
         switches s payload from.0 c (from.1.size ∙ long)
             (subst (λ (a : Slot). IsRefilled a (s.generation + 1) payload from.0 c) to (subst (λ (n : ℕ). IsRefilled slot n payload from.0 c) next from.2)),
       )
+
+  pub switch_fails : (d : DiskFault) (e : SwitchFault) → length t.now.bytes ≡ 1118720 → RefillsSlot {T = Place} slot other_open generation payload (Err d) t u → StoreSwitch s payload (Err e) t u
+  switch_fails d e long refills = record { moments = switch_moments long refills.moments; done = tt }
+
+  pub switch_is : (p : Place) → length t.now.bytes ≡ 1118720 → RefillsSlot slot other_open generation payload (Ok p) t u → StoreSwitch s payload (Ok tt) t u
+  switch_is p long refills = record {
+    moments = switch_moments long refills.moments;
+    done = record { moves = switch_done long refills.done.moves; settled = refills.done.settled };
+  }

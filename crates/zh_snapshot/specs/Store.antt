@@ -1,9 +1,10 @@
 -- What a store knows of its disk, and what its calls leave there.
 use Rattle.std.specs.Prelude.{◌≡◌, ◌⊎◌, ◌+◌, ◌↔◌, ℕ, Bool, true, IsTrue, List, length}
+use Rattle.zh_disk.specs.Disk.{SameOutside}
 use Rattle.zh_journal.specs.Place.{Place, grown}
-use Rattle.zh_journal.specs.Pages.{pages_of}
+use Rattle.zh_journal.specs.Pages.{area_length, pages_of}
 use Rattle.zh_snapshot.specs.declared.layout.Slot.{Slot}
-use Rattle.zh_snapshot.specs.Layout.{other, journal_at}
+use Rattle.zh_snapshot.specs.Layout.{other, slot_length, slot_at, journal_at}
 use Rattle.zh_snapshot.specs.Slots.{IsOpen, IsInUse}
 use Rattle.zh_snapshot.specs.Image.{Content, IsFramed, IsClean, with_record, with_snapshot}
 
@@ -36,7 +37,12 @@ broken_since s = record s { broken = true }
 
 -- with a new snapshot in the other slot
 abbrev pub switched : State → State
-switched s = record s { slot = other s.slot; generation = s.generation + 1; other_open = true; area = record { base = journal_at (other s.slot); end = 0; count = 0 } }
+switched s = record s {
+  slot = other s.slot;
+  generation = s.generation + 1;
+  other_open = true;
+  area = record { base = journal_at (other s.slot); end = 0; count = 0 };
+}
 
 -- what a read gave at the start, and nothing else, is left
 abbrev pub Settles : List ℕ → List ℕ → List ℕ → Type 0
@@ -44,17 +50,27 @@ Settles bytes old new = (old ≡ bytes) × (new ≡ bytes)
 
 -- a clean image that fits becomes one with the record r, is clean, and fits
 abbrev pub StoreAdds : State → List ℕ → List ℕ → List ℕ → Type 0
-StoreAdds s r old new = (x : Content) (j : ℕ) → IsClean x j old → Fits s x j old → IsClean (with_record x r) (j + pages_of (length r)) new × Fits (longer s (length r)) (with_record x r) (j + pages_of (length r)) new
+StoreAdds s r old new =
+    (x : Content) (j : ℕ) → IsClean x j old → Fits s x j old
+    → IsClean (with_record x r) (j + pages_of (length r)) new
+    × Fits (longer s (length r)) (with_record x r) (j + pages_of (length r)) new
 
--- or stays one without
-abbrev pub StoreAddsOrNot : State → List ℕ → List ℕ → List ℕ → Type 0
-StoreAddsOrNot s r old new = (x : Content) (j : ℕ) → IsClean x j old → Fits s x j old → IsClean x j new ⊎ IsClean (with_record x r) (j + pages_of (length r)) new
+-- or stays one without; and nothing outside the journal is changed, whatever the image was
+pub record StoreAddsOrNot (s : State) (r old new : List ℕ) : Type 0 where
+  pub around : SameOutside (journal_at s.slot) area_length old new
+  pub clean : (x : Content) (j : ℕ) → IsClean x j old → Fits s x j old
+      → IsClean x j new ⊎ IsClean (with_record x r) (j + pages_of (length r)) new
 
 -- an image that fits becomes a clean one with this snapshot and no records, one generation later, and fits
 abbrev pub StoreSwitches : State → List ℕ → List ℕ → List ℕ → Type 0
-StoreSwitches s payload old new = (x : Content) (j : ℕ) → IsFramed x j old → Fits s x j old → IsClean (with_snapshot x payload) 0 new × Fits (switched s) (with_snapshot x payload) 0 new
+StoreSwitches s payload old new =
+    (x : Content) (j : ℕ) → IsFramed x j old → Fits s x j old
+    → IsClean (with_snapshot x payload) 0 new × Fits (switched s) (with_snapshot x payload) 0 new
 
--- or keeps its content, and is clean if it was
+-- or keeps its content, and is clean if it was; and nothing outside the other slot is changed, whatever the image was
 pub record StoreSwitchesOrNot (s : State) (payload old new : List ℕ) : Type 0 where
-  pub framed : (x : Content) (j : ℕ) → IsFramed x j old → Fits s x j old → IsFramed x j new ⊎ IsClean (with_snapshot x payload) 0 new
-  pub clean : (x : Content) (j : ℕ) → IsClean x j old → Fits s x j old → IsClean x j new ⊎ IsClean (with_snapshot x payload) 0 new
+  pub around : SameOutside (slot_at (other s.slot)) slot_length old new
+  pub framed : (x : Content) (j : ℕ) → IsFramed x j old → Fits s x j old
+      → IsFramed x j new ⊎ IsClean (with_snapshot x payload) 0 new
+  pub clean : (x : Content) (j : ℕ) → IsClean x j old → Fits s x j old
+      → IsClean x j new ⊎ IsClean (with_snapshot x payload) 0 new

@@ -2,7 +2,6 @@
 use std::alloc::AllocError;
 use thiserror::Error;
 use zh_disk::DiskFault;
-use zh_journal::AreaFault;
 
 /// Why a disk was not formatted.
 #[derive(Clone, Copy, Debug, PartialEq, Eq, Error)]
@@ -31,17 +30,6 @@ impl From<DiskFault> for FormatFault {
     ghost from_gives = { λ _ e. e ≡ Device };
 
     fn from(_: DiskFault) -> Self {
-        FormatFault::Device
-    }
-}
-
-impl From<AreaFault> for FormatFault {
-    ghost use Rattle.std.specs.Prelude.{◌≡◌};
-    ghost use Rattle.zh_snapshot.specs.declared.fault.FormatFault.TheVariants.{Device};
-
-    ghost from_gives = { λ _ e. e ≡ Device };
-
-    fn from(_: AreaFault) -> Self {
         FormatFault::Device
     }
 }
@@ -84,9 +72,9 @@ impl From<DiskFault> for OpenFault {
 }
 
 impl From<zh_journal::OpenFault> for OpenFault {
-    ghost use Rattle.zh_snapshot.specs.Faults.{OpenedAs};
+    ghost use Rattle.zh_snapshot.specs.Faults.{AsStoreFault};
 
-    ghost from_gives = { OpenedAs };
+    ghost from_gives = { AsStoreFault };
 
     fn from(fault: zh_journal::OpenFault) -> Self {
         match fault {
@@ -97,33 +85,7 @@ impl From<zh_journal::OpenFault> for OpenFault {
 }
 
 /// Why a store was not read.
-#[derive(Clone, Copy, Debug, PartialEq, Eq, Error)]
-pub enum StoreFault {
-    #[error("the device failed")]
-    Device,
-}
-
-impl From<DiskFault> for StoreFault {
-    ghost use Rattle.std.specs.Prelude.{◌≡◌};
-    ghost use Rattle.zh_snapshot.specs.declared.fault.StoreFault.TheVariants.{Device};
-
-    ghost from_gives = { λ _ e. e ≡ Device };
-
-    fn from(_: DiskFault) -> Self {
-        StoreFault::Device
-    }
-}
-
-impl From<AreaFault> for StoreFault {
-    ghost use Rattle.std.specs.Prelude.{◌≡◌};
-    ghost use Rattle.zh_snapshot.specs.declared.fault.StoreFault.TheVariants.{Device};
-
-    ghost from_gives = { λ _ e. e ≡ Device };
-
-    fn from(_: AreaFault) -> Self {
-        StoreFault::Device
-    }
-}
+pub type StoreFault = DiskFault;
 
 /// Why a record was not appended.
 #[derive(Clone, Copy, Debug, PartialEq, Eq, Error)]

@@ -1,10 +1,8 @@
 //! Formatting a disk.
-ghost use Rattle.std.specs.Prelude.{◌≡◌, ◌≢◌, ◌-◌, ◌≤◌, ℕ, [], length, slice_index, OnOk, IsErrOf};
-ghost use Rattle.zh_disk.specs.Disk.{Leaves, SameOutside, HasCause, disk_length};
-ghost use Rattle.zh_journal.specs.Cause.{HasRisen};
-ghost use Rattle.zh_snapshot.specs.Image.{IsBlank};
-ghost use Rattle.zh_snapshot.specs.Format.{KeptOrBlank, Formats, IsFormatted};
-ghost use Rattle.zh_snapshot.specs.Parts.{HasParts, IsEmptied};
+ghost use Rattle.std.specs.Prelude.{◌≡◌, ◌≤◌, ℕ, length, slice_index, IsErrOf, is_err};
+ghost use Rattle.zh_disk.specs.History.{Call};
+ghost use Rattle.zh_snapshot.specs.Faults.{store_format_fails};
+ghost use Rattle.zh_snapshot.specs.Calls.{ClosesDisk, WritesParts, EmptiesSlots, FormatsStore};
 ghost use Rattle.zh_snapshot.specs.declared.layout.TheConstants.{SETUP_LIMIT, SNAPSHOT_LENGTH};
 
 use crate::fault::FormatFault;
@@ -18,11 +16,7 @@ use zh_journal::{AREA_LENGTH, Area, OPEN_GATE, open_gate};
 
 /// Closes the disk gate, where it is open.
 fn close_disk<D: Disk>(disk: &mut D) -> Result<(), DiskFault>
-    ensures kept { D.honest disk.new → D.honest disk.old }
-    ensures any_moment { D.honest disk.new → Leaves KeptOrBlank (D.trail disk.old) (D.trail disk.new) }
-    ensures closed { D.honest disk.new → OnOk result (((D.trail disk.new).now.pending ≡ []) × IsBlank (D.trail disk.new).now.bytes) }
-    ensures cause { HasCause (D.failures disk.old) (D.failures disk.new) result }
-    ensures counted { OnOk result (D.failures disk.new ≡ D.failures disk.old) }
+    ensures call { Call is_err ClosesDisk (D.history disk.old) (D.history disk.new) result }
 {
     disk.sync()?;
     let mut gate = [0];
@@ -39,11 +33,8 @@ fn write_parts<D: Disk>(disk: &mut D, setup: &[u8], first: &[u8]) -> Result<(), 
     requires setup { length setup.now ≤ SETUP_LIMIT }
     requires first { length first.now ≡ SNAPSHOT_LENGTH }
 
-    ensures kept { D.honest disk.new → D.honest disk.old }
-    ensures any_moment { D.honest disk.new → Leaves (SameOutside 1 (disk_length - 1)) (D.trail disk.old) (D.trail disk.new) }
-    ensures written { D.honest disk.new → OnOk result (HasParts setup.now first.now (D.trail disk.new).now.bytes) }
-    ensures cause { HasCause (D.failures disk.old) (D.failures disk.new) result }
-    ensures counted { OnOk result (D.failures disk.new ≡ D.failures disk.old) }
+    ensures call { Call is_err (WritesParts setup.now first.now)
+        (D.history disk.old) (D.history disk.new) result }
 {
     disk.write_at(HEADER, &header_bytes(setup.len() as u32))?;
     disk.write_at(SETUP, setup)?;
@@ -52,17 +43,11 @@ fn write_parts<D: Disk>(disk: &mut D, setup: &[u8], first: &[u8]) -> Result<(), 
 }
 
 /// Writes zeros over the first slot's journal, and over the second slot's head.
-fn empty_slots<D: Disk>(disk: &mut D, zeros: &[u8]) -> Result<(), FormatFault>
+fn empty_slots<D: Disk>(disk: &mut D, zeros: &[u8]) -> Result<(), DiskFault>
     requires size { length zeros.now ≡ AREA_LENGTH }
     requires zero { (k : ℕ) → slice_index zeros.now k ≡ 0 }
 
-    ensures kept { D.honest disk.new → D.honest disk.old }
-    ensures any_moment { D.honest disk.new → Leaves (SameOutside 1 (disk_length - 1)) (D.trail disk.old) (D.trail disk.new) }
-    ensures emptied { D.honest disk.new → OnOk result (IsEmptied (D.trail disk.old).now.bytes (D.trail disk.new).now.bytes) }
-    ensures memory { result ≢ Err FormatFault.Memory }
-    ensures later { D.failures disk.old ≤ D.failures disk.new }
-    ensures cause { IsErrOf result FormatFault.Device → HasRisen (D.failures disk.old) (D.failures disk.new) }
-    ensures counted { OnOk result (D.failures disk.new ≡ D.failures disk.old) }
+    ensures call { Call is_err EmptiesSlots (D.history disk.old) (D.history disk.new) result }
 {
     Area::clear(disk, Slot::First.journal(), zeros)?;
     disk.write_at(Slot::Second.head(), &[0; 9])?;
@@ -80,15 +65,9 @@ impl Store {
         requires setup { length setup.now ≤ SETUP_LIMIT }
         requires first { length first.now ≡ SNAPSHOT_LENGTH }
 
-        ensures kept { D.honest disk.new → D.honest disk.old }
-        ensures moments { D.honest disk.new → Formats setup.now first.now (D.trail disk.old) (D.trail disk.new) }
-
-        ensures formatted { D.honest disk.new → OnOk result (((D.trail disk.new).now.pending ≡ []) × IsFormatted setup.now first.now (D.trail disk.new).now.bytes) }
-
+        ensures call { Call store_format_fails (FormatsStore setup.now first.now)
+            (D.history disk.old) (D.history disk.new) result }
         ensures untouched { IsErrOf result FormatFault.Memory → disk.new ≡ disk.old }
-        ensures later { D.failures disk.old ≤ D.failures disk.new }
-        ensures cause { IsErrOf result FormatFault.Device → HasRisen (D.failures disk.old) (D.failures disk.new) }
-        ensures counted { OnOk result (D.failures disk.new ≡ D.failures disk.old) }
     {
         let zeros = zeros(alloc, AREA_LENGTH as usize)?;
         close_disk(disk)?;

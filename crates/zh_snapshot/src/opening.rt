@@ -1,9 +1,9 @@
 //! What stands at the heads of a disk and of a slot.
-ghost use Rattle.std.specs.Prelude.{◌≡◌, ◌≢◌, ◌≤◌, ℕ, List, Some, slice_index, slice_range, IfOk, OnOk, IsErrOf};
-ghost use Rattle.zh_disk.specs.Disk.{HasCause};
-ghost use Rattle.zh_journal.specs.Cause.{HasRisen};
-ghost use Rattle.zh_snapshot.specs.Faults.{UnlessDevice};
-ghost use Rattle.zh_snapshot.specs.Image.{IsBlank, header_bytes};
+ghost use Rattle.std.specs.Prelude.{◌≢◌, ◌≤◌, ℕ, List, Some, IfOk, is_err};
+ghost use Rattle.zh_disk.specs.Disk.{Asks};
+ghost use Rattle.zh_disk.specs.History.{Call};
+ghost use Rattle.zh_snapshot.specs.Faults.{store_open_fails};
+ghost use Rattle.zh_snapshot.specs.Calls.{FindsHeader};
 ghost use Rattle.zh_snapshot.specs.Slots.{HasHead, IsFound};
 ghost use Rattle.zh_snapshot.specs.declared.layout.Slot.TheVariants.{First, Second};
 ghost use Rattle.zh_snapshot.specs.declared.layout.TheConstants.{SETUP_LIMIT};
@@ -16,19 +16,9 @@ use zh_journal::OPEN_GATE;
 
 /// The length of the set-up bytes.
 pub(crate) fn open_header<D: Disk>(disk: &mut D) -> Result<u32, OpenFault>
-    ensures kept { D.honest disk.new → D.honest disk.old }
-    ensures right { D.honest disk.new → IfOk result (λ len. (slice_index (D.trail disk.old).now.bytes 0 ≡ 165) × (len ≤ SETUP_LIMIT) × (slice_range (D.trail disk.old).now.bytes 1 15 ≡ header_bytes len)) }
-
+    ensures call { Call store_open_fails (Asks FindsHeader) (D.history disk.old) (D.history disk.new) result }
     ensures most { IfOk result (λ len. len ≤ SETUP_LIMIT) }
-    ensures blank { D.honest disk.new → IsErrOf result OpenFault.Blank → IsBlank (D.trail disk.old).now.bytes }
-
-    ensures damaged { D.honest disk.new → IsErrOf result OpenFault.Damaged → (slice_index (D.trail disk.old).now.bytes 0 ≡ 165) × ((len : ℕ) → len ≤ SETUP_LIMIT → slice_range (D.trail disk.old).now.bytes 1 15 ≢ header_bytes len) }
-
     ensures memory { result ≢ Err OpenFault.Memory }
-    ensures same { D.honest disk.new → D.trail disk.new ≡ D.trail disk.old }
-    ensures later { D.failures disk.old ≤ D.failures disk.new }
-    ensures cause { IsErrOf result OpenFault.Device → HasRisen (D.failures disk.old) (D.failures disk.new) }
-    ensures counted { UnlessDevice result (D.failures disk.new ≡ D.failures disk.old) }
 {
     let mut head = [0; 15];
     disk.read_at(0, &mut head)?;
@@ -43,12 +33,8 @@ pub(crate) fn open_header<D: Disk>(disk: &mut D) -> Result<u32, OpenFault>
 
 /// The generation of a slot, where its gate is open.
 fn read_head<D: Disk>(disk: &mut D, slot: Slot) -> Result<Option<u64>, DiskFault>
-    ensures kept { D.honest disk.new → D.honest disk.old }
-    ensures head { D.honest disk.new → IfOk result (λ found. HasHead slot found (D.trail disk.old).now.bytes) }
-
-    ensures same { D.honest disk.new → D.trail disk.new ≡ D.trail disk.old }
-    ensures cause { HasCause (D.failures disk.old) (D.failures disk.new) result }
-    ensures counted { OnOk result (D.failures disk.new ≡ D.failures disk.old) }
+    ensures call { Call is_err (Asks (λ bytes answer. IfOk answer (λ found. HasHead slot found bytes)))
+        (D.history disk.old) (D.history disk.new) result }
 {
     let mut head = [0; 9];
     disk.read_at(slot.head(), &mut head)?;
@@ -105,12 +91,8 @@ fn in_use(first: Option<u64>, second: Option<u64>) -> Option<InUse>
 
 /// The slot in use, where there is one.
 pub(crate) fn find_slot<D: Disk>(disk: &mut D) -> Result<Option<InUse>, DiskFault>
-    ensures kept { D.honest disk.new → D.honest disk.old }
-    ensures found { D.honest disk.new → IfOk result (λ found. IsFound found (D.trail disk.old).now.bytes) }
-
-    ensures same { D.honest disk.new → D.trail disk.new ≡ D.trail disk.old }
-    ensures cause { HasCause (D.failures disk.old) (D.failures disk.new) result }
-    ensures counted { OnOk result (D.failures disk.new ≡ D.failures disk.old) }
+    ensures call { Call is_err (Asks (λ bytes answer. IfOk answer (λ found. IsFound found bytes)))
+        (D.history disk.old) (D.history disk.new) result }
 {
     let first = read_head(disk, Slot::First)?;
     let second = read_head(disk, Slot::Second)?;

@@ -1,16 +1,17 @@
 //! A store: the set-up bytes, a snapshot, and the records since.
 mod switch;
 
-ghost use Rattle.std.specs.Prelude.{◌≡◌, ◌≢◌, ◌+◌, ◌*◌, ◌<◌, ◌≤◌, ◌↔◌, ℕ, true, false, [], length, slice_get, slice_index, IsTrue, Some, None, IfOk, OnOk, IsErrOf};
-ghost use Rattle.zh_disk.specs.Disk.{Leaves, Moves, SameOutside, settled};
-ghost use Rattle.zh_journal.specs.Cause.{HasRisen};
-ghost use Rattle.zh_journal.specs.Pages.{pages_of, Frames};
+ghost use Rattle.std.specs.Prelude.{◌≡◌, ◌≢◌, ◌<◌, ◌≤◌, ◌↔◌, ℕ, true, false, length, slice_get, slice_index};
+ghost use Rattle.std.specs.Prelude.{Some, IfOk, OnOk, IsErrOf, is_err};
+ghost use Rattle.zh_disk.specs.Disk.{Asks};
+ghost use Rattle.zh_disk.specs.History.{Call};
+ghost use Rattle.zh_journal.specs.Pages.{pages_of};
 ghost use Rattle.zh_journal.specs.Place.{pages_left};
-ghost use Rattle.zh_snapshot.specs.Faults.{UnlessDevice};
-ghost use Rattle.zh_snapshot.specs.Image.{Content, IsBlank, IsFramed, content_of};
-ghost use Rattle.zh_snapshot.specs.Layout.{journal_at};
+ghost use Rattle.zh_snapshot.specs.Image.{Content, IsFramed};
+ghost use Rattle.zh_snapshot.specs.Faults.{store_open_fails, store_append_fails};
+ghost use Rattle.zh_snapshot.specs.Calls.{OpensStore, ReadsStore, ComparesSetup, StoreAppends};
 ghost use Rattle.zh_snapshot.specs.Slots.{IsInUse};
-ghost use Rattle.zh_snapshot.specs.Store.{Fits, Settles, StoreAdds, StoreAddsOrNot, longer};
+ghost use Rattle.zh_snapshot.specs.Store.{longer};
 
 use crate::compare::{lend, stand_at};
 use crate::fault::{AppendFault, OpenFault, StoreFault};
@@ -48,37 +49,26 @@ impl Model for Store {
 
     ghost Value = { State };
 
-    ghost view = { λ s. record { setup_length = s.setup_length; slot = s.slot; generation = s.generation; other_open = s.other_open; area = s.area; broken = s.broken } };
+    ghost view = { λ s. record {
+      setup_length = s.setup_length;
+      slot = s.slot;
+      generation = s.generation;
+      other_open = s.other_open;
+      area = s.area;
+      broken = s.broken;
+    } };
 
-    ghost invariant = { λ s. (s.setup_length ≤ SETUP_LIMIT) × (s.area.base ≡ journal_at s.slot) × (length s.zeros.items ≡ AREA_LENGTH) × ((k : ℕ) → slice_index s.zeros.items k ≡ 0) };
+    ghost invariant = { λ s. (s.setup_length ≤ SETUP_LIMIT) × (s.area.base ≡ journal_at s.slot)
+        × (length s.zeros.items ≡ AREA_LENGTH) × ((k : ℕ) → slice_index s.zeros.items k ≡ 0) };
 }
 
 impl Store {
     /// Finds what stands on the disk, and gives the records in order: a sync, then reads alone. Memory is taken before
     /// the first of them, and the journal is read once.
     pub fn open<D: Disk>(alloc: Global, disk: &mut D) -> Result<(Store, Reader), OpenFault>
-        ensures kept { D.honest disk.new → D.honest disk.old }
-
-        // At each moment an image is one from the start, and after the sync what a read gave.
-        ensures any_moment { D.honest disk.new → Leaves (Settles (D.trail disk.old).now.bytes) (D.trail disk.old) (D.trail disk.new) }
-        ensures settled { D.honest disk.new → OnOk result ((D.trail disk.new).now ≡ settled (D.trail disk.old).now.bytes) }
-        ensures framed { D.honest disk.new → IfOk result (λ opened. (x : Content) × (j : ℕ) × IsFramed x j (D.trail disk.old).now.bytes × Fits opened.0 x j (D.trail disk.old).now.bytes) }
-
-        // This is the content of the disk; a blank or damaged one has none.
-        ensures content { D.honest disk.new → IfOk result (λ opened. (x : Content) × (content_of (D.trail disk.old).now.bytes ≡ Some x) × (length x.records ≡ opened.0.area.count)) }
-        ensures none { D.honest disk.new → (IsErrOf result OpenFault.Blank → content_of (D.trail disk.old).now.bytes ≡ None) × (IsErrOf result OpenFault.Damaged → content_of (D.trail disk.old).now.bytes ≡ None) }
+        ensures call { Call store_open_fails OpensStore (D.history disk.old) (D.history disk.new) result }
         ensures whole { IfOk result (λ opened. opened.0.broken ≡ false) }
-
-        // The reader has all records left.
-        ensures left { D.honest disk.new → (x : Content) (j : ℕ) → IsFramed x j (D.trail disk.old).now.bytes → IfOk result (λ opened. Frames 0 opened.1.pages opened.1.page x.records opened.1.end) }
-        ensures blank { D.honest disk.new → IsErrOf result OpenFault.Blank → IsBlank (D.trail disk.old).now.bytes }
-
-        // It is damaged where the disk gate is open, and no content is framed.
-        ensures damaged { D.honest disk.new → IsErrOf result OpenFault.Damaged → (IsBlank (D.trail disk.old).now.bytes → ⊥) × ((x : Content) (j : ℕ) → IsFramed x j (D.trail disk.old).now.bytes → ⊥) }
         ensures untouched { IsErrOf result OpenFault.Memory → disk.new ≡ disk.old }
-        ensures later { D.failures disk.old ≤ D.failures disk.new }
-        ensures cause { IsErrOf result OpenFault.Device → HasRisen (D.failures disk.old) (D.failures disk.new) }
-        ensures counted { UnlessDevice result (D.failures disk.new ≡ D.failures disk.old) }
     {
         let pages = zeros(alloc, AREA_LENGTH as usize)?;
         let zeros = zeros(alloc, AREA_LENGTH as usize)?;
@@ -96,19 +86,9 @@ impl Store {
         requires pages { length pages.items ≡ AREA_LENGTH }
         requires zero { (k : ℕ) → slice_index zeros.items k ≡ 0 }
 
-        ensures kept { D.honest disk.new → D.honest disk.old }
-        ensures framed { D.honest disk.new → IfOk result (λ opened. (x : Content) × (j : ℕ) × IsFramed x j (D.trail disk.old).now.bytes × Fits opened.0 x j (D.trail disk.old).now.bytes) }
+        ensures call { Call store_open_fails (Asks ReadsStore) (D.history disk.old) (D.history disk.new) result }
         ensures whole { IfOk result (λ opened. opened.0.broken ≡ false) }
-
-        // The reader has all records left.
-        ensures left { D.honest disk.new → (x : Content) (j : ℕ) → IsFramed x j (D.trail disk.old).now.bytes → IfOk result (λ opened. Frames 0 opened.1.pages opened.1.page x.records opened.1.end) }
-        ensures blank { D.honest disk.new → IsErrOf result OpenFault.Blank → IsBlank (D.trail disk.old).now.bytes }
-        ensures damaged { D.honest disk.new → IsErrOf result OpenFault.Damaged → (IsBlank (D.trail disk.old).now.bytes → ⊥) × ((x : Content) (j : ℕ) → IsFramed x j (D.trail disk.old).now.bytes → ⊥) }
         ensures memory { result ≢ Err OpenFault.Memory }
-        ensures same { D.honest disk.new → D.trail disk.new ≡ D.trail disk.old }
-        ensures later { D.failures disk.old ≤ D.failures disk.new }
-        ensures cause { IsErrOf result OpenFault.Device → HasRisen (D.failures disk.old) (D.failures disk.new) }
-        ensures counted { UnlessDevice result (D.failures disk.new ≡ D.failures disk.old) }
     {
         let setup_length = open_header(disk)?;
         let Some(found) = find_slot(disk)? else {
@@ -129,17 +109,13 @@ impl Store {
 
     /// Whether the disk's set-up bytes are these.
     pub fn setup_equals<D: Disk>(&self, disk: &mut D, setup: &[u8]) -> Result<bool, StoreFault>
-        ensures kept { D.honest disk.new → D.honest disk.old }
-        ensures equal { D.honest disk.new → (x : Content) (j : ℕ) → IsFramed x j (D.trail disk.old).now.bytes → length x.setup ≡ self.now.setup_length → IfOk result (λ equal. IsTrue equal ↔ (x.setup ≡ setup.now)) }
-        ensures same { D.honest disk.new → D.trail disk.new ≡ D.trail disk.old }
-        ensures later { D.failures disk.old ≤ D.failures disk.new }
-        ensures cause { IsErrOf result StoreFault.Device → HasRisen (D.failures disk.old) (D.failures disk.new) }
-        ensures counted { OnOk result (D.failures disk.new ≡ D.failures disk.old) }
+        ensures call { Call is_err (Asks (ComparesSetup self.now.setup_length setup.now))
+            (D.history disk.old) (D.history disk.new) result }
     {
         if setup.len() != self.setup_length as usize {
             return Ok(false);
         }
-        Ok(stand_at(disk, SETUP, setup)?)
+        stand_at(disk, SETUP, setup)
     }
 
     /// Lends the snapshot from the caller's buffer.
@@ -150,15 +126,12 @@ impl Store {
     ) -> Result<&'b [u8], StoreFault>
         requires { SNAPSHOT_LENGTH ≤ length buffer.old }
 
-        ensures kept { D.honest disk.new → D.honest disk.old }
-        ensures payload { D.honest disk.new → (x : Content) (j : ℕ) → IsFramed x j (D.trail disk.old).now.bytes → IsInUse self.now.slot (D.trail disk.old).now.bytes → IfOk result (λ payload. payload.now ≡ x.snapshot) }
+        ensures call { Call is_err (Asks (λ bytes answer. (x : Content) (j : ℕ) → IsFramed x j bytes
+            → IsInUse self.now.slot bytes → IfOk answer (λ payload. payload.now ≡ x.snapshot)))
+            (D.history disk.old) (D.history disk.new) result }
         ensures len { IfOk result (λ payload. length payload.now ≡ SNAPSHOT_LENGTH) }
-        ensures same { D.honest disk.new → D.trail disk.new ≡ D.trail disk.old }
-        ensures later { D.failures disk.old ≤ D.failures disk.new }
-        ensures cause { IsErrOf result StoreFault.Device → HasRisen (D.failures disk.old) (D.failures disk.new) }
-        ensures counted { OnOk result (D.failures disk.new ≡ D.failures disk.old) }
     {
-        Ok(lend(disk, self.slot.snapshot(), SNAPSHOT_LENGTH, buffer)?)
+        lend(disk, self.slot.snapshot(), SNAPSHOT_LENGTH, buffer)
     }
 
     /// Lends the payload of record `i`, counted from 0, from the caller's buffer, as `Area::record` does.
@@ -171,16 +144,13 @@ impl Store {
         requires i { i < self.now.area.count }
         requires buffer { LONGEST_PAYLOAD ≤ length buffer.old }
 
-        ensures kept { D.honest disk.new → D.honest disk.old }
-        ensures payload { D.honest disk.new → (x : Content) (j : ℕ) → IsFramed x j (D.trail disk.old).now.bytes → IsInUse self.now.slot (D.trail disk.old).now.bytes → i < length x.records → IfOk result (λ payload. slice_get x.records i ≡ Some payload.now) }
-
+        ensures call { Call is_err (Asks (λ bytes answer. (x : Content) (j : ℕ) → IsFramed x j bytes
+            → IsInUse self.now.slot bytes → i < length x.records
+            → IfOk answer (λ payload. slice_get x.records i ≡ Some payload.now)))
+            (D.history disk.old) (D.history disk.new) result }
         ensures most { IfOk result (λ payload. length payload.now ≤ LONGEST_PAYLOAD) }
-        ensures same { D.honest disk.new → D.trail disk.new ≡ D.trail disk.old }
-        ensures later { D.failures disk.old ≤ D.failures disk.new }
-        ensures cause { IsErrOf result StoreFault.Device → HasRisen (D.failures disk.old) (D.failures disk.new) }
-        ensures counted { OnOk result (D.failures disk.new ≡ D.failures disk.old) }
     {
-        Ok(self.area.record(disk, i, buffer)?)
+        self.area.record(disk, i, buffer)
     }
 
     /// Whether a call that writes met a fault of the device, so that the store must be opened again.
@@ -215,26 +185,16 @@ impl Store {
     pub fn append<D: Disk>(&mut self, disk: &mut D, payload: &[u8]) -> Result<(), AppendFault>
         requires some { 1 ≤ length payload.now }
         requires most { length payload.now ≤ LONGEST_PAYLOAD }
-        ensures kept { D.honest disk.new → D.honest disk.old }
-        // Each image at each moment is one from the start, with the record or without it.
-        ensures any_moment { D.honest disk.new → Leaves (StoreAddsOrNot self.old payload.now) (D.trail disk.old) (D.trail disk.new) }
-        // And nothing outside the journal is changed, whatever the images were.
-        ensures outside { D.honest disk.new → Leaves (SameOutside (journal_at self.old.slot) AREA_LENGTH) (D.trail disk.old) (D.trail disk.new) }
-        // Of the journal the record's pages alone, by a write a page, and the three calls that open the gate.
-        ensures pages { D.honest disk.new → Leaves (SameOutside (self.old.area.base + 256 * self.old.area.end)
-            (256 * pages_of (length payload.now))) (D.trail disk.old) (D.trail disk.new) }
-        ensures calls { D.honest disk.new → OnOk result (length (D.trail disk.new).past
-            ≡ length (D.trail disk.old).past + pages_of (length payload.now) + 3) }
-        ensures added { D.honest disk.new → OnOk result (Moves (StoreAdds self.old payload.now) (D.trail disk.old).now (D.trail disk.new).now) }
-        ensures settled { D.honest disk.new → OnOk result ((D.trail disk.new).now.pending ≡ []) }
+
+        ensures call { Call store_append_fails (StoreAppends self.old payload.now)
+            (D.history disk.old) (D.history disk.new) result }
         ensures ok { OnOk result (self.new ≡ longer self.old (length payload.now)) }
         ensures device { IsErrOf result AppendFault.Device → self.new ≡ record self.old { broken = true } }
         ensures broken { (result ≡ Err AppendFault.Broken) ↔ (self.old.broken ≡ true) }
-        ensures full { (result ≡ Err AppendFault.Full) ↔ ((self.old.broken ≡ false) × (pages_left self.old.area < pages_of (length payload.now))) }
-        ensures untouched { (IsErrOf result AppendFault.Broken → (disk.new ≡ disk.old) × (self.new ≡ self.old)) × (IsErrOf result AppendFault.Full → (disk.new ≡ disk.old) × (self.new ≡ self.old)) }
-        ensures later { D.failures disk.old ≤ D.failures disk.new }
-        ensures cause { IsErrOf result AppendFault.Device → HasRisen (D.failures disk.old) (D.failures disk.new) }
-        ensures counted { OnOk result (D.failures disk.new ≡ D.failures disk.old) }
+        ensures full { (result ≡ Err AppendFault.Full)
+            ↔ ((self.old.broken ≡ false) × (pages_left self.old.area < pages_of (length payload.now))) }
+        ensures untouched { (IsErrOf result AppendFault.Broken → (disk.new ≡ disk.old) × (self.new ≡ self.old))
+            × (IsErrOf result AppendFault.Full → (disk.new ≡ disk.old) × (self.new ≡ self.old)) }
     {
         if self.broken {
             return Err(AppendFault::Broken);

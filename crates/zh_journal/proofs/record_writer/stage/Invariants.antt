@@ -1,14 +1,15 @@
-use Rattle.std.proofs.Common.{◌≡◌, ◌≤◌, ◌+◌, ◌*◌, ◌++◌, take, length}
-use Rattle.zh_disk.specs.Disk.{Leaves}
-use Rattle.zh_journal.specs.Pages.{SameButBodies, bodies, spelling, zeros, pages_of}
+use Rattle.std.proofs.Common.{◌≡◌, ◌*◌, ◌++◌, take, length, Result, Ok, is_err}
+use Rattle.zh_disk.specs.declared.disk.DiskFault.{DiskFault}
+use Rattle.zh_disk.specs.Disk.{Changes}
+use Rattle.zh_disk.specs.History.{Call}
+use Rattle.zh_journal.specs.Calls.{IsLater}
+use Rattle.zh_journal.specs.Pages.{SameButBodies, bodies, record_bytes, zero_bytes, pages_of}
 use Rattle.zh_journal.proofs.record_writer.stage.Given as goal
 
 abbrev pub invariant-loop-i : goal.invariant-loop-i
 invariant-loop-i g l = record {
-  later : g.D.Disk.failures l.initial.disk ≤ g.D.Disk.failures l.disk;
-  counted : g.D.Disk.failures l.disk ≡ g.D.Disk.failures l.initial.disk;
-  kept : g.D.Disk.honest l.disk → g.D.Disk.honest l.initial.disk;
-  moments : g.D.Disk.honest l.disk → Leaves (SameButBodies l.at (pages_of (length l.payload))) (g.D.Disk.trail l.initial.disk) (g.D.Disk.trail l.disk);
-  calls : g.D.Disk.honest l.disk → length (g.D.Disk.trail l.disk).past ≡ length (g.D.Disk.trail l.initial.disk).past + l.i;
-  reads : g.D.Disk.honest l.disk → bodies l.i (g.D.Disk.trail l.disk).now.bytes l.at ≡ take (255 * l.i) (spelling l.payload ++ zeros 255);
+  so_far : Call {A = Result (Unit {0}) DiskFault} is_err
+      (λ answer old new. Changes (SameButBodies l.at (pages_of (length l.payload)))
+      (λ before now. bodies l.i now.bytes l.at ≡ take (255 * l.i) (record_bytes l.payload ++ zero_bytes 255)) answer old new × IsLater l.i old new)
+      (g.D.Disk.history l.initial.disk) (g.D.Disk.history l.disk) (Ok tt);
 }

@@ -1,120 +1,100 @@
-use Rattle.std.proofs.Common.{◌≡◌, ℕ, List, Option, ◌∙◌, Result, Err, None, Some, refl, sym, ap, subst}
-use Rattle.std.specs.Result.{IsErrAnd}
-use Rattle.zh_disk.specs.Disk.{Trail}
+use Rattle.std.proofs.Common.{◌≡◌, ℕ, List, Option, Result, Err, None, Some, refl, sym, ap, subst}
+use Rattle.zh_disk.proofs.CallerLemmas.{failed, handed, asked, asks_so, not_err}
 use Rattle.zh_journal.specs.declared.fault.OpenFault as area
 use Rattle.zh_journal.specs.declared.fault.OpenFault.TheVariants as of_area
-use Rattle.zh_journal.specs.Pages.{Reads}
+use Rattle.zh_journal.specs.Pages.{ReadsRecords}
+use Rattle.zh_journal.specs.Place.{Place, Rest}
 use Rattle.zh_journal.specs.Records.{records_of}
+use Rattle.zh_snapshot.specs.Store.{State}
 use Rattle.zh_snapshot.specs.declared.fault.OpenFault.{OpenFault}
-use Rattle.zh_snapshot.specs.declared.fault.OpenFault.TheVariants.{Damaged}
+use Rattle.zh_snapshot.specs.declared.fault.OpenFault.TheVariants.{Device, Blank, Damaged}
 use Rattle.zh_snapshot.specs.declared.opening.InUse.{InUse}
-use Rattle.zh_snapshot.specs.Faults.{OpenedAs}
-use Rattle.zh_snapshot.specs.Layout.{journal_at}
+use Rattle.zh_snapshot.specs.Calls.{ReadsStore, FindsHeader}
+use Rattle.zh_snapshot.specs.Image.{Content, IsFramed, IsBlank}
+use Rattle.zh_journal.specs.Faults.{area_open_fails}
+use Rattle.zh_snapshot.specs.Faults.{AsStoreFault, store_open_fails}
 use Rattle.zh_snapshot.specs.Slots.{IsFound}
 use Rattle.zh_snapshot.proofs.FrameLemmas.{no_header, no_slot, no_journal, framed_all}
 use Rattle.zh_snapshot.proofs.SlotLemmas.{held}
 use Rattle.zh_snapshot.proofs.store.Store.read.Goals as goal
 
-bytes_of : (t u : Trail) → t ≡ u → t.now.bytes ≡ u.now.bytes
-bytes_of t u is = ap (λ (x : Trail). x.now.bytes) is
+-- what was found, named otherwise
+found_as : (found shown : Option InUse) (b : List ℕ) → found ≡ shown → IsFound found b → IsFound shown b
+found_as found shown b is here = subst (λ (o : Option InUse). IsFound o b) is here
 
-err_of : {T E : Type 0} (r : Result T E) (P : E → Type 0) (e : E) → IsErrAnd r P → r ≡ Err e → P e
-err_of r P e and is = subst (λ (x : Result _ _). IsErrAnd x P) is and
+-- a disk that fails, and one that is damaged
+not_read : (b : List ℕ) → ReadsStore b (Err Device)
+not_read b = record { framed = tt; left = λ x j framed. tt; blank = λ is. absurd cc; damaged = λ is. absurd cc }
 
-area_damaged : (e : area.OpenFault) → OpenedAs e Damaged → e ≡ of_area.Damaged
-area_damaged of_area.Device is = absurd (cc)
-area_damaged of_area.Damaged is = refl
+not_framed : (b : List ℕ) → (IsBlank b → ⊥) × ((x : Content) (j : ℕ) → IsFramed x j b → ⊥) → ReadsStore b (Err Damaged)
+not_framed b damage = record { framed = tt; left = λ x j framed. tt; blank = λ is. absurd cc; damaged = λ is. damage }
 
--- what was found, where the same bytes stood before
-found_as : (found shown : Option InUse) (b c : List ℕ) → found ≡ shown → b ≡ c → IsFound found b → IsFound shown c
-found_as found shown b c is same here = subst (λ (o : Option InUse). IsFound o c) is (subst (λ (l : List ℕ). IsFound found l) same here)
+err_same : (T : Type 0) (d e : OpenFault) → (let r : Result T OpenFault = Err d in r ≡ Err e) → d ≡ e
+err_same T d e is = cc
 
-pub returns-in_err-setup_length-clause-damaged : goal.returns-in_err-setup_length-clause-damaged
-returns-in_err-setup_length-clause-damaged g c = λ h is.
-    let b = (g.D.Disk.trail c.args.disk.now).now.bytes in
-    let fault : c.in_err-setup_length.field-0.0 ≡ Damaged = sym (err_of _ _ _ c.from_residual.ensures.1 is) in
-    let wrong = c.in_err-setup_length.ensures.damaged h (ap (λ (e : OpenFault). Err e) fault) in
-    no_header b wrong
+-- one whose head is not read
+no_head : (b : List ℕ) (d : OpenFault) → FindsHeader b (Err d) → ReadsStore b (Err d)
+no_head b d header = record {
+  framed = tt;
+  left = λ x j framed. tt;
+  blank = λ is. let here : d ≡ Blank = err_same _ d Blank is in header.blank (ap Err here);
+  damaged = λ is. let here : d ≡ Damaged = err_same _ d Damaged is in no_header b (header.damaged (ap Err here));
+}
 
-pub returns-in_default-clause-damaged : goal.returns-in_default-clause-damaged
-returns-in_default-clause-damaged g c = λ h is.
-    let b = (g.D.Disk.trail c.args.disk.now).now.bytes in
-    let h1 = c.find_slot.ensures.kept h in
-    let now2 = bytes_of _ _ (c.open_header.ensures.same h1) in
-    no_slot b c.in_ok-setup_length.setup_length (c.in_ok-setup_length.ensures.right h1) (found_as c.in_ok-found.field-0 None _ b c.in_default.is now2 (c.in_ok-found.ensures.found h))
+-- one whose journal is not read
+no_area : (b : List ℕ) (e : area.OpenFault) (d : OpenFault) → AsStoreFault e d → (e ≡ of_area.Damaged → (IsBlank b → ⊥) × ((x : Content) (j : ℕ) → IsFramed x j b → ⊥)) → ReadsStore b (Err d)
+no_area b of_area.Device d is damage = subst (λ (z : OpenFault). ReadsStore b (Err z)) (sym is) (not_read b)
+no_area b of_area.Damaged d is damage = subst (λ (z : OpenFault). ReadsStore b (Err z)) (sym is) (not_framed b (damage refl))
 
-pub returns-in_err-area-clause-damaged : goal.returns-in_err-area-clause-damaged
-returns-in_err-area-clause-damaged g c = λ h is.
-    let h2 = c.open.ensures.kept h in
-    let h1 = c.find_slot.ensures.kept h2 in
-    let b = (g.D.Disk.trail c.args.disk.now).now.bytes in
-    let now2 = bytes_of _ _ (c.open_header.ensures.same h1) in
-    let now3 = bytes_of _ _ (c.find_slot.ensures.same h2) ∙ now2 in
-    let found = found_as c.in_ok-found.field-0 (Some c.in-Some.found) _ b c.in-Some.is now2 (c.in_ok-found.ensures.found h2) in
-    let fault : c.in_err-area.field-0.0 ≡ of_area.Damaged = area_damaged c.in_err-area.field-0.0 (err_of _ _ _ c.from_residual-in_err-area.ensures.1 is) in
-    let none = c.in_err-area.ensures.damaged h (ap (λ (e : area.OpenFault). Err e) fault) in
-    no_journal b c.in_ok-setup_length.setup_length c.in-Some.found.slot (c.in_ok-setup_length.ensures.right h1) found.0
-    (subst (λ (l : List ℕ). records_of (journal_at c.in-Some.found.slot) l ≡ None) now3 (subst (λ (n : ℕ). records_of n (g.D.Disk.trail c.find_slot.new.disk).now.bytes ≡ None) c.journal.ensures none))
+by_area : (e : area.OpenFault) (d : OpenFault) → AsStoreFault e d → area_open_fails {T = Place × Rest} (Err e) ≡ store_open_fails {T = State × Rest} (Err d)
+by_area of_area.Device d is = rw is refl
+by_area of_area.Damaged d is = rw is refl
 
-pub returns-clause-framed : goal.returns-clause-framed
-returns-clause-framed g c = λ h.
-    let h2 = c.in_ok-area.ensures.kept h in
-    let h1 = c.find_slot.ensures.kept h2 in
-    let h0 = c.open_header.ensures.kept h1 in
-    let b = (g.D.Disk.trail c.args.disk.now).now.bytes in
-    let now2 = bytes_of _ _ (c.open_header.ensures.same h1) in
-    let now3 = bytes_of _ _ (c.find_slot.ensures.same h2) ∙ now2 in
-    let used = found_as c.in_ok-found.field-0 (Some c.in-Some.found) _ b c.in-Some.is now2 (c.in_ok-found.ensures.found h2) in
-    let found = c.in_ok-area.ensures.found h in
-    framed_all b c.in_ok-setup_length.setup_length c.in-Some.found.slot c.in-Some.found.generation c.in-Some.found.other_open c.in_ok-area.area found.0 (g.met.D.Disk.size c.args.disk.now h0)
-    (c.in_ok-setup_length.ensures.right h1) used
-    (subst (λ (l : List ℕ). Reads (journal_at c.in-Some.found.slot) l found.0 c.in_ok-area.area.end) now3 (subst (λ (n : ℕ). Reads n (g.D.Disk.trail c.find_slot.new.disk).now.bytes found.0 c.in_ok-area.area.end) c.journal.ensures found.1)) found.2
+pub returns-in_err-setup_length-clause-call : goal.returns-in_err-setup_length-clause-call
+returns-in_err-setup_length-clause-call g c =
+    failed c.from_residual.ensures (λ d is. rw is refl)
+    (λ d is h by. asks_so (λ header. subst (λ (z : OpenFault). ReadsStore (g.D.Disk.history c.args.disk.now).trail.now.bytes (Err z)) (sym is) (no_head _ _ header)) by)
+    c.in_err-setup_length.ensures.call
 
-pub returns-clause-left : goal.returns-clause-left
-returns-clause-left g c = λ h x j framed.
-    let h2 = c.in_ok-area.ensures.kept h in
-    let h1 = c.find_slot.ensures.kept h2 in
-    let b = (g.D.Disk.trail c.args.disk.now).now.bytes in
-    let now2 = bytes_of _ _ (c.open_header.ensures.same h1) in
-    let now3 = bytes_of _ _ (c.find_slot.ensures.same h2) ∙ now2 in
-    let used = found_as c.in_ok-found.field-0 (Some c.in-Some.found) _ b c.in-Some.is now2 (c.in_ok-found.ensures.found h2) in
-    c.in_ok-area.ensures.left h x.records j
-    (subst (λ (n : ℕ). Reads n (g.D.Disk.trail c.find_slot.new.disk).now.bytes x.records j) (sym c.journal.ensures)
-    (subst (λ (l : List ℕ). Reads (journal_at c.in-Some.found.slot) l x.records j) (sym now3) (held c.in-Some.found.slot x j b used.0 framed).records))
+pub returns-in_err-found-clause-call : goal.returns-in_err-found-clause-call
+returns-in_err-found-clause-call g c =
+    failed c.from_residual-in_err-found.ensures (λ d is. rw is refl)
+    (λ d is h by. asks_so (λ two. subst (λ (z : OpenFault). ReadsStore (g.D.Disk.history c.args.disk.now).trail.now.bytes (Err z)) (sym is) (not_read _)) by)
+    (asked refl c.in_ok-setup_length.ensures.call c.in_err-found.ensures.call)
 
-pub returns-in_default-clause-blank : goal.returns-in_default-clause-blank
-returns-in_default-clause-blank g c = λ h is. absurd (cc)
+pub returns-in_default-clause-call : goal.returns-in_default-clause-call
+returns-in_default-clause-call g c =
+    let b = (g.D.Disk.history c.args.disk.now).trail.now.bytes in
+    handed refl
+    (λ h by. asks_so (λ two. not_framed b (no_slot b c.in_ok-setup_length.setup_length two.0.right (found_as c.in_ok-found.field-0 None b c.in_default.is two.1))) by)
+    (asked refl c.in_ok-setup_length.ensures.call c.in_ok-found.ensures.call)
+
+pub returns-in_err-area-clause-call : goal.returns-in_err-area-clause-call
+returns-in_err-area-clause-call g c =
+    let b = (g.D.Disk.history c.args.disk.now).trail.now.bytes in
+    failed c.from_residual-in_err-area.ensures (λ d is. by_area _ d is)
+    (λ d is h by. asks_so (λ three.
+    let found = found_as c.in_ok-found.field-0 (Some c.in-Some.found) b c.in-Some.is three.0.1 in
+    no_area b c.in_err-area.field-0.0 d is (λ fault. no_journal b c.in_ok-setup_length.setup_length c.in-Some.found.slot three.0.0.right found.0
+    (subst (λ (n : ℕ). records_of n b ≡ None) c.journal.ensures (three.1.damaged (ap Err fault))))) by)
+    (asked refl (asked refl c.in_ok-setup_length.ensures.call c.in_ok-found.ensures.call) c.in_err-area.ensures.call)
+
+pub returns-clause-call : goal.returns-clause-call
+returns-clause-call g c =
+    let b = (g.D.Disk.history c.args.disk.now).trail.now.bytes in
+    let slot = c.in-Some.found.slot in
+    handed refl
+    (λ h by. asks_so (λ three.
+    let used = found_as c.in_ok-found.field-0 (Some c.in-Some.found) b c.in-Some.is three.0.1 in
+    let found = three.1.found in
+    record {
+      framed = framed_all b c.in_ok-setup_length.setup_length c.in-Some.found.slot c.in-Some.found.generation c.in-Some.found.other_open c.in_ok-area.area found.0 (g.met.D.Disk.size c.args.disk.now h)
+          three.0.0.right used (subst (λ (n : ℕ). ReadsRecords n b found.0 c.in_ok-area.area.end) c.journal.ensures found.1) found.2;
+      left = λ x j framed. three.1.left x.records j (subst (λ (n : ℕ). ReadsRecords n b x.records j) (sym c.journal.ensures) (held c.in-Some.found.slot x j b used.0 framed).records);
+      blank = λ is. absurd (not_err is);
+      damaged = λ is. absurd (not_err is);
+    }) by)
+    (asked refl (asked refl c.in_ok-setup_length.ensures.call c.in_ok-found.ensures.call) c.in_ok-area.ensures.call)
 
 pub returns-clause-whole : goal.returns-clause-whole
 returns-clause-whole g c = refl
-
-pub returns-in_err-found-clause-kept : goal.returns-in_err-found-clause-kept
-returns-in_err-found-clause-kept g c = λ h. c.open_header.ensures.kept (c.find_slot.ensures.kept h)
-
-pub returns-in_err-found-clause-same : goal.returns-in_err-found-clause-same
-returns-in_err-found-clause-same g c = λ h. c.find_slot.ensures.same h ∙ c.open_header.ensures.same (c.find_slot.ensures.kept h)
-
-pub returns-in_default-clause-kept : goal.returns-in_default-clause-kept
-returns-in_default-clause-kept g c = λ h. c.open_header.ensures.kept (c.find_slot.ensures.kept h)
-
-pub returns-in_default-clause-same : goal.returns-in_default-clause-same
-returns-in_default-clause-same g c = λ h. c.find_slot.ensures.same h ∙ c.open_header.ensures.same (c.find_slot.ensures.kept h)
-
-pub returns-in_err-area-clause-kept : goal.returns-in_err-area-clause-kept
-returns-in_err-area-clause-kept g c = λ h. c.open_header.ensures.kept (c.find_slot.ensures.kept (c.open.ensures.kept h))
-
-pub returns-in_err-area-clause-same : goal.returns-in_err-area-clause-same
-returns-in_err-area-clause-same g c = λ h.
-    let h2 = c.open.ensures.kept h in
-    c.open.ensures.same h ∙ c.find_slot.ensures.same h2 ∙ c.open_header.ensures.same (c.find_slot.ensures.kept h2)
-
-pub returns-clause-kept : goal.returns-clause-kept
-returns-clause-kept g c = λ h. c.open_header.ensures.kept (c.find_slot.ensures.kept (c.open.ensures.kept h))
-
-pub returns-clause-same : goal.returns-clause-same
-returns-clause-same g c = λ h.
-    let h2 = c.open.ensures.kept h in
-    c.open.ensures.same h ∙ c.find_slot.ensures.same h2 ∙ c.open_header.ensures.same (c.find_slot.ensures.kept h2)
-
-pub returns-clause-counted : goal.returns-clause-counted
-returns-clause-counted g c = c.in_ok-area.ensures.counted ∙ c.in_ok-found.ensures.counted ∙ c.in_ok-setup_length.ensures.counted

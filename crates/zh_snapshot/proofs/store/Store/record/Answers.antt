@@ -1,12 +1,18 @@
 use Rattle.std.proofs.Common.{ℕ, sym, ◌∙◌, ap, subst}
-use Rattle.zh_journal.specs.Pages.{Reads}
+use Rattle.std.proofs.lemmas.Result.{IfOk-weaker}
+use Rattle.zh_disk.proofs.CallerLemmas.{told, asks_so}
+use Rattle.zh_journal.specs.Pages.{ReadsRecords}
 use Rattle.zh_snapshot.specs.Layout.{journal_at}
 use Rattle.zh_snapshot.specs.Store.{State}
 use Rattle.zh_snapshot.proofs.SlotLemmas.{held}
 use Rattle.zh_snapshot.proofs.store.Store.record.Goals as goal
 
-pub returns-clause-payload : goal.returns-clause-payload
-returns-clause-payload g c = λ h x j framed used low.
-    let b = (g.D.Disk.trail c.args.disk.now).now.bytes in
+pub returns-clause-call : goal.returns-clause-call
+returns-clause-call g c =
     let base = c.self.invariant.1 ∙ ap (λ (s : State). journal_at s.slot) c.self.view_is in
-    c.in_ok-record.ensures.payload h x.records j (subst (λ (n : ℕ). Reads n b x.records j) (sym base) (held c.args.self.now.slot x j b used framed).records) low
+    told
+    (λ h by. asks_so (λ given x j framed used low.
+    let b = (g.D.Disk.history c.args.disk.now).trail.now.bytes in
+    let reads = subst (λ (n : ℕ). ReadsRecords n b x.records j) (sym base) (held c.args.self.now.slot x j b used framed).records in
+    IfOk-weaker c.record.result _ _ (λ payload gives. gives.payload x.records j reads low) given) by)
+    c.record.ensures.call
