@@ -1,5 +1,6 @@
 -- The set-up of an election: the house, the constituencies with their municipalities, the groups of lists, and a quorum.
-use Rattle.std.specs.Prelude.{◌≡◌, ◌≢◌, ℕ, ◌-◌, ◌≤◌, Bool, true, false, not, ◌&&◌, ◌==◌, nat_le, IsTrue, Option, IfSome, List, length, slice_get, slice_index, unwrap_or, map, All, AllPairs, Contains}
+use Rattle.std.specs.Prelude.{◌≡◌, ◌≢◌, ℕ, ◌-◌, ◌≤◌, Bool, true, false, not, ◌&&◌, ◌==◌, nat_le, IsTrue, Option, IfSome}
+use Rattle.std.specs.Prelude.{List, length, slice_get, slice_index, unwrap_or, map, All, AllPairs, Contains}
 use Rattle.std.specs.List.{list_all}
 use Rattle.std.specs.Str.{is_utf8}
 use Rattle.std.specs.Option.{option_map_or}
@@ -42,7 +43,8 @@ constituency_of canton m = option_map_or (λ x. x.constituency) (slice_get canto
 
 -- whether a list of this number stands in constituency d
 abbrev pub stands : Canton → ℕ → ℕ → Bool
-stands canton d list = nat_le 1 list && option_map_or (λ x. unwrap_or (slice_get x.stands (d - 1)) false) (slice_get canton.groups (list - 1)) false
+stands canton d list =
+    nat_le 1 list && option_map_or (λ x. unwrap_or (slice_get x.stands (d - 1)) false) (slice_get canton.groups (list - 1)) false
 
 -- no control character U+0000 to U+001F nor U+007F: in UTF-8 each of these is its one byte, which stands for nothing else
 abbrev pub is_printable : ℕ → Bool
@@ -51,7 +53,8 @@ is_printable byte = nat_le 32 byte && not (byte == 127)
 -- 1 to 40 bytes without a control character, and no space at either end
 abbrev pub is_plain : List ℕ → Bool
 is_plain name =
-    nat_le 1 (length name) && nat_le (length name) 40 && not (slice_index name 0 == 32) && not (slice_index name (length name - 1) == 32) && list_all is_printable name
+    nat_le 1 (length name) && nat_le (length name) 40 && not (slice_index name 0 == 32)
+    && not (slice_index name (length name - 1) == 32) && list_all is_printable name
 
 -- such a text in UTF-8
 abbrev pub is_name : List ℕ → Bool

@@ -4,7 +4,8 @@ ghost use Rattle.std.specs.Prelude.{◌≡◌, ◌≤◌, ◌<◌, ◌^◌, ◌+
 ghost use Rattle.std.specs.Int.{w16, to_be_bytes};
 ghost use Rattle.std.specs.List.{flat_map};
 ghost use Rattle.zh_districts.specs.Parts.{constituency, municipality, group};
-ghost use Rattle.zh_districts.specs.Spelling.{name_spelling, mask_of, constituency_spelling, municipality_spelling, group_spelling, quorum_spelling};
+ghost use Rattle.zh_districts.specs.Spelling.{name_spelling, mask_of, constituency_spelling};
+ghost use Rattle.zh_districts.specs.Spelling.{municipality_spelling, group_spelling, quorum_spelling};
 
 use crate::parts::{Constituency, Group, Municipality};
 use std::alloc::AllocError;
@@ -65,7 +66,8 @@ pub(crate) fn put_constituencies(
 ) -> Result<(), AllocError>
     requires count { length parts.now < 256 }
     requires names { All (λ x. length x.name ≤ 40) (map constituency parts.now) }
-    ensures { OnOk result (out.new.items ≡ out.old.items ++ (length parts.now ∷ flat_map constituency_spelling (map constituency parts.now))) }
+    ensures { OnOk result (out.new.items
+        ≡ out.old.items ++ (length parts.now ∷ flat_map constituency_spelling (map constituency parts.now))) }
 {
     out.push(parts.len() as u8)?;
     for part in parts {
@@ -82,7 +84,8 @@ pub(crate) fn put_municipalities(
     requires count { length parts.now < 2 ^ 16 }
     requires names { All (λ x. length x.name ≤ 40) (map municipality parts.now) }
     requires numbers { All (λ x. x.constituency < 256) (map municipality parts.now) }
-    ensures { OnOk result (out.new.items ≡ out.old.items ++ (to_be_bytes w16 (length parts.now) ++ flat_map municipality_spelling (map municipality parts.now))) }
+    ensures { OnOk result (out.new.items
+        ≡ out.old.items ++ (to_be_bytes w16 (length parts.now) ++ flat_map municipality_spelling (map municipality parts.now))) }
 {
     out.extend_from_slice(&(parts.len() as u16).to_be_bytes())?;
     for part in parts {

@@ -4,7 +4,7 @@ ghost use Rattle.std.specs.Prelude.{◌≡◌, ◌≤◌, ◌<◌, ℕ, List, Ma
 ghost use Rattle.zh_districts.specs.Canton.{IsCanton};
 ghost use Rattle.zh_districts.specs.Seats.{persons, AreSeats, IsFirstWithout};
 ghost use Rattle.zh_divisors.specs.Fit.{IsTied};
-ghost use Rattle.zh_divisors.specs.Shares.{HasDivisor, RoundsEach};
+ghost use Rattle.zh_divisors.specs.Shares.{Apportions, HasDivisor, RoundsEach};
 
 use crate::setup::Setup;
 use std::alloc::{AllocError, Global};
@@ -59,10 +59,7 @@ fn first_without(seats: &[u32]) -> Option<u32>
 
 /// The seats of the constituencies in proportion to their persons, where one may get none.
 fn proportion(alloc: Global, setup: &Setup) -> Result<Shares, ShareFault>
-    ensures seats { IfOk result (λ shares. AreSeats setup.now shares.seats) }
-    ensures divisor { IfOk result (HasDivisor (persons setup.now)) }
-    ensures rounds { IfOk result (RoundsEach (persons setup.now)) }
-    ensures tied { IsErrOf result ShareFault.Tied → IsTied (persons setup.now) setup.now.house }
+    ensures shares { Apportions (persons setup.now) setup.now.house result }
     ensures limits { IsCanton setup.now }
 {
     let persons = setup.each_persons(alloc)?;

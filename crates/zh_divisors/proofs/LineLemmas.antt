@@ -2,13 +2,13 @@
 use Rattle.std.proofs.Common.{◌≡◌, ℕ, ◌+◌, ◌-◌, ◌*◌, ◌/◌, ◌^◌, ◌<◌, ◌≤◌, List, length, get_or, slice_index, inl, inr, ap, ◌∙◌, arith}
 use Rattle.std.proofs.lemmas.Bool.{cases_lt}
 use Rattle.std.proofs.Math.Nat.{le-div_iff_mul-le, div-lt_iff_lt-mul, lt-mul-div-succ, div-mul-le_self}
-use Rattle.zh_divisors.specs.Line.{IsLine, IsLeastDivisor, IsGreatestDivisor, least_divisor, greatest_divisor, line_divisor, held}
+use Rattle.zh_divisors.specs.Line.{IsMatrixLine, IsLeastDivisor, IsGreatestDivisor, least_divisor, greatest_divisor, line_divisor, clamped}
 use Rattle.zh_divisors.specs.LineSeats.{AreGiven, IsLastCell, IsNextCell, next_signpost, last_signpost}
 use Rattle.zh_divisors.proofs.LineRuleLemmas.{IsLeastDivisor-is, IsGreatestDivisor-is, one_least, one_greatest}
 use Rattle.zh_divisors.proofs.LineSeatsLemmas.{positive_next, positive_last, positive_other}
 use Rattle.zh_divisors.proofs.LineTotalsLemmas.{up_few, up_many, down_few, down_many}
 
-pub IsLeastDivisor-next : (votes others seats : List ℕ) (given j : ℕ) → IsLine votes others → AreGiven votes others seats given →
+pub IsLeastDivisor-next : (votes others seats : List ℕ) (given j : ℕ) → IsMatrixLine votes others → AreGiven votes others seats given →
     IsNextCell votes others seats (length votes) j →
     IsLeastDivisor (length votes) (slice_index votes) (slice_index others) given
     (2 * (get_or votes j 0 * 10 ^ 12) / next_signpost others seats j + 1)
@@ -28,7 +28,7 @@ IsLeastDivisor-next votes others seats given j line fit next =
       ];
     }
 
-pub IsGreatestDivisor-last : (votes others seats : List ℕ) (given i : ℕ) → IsLine votes others → AreGiven votes others seats given →
+pub IsGreatestDivisor-last : (votes others seats : List ℕ) (given i : ℕ) → IsMatrixLine votes others → AreGiven votes others seats given →
     IsLastCell votes others seats i →
     IsGreatestDivisor (length votes) (slice_index votes) (slice_index others) given
     ((2 * (get_or votes i 0 * 10 ^ 12) - 1) / last_signpost others seats i)
@@ -49,11 +49,11 @@ IsGreatestDivisor-last votes others seats given i line fit last =
     }
 
 -- so the two numbers of the code give the divisor
-pub line_divisor-is : (votes others seats : List ℕ) (target i j most least greatest : ℕ) → IsLine votes others → 1 ≤ target →
+pub line_divisor-is : (votes others seats : List ℕ) (target i j most least greatest : ℕ) → IsMatrixLine votes others → 1 ≤ target →
     AreGiven votes others seats target → IsLastCell votes others seats i → IsNextCell votes others seats (length votes) j →
     least ≡ 2 * (get_or votes j 0 * 10 ^ 12) / next_signpost others seats j + 1 →
     greatest ≡ (2 * (get_or votes i 0 * 10 ^ 12) - 1) / last_signpost others seats i →
-    held most ((least + greatest) / 2) ≡ line_divisor (length votes) (slice_index votes) (slice_index others) target most
+    clamped most ((least + greatest) / 2) ≡ line_divisor (length votes) (slice_index votes) (slice_index others) target most
 line_divisor-is votes others seats target i j most least greatest line some fit last next least_is greatest_is =
     let positive : (k : ℕ) → k < length votes → 1 ≤ get_or others k 0 = λ k kw. positive_other votes others k line kw in
     let low : least ≡ least_divisor (length votes) (slice_index votes) (slice_index others) target
@@ -61,4 +61,4 @@ line_divisor-is votes others seats target i j most least greatest line some fit 
     let high : greatest ≡ greatest_divisor (length votes) (slice_index votes) (slice_index others) target
     = greatest_is ∙ one_greatest _ _ _ _ _ _ (IsGreatestDivisor-last votes others seats target i line fit last)
     (IsGreatestDivisor-is _ _ _ _ positive some) in
-    ap (λ x. held most (x / 2)) (ap (λ x. x + greatest) low ∙ ap (λ x. least_divisor (length votes) (slice_index votes) (slice_index others) target + x) high)
+    ap (λ x. clamped most (x / 2)) (ap (λ x. x + greatest) low ∙ ap (λ x. least_divisor (length votes) (slice_index votes) (slice_index others) target + x) high)

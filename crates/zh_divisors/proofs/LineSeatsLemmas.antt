@@ -6,19 +6,19 @@ use Rattle.std.proofs.lemmas.Nat.{mul-le}
 use Rattle.std.proofs.Math.Nat.{mul-le-mul_left, le_refl, le_trans}
 use Rattle.zh_divisors.specs.Sums.{sum_to}
 use Rattle.zh_divisors.proofs.FiniteSumLemmas.{sum_to-ext, term-le-sum_to}
-use Rattle.zh_divisors.specs.Line.{IsLine}
+use Rattle.zh_divisors.specs.Line.{IsMatrixLine}
 use Rattle.zh_divisors.specs.LineSeats.{AreGiven, IsLastCell, IsNextCell, next_signpost, last_signpost}
 use Rattle.zh_divisors.proofs.RatioLemmas.{le_by_le}
 
-pub positive_other : (votes others : List ℕ) (k : ℕ) → IsLine votes others → k < length votes → 1 ≤ get_or others k 0
+pub positive_other : (votes others : List ℕ) (k : ℕ) → IsMatrixLine votes others → k < length votes → 1 ≤ get_or others k 0
 positive_other votes others k line kw = line.each_positive k 0 (omega (arith, line.same_length))
 
 -- signposts are positive
-pub positive_next : (votes others seats : List ℕ) (k : ℕ) → IsLine votes others → k < length votes → 1 ≤ next_signpost others seats k
+pub positive_next : (votes others seats : List ℕ) (k : ℕ) → IsMatrixLine votes others → k < length votes → 1 ≤ next_signpost others seats k
 positive_next votes others seats k line kw =
     mul-le 1 1 (get_or others k 0) (2 * get_or seats k 0 + 1) (positive_other votes others k line kw) (omega arith)
 
-pub positive_last : (votes others seats : List ℕ) (k : ℕ) → IsLine votes others → k < length votes → 1 ≤ get_or seats k 0 →
+pub positive_last : (votes others seats : List ℕ) (k : ℕ) → IsMatrixLine votes others → k < length votes → 1 ≤ get_or seats k 0 →
     1 ≤ last_signpost others seats k
 positive_last votes others seats k line kw seated =
     mul-le 1 1 (get_or others k 0) (2 * get_or seats k 0 - 1) (positive_other votes others k line kw) (omega arith)
@@ -31,7 +31,7 @@ IsNextCell-keep votes others seats n j so_far less = record {
   most = below_more _ _ so_far.most less;
 }
 
-pub IsNextCell-take : (votes others seats : List ℕ) (n j : ℕ) → IsLine votes others → n ≤ length votes →
+pub IsNextCell-take : (votes others seats : List ℕ) (n j : ℕ) → IsMatrixLine votes others → n ≤ length votes →
     IsNextCell votes others seats n j →
     get_or votes j 0 * next_signpost others seats n < get_or votes n 0 * next_signpost others seats j →
     IsNextCell votes others seats (n + 1) n
@@ -60,7 +60,7 @@ sum_to-one_more (suc n) xs i lt room =
     ]
 
 -- the cell whose next seat is worth most has votes
-pub positive_most : (votes others seats : List ℕ) (j : ℕ) → IsLine votes others → Any (λ v. 0 < v) votes →
+pub positive_most : (votes others seats : List ℕ) (j : ℕ) → IsMatrixLine votes others → Any (λ v. 0 < v) votes →
     IsNextCell votes others seats (length votes) j → 1 ≤ get_or votes j 0
 positive_most votes others seats j line (k, x, kw, is, positive) best =
     let there : 0 < get_or votes k 0 = rw (← get_or_default votes k x 0 kw, is) positive in
@@ -125,7 +125,7 @@ AreGiven-give votes others seats given next had fit best had_is = rw had_is (rec
   in_order = in_order-give votes others seats given next fit best;
 })
 
-pub IsLastCell-give : (votes others seats : List ℕ) (given next had : ℕ) → IsLine votes others → AreGiven votes others seats given →
+pub IsLastCell-give : (votes others seats : List ℕ) (given next had : ℕ) → IsMatrixLine votes others → AreGiven votes others seats given →
     IsNextCell votes others seats (length votes) next → had ≡ get_or seats next 0 →
     IsLastCell votes others (set seats next (had + 1)) next
 IsLastCell-give votes others seats given next had line fit best had_is =

@@ -2,7 +2,7 @@
 use Rattle.std.proofs.Common.{◌≡◌, ℕ, zero, suc, ◌+◌, ◌-◌, ◌*◌, ◌<◌, ◌≤◌, List, length, get_or, arith}
 use Rattle.std.proofs.lemmas.Nat.{mul-le}
 use Rattle.zh_divisors.specs.Sums.{sum_to}
-use Rattle.zh_divisors.specs.Line.{IsLine, half_up, half_down}
+use Rattle.zh_divisors.specs.Line.{IsMatrixLine, half_up, half_down}
 use Rattle.zh_divisors.specs.LineSeats.{AreGiven, IsLastCell, IsNextCell, next_signpost, last_signpost}
 use Rattle.zh_divisors.proofs.FiniteSumLemmas.{half_up-at_most, half_up-at_least, half_down-at_most, half_down-at_least, sum_to-le, sum_to-lt}
 use Rattle.zh_divisors.proofs.RatioLemmas.{lt_by_le_lt, lt_by_lt_le, le_by_le}
@@ -29,12 +29,12 @@ cell_down-at_least v o D unit (suc s) pos h =
     let there : D * (o * (2 * s + 1)) < v * (2 * unit) = rw odd at (h (omega arith)) in
     omega (arith, half_down-at_least (v * unit) (o * D) s pos (omega arith))
 
-positive_product : (votes others : List ℕ) (D k : ℕ) → IsLine votes others → 1 ≤ D → k < length votes → 0 < get_or others k 0 * D
+positive_product : (votes others : List ℕ) (D k : ℕ) → IsMatrixLine votes others → 1 ≤ D → k < length votes → 0 < get_or others k 0 * D
 positive_product votes others D k line one kw =
     mul-le 1 1 (get_or others k 0) D (line.each_positive k 0 (omega (arith, line.same_length))) one
 
 -- above the best next seat, half up gives no more than the seats
-pub up_few : (votes others seats : List ℕ) (given j unit D : ℕ) → IsLine votes others → AreGiven votes others seats given →
+pub up_few : (votes others seats : List ℕ) (given j unit D : ℕ) → IsMatrixLine votes others → AreGiven votes others seats given →
     IsNextCell votes others seats (length votes) j → 1 ≤ D → get_or votes j 0 * (2 * unit) < D * next_signpost others seats j →
     sum_to (length votes) (λ i. half_up (get_or votes i 0 * unit) (get_or others i 0 * D)) ≤ given
 up_few votes others seats given j unit D line fit best one above =
@@ -45,7 +45,7 @@ up_few votes others seats given j unit D line fit best one above =
     omega (arith, sum_to-le (length votes) _ _ each, fit.add_up)
 
 -- at or below it, more than the seats
-pub up_many : (votes others seats : List ℕ) (given j unit D : ℕ) → IsLine votes others → AreGiven votes others seats given →
+pub up_many : (votes others seats : List ℕ) (given j unit D : ℕ) → IsMatrixLine votes others → AreGiven votes others seats given →
     IsNextCell votes others seats (length votes) j → 1 ≤ D → D * next_signpost others seats j ≤ get_or votes j 0 * (2 * unit) →
     given < sum_to (length votes) (λ i. half_up (get_or votes i 0 * unit) (get_or others i 0 * D))
 up_many votes others seats given j unit D line fit best one below =
@@ -59,7 +59,7 @@ up_many votes others seats given j unit D line fit best one below =
     omega (arith, sum_to-lt (length votes) (λ k. get_or seats k 0) _ j each jw more, fit.add_up)
 
 -- below the least last seat, half down gives at least the seats
-pub down_many : (votes others seats : List ℕ) (given i unit D : ℕ) → IsLine votes others → AreGiven votes others seats given →
+pub down_many : (votes others seats : List ℕ) (given i unit D : ℕ) → IsMatrixLine votes others → AreGiven votes others seats given →
     IsLastCell votes others seats i → 1 ≤ D → D * last_signpost others seats i < get_or votes i 0 * (2 * unit) →
     given ≤ sum_to (length votes) (λ k. half_down (get_or votes k 0 * unit) (get_or others k 0 * D))
 down_many votes others seats given i unit D line fit last one below =
@@ -70,7 +70,7 @@ down_many votes others seats given i unit D line fit last one below =
     omega (arith, sum_to-le (length votes) (λ k. get_or seats k 0) _ each, fit.add_up)
 
 -- at or above it, fewer
-pub down_few : (votes others seats : List ℕ) (given i unit D : ℕ) → IsLine votes others → AreGiven votes others seats given →
+pub down_few : (votes others seats : List ℕ) (given i unit D : ℕ) → IsMatrixLine votes others → AreGiven votes others seats given →
     IsLastCell votes others seats i → 1 ≤ D → get_or votes i 0 * (2 * unit) ≤ D * last_signpost others seats i →
     sum_to (length votes) (λ k. half_down (get_or votes k 0 * unit) (get_or others k 0 * D)) < given
 down_few votes others seats given i unit D line fit last one above =

@@ -1,6 +1,7 @@
 -- The divisor of a line, a row or a column of a matrix of votes, by its votes, the divisors of the lines that cross it,
 -- and the seats that it is to get. Divisors are in millionths.
-use Rattle.std.specs.Prelude.{◌≡◌, ℕ, zero, suc, ◌+◌, ◌-◌, ◌*◌, ◌/◌, ◌^◌, ◌<◌, ◌≤◌, Bool, nat_le, if◌then◌else◌, min, max, List, All, Any, length}
+use Rattle.std.specs.Prelude.{◌≡◌, ℕ, zero, suc, ◌+◌, ◌-◌, ◌*◌, ◌/◌, ◌^◌, ◌<◌, ◌≤◌, Bool, nat_le}
+use Rattle.std.specs.Prelude.{if◌then◌else◌, min, max, List, All, Any, length}
 use Rattle.zh_divisors.specs.Sums.{sum_to}
 
 -- n / p, rounded to the nearest whole number and a half up
@@ -57,16 +58,16 @@ greatest_divisor n votes others target =
     greatest_passing (λ D. nat_le target (half_down_total n votes others D)) (limit_of n votes)
 
 -- a number held within 1 and the most
-abbrev pub held : ℕ → ℕ → ℕ
-held most x = max 1 (min most x)
+abbrev pub clamped : ℕ → ℕ → ℕ
+clamped most x = max 1 (min most x)
 
 -- the mean of the two, rounded down, and only then held
 abbrev pub line_divisor : ℕ → (ℕ → ℕ) → (ℕ → ℕ) → ℕ → ℕ → ℕ
 line_divisor n votes others target most =
-    held most ((least_divisor n votes others target + greatest_divisor n votes others target) / 2)
+    clamped most ((least_divisor n votes others target + greatest_divisor n votes others target) / 2)
 
 -- 1 to 32 cells, some with votes, each with the divisor of the line that crosses there
-pub record IsLine (votes others : List ℕ) : Type 0 where
+pub record IsMatrixLine (votes others : List ℕ) : Type 0 where
   pub at_most_32 : length votes ≤ 32
   pub same_length : length others ≡ length votes
   pub some_vote : Any (λ v. 0 < v) votes

@@ -1,6 +1,6 @@
 -- Seats of a line, given one by one.
 use Rattle.std.specs.Prelude.{◌≡◌, ℕ, ◌+◌, ◌-◌, ◌*◌, ◌<◌, ◌≤◌, List, length, slice_index}
-use Rattle.zh_divisors.specs.Line.{IsLine}
+use Rattle.zh_divisors.specs.Line.{IsMatrixLine}
 use Rattle.zh_divisors.specs.Sums.{sum_to}
 
 -- the votes of a cell over this are what its next seat is worth: twice the signpost s + 1/2, times the other divisor
@@ -13,7 +13,7 @@ last_signpost others seats k = slice_index others k * (2 * slice_index seats k -
 
 -- a line with seats, few enough for the products of votes and signposts to fit 128 bits
 pub record IsSmallLine (votes others seats : List ℕ) : Type 0 where
-  pub line : IsLine votes others
+  pub line : IsMatrixLine votes others
   pub room : length votes ≤ length seats
   pub each_seat : (k : ℕ) → k < length votes → slice_index seats k ≤ 400
 

@@ -1,7 +1,10 @@
 -- The result of an apportionment: seats, and a divisor that gives them.
-use Rattle.std.specs.Prelude.{◌≡◌, ℕ, ◌+◌, ◌*◌, ◌<◌, List, length, slice_index}
+use Rattle.std.specs.Prelude.{◌≡◌, ℕ, ◌+◌, ◌*◌, ◌<◌, List, length, slice_index, Result, IfOk, IsErrOf}
+use Rattle.zh_divisors.specs.Fit.{IsStrictFit, IsTied}
 use Rattle.zh_divisors.specs.Rounding.{Rounds}
 use Rattle.zh_divisors.specs.Worth.{IsLeastLast, IsMostNext}
+use Rattle.zh_divisors.specs.declared.fault.ShareFault.{ShareFault}
+use Rattle.zh_divisors.specs.declared.fault.ShareFault.TheVariants.{Tied}
 
 -- one number of seats for each weight, and the divisor num / den
 pub record Apportionment : Type 0 where
@@ -25,3 +28,13 @@ pub record HasDivisor (weights : List ℕ) (shares : Apportionment) : Type 0 whe
   pub next_is : IsMostNext weights shares.seats (length weights) next
   pub num_is : shares.num ≡ slice_index weights last + slice_index weights next
   pub den_is : shares.den ≡ slice_index shares.seats last + slice_index shares.seats next
+
+-- The seats of the house in proportion to the weights, with their divisor, or a tie: memory aside, exactly one of the two
+-- answers is possible.
+pub record Apportions (weights : List ℕ) (house : ℕ) (result : Result Apportionment ShareFault) : Type 0 where
+  pub seats : IfOk result (λ shares. IsStrictFit weights house shares.seats)
+  pub divisor : IfOk result (HasDivisor weights)
+  pub rounds : IfOk result (RoundsEach weights)
+  pub untied : IfOk result (λ _. ¬ IsTied weights house)
+  pub tied : IsErrOf result Tied → IsTied weights house
+  pub no_strict : IsErrOf result Tied → (seats : List ℕ) → ¬ IsStrictFit weights house seats

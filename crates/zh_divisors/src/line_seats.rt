@@ -3,7 +3,7 @@
 //! A seat of a cell is worth its votes over a signpost: the divisor of the line that crosses there times
 //! an odd number of half seats. Such quotients are compared by cross products, at most 801 * 10^32.
 ghost use Rattle.std.specs.Prelude.{◌≡◌, ◌+◌, ◌*◌, ◌^◌, ◌<◌, ◌≤◌, ◌↔◌, IsTrue, length, slice_index};
-ghost use Rattle.zh_divisors.specs.Line.{IsLine};
+ghost use Rattle.zh_divisors.specs.Line.{IsMatrixLine};
 ghost use Rattle.zh_divisors.specs.LineSeats.{AreGiven, IsLastCell, IsNextCell, IsSmallLine, last_signpost, next_signpost};
 ghost use Rattle.zh_divisors.specs.Sums.{sum_to};
 
@@ -73,7 +73,7 @@ pub(crate) fn give_one_by_one(
     target: u32,
     seats: &mut [u32],
 ) -> usize
-    requires line { IsLine votes.now others.now }
+    requires line { IsMatrixLine votes.now others.now }
     requires at_least_one { 1 ≤ target }
     requires at_most_400 { target ≤ 400 }
     requires room { length votes.now ≤ length seats.old }

@@ -1,6 +1,6 @@
 //! The divisor of a line of a matrix.
 ghost use Rattle.std.specs.Prelude.{◌≡◌, ◌+◌, ◌-◌, ◌*◌, ◌/◌, ◌^◌, ◌≤◌, length, slice_index};
-ghost use Rattle.zh_divisors.specs.Line.{IsLine, held, line_divisor};
+ghost use Rattle.zh_divisors.specs.Line.{IsMatrixLine, clamped, line_divisor};
 
 use crate::line_seats::{give_one_by_one, last_signpost, next_cell, next_signpost};
 
@@ -26,7 +26,7 @@ fn greatest_below(votes: u64, signpost: u128) -> u128
 /// A divisor held within 1 and the most.
 fn hold(divisor: u128, most: u64) -> u64
     requires { 1 ≤ most }
-    ensures { result ≡ held most divisor }
+    ensures { result ≡ clamped most divisor }
 {
     divisor.clamp(1, u128::from(most)) as u64
 }
@@ -38,7 +38,7 @@ fn hold(divisor: u128, most: u64) -> u64
 /// add up to at most the target, and of the greatest one under which they add up to at least the target,
 /// rounded half down, or 0; and is then held within the limits (docs/DEFINITIONS.md).
 pub fn line(votes: &[u64], others: &[u64], target: u32, most: u64) -> u64
-    requires line { IsLine votes.now others.now }
+    requires line { IsMatrixLine votes.now others.now }
     requires at_least_one { 1 ≤ target }
     requires at_most_400 { target ≤ 400 }
     requires most { 1 ≤ most }

@@ -22,9 +22,7 @@ impl Model for Shares {
 
 impl Shares {
     pub(crate) fn new(seats: Vec<u32>, num: u64, den: u32) -> Self
-        ensures seats { result.seats ≡ seats.items }
-        ensures num { result.num ≡ num }
-        ensures den { result.den ≡ den }
+        ensures { result ≡ record { seats = seats.items; num = num; den = den } }
     {
         Shares { seats, num, den }
     }

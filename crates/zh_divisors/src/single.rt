@@ -1,6 +1,5 @@
-ghost use Rattle.std.specs.Prelude.{ℕ, ◌<◌, ◌≤◌, List, Any, IfOk, IsErrOf};
-ghost use Rattle.zh_divisors.specs.Fit.{IsStrictFit, IsTied};
-ghost use Rattle.zh_divisors.specs.Shares.{HasDivisor, RoundsEach};
+ghost use Rattle.std.specs.Prelude.{◌<◌, ◌≤◌, Any};
+ghost use Rattle.zh_divisors.specs.Shares.{Apportions};
 
 use crate::fault::ShareFault;
 use crate::seats::give_seats;
@@ -18,15 +17,7 @@ pub fn apportion(alloc: Global, weights: &Weights, house: u32) -> Result<Shares,
     requires at_least_one { 1 ≤ house }
     requires at_most_400 { house ≤ 400 }
     requires positive { Any (λ w. 0 < w) weights.now }
-    ensures seats { IfOk result (λ shares. IsStrictFit weights.now house shares.seats) }
-    ensures divisor { IfOk result (HasDivisor weights.now) }
-    ensures rounds { IfOk result (RoundsEach weights.now) }
-
-    // Memory aside, exactly one of the two answers is possible.
-    ensures untied { IfOk result (λ _. ¬ IsTied weights.now house) }
-    ensures tied { IsErrOf result ShareFault.Tied → IsTied weights.now house }
-    ensures no_strict { IsErrOf result ShareFault.Tied →
-        (seats : List ℕ) → ¬ IsStrictFit weights.now house seats }
+    ensures { Apportions weights.now house result }
 {
     let weights = weights.as_slice();
     let seats = give_seats(alloc, weights, house)?;

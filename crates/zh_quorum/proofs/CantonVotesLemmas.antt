@@ -1,14 +1,11 @@
 -- The votes of a group in the whole canton.
 use Rattle.std.proofs.Common.{◌≡◌, ℕ, zero, suc, ◌+◌, ◌^◌, ◌<◌, ◌≤◌, length, inl, inr, arith}
 use Rattle.std.proofs.lemmas.Bool.{cases_lt}
-use Rattle.zh_totals.specs.Sums.{sum_to}
+use Rattle.zh_divisors.specs.Sums.{sum_to}
 use Rattle.zh_totals.specs.Totals.{VoteTotals, AreTotals, votes_in, constituency_votes, all_votes}
-use Rattle.zh_totals.proofs.CallerLemmas.{sum_to_more, group_within}
+use Rattle.zh_divisors.proofs.CallerLemmas.{sum_to-suc, sum_to-le}
+use Rattle.zh_totals.proofs.CallerLemmas.{group_within}
 use Rattle.zh_quorum.specs.Quorum.{ReachesSomewhere, ReachesCantonQuorum, TakesPart, group_votes}
-
-sum_to_le : (n : ℕ) (f g : ℕ → ℕ) → ((i : ℕ) → i < n → f i ≤ g i) → sum_to n f ≤ sum_to n g
-sum_to_le zero f g each = omega arith
-sum_to_le (suc n) f g each = omega (arith, sum_to_le n f g (λ i lt. each i (omega arith)), each n (omega arith))
 
 -- the first numbers have no greater sum than all
 sum_to_front : (k n : ℕ) (f : ℕ → ℕ) → k ≤ n → sum_to k f ≤ sum_to n f
@@ -22,12 +19,12 @@ sum_to_front k (suc n) f within =
 -- a group has no more votes than all groups
 pub group_votes-within : (totals : VoteTotals) (g : ℕ) → 1 ≤ g → g ≤ length totals.canton.groups → group_votes totals g ≤ all_votes totals
 group_votes-within totals g from_one there =
-    sum_to_le (length totals.canton.constituencies) (λ i. votes_in totals (i + 1) g) (λ i. constituency_votes totals (i + 1))
+    sum_to-le (length totals.canton.constituencies) (λ i. votes_in totals (i + 1) g) (λ i. constituency_votes totals (i + 1))
     (λ i lt. group_within totals (i + 1) g from_one there)
 
 -- one constituency more
 pub one_more : (f : ℕ → ℕ) (k votes next : ℕ) → votes ≡ sum_to k f → next ≡ f k → votes + next ≡ sum_to (k + 1) f
-one_more f k votes next so_far here = omega (arith, sum_to_more k f)
+one_more f k votes next so_far here = omega (arith, sum_to-suc k f)
 
 pub group_votes-few : (totals : VoteTotals) (g k votes next : ℕ) → AreTotals totals → 1 ≤ g → g ≤ length totals.canton.groups → k < length totals.canton.constituencies →
     votes ≡ sum_to k (λ i. votes_in totals (i + 1) g) → next ≡ votes_in totals (k + 1) g → votes + next ≤ 10 ^ 14

@@ -1,6 +1,6 @@
 -- Which groups take part in the apportionment: GPR section 102, and a canton-wide quorum beside it.
 use Rattle.std.specs.Prelude.{◌≡◌, ℕ, ◌+◌, ◌-◌, ◌*◌, ◌<◌, ◌≤◌, ◌↔◌, ◌⊎◌, Bool, false, IsTrue, Some, List, length, slice_index_or}
-use Rattle.zh_totals.specs.Sums.{sum_to}
+use Rattle.zh_divisors.specs.Sums.{sum_to}
 use Rattle.zh_totals.specs.Totals.{VoteTotals, votes_in, constituency_votes, all_votes}
 
 -- the list of group g in constituency d has votes, and at least 5 per cent of the votes of all lists there

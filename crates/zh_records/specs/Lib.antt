@@ -1,3 +1,4 @@
+pub mod Decoding
 pub mod Keys
 pub mod Rows
 pub mod RowBytes

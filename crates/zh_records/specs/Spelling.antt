@@ -25,7 +25,8 @@ head Two one two desk = two ∷ desk ∷ []
 -- the kind of the command, and what it is about
 abbrev pub command_spelling : Format → Command → List ℕ
 command_spelling format (commands.Return desk row) = head format 1 6 desk ++ row_spelling row
-command_spelling format (commands.Withdraw desk municipality list number) = head format 2 7 desk ++ withdrawal_spelling municipality list number
+command_spelling format (commands.Withdraw desk municipality list number) =
+    head format 2 7 desk ++ withdrawal_spelling municipality list number
 command_spelling format (commands.Close municipality) = 3 ∷ to_be_bytes w16 municipality
 command_spelling format (commands.Reopen municipality) = 4 ∷ to_be_bytes w16 municipality
 command_spelling format (commands.Batch desk rows) = head format 5 8 desk ++ batch_spelling rows

@@ -1,9 +1,9 @@
 //! Commands read from their bytes, in either format.
 
-ghost use Rattle.std.specs.Prelude.{◌≡◌, ◌≢◌, ◌<◌, ◌^◌, ℕ, List, length, IfSome, IfNone};
+ghost use Rattle.std.specs.Prelude.{◌≡◌, ◌≢◌, ◌<◌, ◌^◌, ℕ, length, IfSome, IfNone};
 ghost use Rattle.std.specs.Int.{w16, to_be_bytes};
 ghost use Rattle.zh_records.specs.declared.command.Command.{Command};
-ghost use Rattle.zh_records.specs.declared.row.Row.{Row};
+ghost use Rattle.zh_records.specs.Decoding.{Decodes};
 ghost use Rattle.zh_records.specs.Rows.{IsBatch};
 ghost use Rattle.zh_records.specs.Spelling.{command_spelling, withdrawal_spelling, batch_spelling, IsWithdrawal, IsSpeakable};
 
@@ -19,8 +19,7 @@ use byteorder::{BigEndian, ByteOrder};
 
 /// The command that has these bytes in a format, if there is one.
 pub fn decode_command(bytes: &[u8], format: Format) -> Option<Command<'_>>
-    ensures read { IfSome result (λ command. IsSpeakable format command × (command_spelling format command ≡ bytes.now)) }
-    ensures refused { IfNone result ((command : Command) → IsSpeakable format command → command_spelling format command ≡ bytes.now → ⊥) }
+    ensures { Decodes (IsSpeakable format) (command_spelling format) bytes.now result }
 {
     match (format, bytes) {
         (Format::One, [RETURN_ONE, row @ ..]) => Some(Command::Return {
@@ -81,8 +80,10 @@ impl Withdrawal {
 
 /// The withdrawal that has these bytes, if there is one.
 fn read_withdrawal(bytes: &[u8]) -> Option<Withdrawal>
-    ensures read { IfSome result (λ it. IsWithdrawal it.municipality it.list it.number × (withdrawal_spelling it.municipality it.list it.number ≡ bytes.now)) }
-    ensures refused { IfNone result ((municipality list number : ℕ) → IsWithdrawal municipality list number → withdrawal_spelling municipality list number ≡ bytes.now → ⊥) }
+    ensures read { IfSome result (λ it. IsWithdrawal it.municipality it.list it.number
+        × (withdrawal_spelling it.municipality it.list it.number ≡ bytes.now)) }
+    ensures refused { IfNone result ((municipality list number : ℕ) → IsWithdrawal municipality list number
+        → withdrawal_spelling municipality list number ≡ bytes.now → ⊥) }
 {
     if bytes.len() != WITHDRAWAL_LENGTH {
         return None;
@@ -113,8 +114,7 @@ fn read_short(bytes: &[u8]) -> Option<u32>
 
 /// The rows of the batch that has these bytes, if there is one.
 fn read_batch(bytes: &[u8]) -> Option<Rows<'_>>
-    ensures read { IfSome result (λ rows. IsBatch rows × (batch_spelling rows ≡ bytes.now)) }
-    ensures refused { IfNone result ((rows : List Row) → IsBatch rows → batch_spelling rows ≡ bytes.now → ⊥) }
+    ensures { Decodes IsBatch batch_spelling bytes.now result }
 {
     if bytes.len() < SHORT_LENGTH {
         return None;

@@ -46,7 +46,8 @@ pub(crate) fn insert_key(
     ensures marks { length marks.new ≡ length marks.old }
     ensures set { AreBlocks blocks.new marks.new (count + 1) }
     ensures fresh { result ≡ not (has_mark blocks.old marks.old municipality list) }
-    ensures keys { (m l : ℕ) → l < LISTS → has_mark blocks.new marks.new m l ≡ (((m == municipality) && (l == list)) || has_mark blocks.old marks.old m l) }
+    ensures keys { (m l : ℕ) → l < LISTS → has_mark blocks.new marks.new m l
+        ≡ (((m == municipality) && (l == list)) || has_mark blocks.old marks.old m l) }
 {
     let municipality = municipality as usize;
     if blocks[municipality] == 0 {

@@ -8,11 +8,13 @@ ghost use Rattle.zh_records.specs.Spelling.{command_spelling, FitsCommand, IsSpe
 
 /// Two commands with the same bytes in one format are the same command.
 pub fn one_command()
-    ensures { (format : Format) (a b : Command) → IsSpeakable format a → IsSpeakable format b → command_spelling format a ≡ command_spelling format b → a ≡ b }
+    ensures { (format : Format) (a b : Command) → IsSpeakable format a → IsSpeakable format b
+        → command_spelling format a ≡ command_spelling format b → a ≡ b }
 {}
 
 /// A command that is read from bytes of either format fits those of format Two, and takes no more than a batch of 1,000 rows.
 pub fn speakable_fits()
     ensures fits { (format : Format) (command : Command) → IsSpeakable format command → FitsCommand command }
-    ensures short { (format : Format) (command : Command) → IsSpeakable format command → length (command_spelling format command) ≤ COMMAND_LENGTH }
+    ensures short { (format : Format) (command : Command) → IsSpeakable format command
+        → length (command_spelling format command) ≤ COMMAND_LENGTH }
 {}

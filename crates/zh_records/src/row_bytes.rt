@@ -1,7 +1,8 @@
 //! The bytes of a row.
 
-ghost use Rattle.std.specs.Prelude.{◌≡◌, length, IfSome, IfNone};
+ghost use Rattle.std.specs.Prelude.{◌≡◌, length};
 ghost use Rattle.zh_records.specs.declared.row.Row.{Row};
+ghost use Rattle.zh_records.specs.Decoding.{Decodes};
 ghost use Rattle.zh_records.specs.RowBytes.{row_from};
 ghost use Rattle.zh_records.specs.Rows.{row_spelling, FitsRow, IsSpeakableRow};
 
@@ -39,8 +40,7 @@ pub(crate) fn row_of(bytes: &[u8]) -> Row
 
 /// The row that has these bytes, if there is one.
 pub(crate) fn read_row(bytes: &[u8]) -> Option<Row>
-    ensures read { IfSome result (λ row. IsSpeakableRow row × (row_spelling row ≡ bytes.now)) }
-    ensures refused { IfNone result ((row : Row) → IsSpeakableRow row → row_spelling row ≡ bytes.now → ⊥) }
+    ensures { Decodes IsSpeakableRow row_spelling bytes.now result }
 {
     if bytes.len() != ROW_LENGTH {
         return None;

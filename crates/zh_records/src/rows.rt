@@ -1,8 +1,9 @@
 //! The rows of a batch.
 
-ghost use Rattle.std.specs.Prelude.{◌≡◌, ◌<◌, List, Some, length, slice_get, IfSome, IfNone};
+ghost use Rattle.std.specs.Prelude.{◌≡◌, ◌<◌, List, Some, length, slice_get};
 ghost use Rattle.std.specs.List.{flat_map};
 ghost use Rattle.zh_records.specs.declared.row.Row.{Row};
+ghost use Rattle.zh_records.specs.Decoding.{Decodes};
 ghost use Rattle.zh_records.specs.RowBytes.{rows_in};
 ghost use Rattle.zh_records.specs.Rows.{row_spelling, IsBatch};
 
@@ -45,8 +46,7 @@ impl<'a> Rows<'a> {
 
     /// The rows of a batch that have these bytes, if there are such rows.
     pub(crate) fn read(bytes: &'a [u8]) -> Option<Rows<'a>>
-        ensures read { IfSome result (λ rows. IsBatch rows × (flat_map row_spelling rows ≡ bytes.now)) }
-        ensures refused { IfNone result ((rows : List Row) → IsBatch rows → flat_map row_spelling rows ≡ bytes.now → ⊥) }
+        ensures { Decodes IsBatch (flat_map row_spelling) bytes.now result }
     {
         let count = bytes.len() / ROW_LENGTH;
         if bytes.len() != ROW_LENGTH * count || count == 0 || count > MOST_ROWS {

@@ -17,7 +17,7 @@ use Rattle.zh_returns.specs.Limits.{IsTally}
 use Rattle.zh_records.specs.Rows.{FitsRow}
 use Rattle.zh_records.specs.Spelling.{FitsCommand, HasNumbers, IsSpeakable, last_desk}
 use Rattle.zh_records.specs.declared.format.Format.TheVariants.{Two}
-use Rattle.zh_returns.specs.Step.{desk_of}
+use Rattle.zh_returns.specs.Step.{named_desk}
 use Rattle.zh_returns.specs.Tally.{Tally}
 use Rattle.zh_returns.proofs.JudgementLemmas.{Passes, passes}
 use Rattle.zh_districts.proofs.CallerLemmas.{municipality_within, list_within, placed}
@@ -47,7 +47,7 @@ rows_fit tally rows d limits accepted =
     ∙ All-get_or (λ v. is_refusal v ≡ false) (map (judge_row tally) rows) i Accept (omega (arith, length-map rows (judge_row tally))) (none_refused (map (judge_row tally) rows) accepted)
     ))
 
-pub fits : (tally : Tally) (command : Command) → IsTally tally → desk_of command ≤ last_desk Two → judge tally command ≡ Accept → FitsCommand command
+pub fits : (tally : Tally) (command : Command) → IsTally tally → named_desk command ≤ last_desk Two → judge tally command ≡ Accept → FitsCommand command
 fits tally (commands.Return desk row) limits named accepted = (named, row_fits tally row limits (ap is_refusal accepted))
 fits tally (commands.Withdraw desk municipality list number) limits named accepted =
     let p = passes tally municipality list number None (ap is_refusal accepted) in
@@ -59,7 +59,7 @@ fits tally (commands.Reopen municipality) limits named accepted =
 fits tally (commands.Batch desk rows) limits named accepted = (named, rows_fit tally rows (record { municipality = 0; list = 0; number = 0; votes = 0 }) limits accepted)
 
 -- the numbers of a command have a desk up to the last
-pub desk_named : (command : Command) → HasNumbers command → desk_of command ≤ last_desk Two
+pub desk_named : (command : Command) → HasNumbers command → named_desk command ≤ last_desk Two
 desk_named (commands.Return desk row) numbers = numbers.0
 desk_named (commands.Withdraw desk municipality list number) numbers = numbers.0
 desk_named (commands.Close municipality) numbers = omega arith

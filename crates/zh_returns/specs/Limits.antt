@@ -25,7 +25,9 @@ IsEntry = IsEntryOf Two
 pub record IsTally (tally : Tally) : Type 0 where
   pub canton : IsCanton tally.canton
   pub entries : (municipality list : ℕ) → IfSome (held tally municipality list) IsEntry
-  pub lists : (municipality list : ℕ) → IfSome (held tally municipality list) (λ _. stands tally.canton (constituency_of tally.canton municipality) list ≡ true)
-  pub municipalities : (municipality list : ℕ) → IfSome (held tally municipality list) (λ _. has_municipality tally.canton municipality ≡ true)
+  pub lists : (municipality list : ℕ) → IfSome (held tally municipality list)
+      (λ _. stands tally.canton (constituency_of tally.canton municipality) list ≡ true)
+  pub municipalities : (municipality list : ℕ) → IfSome (held tally municipality list)
+      (λ _. has_municipality tally.canton municipality ≡ true)
   pub closed : (municipality : ℕ) → set.contains tally.closed municipality ≡ true → has_municipality tally.canton municipality ≡ true
   pub accepted : tally.accepted < 2 ^ 64

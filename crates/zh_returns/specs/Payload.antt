@@ -1,5 +1,5 @@
 -- The bytes of a count. Numbers are big endian.
-use Rattle.std.specs.Prelude.{◌≡◌, ◌≤◌, ℕ, zero, suc, ◌+◌, ◌*◌, Option, Some, None, List, [], ◌∷◌, ◌++◌, map, IfSome}
+use Rattle.std.specs.Prelude.{◌≡◌, ◌≤◌, ℕ, zero, suc, ◌+◌, ◌*◌, Bool, true, false, Option, Some, None, List, [], ◌∷◌, ◌++◌, map, IfSome}
 use Rattle.std.specs.Int.{w32, w64, to_be_bytes}
 use Rattle.std.specs.List.{flat_map}
 use Rattle.std.specs.FinSet as set
@@ -8,7 +8,8 @@ use Rattle.zh_records.specs.Spelling.{last_desk}
 use Rattle.zh_records.specs.declared.format.Format.{Format}
 use Rattle.zh_records.specs.declared.format.Format.TheVariants.{One, Two}
 use Rattle.zh_returns.specs.declared.entry.Entry.{Entry}
-use Rattle.zh_returns.specs.Tally.{Tally, held}
+use Rattle.zh_returns.specs.Limits.{IsTally}
+use Rattle.zh_returns.specs.Tally.{Tally, empty, held}
 
 -- so many numbers in a row, from the first on
 unfoldable pub numbers : ℕ → ℕ → List ℕ
@@ -58,7 +59,8 @@ format_spelling format = format_byte format ∷ zeros 174
 -- how many commands were accepted, which of 512 municipalities are closed, the format, and what is held
 abbrev pub payload_spelling : Format → Tally → List ℕ
 payload_spelling format tally =
-    to_be_bytes w64 tally.accepted ++ (map (closed_byte tally) (numbers 0 64) ++ (format_spelling format ++ flat_map entry_spelling (table_of tally 512)))
+    to_be_bytes w64 tally.accepted
+    ++ (map (closed_byte tally) (numbers 0 64) ++ (format_spelling format ++ flat_map entry_spelling (table_of tally 512)))
 
 -- the desks of the entries are ones that the format can say
 abbrev pub HasDesksOf : Format → Tally → Type 0
@@ -68,3 +70,13 @@ HasDesksOf format tally = (municipality list : ℕ) → IfSome (held tally munic
 pub record IsPayload (format : Format) (tally : Tally) (bytes : List ℕ) : Type 0 where
   pub desks : HasDesksOf format tally
   pub spelling : payload_spelling format tally ≡ bytes
+
+-- A count becomes the one that has these bytes in one of the formats; or there is none, and it is the count before the
+-- first return. Its set-up stays.
+pub record TakesPayload (old : Tally) (bytes : List ℕ) (is_read : Bool) (new : Tally) : Type 0 where
+  pub canton : new.canton ≡ old.canton
+  pub limits : IsTally new
+  pub read : is_read ≡ true → (format : Format) × IsPayload format new bytes
+  pub refused : is_read ≡ false → (format : Format) (tally : Tally) → tally.canton ≡ old.canton → IsTally tally →
+      IsPayload format tally bytes → ⊥
+  pub empty : is_read ≡ false → new ≡ empty old.canton

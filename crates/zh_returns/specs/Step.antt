@@ -18,12 +18,12 @@ use Rattle.zh_returns.specs.Limits.{most_votes}
 use Rattle.zh_records.specs.Rows.{row_key}
 
 -- the desk that a command names
-abbrev pub desk_of : Command → ℕ
-desk_of (commands.Return desk row) = desk
-desk_of (commands.Withdraw desk municipality list number) = desk
-desk_of (commands.Close municipality) = 0
-desk_of (commands.Reopen municipality) = 0
-desk_of (commands.Batch desk rows) = desk
+abbrev pub named_desk : Command → ℕ
+named_desk (commands.Return desk row) = desk
+named_desk (commands.Withdraw desk municipality list number) = desk
+named_desk (commands.Close municipality) = 0
+named_desk (commands.Reopen municipality) = 0
+named_desk (commands.Batch desk rows) = desk
 
 -- what is held after a desk's return
 abbrev pub entry_of : ℕ → Row → Entry
@@ -72,6 +72,17 @@ on_verdict (Refused reason) new old = old
 -- the count after a command: it changes only where it is accepted
 abbrev pub step : Tally → Command → Tally
 step tally command = on_verdict (judge tally command) (changed tally command) tally
+
+-- a command that is judged acceptable is stepped, which is the change that it says
+pub record Steps (old : Tally) (command : Command) (new : Tally) : Type 0 where
+  pub step : new ≡ step old command
+  pub changed : new ≡ changed old command
+
+-- these entries are put, and who follows the count follows it on
+pub record PutsFollowed (R : Canton → map.FinMap key_cmp Entry → Type 0) (entries : map.FinMap key_cmp Entry)
+    (old new : Tally) : Type 0 where
+  pub put : new ≡ record old { entries = entries }
+  pub follows : R new.canton new.entries
 
 -- the count after these commands, in order
 abbrev pub after : Tally → List Command → Tally

@@ -1,5 +1,6 @@
 -- What the tables of a count stand for: a place for each key, and a flag for each municipality.
-use Rattle.std.specs.Prelude.{◌≡◌, ℕ, ◌+◌, ◌*◌, ◌-◌, ◌/◌, ◌%◌, ◌^◌, ◌==◌, Bool, true, false, Option, Some, None, IfSome, List, [], ◌∷◌, get_or}
+use Rattle.std.specs.Prelude.{◌≡◌, ℕ, ◌+◌, ◌*◌, ◌-◌, ◌/◌, ◌%◌, ◌^◌, ◌==◌, Bool, true, false}
+use Rattle.std.specs.Prelude.{Option, Some, None, IfSome, List, [], ◌∷◌, All, length, get_or}
 use Rattle.std.specs.Ordering.{nat_cmp}
 use Rattle.std.specs.FinMap as map
 use Rattle.std.specs.FinSet as set
@@ -39,7 +40,8 @@ closed_of flags = set.from_list (flagged_from 1 flags)
 
 -- the count that these tables stand for
 abbrev pub tally_from : Canton → List (Option Entry) → List Bool → ℕ → Tally
-tally_from canton table flags accepted = record { canton = canton; entries = entries_of table; closed = closed_of flags; accepted = accepted }
+tally_from canton table flags accepted =
+    record { canton = canton; entries = entries_of table; closed = closed_of flags; accepted = accepted }
 
 -- an entry within the limits of a format, of a list that stands in its municipality
 pub record IsHeldAt (format : Format) (canton : Canton) (key : ℕ × ℕ) (entry : Entry) : Type 0 where
@@ -53,3 +55,8 @@ IsTable format canton table = (place : ℕ) → IfSome (get_or table place None)
 -- whether a bit of a number is set, where bit 0 is the lowest
 abbrev pub bit_of : ℕ → ℕ → Bool
 bit_of number bit = number / 2 ^ bit % 2 == 1
+
+-- a table as long as before, with this in each place
+pub record IsWiped {A : Type 0} (nothing : A) (old new : List A) : Type 0 where
+  pub length : length new ≡ length old
+  pub blank : All (λ x. x ≡ nothing) new

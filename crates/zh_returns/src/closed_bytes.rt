@@ -31,7 +31,8 @@ pub(crate) fn write_flags(flags: &[bool], out: &mut [u8])
 pub(crate) fn read_flags(bytes: &[u8], flags: &mut [bool])
     requires { length flags.old ≡ 8 * length bytes.now }
     ensures length { length flags.new ≡ length flags.old }
-    ensures flags { (place : ℕ) → place < length flags.old → get_or flags.new place false ≡ bit_of (slice_index bytes.now (place / 8)) (place % 8) }
+    ensures flags { (place : ℕ) → place < length flags.old
+        → get_or flags.new place false ≡ bit_of (slice_index bytes.now (place / 8)) (place % 8) }
 {
     for place in 0..flags.len() {
         flags[place] = (bytes[place / 8] >> (place % 8)) % 2 == 1;

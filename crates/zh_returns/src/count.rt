@@ -5,8 +5,8 @@ ghost use Rattle.std.specs.FinMap as map;
 ghost use Rattle.std.specs.FinSet as set;
 ghost use Rattle.zh_returns.specs.Limits.{IsTally, IsEntry};
 ghost use Rattle.zh_records.specs.declared.format.Format.{Format};
-ghost use Rattle.zh_returns.specs.Payload.{IsPayload, payload_spelling};
-ghost use Rattle.zh_returns.specs.Tables.{place_of};
+ghost use Rattle.zh_returns.specs.Payload.{TakesPayload, payload_spelling};
+ghost use Rattle.zh_returns.specs.Tables.{IsWiped, place_of};
 ghost use Rattle.zh_returns.specs.Tally.{Tally, empty, held};
 ghost use Rattle.zh_districts.specs.Canton.{has_municipality};
 ghost use Rattle.zh_districts.specs.Misplaced.{misplaced};
@@ -73,15 +73,13 @@ fn unset(alloc: Global, places: usize) -> Result<Vec<bool>, AllocError>
 }
 
 fn clear_entries(table: &mut [Option<Entry>])
-    ensures length { length table.new ≡ length table.old }
-    ensures absent { All (λ entry. entry ≡ None) table.new }
+    ensures { IsWiped None table.old table.new }
 {
     table.fill(None);
 }
 
 fn clear_flags(flags: &mut [bool])
-    ensures length { length flags.new ≡ length flags.old }
-    ensures unset { All (λ flag. flag ≡ false) flags.new }
+    ensures { IsWiped false flags.old flags.new }
 {
     flags.fill(false);
 }
@@ -163,11 +161,7 @@ impl<'s> Count<'s> {
     /// Becomes the count for the set-up that has these bytes in one of the formats. Where there is none, it says so and
     /// is the count before the first return.
     pub fn decode(&mut self, bytes: &[u8]) -> bool
-        ensures canton { self.new.canton ≡ self.old.canton }
-        ensures limits { IsTally self.new }
-        ensures read { result ≡ true → (format : Format) × IsPayload format self.new bytes.now }
-        ensures refused { result ≡ false → (format : Format) (tally : Tally) → tally.canton ≡ self.old.canton → IsTally tally → IsPayload format tally bytes.now → ⊥ }
-        ensures empty { result ≡ false → self.new ≡ empty self.old.canton }
+        ensures { TakesPayload self.old bytes.now result self.new }
     {
         match read_tables(self.setup, bytes, &mut self.entries, &mut self.closed) {
             Some(accepted) => {

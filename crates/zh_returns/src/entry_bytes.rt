@@ -1,9 +1,10 @@
 //! The bytes of an entry.
 
-ghost use Rattle.std.specs.Prelude.{◌≡◌, ◌==◌, Option, length, IfSome, IfNone};
+ghost use Rattle.std.specs.Prelude.{◌≡◌, ◌==◌, Option, length, IfSome};
 ghost use Rattle.std.specs.List.{list_all};
 ghost use Rattle.zh_returns.specs.declared.entry.Entry.{Entry};
 ghost use Rattle.zh_returns.specs.Limits.{IsEntryOf};
+ghost use Rattle.zh_records.specs.Decoding.{Decodes};
 ghost use Rattle.zh_records.specs.Spelling.{last_desk};
 ghost use Rattle.zh_returns.specs.Payload.{entry_spelling, fields_spelling};
 
@@ -61,8 +62,7 @@ fn last_desk(format: Format) -> u8
 /// What is held by these bytes of a format, if they are those of nothing or of an entry within its limits.
 pub(crate) fn read_entry(format: Format, bytes: &[u8]) -> Option<Option<Entry>>
     requires { length bytes.now ≡ ENTRY_LENGTH }
-    ensures read { IfSome result (λ held. IfSome held (IsEntryOf format) × (entry_spelling held ≡ bytes.now)) }
-    ensures refused { IfNone result ((held : Option Entry) → IfSome held (IsEntryOf format) → entry_spelling held ≡ bytes.now → ⊥) }
+    ensures { Decodes (λ held. IfSome held (IsEntryOf format)) entry_spelling bytes.now result }
 {
     let state = bytes[0];
     let desk = bytes[1];

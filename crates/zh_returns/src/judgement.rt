@@ -34,8 +34,8 @@ impl<'s> Count<'s> {
     /// 6. The number held is `n`: a lower number is `Stale`; `n` is `Same` with the votes held, else `Conflict`; `n + 1`
     ///    is accepted; a higher one is `Gap`. A withdrawn list holds no votes, which differs from 0 votes.
     ///
-    /// A withdrawal is judged like a return without votes, and which desk asks is not looked at. Of a batch each row is judged against this count: the first
-    /// row that is refused gives its reason to all.
+    /// A withdrawal is judged like a return without votes, and which desk asks is not looked at. Of a batch each row is
+    /// judged against this count: the first row that is refused gives its reason to all.
     pub fn judge(&self, command: &Command<'_>) -> Verdict
         ensures { result ≡ judge self.now command.now }
     {

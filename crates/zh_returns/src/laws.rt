@@ -12,7 +12,7 @@ ghost use Rattle.zh_returns.specs.declared.verdict.Verdict.TheVariants.{Accept, 
 ghost use Rattle.zh_returns.specs.Judgement.{judge, judge_row};
 ghost use Rattle.zh_returns.specs.Limits.{IsTally};
 ghost use Rattle.zh_returns.specs.Payload.{payload_spelling, payload_length, format_byte, HasDesksOf};
-ghost use Rattle.zh_returns.specs.Step.{changed, desk_of, entry_of};
+ghost use Rattle.zh_returns.specs.Step.{changed, named_desk, entry_of};
 ghost use Rattle.zh_returns.specs.Tally.{Tally, held};
 
 /// Two counts for one set-up with the same bytes are the same count, in the same format; each count has as many bytes,
@@ -20,27 +20,39 @@ ghost use Rattle.zh_returns.specs.Tally.{Tally, held};
 pub fn one_payload()
     ensures length { (format : Format) (tally : Tally) → length (payload_spelling format tally) ≡ payload_length }
     ensures format { (format : Format) (tally : Tally) → slice_get (payload_spelling format tally) 72 ≡ Some (format_byte format) }
-    ensures same { (f g : Format) (a b : Tally) → IsTally a → IsTally b → a.canton ≡ b.canton → payload_spelling f a ≡ payload_spelling g b → a ≡ b }
+    ensures same { (f g : Format) (a b : Tally) → IsTally a → IsTally b → a.canton ≡ b.canton
+        → payload_spelling f a ≡ payload_spelling g b → a ≡ b }
     ensures one_format { (f g : Format) (a b : Tally) → payload_spelling f a ≡ payload_spelling g b → f ≡ g }
     ensures desks { (tally : Tally) → IsTally tally → HasDesksOf Format.Two tally }
 {}
 
 /// The numbers of an accepted command have room in its bytes, if its desk is one that they can say.
 pub fn accepted_fits()
-    ensures { (tally : Tally) (command : Command) → IsTally tally → desk_of command ≤ last_desk Format.Two → judge tally command ≡ Accept → FitsCommand command }
+    ensures { (tally : Tally) (command : Command) → IsTally tally → named_desk command ≤ last_desk Format.Two
+        → judge tally command ≡ Accept → FitsCommand command }
 {}
 
 /// An accepted command whose desk can be said and whose replacement numbers are from 1 has bytes in format Two that are
 /// read as this command.
 pub fn accepted_is_speakable()
-    ensures { (tally : Tally) (command : Command) → IsTally tally → HasNumbers command → judge tally command ≡ Accept → IsSpeakable Format.Two command }
+    ensures { (tally : Tally) (command : Command) → IsTally tally → HasNumbers command → judge tally command ≡ Accept
+        → IsSpeakable Format.Two command }
 {}
 
 /// After an accepted batch each of its rows is held: one that was accepted names the batch's desk, one that was judged the
 /// same keeps what was held. A key that no row has holds what it held.
 pub fn batch_is_held()
-    ensures rows { (tally : Tally) (desk : ℕ) (rows : List Row) (i : ℕ) (row : Row) → IsBatch rows → judge tally (commands.Batch desk rows) ≡ Accept → slice_get rows i ≡ Some row → IsSomeAnd (held (changed tally (commands.Batch desk rows)) row.municipality row.list) (λ entry. (entry.number ≡ row.number) × (entry.votes ≡ Some row.votes)) }
-    ensures accepted { (tally : Tally) (desk : ℕ) (rows : List Row) (i : ℕ) (row : Row) → IsBatch rows → slice_get rows i ≡ Some row → judge_row tally row ≡ Accept → held (changed tally (commands.Batch desk rows)) row.municipality row.list ≡ Some (entry_of desk row) }
-    ensures same { (tally : Tally) (desk : ℕ) (rows : List Row) (i : ℕ) (row : Row) → IsBatch rows → slice_get rows i ≡ Some row → judge_row tally row ≡ Same → held (changed tally (commands.Batch desk rows)) row.municipality row.list ≡ held tally row.municipality row.list }
-    ensures others { (tally : Tally) (desk : ℕ) (rows : List Row) (municipality list : ℕ) → has_key rows (municipality, list) ≡ false → held (changed tally (commands.Batch desk rows)) municipality list ≡ held tally municipality list }
+    ensures rows { (tally : Tally) (desk : ℕ) (rows : List Row) (i : ℕ) (row : Row) → IsBatch rows
+        → judge tally (commands.Batch desk rows) ≡ Accept → slice_get rows i ≡ Some row
+        → IsSomeAnd (held (changed tally (commands.Batch desk rows)) row.municipality row.list)
+        (λ entry. (entry.number ≡ row.number) × (entry.votes ≡ Some row.votes)) }
+    ensures accepted { (tally : Tally) (desk : ℕ) (rows : List Row) (i : ℕ) (row : Row) → IsBatch rows
+        → slice_get rows i ≡ Some row → judge_row tally row ≡ Accept
+        → held (changed tally (commands.Batch desk rows)) row.municipality row.list ≡ Some (entry_of desk row) }
+    ensures same { (tally : Tally) (desk : ℕ) (rows : List Row) (i : ℕ) (row : Row) → IsBatch rows
+        → slice_get rows i ≡ Some row → judge_row tally row ≡ Same
+        → held (changed tally (commands.Batch desk rows)) row.municipality row.list ≡ held tally row.municipality row.list }
+    ensures others { (tally : Tally) (desk : ℕ) (rows : List Row) (municipality list : ℕ)
+        → has_key rows (municipality, list) ≡ false
+        → held (changed tally (commands.Batch desk rows)) municipality list ≡ held tally municipality list }
 {}

@@ -103,7 +103,8 @@ pub(crate) fn write_tables(
     requires entries { length entries.now ≡ PLACES }
     requires closed { length closed.now ≡ MUNICIPALITIES }
     requires room { PAYLOAD_LENGTH ≤ length out.old }
-    ensures { (canton : Canton) → out.new ≡ payload_spelling Format.Two (tally_from canton entries.now closed.now accepted) ++ drop PAYLOAD_LENGTH out.old }
+    ensures { (canton : Canton) → out.new
+        ≡ payload_spelling Format.Two (tally_from canton entries.now closed.now accepted) ++ drop PAYLOAD_LENGTH out.old }
 {
     let (first, rest) = out.split_at_mut(ACCEPTED_LENGTH);
     let (flags, rest) = rest.split_at_mut(CLOSED_LENGTH);
@@ -128,8 +129,10 @@ pub(crate) fn read_tables(
     ensures entries_length { length entries.new ≡ length entries.old }
     ensures closed_length { length closed.new ≡ length closed.old }
     ensures limits { IfSome result (λ accepted. IsTally (tally_from setup.now entries.new closed.new accepted)) }
-    ensures read { IfSome result (λ accepted. (format : Format) × IsPayload format (tally_from setup.now entries.new closed.new accepted) bytes.now) }
-    ensures refused { IfNone result ((format : Format) (tally : Tally) → tally.canton ≡ setup.now → IsTally tally → IsPayload format tally bytes.now → ⊥) }
+    ensures read { IfSome result (λ accepted. (format : Format)
+        × IsPayload format (tally_from setup.now entries.new closed.new accepted) bytes.now) }
+    ensures refused { IfNone result ((format : Format) (tally : Tally) → tally.canton ≡ setup.now → IsTally tally
+        → IsPayload format tally bytes.now → ⊥) }
 {
     if bytes.len() != PAYLOAD_LENGTH {
         return None;

@@ -9,7 +9,8 @@ ghost use Rattle.zh_returns.specs.Limits.{IsEntry};
 ghost use Rattle.zh_records.specs.Rows.{row_key};
 ghost use Rattle.zh_records.specs.Spelling.{last_desk};
 ghost use Rattle.zh_records.specs.declared.format.Format.{Format};
-ghost use Rattle.zh_returns.specs.Step.{step, changed, desk_of, entry_of, with_rows, accepted_rows, MayStand};
+ghost use Rattle.zh_returns.specs.Step.{step, changed, named_desk, entry_of, with_rows, accepted_rows};
+ghost use Rattle.zh_returns.specs.Step.{MayStand, PutsFollowed, Steps};
 
 use crate::count::Count;
 use crate::entry::Entry;
@@ -20,18 +21,17 @@ impl<'s> Count<'s> {
     /// Applies a command, which has been judged and is accepted, to the count, and counts it. What is then held under its
     /// keys names its desk; of a batch only the rows that are accepted do.
     pub fn apply(&mut self, command: &Command<'_>)
-        requires desk { desk_of command.now ≤ last_desk Format.Two }
+        requires desk { named_desk command.now ≤ last_desk Format.Two }
         requires accept { judge self.old command.now ≡ Accept }
         requires room { self.old.accepted < 2 ^ 64 - 1 }
-        ensures step { self.new ≡ step self.old command.now }
-        ensures changed { self.new ≡ changed self.old command.now }
+        ensures { Steps self.old command.now self.new }
     {
         self.apply_followed(command, &mut ());
     }
 
     /// Applies a command as `apply` does, and keeps a follower of the count up to date, entry by entry.
     pub fn apply_followed<F: Follower>(&mut self, command: &Command<'_>, follower: &mut F)
-        requires desk { desk_of command.now ≤ last_desk Format.Two }
+        requires desk { named_desk command.now ≤ last_desk Format.Two }
         requires accept { judge self.old command.now ≡ Accept }
         requires room { self.old.accepted < 2 ^ 64 - 1 }
         requires follows { F.follows follower.old self.old.canton self.old.entries }
@@ -66,8 +66,8 @@ impl<'s> Count<'s> {
         requires desk { desk ≤ last_desk Format.Two }
         requires accept { of_all (map (judge_row self.old) rows.now) ≡ Accept }
         requires follows { F.follows follower.old self.old.canton self.old.entries }
-        ensures put { self.new ≡ record self.old { entries = with_rows desk self.old.entries (accepted_rows self.old rows.now) } }
-        ensures follows { F.follows follower.new self.new.canton self.new.entries }
+        ensures { PutsFollowed (F.follows follower.new)
+            (with_rows desk self.old.entries (accepted_rows self.old rows.now)) self.old self.new }
     {
         for i in 0..rows.len() {
             let row = rows.get(i);
@@ -83,8 +83,8 @@ impl<'s> Count<'s> {
         requires desk { desk ≤ last_desk Format.Two }
         requires stand { MayStand self.old.canton row }
         requires follows { F.follows follower.old self.old.canton self.old.entries }
-        ensures put { self.new ≡ record self.old { entries = map_of.insert self.old.entries (row_key row) (entry_of desk row) } }
-        ensures follows { F.follows follower.new self.new.canton self.new.entries }
+        ensures { PutsFollowed (F.follows follower.new)
+            (map_of.insert self.old.entries (row_key row) (entry_of desk row)) self.old self.new }
     {
         let entry = Entry {
             desk,
@@ -105,8 +105,7 @@ impl<'s> Count<'s> {
         requires place { misplaced self.old.canton municipality list ≡ None }
         requires entry { IsEntry entry }
         requires follows { F.follows follower.old self.old.canton self.old.entries }
-        ensures put { self.new ≡ record self.old { entries = map_of.insert self.old.entries (municipality, list) entry } }
-        ensures follows { F.follows follower.new self.new.canton self.new.entries }
+        ensures { PutsFollowed (F.follows follower.new) (map_of.insert self.old.entries (municipality, list) entry) self.old self.new }
     {
         follower.follow(self, municipality, list, entry);
         self.put(municipality, list, entry);

@@ -1,7 +1,8 @@
 //! The bytes of a table of entries.
 
-ghost use Rattle.std.specs.Prelude.{◌≡◌, ◌*◌, ◌≤◌, ◌<◌, Option, List, false, true, length, IfSome, IfNone};
+ghost use Rattle.std.specs.Prelude.{◌≡◌, ◌*◌, ◌≤◌, ◌<◌, Option, List, false, true, length, IfSome};
 ghost use Rattle.std.specs.List.{flat_map};
+ghost use Rattle.zh_records.specs.Decoding.{Decodes};
 ghost use Rattle.zh_returns.specs.declared.entry.Entry.{Entry};
 ghost use Rattle.zh_returns.specs.Payload.{entry_spelling};
 ghost use Rattle.zh_returns.specs.Tables.{IsHeldAt, IsTable, key_of};
@@ -34,7 +35,8 @@ pub(crate) fn read_entries(
     requires places { length table.old ≤ PLACES }
     ensures length { length table.new ≡ length table.old }
     ensures read { result ≡ true → (flat_map entry_spelling table.new ≡ bytes.now) × IsTable format setup.now table.new }
-    ensures refused { result ≡ false → (other : List (Option Entry)) → length other ≡ length table.old → IsTable format setup.now other → flat_map entry_spelling other ≡ bytes.now → ⊥ }
+    ensures refused { result ≡ false → (other : List (Option Entry)) → length other ≡ length table.old
+        → IsTable format setup.now other → flat_map entry_spelling other ≡ bytes.now → ⊥ }
 {
     for place in 0..table.len() {
         let at = ENTRY_LENGTH * place;
@@ -50,8 +52,7 @@ pub(crate) fn read_entries(
 fn read_held(setup: &Setup, format: Format, place: usize, bytes: &[u8]) -> Option<Option<Entry>>
     requires length { length bytes.now ≡ ENTRY_LENGTH }
     requires place { place < PLACES }
-    ensures read { IfSome result (λ held. IfSome held (IsHeldAt format setup.now (key_of place)) × (entry_spelling held ≡ bytes.now)) }
-    ensures refused { IfNone result ((held : Option Entry) → IfSome held (IsHeldAt format setup.now (key_of place)) → entry_spelling held ≡ bytes.now → ⊥) }
+    ensures { Decodes (λ held. IfSome held (IsHeldAt format setup.now (key_of place))) entry_spelling bytes.now result }
 {
     let held = read_entry(format, bytes)?;
     if held.is_some() && misplaced_at(setup, place).is_some() {

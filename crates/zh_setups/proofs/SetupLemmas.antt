@@ -6,8 +6,8 @@ use Rattle.std.proofs.lemmas.Bool.{or_parts}
 use Rattle.toml.specs.Data.{Data, Members, get_member}
 use Rattle.zh_districts.specs.Canton.{Canton, Constituency, Municipality, Group, AreNames, IsCanton}
 use Rattle.zh_setups.specs.Keys.{tables_at}
-use Rattle.zh_setups.specs.Document.{◌>>=◌, number_within, each, values_at, constituency_of, municipality_of, group_of, quorum_of, setup_of, same_name, same_number, stands_in, repeats, has_double}
-use Rattle.zh_setups.proofs.ValueLemmas.{bind_some, number_within-bounds, HasName, length-each, each-all, each-named, are_names, values_at-some, constituency_of-some, municipality_of-some, group_of-some}
+use Rattle.zh_setups.specs.Document.{◌>>=◌, number_within, each, values_at, constituency_from, municipality_from, group_from, quorum_of, setup_of, same_name, same_number, stands_in, repeats, has_double}
+use Rattle.zh_setups.proofs.ValueLemmas.{bind_some, number_within-bounds, HasName, length-each, each-all, each-named, are_names, values_at-some, constituency_from-some, municipality_from-some, group_from-some}
 
 -- the parts of one kind, read at their key
 pub record ArePartsOf {X : Type 0} (key : List ℕ) (most : ℕ) (name : X → List ℕ) (P : X → Type 0) (document : Members) (xs : List X) : Type 0 where
@@ -39,14 +39,14 @@ lies_within n x = (1 ≤ x.constituency) × (x.constituency ≤ n)
 abbrev stands_within : ℕ → Group → Type 0
 stands_within n x = (length x.stands ≡ n) × Contains x.stands true
 
-pub constituencies_read : (document : Members) (xs : List Constituency) → (values_at (codes "constituency") 32 document >>= each constituency_of) ≡ Some xs → ArePartsOf (codes "constituency") 32 (λ x. x.name) persons_within document xs
-constituencies_read = parts_of (codes "constituency") 32 (λ x. x.name) persons_within constituency_of (λ d x e. (constituency_of-some d x e).0) (λ d x e. let h = constituency_of-some d x e in (h.1, h.2))
+pub constituencies_read : (document : Members) (xs : List Constituency) → (values_at (codes "constituency") 32 document >>= each constituency_from) ≡ Some xs → ArePartsOf (codes "constituency") 32 (λ x. x.name) persons_within document xs
+constituencies_read = parts_of (codes "constituency") 32 (λ x. x.name) persons_within constituency_from (λ d x e. (constituency_from-some d x e).0) (λ d x e. let h = constituency_from-some d x e in (h.1, h.2))
 
-municipalities_read : (n : ℕ) (document : Members) (xs : List Municipality) → (values_at (codes "municipality") 512 document >>= each (municipality_of n)) ≡ Some xs → ArePartsOf (codes "municipality") 512 (λ x. x.name) (lies_within n) document xs
-municipalities_read n = parts_of (codes "municipality") 512 (λ x. x.name) (lies_within n) (municipality_of n) (λ d x e. (municipality_of-some n d x e).0) (λ d x e. let h = municipality_of-some n d x e in (h.1, h.2))
+municipalities_read : (n : ℕ) (document : Members) (xs : List Municipality) → (values_at (codes "municipality") 512 document >>= each (municipality_from n)) ≡ Some xs → ArePartsOf (codes "municipality") 512 (λ x. x.name) (lies_within n) document xs
+municipalities_read n = parts_of (codes "municipality") 512 (λ x. x.name) (lies_within n) (municipality_from n) (λ d x e. (municipality_from-some n d x e).0) (λ d x e. let h = municipality_from-some n d x e in (h.1, h.2))
 
-groups_read : (n : ℕ) (document : Members) (xs : List Group) → (values_at (codes "group") 32 document >>= each (group_of n)) ≡ Some xs → ArePartsOf (codes "group") 32 (λ x. x.name) (stands_within n) document xs
-groups_read n = parts_of (codes "group") 32 (λ x. x.name) (stands_within n) (group_of n) (λ d x e. (group_of-some n d x e).0) (λ d x e. let h = group_of-some n d x e in (h.1, h.2))
+groups_read : (n : ℕ) (document : Members) (xs : List Group) → (values_at (codes "group") 32 document >>= each (group_from n)) ≡ Some xs → ArePartsOf (codes "group") 32 (λ x. x.name) (stands_within n) document xs
+groups_read n = parts_of (codes "group") 32 (λ x. x.name) (stands_within n) (group_from n) (λ d x e. (group_from-some n d x e).0) (λ d x e. let h = group_from-some n d x e in (h.1, h.2))
 
 some_is : {A : Type 0} (x y : A) → Some x ≡ Some y → x ≡ y
 some_is x y e = cc
@@ -63,9 +63,9 @@ pub IsCanton-from_document : (document : Members) (canton : Canton) → setup_of
 IsCanton-from_document document canton e single =
     let version = get_member (codes "version") document >>= number_within 1 2 in
     let house = get_member (codes "house") document >>= number_within 1 400 in
-    let constituencies = values_at (codes "constituency") 32 document >>= each constituency_of in
-    let municipalities = λ (n : ℕ). values_at (codes "municipality") 512 document >>= each (municipality_of n) in
-    let groups = λ (n : ℕ). values_at (codes "group") 32 document >>= each (group_of n) in
+    let constituencies = values_at (codes "constituency") 32 document >>= each constituency_from in
+    let municipalities = λ (n : ℕ). values_at (codes "municipality") 512 document >>= each (municipality_from n) in
+    let groups = λ (n : ℕ). values_at (codes "group") 32 document >>= each (group_from n) in
     let quorum = quorum_of (get_member (codes "canton_quorum") document) in
     let a = bind_some version (λ v. house >>= λ h. constituencies >>= λ cs. municipalities (length cs) >>= λ ms. groups (length cs) >>= λ gs. quorum >>= λ q. Some (made_of h cs ms gs q)) canton e in
     let b = bind_some house (λ h. constituencies >>= λ cs. municipalities (length cs) >>= λ ms. groups (length cs) >>= λ gs. quorum >>= λ q. Some (made_of h cs ms gs q)) canton a.2 in
@@ -104,25 +104,25 @@ IsCanton-from_document document canton e single =
 
 -- where the municipalities, or the groups, say nothing, there is no set-up
 pub no_municipalities : (document : Members) (v h n : ℕ) (cs : List Constituency) → (get_member (codes "version") document >>= number_within 1 2) ≡ Some v → (get_member (codes "house") document >>= number_within 1 400) ≡ Some h
-    → (values_at (codes "constituency") 32 document >>= each constituency_of) ≡ Some cs → length cs ≡ n → (values_at (codes "municipality") 512 document >>= each (municipality_of n)) ≡ None → setup_of document ≡ None
+    → (values_at (codes "constituency") 32 document >>= each constituency_from) ≡ Some cs → length cs ≡ n → (values_at (codes "municipality") 512 document >>= each (municipality_from n)) ≡ None → setup_of document ≡ None
 no_municipalities document v h n cs e f g len none = rw (e, f, g, len, none) refl
 
 pub no_groups : (document : Members) (v h n : ℕ) (cs : List Constituency) (ms : List Municipality) → (get_member (codes "version") document >>= number_within 1 2) ≡ Some v → (get_member (codes "house") document >>= number_within 1 400) ≡ Some h
-    → (values_at (codes "constituency") 32 document >>= each constituency_of) ≡ Some cs → length cs ≡ n → (values_at (codes "municipality") 512 document >>= each (municipality_of n)) ≡ Some ms
-    → (values_at (codes "group") 32 document >>= each (group_of n)) ≡ None → setup_of document ≡ None
+    → (values_at (codes "constituency") 32 document >>= each constituency_from) ≡ Some cs → length cs ≡ n → (values_at (codes "municipality") 512 document >>= each (municipality_from n)) ≡ Some ms
+    → (values_at (codes "group") 32 document >>= each (group_from n)) ≡ None → setup_of document ≡ None
 no_groups document v h n cs ms e f g len m none = rw (e, f, g, len, m, none) refl
 
 -- nor where the canton-wide quorum does
 pub no_quorum : (document : Members) (v h n : ℕ) (cs : List Constituency) (ms : List Municipality) (gs : List Group) → (get_member (codes "version") document >>= number_within 1 2) ≡ Some v
-    → (get_member (codes "house") document >>= number_within 1 400) ≡ Some h → (values_at (codes "constituency") 32 document >>= each constituency_of) ≡ Some cs → length cs ≡ n
-    → (values_at (codes "municipality") 512 document >>= each (municipality_of n)) ≡ Some ms → (values_at (codes "group") 32 document >>= each (group_of n)) ≡ Some gs
+    → (get_member (codes "house") document >>= number_within 1 400) ≡ Some h → (values_at (codes "constituency") 32 document >>= each constituency_from) ≡ Some cs → length cs ≡ n
+    → (values_at (codes "municipality") 512 document >>= each (municipality_from n)) ≡ Some ms → (values_at (codes "group") 32 document >>= each (group_from n)) ≡ Some gs
     → quorum_of (get_member (codes "canton_quorum") document) ≡ None → setup_of document ≡ None
 no_quorum document v h n cs ms gs e f g len m k none = rw (e, f, g, len, m, k, none) refl
 
 -- the set-up of its parts
 pub setup_read : (document : Members) (v h n : ℕ) (cs : List Constituency) (ms : List Municipality) (gs : List Group) (q : Option ℕ) → (get_member (codes "version") document >>= number_within 1 2) ≡ Some v
-    → (get_member (codes "house") document >>= number_within 1 400) ≡ Some h → (values_at (codes "constituency") 32 document >>= each constituency_of) ≡ Some cs → length cs ≡ n
-    → (values_at (codes "municipality") 512 document >>= each (municipality_of n)) ≡ Some ms → (values_at (codes "group") 32 document >>= each (group_of n)) ≡ Some gs
+    → (get_member (codes "house") document >>= number_within 1 400) ≡ Some h → (values_at (codes "constituency") 32 document >>= each constituency_from) ≡ Some cs → length cs ≡ n
+    → (values_at (codes "municipality") 512 document >>= each (municipality_from n)) ≡ Some ms → (values_at (codes "group") 32 document >>= each (group_from n)) ≡ Some gs
     → quorum_of (get_member (codes "canton_quorum") document) ≡ Some q
     → setup_of document ≡ Some (record { house = h; constituencies = cs; municipalities = ms; groups = gs; canton_quorum = q })
 setup_read document v h n cs ms gs q e f g len m k r = rw (e, f, g, len, m, k, r) refl

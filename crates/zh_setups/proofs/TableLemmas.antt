@@ -6,13 +6,13 @@ use Rattle.std.proofs.lemmas.Bool.{cases_lt}
 use Rattle.toml.specs.Data.{Data, Members, string, integer, float, boolean, datetime, array, table, get, get_member, as_array}
 use Rattle.zh_districts.specs.Canton.{Canton, Constituency, Municipality, Group, is_name}
 use Rattle.zh_setups.specs.Keys.{list_of, tables_at, knows_keys, known_keys, has_other_key}
-use Rattle.zh_setups.specs.Document.{◌>>=◌, number_within, name_of, each, values_of, values_at, constituency_of, municipality_of, group_of, quorum_of, stands_of, setup_of, undoubled, checked}
+use Rattle.zh_setups.specs.Document.{◌>>=◌, number_within, name_of, each, values_of, values_at, constituency_from, municipality_from, group_from, quorum_of, stands_of, setup_of, undoubled, checked}
 use Rattle.zh_setups.specs.Outcomes.{Gives}
 use Rattle.zh_setups.specs.SetupText.{ConstituencyOf, MunicipalityOf, GroupOf, HasVersion, SetupOf}
 use Rattle.zh_setups.specs.declared.fault.SetupFault.{SetupFault}
 use Rattle.zh_setups.specs.declared.fault.SetupFault.TheVariants.{Missing, Unknown}
 use Rattle.zh_setups.proofs.KeyLemmas.{knows_top, no_quorum_key}
-use Rattle.zh_setups.proofs.ValueLemmas.{bind_some, guard_some, number_within-bounds, HasName, each-holds, each-named, values_at-some, constituency_of-some, municipality_of-some, group_of-some}
+use Rattle.zh_setups.proofs.ValueLemmas.{bind_some, guard_some, number_within-bounds, HasName, each-holds, each-named, values_at-some, constituency_from-some, municipality_from-some, group_from-some}
 
 some_is : {A : Type 0} (x y : A) → Some x ≡ Some y → x ≡ y
 some_is x y e = cc
@@ -47,15 +47,15 @@ name_found found name e =
     let b = bind_some found name_of name e in
     b.1 ∙ ap (λ (d : Data). Some d) (name_of-is b.0 name b.2)
 
-constituency_of-holds : (d : Data) (x : Constituency) → constituency_of d ≡ Some x → ConstituencyOf d x
-constituency_of-holds d x e =
+constituency_from-holds : (d : Data) (x : Constituency) → constituency_from d ≡ Some x → ConstituencyOf d x
+constituency_from-holds d x e =
     let a = bind_some (get (codes "name") d >>= name_of) (λ name. (get (codes "persons") d >>= number_within 1 10000000) >>= λ persons. Some (record { name = name; persons = persons })) x e in
     let b = bind_some (get (codes "persons") d >>= number_within 1 10000000) (λ persons. Some (record { name = a.0; persons = persons })) x a.2 in
     let made : Constituency = record { name = a.0; persons = b.0 } in
     subst (λ (y : Constituency). ConstituencyOf d y) (some_is made x b.2) (name_found (get (codes "name") d) a.0 a.1, number_found (get (codes "persons") d) 1 10000000 b.0 b.1)
 
-municipality_of-holds : (n : ℕ) (d : Data) (x : Municipality) → municipality_of n d ≡ Some x → MunicipalityOf d x
-municipality_of-holds n d x e =
+municipality_from-holds : (n : ℕ) (d : Data) (x : Municipality) → municipality_from n d ≡ Some x → MunicipalityOf d x
+municipality_from-holds n d x e =
     let a = bind_some (get (codes "name") d >>= name_of) (λ name. (get (codes "constituency") d >>= number_within 1 n) >>= λ c. Some (record { name = name; constituency = c })) x e in
     let b = bind_some (get (codes "constituency") d >>= number_within 1 n) (λ c. Some (record { name = a.0; constituency = c })) x a.2 in
     let made : Municipality = record { name = a.0; constituency = b.0 } in
@@ -78,8 +78,8 @@ values_found : (found : Option Data) (ds : List Data) → (found >>= values_of) 
 values_found None ds e = absurd cc
 values_found (Some d) ds e = values_of-is d ds e
 
-group_of-holds : (n : ℕ) (d : Data) (x : Group) → group_of n d ≡ Some x → GroupOf n d x
-group_of-holds n d x e =
+group_from-holds : (n : ℕ) (d : Data) (x : Group) → group_from n d ≡ Some x → GroupOf n d x
+group_from-holds n d x e =
     let a = bind_some (get (codes "name") d >>= name_of) (λ name. (get (codes "stands") d >>= values_of) >>= λ values. each (number_within 1 n) values >>= λ numbers. Some (record { name = name; stands = stands_of n numbers })) x e in
     let b = bind_some (get (codes "stands") d >>= values_of) (λ values. each (number_within 1 n) values >>= λ numbers. Some (record { name = a.0; stands = stands_of n numbers })) x a.2 in
     let c = bind_some (each (number_within 1 n) b.0) (λ numbers. Some (record { name = a.0; stands = stands_of n numbers })) x b.2 in
@@ -128,9 +128,9 @@ SetupOf-from_document : (document : Members) (canton : Canton) → has_other_key
 SetupOf-from_document document canton other e =
     let version = get_member (codes "version") document >>= number_within 1 2 in
     let house = get_member (codes "house") document >>= number_within 1 400 in
-    let constituencies = values_at (codes "constituency") 32 document >>= each constituency_of in
-    let municipalities = λ (n : ℕ). values_at (codes "municipality") 512 document >>= each (municipality_of n) in
-    let groups = λ (n : ℕ). values_at (codes "group") 32 document >>= each (group_of n) in
+    let constituencies = values_at (codes "constituency") 32 document >>= each constituency_from in
+    let municipalities = λ (n : ℕ). values_at (codes "municipality") 512 document >>= each (municipality_from n) in
+    let groups = λ (n : ℕ). values_at (codes "group") 32 document >>= each (group_from n) in
     let quorum = quorum_of (get_member (codes "canton_quorum") document) in
     let a = bind_some version (λ v. house >>= λ h. constituencies >>= λ cs. municipalities (length cs) >>= λ ms. groups (length cs) >>= λ gs. quorum >>= λ q. Some (made_of h cs ms gs q)) canton e in
     let b = bind_some house (λ h. constituencies >>= λ cs. municipalities (length cs) >>= λ ms. groups (length cs) >>= λ gs. quorum >>= λ q. Some (made_of h cs ms gs q)) canton a.2 in
@@ -142,9 +142,9 @@ SetupOf-from_document document canton other e =
     subst (λ (x : Canton). SetupOf document x) {x = made_of b.0 c.0 d.0 g.0 k.0} (some_is (made_of b.0 c.0 d.0 g.0 k.0) canton k.2) (record {
       version = version_of document a.0 k.0 a.1 (knows_top document other) k.1;
       house = number_found (get_member (codes "house") document) 1 400 b.0 b.1;
-      constituencies = zipped (codes "constituency") 32 (λ x. x.name) ConstituencyOf constituency_of (λ d x e. (constituency_of-some d x e).0) constituency_of-holds document c.0 c.1;
-      municipalities = zipped (codes "municipality") 512 (λ x. x.name) MunicipalityOf (municipality_of n) (λ d x e. (municipality_of-some n d x e).0) (municipality_of-holds n) document d.0 d.1;
-      groups = zipped (codes "group") 32 (λ x. x.name) (GroupOf n) (group_of n) (λ d x e. (group_of-some n d x e).0) (group_of-holds n) document g.0 g.1;
+      constituencies = zipped (codes "constituency") 32 (λ x. x.name) ConstituencyOf constituency_from (λ d x e. (constituency_from-some d x e).0) constituency_from-holds document c.0 c.1;
+      municipalities = zipped (codes "municipality") 512 (λ x. x.name) MunicipalityOf (municipality_from n) (λ d x e. (municipality_from-some n d x e).0) (municipality_from-holds n) document d.0 d.1;
+      groups = zipped (codes "group") 32 (λ x. x.name) (GroupOf n) (group_from n) (λ d x e. (group_from-some n d x e).0) (group_from-holds n) document g.0 g.1;
       canton_quorum = quorum_found (get_member (codes "canton_quorum") document) k.0 k.1;
     })
   where

@@ -10,7 +10,7 @@ use Rattle.std.proofs.lemmas.Slice.Eq.{bytes_eq-Decides}
 use Rattle.toml.specs.Data.{Data, Members, string, integer, float, boolean, datetime, array, table, get, get_member, as_array, as_str}
 use Rattle.zh_districts.specs.Canton.{Constituency, Municipality, Group, is_name, AreNames}
 use Rattle.zh_setups.specs.Keys.{list_of, is_table, tables_of, tables_at}
-use Rattle.zh_setups.specs.Document.{◌>>=◌, number_within, name_of, each, values_of, values_at, constituency_of, municipality_of, group_of, stands_of, name_in, same_name, repeats}
+use Rattle.zh_setups.specs.Document.{◌>>=◌, number_within, name_of, each, values_of, values_at, constituency_from, municipality_from, group_from, stands_of, name_in, same_name, repeats}
 
 -- the value of a step that gave one
 pub bind_some : {A B : Type 0} (o : Option A) (f : A → Option B) (y : B) → (o >>= f) ≡ Some y → (x : A) × (o ≡ Some x) × (f x ≡ Some y)
@@ -143,8 +143,8 @@ values_at-some key most document ds e =
 
 -- ---- the parts
 
-pub constituency_of-some : (d : Data) (x : Constituency) → constituency_of d ≡ Some x → HasName d x.name × (1 ≤ x.persons) × (x.persons ≤ 10000000)
-constituency_of-some d x e =
+pub constituency_from-some : (d : Data) (x : Constituency) → constituency_from d ≡ Some x → HasName d x.name × (1 ≤ x.persons) × (x.persons ≤ 10000000)
+constituency_from-some d x e =
     let a = bind_some (get (codes "name") d >>= name_of) (λ name. (get (codes "persons") d >>= number_within 1 10000000) >>= λ persons. Some (record { name = name; persons = persons })) x e in
     let b = bind_some (get (codes "persons") d >>= number_within 1 10000000) (λ persons. Some (record { name = a.0; persons = persons })) x a.2 in
     let c = bind_some (get (codes "persons") d) (number_within 1 10000000) b.0 b.1 in
@@ -152,8 +152,8 @@ constituency_of-some d x e =
     let made : Constituency = record { name = a.0; persons = b.0 } in
     subst (λ (y : Constituency). HasName d y.name × (1 ≤ y.persons) × (y.persons ≤ 10000000)) (some_is made x b.2) (has_name d a.0 a.1, n.0, n.1)
 
-pub municipality_of-some : (n : ℕ) (d : Data) (x : Municipality) → municipality_of n d ≡ Some x → HasName d x.name × (1 ≤ x.constituency) × (x.constituency ≤ n)
-municipality_of-some n d x e =
+pub municipality_from-some : (n : ℕ) (d : Data) (x : Municipality) → municipality_from n d ≡ Some x → HasName d x.name × (1 ≤ x.constituency) × (x.constituency ≤ n)
+municipality_from-some n d x e =
     let a = bind_some (get (codes "name") d >>= name_of) (λ name. (get (codes "constituency") d >>= number_within 1 n) >>= λ c. Some (record { name = name; constituency = c })) x e in
     let b = bind_some (get (codes "constituency") d >>= number_within 1 n) (λ c. Some (record { name = a.0; constituency = c })) x a.2 in
     let c = bind_some (get (codes "constituency") d) (number_within 1 n) b.0 b.1 in
@@ -171,8 +171,8 @@ stands_somewhere n (m ∷ numbers) some all =
     let here : eqb m m ≡ true = eq-eqb m m refl in
     (m - 1, omega (arith, length-map-range_with_len (λ d. list_any (λ i. i == d) (m ∷ numbers)) 1 n), at ∙ rw here refl)
 
-pub group_of-some : (n : ℕ) (d : Data) (x : Group) → group_of n d ≡ Some x → HasName d x.name × (length x.stands ≡ n) × Contains x.stands true
-group_of-some n d x e =
+pub group_from-some : (n : ℕ) (d : Data) (x : Group) → group_from n d ≡ Some x → HasName d x.name × (length x.stands ≡ n) × Contains x.stands true
+group_from-some n d x e =
     let a = bind_some (get (codes "name") d >>= name_of) (λ name. (get (codes "stands") d >>= values_of) >>= λ values. each (number_within 1 n) values >>= λ numbers. Some (record { name = name; stands = stands_of n numbers })) x e in
     let b = bind_some (get (codes "stands") d >>= values_of) (λ values. each (number_within 1 n) values >>= λ numbers. Some (record { name = a.0; stands = stands_of n numbers })) x a.2 in
     let c = bind_some (each (number_within 1 n) b.0) (λ numbers. Some (record { name = a.0; stands = stands_of n numbers })) x b.2 in

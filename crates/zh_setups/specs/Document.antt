@@ -1,5 +1,6 @@
 -- The set-up that a set-up text says, from the table that the text stands for.
-use Rattle.std.specs.Prelude.{ℕ, Bool, false, ◌&&◌, ◌||◌, ◌==◌, nat_le, if◌then◌else◌, ℤ, pos, List, [], ◌∷◌, length, map, Option, Some, None, option_and_then, Result, Ok, Err, codes}
+use Rattle.std.specs.Prelude.{ℕ, Bool, false, ◌&&◌, ◌||◌, ◌==◌, nat_le, if◌then◌else◌, ℤ, pos, List, [], ◌∷◌, length}
+use Rattle.std.specs.Prelude.{map, Option, Some, None, option_and_then, Result, Ok, Err, codes}
 use Rattle.std.specs.List.{list_any, range_with_len}
 use Rattle.std.specs.Ordering.{int_eq}
 use Rattle.std.specs.Option.{unwrap_or}
@@ -46,15 +47,15 @@ values_at key most document = do
   if nat_le (length values) most then Some values else None
 
 -- a constituency
-abbrev pub constituency_of : Data → Option Constituency
-constituency_of value = do
+abbrev pub constituency_from : Data → Option Constituency
+constituency_from value = do
   name ← get (codes "name") value >>= name_of
   persons ← get (codes "persons") value >>= number_within 1 10000000
   Some (record { name = name; persons = persons })
 
 -- a municipality, where there are so many constituencies
-abbrev pub municipality_of : ℕ → Data → Option Municipality
-municipality_of constituencies value = do
+abbrev pub municipality_from : ℕ → Data → Option Municipality
+municipality_from constituencies value = do
   name ← get (codes "name") value >>= name_of
   constituency ← get (codes "constituency") value >>= number_within 1 constituencies
   Some (record { name = name; constituency = constituency })
@@ -64,8 +65,8 @@ abbrev pub stands_of : ℕ → List ℕ → List Bool
 stands_of constituencies numbers = map (λ d. list_any (λ n. n == d) numbers) (range_with_len 1 constituencies)
 
 -- a group, where there are so many constituencies
-abbrev pub group_of : ℕ → Data → Option Group
-group_of constituencies value = do
+abbrev pub group_from : ℕ → Data → Option Group
+group_from constituencies value = do
   name ← get (codes "name") value >>= name_of
   values ← get (codes "stands") value >>= values_of
   numbers ← each (number_within 1 constituencies) values
@@ -83,9 +84,9 @@ abbrev pub setup_of : Members → Option Canton
 setup_of document = do
   version ← get_member (codes "version") document >>= number_within 1 2
   house ← get_member (codes "house") document >>= number_within 1 400
-  constituencies ← values_at (codes "constituency") 32 document >>= each constituency_of
-  municipalities ← values_at (codes "municipality") 512 document >>= each (municipality_of (length constituencies))
-  groups ← values_at (codes "group") 32 document >>= each (group_of (length constituencies))
+  constituencies ← values_at (codes "constituency") 32 document >>= each constituency_from
+  municipalities ← values_at (codes "municipality") 512 document >>= each (municipality_from (length constituencies))
+  groups ← values_at (codes "group") 32 document >>= each (group_from (length constituencies))
   canton_quorum ← quorum_of (get_member (codes "canton_quorum") document)
   Some (record {
     house = house;
@@ -124,7 +125,9 @@ same_number a b = same_integer (as_integer a) (as_integer b)
 -- two names of one kind are equal, or a group stands twice in one constituency
 abbrev pub has_double : Members → Bool
 has_double document =
-    repeats same_name (tables_at (codes "constituency") document) || repeats same_name (tables_at (codes "municipality") document) || repeats same_name (tables_at (codes "group") document)
+    repeats same_name (tables_at (codes "constituency") document)
+    || repeats same_name (tables_at (codes "municipality") document)
+    || repeats same_name (tables_at (codes "group") document)
     || list_any (λ value. repeats same_number (stands_in value)) (tables_at (codes "group") document)
 
 -- without a set-up, a value is of another kind or outside its limits; with one, something may stand twice
@@ -135,4 +138,6 @@ undoubled double (Some canton) = if double then Err Double else Ok canton
 -- the set-up, or the first fault that is found: each check goes over the whole document before the next
 abbrev pub checked : Members → Result Canton SetupFault
 checked document =
-    if misses_key document then Err Missing else if has_other_key document then Err Unknown else undoubled (has_double document) (setup_of document)
+    if misses_key document then Err Missing
+    else if has_other_key document then Err Unknown
+    else undoubled (has_double document) (setup_of document)

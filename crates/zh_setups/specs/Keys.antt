@@ -4,7 +4,8 @@ use Rattle.std.specs.Option.{option_map_or}
 use Rattle.std.specs.List.{list_all, list_any}
 use Rattle.std.specs.Ordering.{int_eq}
 use Rattle.std.specs.Str.{bytes_eq}
-use Rattle.toml.specs.Data.{Data, Items, no_items, item, Members, no_members, member, table, get, get_member, as_table, as_array, as_integer}
+use Rattle.toml.specs.Data.{Data, Items, no_items, item, Members, no_members, member, table}
+use Rattle.toml.specs.Data.{get, get_member, as_table, as_array, as_integer}
 
 -- the values of an array
 abbrev pub list_of : Items → List Data
@@ -66,7 +67,8 @@ abbrev pub misses_key : Members → Bool
 misses_key document =
     not (
     has_keys document_keys (table document) && list_all (has_keys constituency_keys) (tables_at (codes "constituency") document)
-    && list_all (has_keys municipality_keys) (tables_at (codes "municipality") document) && list_all (has_keys group_keys) (tables_at (codes "group") document)
+    && list_all (has_keys municipality_keys) (tables_at (codes "municipality") document)
+    && list_all (has_keys group_keys) (tables_at (codes "group") document)
     )
 
 -- another key stands at the top or in a table
@@ -74,5 +76,6 @@ abbrev pub has_other_key : Members → Bool
 has_other_key document =
     not (
     knows_keys (known_keys document) document && list_all (knows_keys_of constituency_keys) (tables_at (codes "constituency") document)
-    && list_all (knows_keys_of municipality_keys) (tables_at (codes "municipality") document) && list_all (knows_keys_of group_keys) (tables_at (codes "group") document)
+    && list_all (knows_keys_of municipality_keys) (tables_at (codes "municipality") document)
+    && list_all (knows_keys_of group_keys) (tables_at (codes "group") document)
     )

@@ -9,8 +9,14 @@ everywhere name = record { name = name; stands = true ∷ true ∷ true ∷ [] }
 abbrev pub rehearsal : Canton
 rehearsal = record {
   house = 10;
-  constituencies = record { name = codes "Nord"; persons = 5000 } ∷ record { name = codes "Mitte"; persons = 3000 } ∷ record { name = codes "West"; persons = 2000 } ∷ [];
-  municipalities = record { name = codes "N"; constituency = 1 } ∷ record { name = codes "M"; constituency = 2 } ∷ record { name = codes "W"; constituency = 3 } ∷ [];
+  constituencies =
+      record { name = codes "Nord"; persons = 5000 }
+      ∷ record { name = codes "Mitte"; persons = 3000 }
+      ∷ record { name = codes "West"; persons = 2000 } ∷ [];
+  municipalities =
+      record { name = codes "N"; constituency = 1 }
+      ∷ record { name = codes "M"; constituency = 2 }
+      ∷ record { name = codes "W"; constituency = 3 } ∷ [];
   groups = everywhere (codes "A") ∷ everywhere (codes "B") ∷ everywhere (codes "C") ∷ [];
   canton_quorum = None;
 }

@@ -1,5 +1,6 @@
 -- What a set-up text says.
-use Rattle.std.specs.Prelude.{◌≡◌, ℕ, ◌&&◌, ◌⊎◌, nat_le, if◌then◌else◌, pos, List, length, map, Some, None, option_map, option_and_then, Result, Err, codes}
+use Rattle.std.specs.Prelude.{◌≡◌, ℕ, ◌&&◌, ◌⊎◌, nat_le, if◌then◌else◌, pos, List, length, map, Some}
+use Rattle.std.specs.Prelude.{None, option_map, option_and_then, Result, Err, codes}
 use Rattle.std.specs.List.{AllZip}
 use Rattle.std.specs.Option.{option_map_or}
 use Rattle.std.specs.Str.{is_utf8}
@@ -21,13 +22,17 @@ ConstituencyOf value x = (get (codes "name") value ≡ Some (string x.name)) × 
 
 -- a table of this municipality
 abbrev pub MunicipalityOf : Data → Municipality → Type 0
-MunicipalityOf value x = (get (codes "name") value ≡ Some (string x.name)) × (get (codes "constituency") value ≡ Some (integer (pos x.constituency)))
+MunicipalityOf value x =
+    (get (codes "name") value ≡ Some (string x.name))
+    × (get (codes "constituency") value ≡ Some (integer (pos x.constituency)))
 
 -- a table of this group, where there are so many constituencies: it lists the numbers of those where the group stands
 abbrev pub GroupOf : ℕ → Data → Group → Type 0
 GroupOf constituencies value x =
     (get (codes "name") value ≡ Some (string x.name))
-    × ((numbers : List ℕ) × (option_map list_of (option_and_then as_array (get (codes "stands") value)) ≡ Some (map (λ n. integer (pos n)) numbers)) × (x.stands ≡ stands_of constituencies numbers))
+    × ((numbers : List ℕ)
+    × (option_map list_of (option_and_then as_array (get (codes "stands") value)) ≡ Some (map (λ n. integer (pos n)) numbers))
+    × (x.stands ≡ stands_of constituencies numbers))
 
 -- the table has this version
 abbrev pub HasVersion : Members → ℕ → Type 0

@@ -3,7 +3,7 @@
 ghost use Rattle.std.specs.Prelude.{◌≡◌, ◌==◌, map, option_and_then, codes, IfOk};
 ghost use Rattle.std.specs.List.{list_any};
 ghost use Rattle.toml.specs.View.{view, table_view};
-ghost use Rattle.zh_setups.specs.Document.{number_within, each, values_at, stands_of, constituency_of, municipality_of, group_of};
+ghost use Rattle.zh_setups.specs.Document.{number_within, each, values_at, stands_of, constituency_from, municipality_from, group_from};
 ghost use Rattle.zh_setups.specs.Outcomes.{GivesInRange};
 ghost use Rattle.zh_districts.specs.Parts.{constituency, municipality, group};
 
@@ -14,7 +14,7 @@ use toml::{Table, Value};
 use zh_districts::{Constituency, Group, Municipality};
 
 fn read_constituency(alloc: Global, value: &Value) -> Result<Constituency, SetupFault>
-    ensures { GivesInRange constituency result (constituency_of (view value.now)) }
+    ensures { GivesInRange constituency result (constituency_from (view value.now)) }
 {
     let name = name(value).ok_or(SetupFault::Range)?;
     let persons = number_at(value, "persons", 1, 10_000_000).ok_or(SetupFault::Range)?;
@@ -29,7 +29,7 @@ fn read_municipality(
     value: &Value,
     constituencies: u32,
 ) -> Result<Municipality, SetupFault>
-    ensures { GivesInRange municipality result (municipality_of constituencies (view value.now)) }
+    ensures { GivesInRange municipality result (municipality_from constituencies (view value.now)) }
 {
     let name = name(value).ok_or(SetupFault::Range)?;
     let constituency = number_at(value, "constituency", 1, constituencies).ok_or(
@@ -78,7 +78,7 @@ fn stands_among(
 }
 
 fn read_group(alloc: Global, value: &Value, constituencies: u32) -> Result<Group, SetupFault>
-    ensures { GivesInRange group result (group_of constituencies (view value.now)) }
+    ensures { GivesInRange group result (group_from constituencies (view value.now)) }
 {
     let name = name(value).ok_or(SetupFault::Range)?;
     let stands = value_of(value, "stands").ok_or(SetupFault::Range)?;
@@ -91,7 +91,7 @@ fn read_group(alloc: Global, value: &Value, constituencies: u32) -> Result<Group
 }
 
 fn each_constituency(alloc: Global, values: &[Value]) -> Result<Vec<Constituency>, SetupFault>
-    ensures { GivesInRange (λ v. map constituency v.items) result (each constituency_of (map view values.now)) }
+    ensures { GivesInRange (λ v. map constituency v.items) result (each constituency_from (map view values.now)) }
 {
     let mut parts = Vec::new(alloc);
     for value in values {
@@ -106,7 +106,7 @@ fn each_municipality(
     values: &[Value],
     constituencies: u32,
 ) -> Result<Vec<Municipality>, SetupFault>
-    ensures { GivesInRange (λ v. map municipality v.items) result (each (municipality_of constituencies) (map view values.now)) }
+    ensures { GivesInRange (λ v. map municipality v.items) result (each (municipality_from constituencies) (map view values.now)) }
 {
     let mut parts = Vec::new(alloc);
     for value in values {
@@ -121,7 +121,7 @@ fn each_group(
     values: &[Value],
     constituencies: u32,
 ) -> Result<Vec<Group>, SetupFault>
-    ensures { GivesInRange (λ v. map group v.items) result (each (group_of constituencies) (map view values.now)) }
+    ensures { GivesInRange (λ v. map group v.items) result (each (group_from constituencies) (map view values.now)) }
 {
     let mut parts = Vec::new(alloc);
     for value in values {
@@ -136,7 +136,8 @@ pub(crate) fn read_constituencies(
     alloc: Global,
     document: &Table,
 ) -> Result<Vec<Constituency>, SetupFault>
-    ensures { GivesInRange (λ v. map constituency v.items) result (option_and_then (each constituency_of) (values_at (codes "constituency") 32 (table_view document.now))) }
+    ensures { GivesInRange (λ v. map constituency v.items) result
+        (option_and_then (each constituency_from) (values_at (codes "constituency") 32 (table_view document.now))) }
 {
     let values = values_at(document, "constituency", 32).ok_or(SetupFault::Range)?;
     each_constituency(alloc, values)
@@ -148,7 +149,8 @@ pub(crate) fn read_municipalities(
     document: &Table,
     constituencies: u32,
 ) -> Result<Vec<Municipality>, SetupFault>
-    ensures { GivesInRange (λ v. map municipality v.items) result (option_and_then (each (municipality_of constituencies)) (values_at (codes "municipality") 512 (table_view document.now))) }
+    ensures { GivesInRange (λ v. map municipality v.items) result
+        (option_and_then (each (municipality_from constituencies)) (values_at (codes "municipality") 512 (table_view document.now))) }
 {
     let values = values_at(document, "municipality", 512).ok_or(SetupFault::Range)?;
     each_municipality(alloc, values, constituencies)
@@ -160,7 +162,8 @@ pub(crate) fn read_groups(
     document: &Table,
     constituencies: u32,
 ) -> Result<Vec<Group>, SetupFault>
-    ensures { GivesInRange (λ v. map group v.items) result (option_and_then (each (group_of constituencies)) (values_at (codes "group") 32 (table_view document.now))) }
+    ensures { GivesInRange (λ v. map group v.items) result
+        (option_and_then (each (group_from constituencies)) (values_at (codes "group") 32 (table_view document.now))) }
 {
     let values = values_at(document, "group", 32).ok_or(SetupFault::Range)?;
     each_group(alloc, values, constituencies)

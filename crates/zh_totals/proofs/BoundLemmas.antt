@@ -17,7 +17,7 @@ use Rattle.zh_totals.specs.Counting.{votes_of, counted, totals_of, lies_in}
 use Rattle.zh_totals.specs.Changes.{noted, change_to, votes_held}
 use Rattle.zh_totals.specs.Parts.{held_before}
 use Rattle.zh_totals.specs.Inside.{AreConstituencies}
-use Rattle.zh_totals.proofs.SumLemmas.{sum_to_zero}
+use Rattle.zh_divisors.proofs.CallerLemmas.{sum_to-zero}
 use Rattle.zh_totals.proofs.PlaceLemmas.{place_within, table, length-table, at_table, same_table}
 use Rattle.zh_totals.proofs.EntryLemmas.{passing}
 use Rattle.zh_totals.proofs.NotingLemmas.{IsThere, held_counted, votes_counted, noted_entry}
@@ -62,11 +62,11 @@ none_counted canton d g =
 
 pub no_constituency_votes : (canton : Canton) (d : ℕ) → 1 ≤ d → d ≤ length canton.constituencies → constituency_votes (totals_of (empty canton)) d ≡ 0
 no_constituency_votes canton d from_one within =
-    sum_to_zero (length canton.groups) (λ i. votes_in (totals_of (empty canton)) d (i + 1)) (λ i lt.
+    sum_to-zero (length canton.groups) (λ i. votes_in (totals_of (empty canton)) d (i + 1)) (λ i lt.
     votes_counted (empty canton) d (i + 1) from_one within (omega arith) (omega arith) ∙ none_counted canton d (i + 1))
 
 no_votes_yet : (canton : Canton) → all_votes (totals_of (empty canton)) ≡ 0
-no_votes_yet canton = sum_to_zero (length canton.constituencies) (λ i. constituency_votes (totals_of (empty canton)) (i + 1)) (λ i lt. no_constituency_votes canton (i + 1) (omega arith) (omega arith))
+no_votes_yet canton = sum_to-zero (length canton.constituencies) (λ i. constituency_votes (totals_of (empty canton)) (i + 1)) (λ i lt. no_constituency_votes canton (i + 1) (omega arith) (omega arith))
 
 -- the votes of all entries before a key
 abbrev votes_before : Tally → ℕ → ℕ → ℕ

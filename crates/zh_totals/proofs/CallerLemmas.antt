@@ -1,5 +1,4 @@
 -- What the crates above may use.
-pub use Rattle.zh_totals.proofs.SumLemmas.{sum_to_more, sum_to_equal, sum_to_changed, at_most_sum_to, sum_to_zero}
 pub use Rattle.zh_totals.proofs.TotalsLemmas.{group_within, constituency_within, constituency_most, group_most}
 pub use Rattle.zh_totals.proofs.BoundLemmas.{few_votes, AreTotals-of}
 pub use Rattle.zh_totals.proofs.ChangeLemmas.{votes_can, entry_noted}

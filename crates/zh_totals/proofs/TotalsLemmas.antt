@@ -5,7 +5,8 @@ use Rattle.zh_totals.specs.Totals.{VoteTotals, AreTotals, place_in, votes_in, co
 use Rattle.zh_totals.specs.Changes.{IsChange, noted, sum_after}
 use Rattle.std.proofs.lemmas.Bool.{cases_eq}
 use Rattle.zh_totals.specs.Inside.{AreConstituencies}
-use Rattle.zh_totals.proofs.SumLemmas.{sum_to_equal, sum_to_changed, at_most_sum_to}
+use Rattle.zh_divisors.proofs.CallerLemmas.{sum_to-ext, term-le-sum_to}
+use Rattle.zh_totals.proofs.SumLemmas.{sum_to_changed}
 use Rattle.zh_totals.proofs.PlaceLemmas.{place_within, other_place}
 
 -- a group has no more votes in a constituency than all groups
@@ -13,14 +14,14 @@ pub group_within : (totals : VoteTotals) (d g : ℕ) → 1 ≤ g → g ≤ lengt
 group_within totals d g from_one there =
     let number : g - 1 + 1 ≡ g = omega arith in
     let here : votes_in totals d (g - 1 + 1) ≡ votes_in totals d g = ap (votes_in totals d) number in
-    omega (arith, at_most_sum_to (length totals.canton.groups) (g - 1) (λ i. votes_in totals d (i + 1)) (omega arith))
+    omega (arith, term-le-sum_to (length totals.canton.groups) (λ i. votes_in totals d (i + 1)) (g - 1) (omega arith))
 
 -- a constituency has no more votes than all constituencies
 pub constituency_within : (totals : VoteTotals) (d : ℕ) → 1 ≤ d → d ≤ length totals.canton.constituencies → constituency_votes totals d ≤ all_votes totals
 constituency_within totals d from_one there =
     let number : d - 1 + 1 ≡ d = omega arith in
     let here : constituency_votes totals (d - 1 + 1) ≡ constituency_votes totals d = ap (constituency_votes totals) number in
-    omega (arith, at_most_sum_to (length totals.canton.constituencies) (d - 1) (λ i. constituency_votes totals (i + 1)) (omega arith))
+    omega (arith, term-le-sum_to (length totals.canton.constituencies) (λ i. constituency_votes totals (i + 1)) (d - 1) (omega arith))
 
 -- so neither has too many
 pub constituency_most : (totals : VoteTotals) (d : ℕ) → AreTotals totals → 1 ≤ d → d ≤ length totals.canton.constituencies → constituency_votes totals d ≤ 10 ^ 14
@@ -64,7 +65,7 @@ noted_constituency totals change can =
 -- those of another constituency
 pub noted_elsewhere : (totals : VoteTotals) (change : Change) (d : ℕ) → CanNote totals change → 1 ≤ d → d ≢ change.constituency → constituency_votes (noted totals change) d ≡ constituency_votes totals d
 noted_elsewhere totals change d can from_one other =
-    sum_to_equal (length totals.canton.groups) (λ i. votes_in (noted totals change) d (i + 1)) (λ i. votes_in totals d (i + 1)) (λ i lt.
+    sum_to-ext (length totals.canton.groups) (λ i. votes_in (noted totals change) d (i + 1)) (λ i. votes_in totals d (i + 1)) (λ i lt.
     noted_there totals change d (i + 1) (λ same.
     let parts = other_place (length totals.canton.groups) (d - 1) (i + 1 - 1) (change.constituency - 1) (change.list - 1) (omega arith) (omega arith) same in
     other (omega arith)))

@@ -16,7 +16,9 @@ sum_after totals change = votes_in totals change.constituency change.list - chan
 
 -- the totals after a change: this sum is replaced, the others stay
 abbrev pub noted : VoteTotals → Change → VoteTotals
-noted totals change = record totals { votes = set totals.votes (place_in totals.canton change.constituency change.list) (sum_after totals change) }
+noted totals change = record totals {
+  votes = set totals.votes (place_in totals.canton change.constituency change.list) (sum_after totals change);
+}
 
 -- the totals after these changes, in order
 abbrev pub all_noted : VoteTotals → List Change → VoteTotals

@@ -12,6 +12,6 @@ pub record AreConstituencies (totals : VoteTotals) (sums : List ℕ) : Type 0 wh
   pub votes : (i : ℕ) → i < length totals.canton.constituencies → slice_index sums i ≡ constituency_votes totals (i + 1)
 
 -- totals within their limits, and the votes of their constituencies
-pub record IsInside (t : Inside) : Type 0 where
+pub record AreTotalsInside (t : Inside) : Type 0 where
   pub totals : AreTotals (totals_in t)
   pub constituencies : AreConstituencies (totals_in t) t.constituencies.items

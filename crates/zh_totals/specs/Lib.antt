@@ -1,4 +1,3 @@
-pub mod Sums
 pub mod Totals
 pub mod Counting
 pub mod Parts

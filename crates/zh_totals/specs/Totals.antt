@@ -1,7 +1,7 @@
 -- Vote totals: the votes of each group in each constituency.
 use Rattle.std.specs.Prelude.{◌≡◌, ℕ, ◌+◌, ◌-◌, ◌*◌, ◌^◌, ◌≤◌, List, length, slice_index}
 use Rattle.zh_districts.specs.Canton.{Canton, IsCanton}
-use Rattle.zh_totals.specs.Sums.{sum_to}
+use Rattle.zh_divisors.specs.Sums.{sum_to}
 
 -- the set-up, and constituency by constituency one sum of votes for each group
 pub record VoteTotals : Type 0 where

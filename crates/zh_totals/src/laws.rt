@@ -18,8 +18,12 @@ ghost use Rattle.zh_totals.specs.Totals.{AreTotals};
 /// After an accepted command the totals are those before it with each of its changes noted, one after the other; and
 /// with one entry put over what is held, those before it with this change noted.
 pub fn changes_are_noted()
-    ensures command { (tally : Tally) (command : Command) → IsTally tally → HasNumbers command → judge tally command ≡ Accept → totals_of (changed tally command) ≡ all_noted (totals_of tally) (changes_of tally command) }
-    ensures entry { (tally : Tally) (m l : ℕ) (entry : Entry) → IsTally tally → has_municipality tally.canton m ≡ true → stands tally.canton (constituency_of tally.canton m) l ≡ true → totals_of (record tally { entries = map_of.insert tally.entries (m, l) entry }) ≡ noted (totals_of tally) (change_to tally m l (votes_of entry)) }
+    ensures command { (tally : Tally) (command : Command) → IsTally tally → HasNumbers command → judge tally command ≡ Accept
+        → totals_of (changed tally command) ≡ all_noted (totals_of tally) (changes_of tally command) }
+    ensures entry { (tally : Tally) (m l : ℕ) (entry : Entry) → IsTally tally → has_municipality tally.canton m ≡ true
+        → stands tally.canton (constituency_of tally.canton m) l ≡ true
+        → totals_of (record tally { entries = map_of.insert tally.entries (m, l) entry })
+        ≡ noted (totals_of tally) (change_to tally m l (votes_of entry)) }
 {}
 
 /// The totals of a count are within their limits.

@@ -1,13 +1,12 @@
 //! A count that keeps its totals.
 
-ghost use Rattle.std.specs.Prelude.{◌≡◌, ◌-◌, ◌≤◌, ◌<◌, ◌^◌, IfOk, true, false};
+ghost use Rattle.std.specs.Prelude.{◌≡◌, ◌-◌, ◌≤◌, ◌<◌, ◌^◌, IfOk};
 ghost use Rattle.zh_returns.specs.declared.verdict.Verdict.TheVariants.{Accept};
 ghost use Rattle.zh_returns.specs.Judgement.{judge};
-ghost use Rattle.zh_returns.specs.Limits.{IsTally};
 ghost use Rattle.zh_records.specs.Spelling.{last_desk};
 ghost use Rattle.zh_records.specs.declared.format.Format.{Format};
-ghost use Rattle.zh_returns.specs.Payload.{IsPayload};
-ghost use Rattle.zh_returns.specs.Step.{step, desk_of};
+ghost use Rattle.zh_returns.specs.Payload.{TakesPayload};
+ghost use Rattle.zh_returns.specs.Step.{step, named_desk};
 ghost use Rattle.zh_returns.specs.Tally.{Tally, empty};
 ghost use Rattle.zh_totals.specs.Counting.{totals_of};
 
@@ -71,11 +70,7 @@ impl<'s> RunningCount<'s> {
     /// return.
     pub fn decode(&mut self, bytes: &[u8]) -> bool
         requires { self.old ≡ empty self.old.canton }
-        ensures canton { self.new.canton ≡ self.old.canton }
-        ensures limits { IsTally self.new }
-        ensures read { result ≡ true → (format : Format) × IsPayload format self.new bytes.now }
-        ensures refused { result ≡ false → (format : Format) (tally : Tally) → tally.canton ≡ self.old.canton → IsTally tally → IsPayload format tally bytes.now → ⊥ }
-        ensures empty { result ≡ false → self.new ≡ empty self.old.canton }
+        ensures { TakesPayload self.old bytes.now result self.new }
     {
         let is_read = self.count.decode(bytes);
         if is_read {
@@ -86,7 +81,7 @@ impl<'s> RunningCount<'s> {
 
     /// Applies a command, which has been judged and is accepted, to the count and its totals, and counts it.
     pub fn apply(&mut self, command: &Command<'_>)
-        requires desk { desk_of command.now ≤ last_desk Format.Two }
+        requires desk { named_desk command.now ≤ last_desk Format.Two }
         requires accept { judge self.old command.now ≡ Accept }
         requires room { self.old.accepted < 2 ^ 64 - 1 }
         ensures { self.new ≡ step self.old command.now }

@@ -25,11 +25,11 @@ impl<'s> Model for Totals<'s> {
 
     ghost Value = { VoteTotals };
 
-    ghost use Rattle.zh_totals.specs.Inside.{totals_in, IsInside};
+    ghost use Rattle.zh_totals.specs.Inside.{totals_in, AreTotalsInside};
 
     ghost view = { totals_in };
 
-    ghost invariant = { IsInside };
+    ghost invariant = { AreTotalsInside };
 }
 
 /// So many sums without votes.

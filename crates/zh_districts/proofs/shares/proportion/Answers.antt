@@ -22,13 +22,7 @@ returns c =
     let given = c.apportion.ensures in
     let weights = c.in_ok-weights.ensures ∙ (c.deref.ensures.value ∙ c.in_ok-persons.ensures.persons) in
     let house = c.house.ensures.house in
-    record {
-      seats = rw (weights, house) at given.seats;
-      divisor = rw weights at given.divisor;
-      rounds = rw weights at given.rounds;
-      tied = rw (weights, house) at given.tied;
-      limits = c.in_ok-persons.ensures.limits;
-    }
+    record { shares = rw (weights, house) at given; limits = c.in_ok-persons.ensures.limits }
 
 pub new-requires-clause-not_empty : goal.new-requires-clause-not_empty
 new-requires-clause-not_empty c = grind (arith, common_steps)

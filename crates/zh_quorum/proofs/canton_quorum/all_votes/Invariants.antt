@@ -1,5 +1,5 @@
 use Rattle.std.proofs.Common.{◌≡◌, ◌+◌}
-use Rattle.zh_totals.specs.Sums.{sum_to}
+use Rattle.zh_divisors.specs.Sums.{sum_to}
 use Rattle.zh_totals.specs.Totals.{constituency_votes}
 use Rattle.zh_quorum.proofs.canton_quorum.all_votes.Given as goal
 

@@ -1,5 +1,5 @@
 use Rattle.std.proofs.Common.{rules}
 use Rattle.zh_records.proofs.row_bytes.read_row.Goals as goal
 
-pub returns-else-row-eq0-clause-read : goal.returns-else-row-eq0-clause-read
-returns-else-row-eq0-clause-read c = search rules
+pub returns-else-row-eq0 : goal.returns-else-row-eq0
+returns-else-row-eq0 c = record { read = search rules; refused = tt }

@@ -34,20 +34,26 @@ fields_read bytes state desk n v whole fit es ed gap end en ev =
     ∙ ap (λ (d : ℕ). get_or bytes 0 0 ∷ d ∷ (take 2 (drop 2 bytes) ++ (take 4 (take 4 (drop 4 bytes)) ++ (take 4 (take 4 (drop 8 bytes)) ++ take 4 (drop 12 bytes))))) ed
     ∙ sixteen bytes whole
 
-pub returns-in-1-clause-read : goal.returns-in-1-clause-read
-returns-in-1-clause-read c = (
-  record { desk = omega (arith, c.last_desk.ensures); number = (omega arith, omega arith); votes = omega arith },
-  fields_read c.args.bytes.now 1 (get_or c.args.bytes.now 1 0) c.read_u32-number.result c.read_u32-votes.result c.requires (λ i. omega (arith, c.type_inv.bytes i)) (sym c.in-1.is) refl (sym c.is_zero.ensures ∙ c.if-not-is_zero.false) (sym c.is_zero-else-not-is_zero.ensures ∙ c.if-not-is_zero-2.false) c.read_u32-number.ensures c.read_u32-votes.ensures,
-)
+pub returns-in-1 : goal.returns-in-1
+returns-in-1 c = record {
+  read = (
+    record { desk = omega (arith, c.last_desk.ensures); number = (omega arith, omega arith); votes = omega arith },
+    fields_read c.args.bytes.now 1 (get_or c.args.bytes.now 1 0) c.read_u32-number.result c.read_u32-votes.result c.requires (λ i. omega (arith, c.type_inv.bytes i)) (sym c.in-1.is) refl (sym c.is_zero.ensures ∙ c.if-not-is_zero.false) (sym c.is_zero-else-not-is_zero.ensures ∙ c.if-not-is_zero-2.false) c.read_u32-number.ensures c.read_u32-votes.ensures,
+  );
+  refused = tt;
+}
 
-pub returns-in-2-clause-read : goal.returns-in-2-clause-read
-returns-in-2-clause-read c = (
-  record { desk = omega (arith, c.last_desk.ensures); number = (omega arith, omega arith); votes = tt },
-  fields_read c.args.bytes.now 2 (get_or c.args.bytes.now 1 0) c.read_u32-number.result 0 c.requires (λ i. omega (arith, c.type_inv.bytes i)) (sym c.in-2.is) refl (sym c.is_zero.ensures ∙ c.if-not-is_zero.false) (sym c.is_zero-else-not-is_zero.ensures ∙ c.if-not-is_zero-2.false) c.read_u32-number.ensures (sym c.if-votes-eq0-2.true ∙ c.read_u32-votes.ensures),
-)
+pub returns-in-2 : goal.returns-in-2
+returns-in-2 c = record {
+  read = (
+    record { desk = omega (arith, c.last_desk.ensures); number = (omega arith, omega arith); votes = tt },
+    fields_read c.args.bytes.now 2 (get_or c.args.bytes.now 1 0) c.read_u32-number.result 0 c.requires (λ i. omega (arith, c.type_inv.bytes i)) (sym c.in-2.is) refl (sym c.is_zero.ensures ∙ c.if-not-is_zero.false) (sym c.is_zero-else-not-is_zero.ensures ∙ c.if-not-is_zero-2.false) c.read_u32-number.ensures (sym c.if-votes-eq0-2.true ∙ c.read_u32-votes.ensures),
+  );
+  refused = tt;
+}
 
-pub returns-in-0-clause-read : goal.returns-in-0-clause-read
-returns-in-0-clause-read c = grind (arith, common_steps)
+pub returns-in-0 : goal.returns-in-0
+returns-in-0 c = record { read = grind (arith, common_steps); refused = tt }
 
-pub returns-in_default-3-clause-refused : goal.returns-in_default-3-clause-refused
-returns-in_default-3-clause-refused c = grind (arith, common_steps)
+pub returns-in_default-3 : goal.returns-in_default-3
+returns-in_default-3 c = record { read = tt; refused = grind (arith, common_steps) }

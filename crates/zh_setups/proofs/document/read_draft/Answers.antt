@@ -3,7 +3,7 @@ use Rattle.std.proofs.lemmas.List.{length-map}
 use Rattle.std.proofs.lemmas.Result.{err_from_is_err_and}
 use Rattle.toml.specs.View.{table_view}
 use Rattle.toml.specs.Data.{get_member}
-use Rattle.zh_setups.specs.Document.{◌>>=◌, number_within, each, values_at, constituency_of, municipality_of, group_of, quorum_of, setup_of}
+use Rattle.zh_setups.specs.Document.{◌>>=◌, number_within, each, values_at, constituency_from, municipality_from, group_from, quorum_of, setup_of}
 use Rattle.zh_setups.specs.Outcomes.{within_range}
 use Rattle.zh_districts.specs.Parts.{constituency, municipality, group}
 use Rattle.zh_setups.proofs.EachLemmas.{said_ok, fails_through}
@@ -14,7 +14,7 @@ pub overflow_cast-count : goal.overflow_cast-count
 overflow_cast-count c =
     let document = table_view c.args.document.now in
     let items = c.in_ok-constituencies.constituencies.items in
-    let read = constituencies_read document (map constituency items) (said_ok (values_at (codes "constituency") 32 document >>= each constituency_of) (map constituency items) c.in_ok-constituencies.ensures) in
+    let read = constituencies_read document (map constituency items) (said_ok (values_at (codes "constituency") 32 document >>= each constituency_from) (map constituency items) c.in_ok-constituencies.ensures) in
     omega (arith, read.few, length-map items constituency, c.len-count.ensures, c.in_ok-constituencies.constituencies.ok.0)
 
 pub returns-in_err-_version : goal.returns-in_err-_version
@@ -36,7 +36,7 @@ returns-in_err-constituencies c =
     let p = err_from_is_err_and c.from_residual-in_err-constituencies.result c.from_residual-in_err-constituencies.ensures.1 in
     let v = said_ok (get_member (codes "version") document >>= number_within 1 2) c.in_ok-_version._version c.in_ok-_version.ensures in
     let h = said_ok (get_member (codes "house") document >>= number_within 1 400) c.in_ok-house.house c.in_ok-house.ensures in
-    rw (p.1, p.2) (fails_through c.in_err-constituencies.field-0.0 (values_at (codes "constituency") 32 document >>= each constituency_of) (setup_of document) (λ none. rw (v, h, none) refl) c.in_err-constituencies.ensures)
+    rw (p.1, p.2) (fails_through c.in_err-constituencies.field-0.0 (values_at (codes "constituency") 32 document >>= each constituency_from) (setup_of document) (λ none. rw (v, h, none) refl) c.in_err-constituencies.ensures)
 
 pub returns-in_err-municipalities : goal.returns-in_err-municipalities
 returns-in_err-municipalities c =
@@ -46,9 +46,9 @@ returns-in_err-municipalities c =
     let p = err_from_is_err_and c.from_residual-in_err-municipalities.result c.from_residual-in_err-municipalities.ensures.1 in
     let v = said_ok (get_member (codes "version") document >>= number_within 1 2) c.in_ok-_version._version c.in_ok-_version.ensures in
     let h = said_ok (get_member (codes "house") document >>= number_within 1 400) c.in_ok-house.house c.in_ok-house.ensures in
-    let cs = said_ok (values_at (codes "constituency") 32 document >>= each constituency_of) (map constituency items) c.in_ok-constituencies.ensures in
+    let cs = said_ok (values_at (codes "constituency") 32 document >>= each constituency_from) (map constituency items) c.in_ok-constituencies.ensures in
     let len : length (map constituency items) ≡ n = omega (arith, length-map items constituency, c.len-count.ensures, c.in_ok-constituencies.constituencies.ok.0) in
-    rw (p.1, p.2) (fails_through c.in_err-municipalities.field-0.0 (values_at (codes "municipality") 512 document >>= each (municipality_of n)) (setup_of document) (no_municipalities document _ _ n _ v h cs len) c.in_err-municipalities.ensures)
+    rw (p.1, p.2) (fails_through c.in_err-municipalities.field-0.0 (values_at (codes "municipality") 512 document >>= each (municipality_from n)) (setup_of document) (no_municipalities document _ _ n _ v h cs len) c.in_err-municipalities.ensures)
 
 pub returns-in_err-groups : goal.returns-in_err-groups
 returns-in_err-groups c =
@@ -58,10 +58,10 @@ returns-in_err-groups c =
     let p = err_from_is_err_and c.from_residual-in_err-groups.result c.from_residual-in_err-groups.ensures.1 in
     let v = said_ok (get_member (codes "version") document >>= number_within 1 2) c.in_ok-_version._version c.in_ok-_version.ensures in
     let h = said_ok (get_member (codes "house") document >>= number_within 1 400) c.in_ok-house.house c.in_ok-house.ensures in
-    let cs = said_ok (values_at (codes "constituency") 32 document >>= each constituency_of) (map constituency items) c.in_ok-constituencies.ensures in
+    let cs = said_ok (values_at (codes "constituency") 32 document >>= each constituency_from) (map constituency items) c.in_ok-constituencies.ensures in
     let len : length (map constituency items) ≡ n = omega (arith, length-map items constituency, c.len-count.ensures, c.in_ok-constituencies.constituencies.ok.0) in
-    let ms = said_ok (values_at (codes "municipality") 512 document >>= each (municipality_of n)) (map municipality c.in_ok-municipalities.municipalities.items) c.in_ok-municipalities.ensures in
-    rw (p.1, p.2) (fails_through c.in_err-groups.field-0.0 (values_at (codes "group") 32 document >>= each (group_of n)) (setup_of document) (no_groups document _ _ n _ _ v h cs len ms) c.in_err-groups.ensures)
+    let ms = said_ok (values_at (codes "municipality") 512 document >>= each (municipality_from n)) (map municipality c.in_ok-municipalities.municipalities.items) c.in_ok-municipalities.ensures in
+    rw (p.1, p.2) (fails_through c.in_err-groups.field-0.0 (values_at (codes "group") 32 document >>= each (group_from n)) (setup_of document) (no_groups document _ _ n _ _ v h cs len ms) c.in_err-groups.ensures)
 
 pub returns-in_err-canton_quorum : goal.returns-in_err-canton_quorum
 returns-in_err-canton_quorum c =
@@ -71,10 +71,10 @@ returns-in_err-canton_quorum c =
     let p = err_from_is_err_and c.from_residual-in_err-canton_quorum.result c.from_residual-in_err-canton_quorum.ensures.1 in
     let v = said_ok (get_member (codes "version") document >>= number_within 1 2) c.in_ok-_version._version c.in_ok-_version.ensures in
     let h = said_ok (get_member (codes "house") document >>= number_within 1 400) c.in_ok-house.house c.in_ok-house.ensures in
-    let cs = said_ok (values_at (codes "constituency") 32 document >>= each constituency_of) (map constituency items) c.in_ok-constituencies.ensures in
+    let cs = said_ok (values_at (codes "constituency") 32 document >>= each constituency_from) (map constituency items) c.in_ok-constituencies.ensures in
     let len : length (map constituency items) ≡ n = omega (arith, length-map items constituency, c.len-count.ensures, c.in_ok-constituencies.constituencies.ok.0) in
-    let ms = said_ok (values_at (codes "municipality") 512 document >>= each (municipality_of n)) (map municipality c.in_ok-municipalities.municipalities.items) c.in_ok-municipalities.ensures in
-    let gs = said_ok (values_at (codes "group") 32 document >>= each (group_of n)) (map group c.in_ok-groups.groups.items) c.in_ok-groups.ensures in
+    let ms = said_ok (values_at (codes "municipality") 512 document >>= each (municipality_from n)) (map municipality c.in_ok-municipalities.municipalities.items) c.in_ok-municipalities.ensures in
+    let gs = said_ok (values_at (codes "group") 32 document >>= each (group_from n)) (map group c.in_ok-groups.groups.items) c.in_ok-groups.ensures in
     rw (p.1, p.2) (fails_through c.in_err-canton_quorum.field-0.0 (quorum_of (get_member (codes "canton_quorum") document)) (setup_of document) (no_quorum document _ _ n _ _ _ v h cs len ms gs) c.in_err-canton_quorum.ensures)
 
 pub returns : goal.returns
@@ -84,9 +84,9 @@ returns c =
     let n = c.len-count.result in
     let v = said_ok (get_member (codes "version") document >>= number_within 1 2) c.in_ok-_version._version c.in_ok-_version.ensures in
     let h = said_ok (get_member (codes "house") document >>= number_within 1 400) c.in_ok-house.house c.in_ok-house.ensures in
-    let cs = said_ok (values_at (codes "constituency") 32 document >>= each constituency_of) (map constituency items) c.in_ok-constituencies.ensures in
+    let cs = said_ok (values_at (codes "constituency") 32 document >>= each constituency_from) (map constituency items) c.in_ok-constituencies.ensures in
     let len : length (map constituency items) ≡ n = omega (arith, length-map items constituency, c.len-count.ensures, c.in_ok-constituencies.constituencies.ok.0) in
-    let ms = said_ok (values_at (codes "municipality") 512 document >>= each (municipality_of n)) (map municipality c.in_ok-municipalities.municipalities.items) c.in_ok-municipalities.ensures in
-    let gs = said_ok (values_at (codes "group") 32 document >>= each (group_of n)) (map group c.in_ok-groups.groups.items) c.in_ok-groups.ensures in
+    let ms = said_ok (values_at (codes "municipality") 512 document >>= each (municipality_from n)) (map municipality c.in_ok-municipalities.municipalities.items) c.in_ok-municipalities.ensures in
+    let gs = said_ok (values_at (codes "group") 32 document >>= each (group_from n)) (map group c.in_ok-groups.groups.items) c.in_ok-groups.ensures in
     let q = said_ok (quorum_of (get_member (codes "canton_quorum") document)) c.in_ok-canton_quorum.canton_quorum c.in_ok-canton_quorum.ensures in
     ap within_range (setup_read document _ _ n _ _ _ _ v h cs len ms gs q)

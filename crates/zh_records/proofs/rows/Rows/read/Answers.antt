@@ -12,25 +12,32 @@ use Rattle.zh_records.proofs.RowBytesLemmas.{length-rows_from, rows_spelled, row
 use Rattle.zh_records.proofs.rows.Rows.read.Goals as goal
 use Rattle.zh_records.proofs.rows.Rows.read.Goals.{then-bytes-count-via-then-bytes-count, then-bytes-count-via-else-bytes-count+then-count-eq0, then-bytes-count-via-else-bytes-count+else-count-eq0+then-count-gt-MOST_ROWS, then-not-are_numbered-via-then-not-are_numbered, then-not-are_numbered-via-else-not-are_numbered+then-not-have_own_keys}
 
-pub returns-then-bytes-count-clause-refused : goal.returns-then-bytes-count-clause-refused
-returns-then-bytes-count-clause-refused c = λ rows batch spelled.
-    let r = rows_are rows c.args.bytes.now batch.are_rows.speakable spelled in
-    elim c.then-bytes-count.branch [
-      | then-bytes-count-via-then-bytes-count w ↦ omega (arith, r.whole, batch.some, batch.are_rows.most)
-      | then-bytes-count-via-else-bytes-count+then-count-eq0 w ↦ omega (arith, r.whole, batch.some, batch.are_rows.most)
-      | then-bytes-count-via-else-bytes-count+else-count-eq0+then-count-gt-MOST_ROWS w ↦ omega (arith, r.whole, batch.some, batch.are_rows.most)
-    ]
+-- the bytes are those of no number of rows from 1 to 1,000
+pub returns-then-bytes-count : goal.returns-then-bytes-count
+returns-then-bytes-count c = record {
+  read = tt;
+  refused = λ rows batch spelled.
+      let r = rows_are rows c.args.bytes.now batch.are_rows.speakable spelled in
+      elim c.then-bytes-count.branch [
+        | then-bytes-count-via-then-bytes-count w ↦ omega (arith, r.whole, batch.some, batch.are_rows.most)
+        | then-bytes-count-via-else-bytes-count+then-count-eq0 w ↦ omega (arith, r.whole, batch.some, batch.are_rows.most)
+        | then-bytes-count-via-else-bytes-count+else-count-eq0+then-count-gt-MOST_ROWS w ↦ omega (arith, r.whole, batch.some, batch.are_rows.most)
+      ];
+}
 
-pub returns-then-not-are_numbered-clause-refused :
-    goal.returns-then-not-are_numbered-clause-refused
-returns-then-not-are_numbered-clause-refused c = λ rows batch spelled.
-    let r = rows_are rows c.args.bytes.now batch.are_rows.speakable spelled in
-    let speakable : All IsSpeakableRow (rows_in c.args.bytes.now) = subst (All IsSpeakableRow) (sym r.same) batch.are_rows.speakable in
-    let keys : IsDistinct (eq_by_cmp key_cmp) (map row_key (rows_in c.args.bytes.now)) = subst (λ (rs : List Row). IsDistinct (eq_by_cmp key_cmp) (map row_key rs)) (sym r.same) batch.are_rows.keys in
-    elim c.then-not-are_numbered.branch [
-      | then-not-are_numbered-via-then-not-are_numbered w ↦ both_ways c.are_numbered.result w.if-not-are_numbered.true (c.are_numbered.ensures.1 speakable)
-      | then-not-are_numbered-via-else-not-are_numbered+then-not-have_own_keys w ↦ both_ways w.have_own_keys.result w.if-not-have_own_keys.true (w.have_own_keys.ensures.1 keys)
-    ]
+-- a number is 0, or a key stands twice
+pub returns-then-not-are_numbered : goal.returns-then-not-are_numbered
+returns-then-not-are_numbered c = record {
+  read = tt;
+  refused = λ rows batch spelled.
+      let r = rows_are rows c.args.bytes.now batch.are_rows.speakable spelled in
+      let speakable : All IsSpeakableRow (rows_in c.args.bytes.now) = subst (All IsSpeakableRow) (sym r.same) batch.are_rows.speakable in
+      let keys : IsDistinct (eq_by_cmp key_cmp) (map row_key (rows_in c.args.bytes.now)) = subst (λ (rs : List Row). IsDistinct (eq_by_cmp key_cmp) (map row_key rs)) (sym r.same) batch.are_rows.keys in
+      elim c.then-not-are_numbered.branch [
+        | then-not-are_numbered-via-then-not-are_numbered w ↦ both_ways c.are_numbered.result w.if-not-are_numbered.true (c.are_numbered.ensures.1 speakable)
+        | then-not-are_numbered-via-else-not-are_numbered+then-not-have_own_keys w ↦ both_ways w.have_own_keys.result w.if-not-have_own_keys.true (w.have_own_keys.ensures.1 keys)
+      ];
+}
 
 -- the bytes are those of a batch
 are_batch : (c : goal.Else-not-have_own_keys) → IsBatch (rows_in c.args.bytes.now)
@@ -50,5 +57,5 @@ spelled_so c =
 pub invariant_of-result : goal.invariant_of-result
 invariant_of-result c = record { spelling = spelled_so c; batch = are_batch c }
 
-pub returns-clause-read : goal.returns-clause-read
-returns-clause-read c = (are_batch c, spelled_so c)
+pub returns : goal.returns
+returns c = record { read = (are_batch c, spelled_so c); refused = tt }

@@ -1,4 +1,4 @@
-use Rattle.std.proofs.Common.{◌≡◌, ◌∙◌, ℕ, List, Vec, Bool, false, Option, None, length, sym, ap, subst, arith}
+use Rattle.std.proofs.Common.{◌≡◌, ◌∙◌, ℕ, List, Vec, Bool, false, Option, None, length, sym, ap, subst, arith, rules}
 use Rattle.std.proofs.lemmas.Grind.{common_steps}
 use Rattle.std.specs.Vec.{with_items}
 use Rattle.std.proofs.lemmas.List.{with_items_is}
@@ -30,26 +30,26 @@ pub invariant_of-self-in-None : goal.invariant_of-self-in-None
 invariant_of-self-in-None c =
     let table_length = c.clear_entries.ensures.length ∙ c.deref_mut-in-None.ensures.len in
     let flags_length = c.clear_flags.ensures.length ∙ c.deref_mut-in-None-2.ensures.len in
-    let cleared = stands_for c.self.inside.setup.now c.self.inside.entries c.self.inside.closed c.read_tables.new.entries c.clear_entries.new.table c.read_tables.new.closed c.clear_flags.new.flags table_length flags_length c.clear_entries.ensures.absent c.clear_flags.ensures.unset in
+    let cleared = stands_for c.self.inside.setup.now c.self.inside.entries c.self.inside.closed c.read_tables.new.entries c.clear_entries.new.table c.read_tables.new.closed c.clear_flags.new.flags table_length flags_length c.clear_entries.ensures.blank c.clear_flags.ensures.blank in
     record {
       places = ap length (items_twice c.self.inside.entries c.read_tables.new.entries c.clear_entries.new.table table_length) ∙ table_length ∙ sym c.deref_mut.ensures.len ∙ ap length c.deref_mut.ensures.value ∙ c.self.invariant.places;
       flags = ap length (items_twice c.self.inside.closed c.read_tables.new.closed c.clear_flags.new.flags flags_length) ∙ flags_length ∙ sym c.deref_mut-2.ensures.len ∙ ap length c.deref_mut-2.ensures.value ∙ c.self.invariant.flags;
       tally = subst IsTally (sym cleared) (IsTally-empty c.self.inside.setup.now c.self.invariant.tally.canton);
     }
 
-pub returns-in-None-clause-limits : goal.returns-in-None-clause-limits
-returns-in-None-clause-limits c =
-    let cleared = stands_for c.self.inside.setup.now c.self.inside.entries c.self.inside.closed c.read_tables.new.entries c.clear_entries.new.table c.read_tables.new.closed c.clear_flags.new.flags (c.clear_entries.ensures.length ∙ c.deref_mut-in-None.ensures.len) (c.clear_flags.ensures.length ∙ c.deref_mut-in-None-2.ensures.len) c.clear_entries.ensures.absent c.clear_flags.ensures.unset in
-    subst IsTally (sym cleared) (IsTally-empty c.self.inside.setup.now c.self.invariant.tally.canton)
-
-pub returns-in-None-clause-empty : goal.returns-in-None-clause-empty
-returns-in-None-clause-empty c = λ _.
-    stands_for c.self.inside.setup.now c.self.inside.entries c.self.inside.closed c.read_tables.new.entries c.clear_entries.new.table c.read_tables.new.closed c.clear_flags.new.flags (c.clear_entries.ensures.length ∙ c.deref_mut-in-None.ensures.len) (c.clear_flags.ensures.length ∙ c.deref_mut-in-None-2.ensures.len) c.clear_entries.ensures.absent c.clear_flags.ensures.unset
-    ∙ ap (λ (t : Tally). empty t.canton) c.self.view_is
-
-pub returns-in-None-clause-refused : goal.returns-in-None-clause-refused
-returns-in-None-clause-refused c _ format tally canton is spelled =
-    c.in-None.ensures.refused format tally (canton ∙ sym (ap (λ (t : Tally). t.canton) c.self.view_is)) is spelled
+pub returns-in-None : goal.returns-in-None
+returns-in-None c = record {
+  canton = search rules;
+  limits =
+      let cleared = stands_for c.self.inside.setup.now c.self.inside.entries c.self.inside.closed c.read_tables.new.entries c.clear_entries.new.table c.read_tables.new.closed c.clear_flags.new.flags (c.clear_entries.ensures.length ∙ c.deref_mut-in-None.ensures.len) (c.clear_flags.ensures.length ∙ c.deref_mut-in-None-2.ensures.len) c.clear_entries.ensures.blank c.clear_flags.ensures.blank in
+      subst IsTally (sym cleared) (IsTally-empty c.self.inside.setup.now c.self.invariant.tally.canton);
+  read = search rules;
+  refused = λ _ format tally canton is spelled.
+      c.in-None.ensures.refused format tally (canton ∙ sym (ap (λ (t : Tally). t.canton) c.self.view_is)) is spelled;
+  empty = λ _.
+      stands_for c.self.inside.setup.now c.self.inside.entries c.self.inside.closed c.read_tables.new.entries c.clear_entries.new.table c.read_tables.new.closed c.clear_flags.new.flags (c.clear_entries.ensures.length ∙ c.deref_mut-in-None.ensures.len) (c.clear_flags.ensures.length ∙ c.deref_mut-in-None-2.ensures.len) c.clear_entries.ensures.blank c.clear_flags.ensures.blank
+      ∙ ap (λ (t : Tally). empty t.canton) c.self.view_is;
+}
 
 pub read_tables-requires : goal.read_tables-requires
 read_tables-requires c = record {
@@ -63,15 +63,18 @@ read_for : {Z : Type 0} (canton : Canton) (entries : Vec (Option Entry) Z) (clos
 read_for canton entries closed table flags accepted table_length flags_length =
     ap (λ (t : List (Option Entry)). tally_from canton t (with_items closed flags).items accepted) (with_items_is entries table table_length) ∙ ap (λ (f : List Bool). tally_from canton table f accepted) (with_items_is closed flags flags_length)
 
-pub returns-in-Some-clause-limits : goal.returns-in-Some-clause-limits
-returns-in-Some-clause-limits c =
-    let same = read_for c.self.inside.setup.now c.self.inside.entries c.self.inside.closed c.read_tables.new.entries c.read_tables.new.closed c.in-Some.accepted (c.read_tables.ensures.entries_length ∙ c.deref_mut.ensures.len) (c.read_tables.ensures.closed_length ∙ c.deref_mut-2.ensures.len) in
-    subst IsTally (sym same) c.in-Some.ensures.limits
-
-pub returns-in-Some-clause-read : goal.returns-in-Some-clause-read
-returns-in-Some-clause-read c = λ _.
-    let same = read_for c.self.inside.setup.now c.self.inside.entries c.self.inside.closed c.read_tables.new.entries c.read_tables.new.closed c.in-Some.accepted (c.read_tables.ensures.entries_length ∙ c.deref_mut.ensures.len) (c.read_tables.ensures.closed_length ∙ c.deref_mut-2.ensures.len) in
-    (c.in-Some.ensures.read.0, subst (λ (t : Tally). IsPayload c.in-Some.ensures.read.0 t c.args.bytes.now) (sym same) c.in-Some.ensures.read.1)
+pub returns-in-Some : goal.returns-in-Some
+returns-in-Some c = record {
+  canton = search rules;
+  limits =
+      let same = read_for c.self.inside.setup.now c.self.inside.entries c.self.inside.closed c.read_tables.new.entries c.read_tables.new.closed c.in-Some.accepted (c.read_tables.ensures.entries_length ∙ c.deref_mut.ensures.len) (c.read_tables.ensures.closed_length ∙ c.deref_mut-2.ensures.len) in
+      subst IsTally (sym same) c.in-Some.ensures.limits;
+  read = λ _.
+      let same = read_for c.self.inside.setup.now c.self.inside.entries c.self.inside.closed c.read_tables.new.entries c.read_tables.new.closed c.in-Some.accepted (c.read_tables.ensures.entries_length ∙ c.deref_mut.ensures.len) (c.read_tables.ensures.closed_length ∙ c.deref_mut-2.ensures.len) in
+      (c.in-Some.ensures.read.0, subst (λ (t : Tally). IsPayload c.in-Some.ensures.read.0 t c.args.bytes.now) (sym same) c.in-Some.ensures.read.1);
+  refused = search rules;
+  empty = search rules;
+}
 
 pub invariant_of-self : goal.invariant_of-self
 invariant_of-self c = grind (arith, common_steps)

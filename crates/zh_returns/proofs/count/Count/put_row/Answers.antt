@@ -1,5 +1,5 @@
 use Rattle.std.proofs.Common.{rules}
 use Rattle.zh_returns.proofs.count.Count.put_row.Goals as goal
 
-pub returns-clause-put : goal.returns-clause-put
-returns-clause-put g c = search rules
+pub returns : goal.returns
+returns g c = record { put = search rules; follows = search rules }
