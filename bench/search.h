@@ -1,5 +1,5 @@
-/* Lower apportionment in plain C: the search for divisors, written from its rule alone.
- * It is measured against the proved one, and shows that both give the same answers. */
+/* Lower apportionment in plain C: the two searches for divisors, written from their rules alone.
+ * They are measured against the proved ones, and show that both give the same answers. */
 #ifndef SEARCH_H
 #define SEARCH_H
 
@@ -28,6 +28,9 @@ uint64_t line(int n, const uint64_t *votes, const uint64_t *others, uint32_t tar
 
 /* The search, up to 1,000 rounds. */
 void find(const struct question *q, struct outcome *out);
+
+/* The second search, where the first is exhausted: 1 where there are seats and divisors. */
+int second_search(const struct question *q, struct outcome *out);
 
 /* Seats of a house in proportion to weights; 0 where they are tied. */
 int apportion(int n, const uint64_t *weights, uint32_t house, uint32_t *seats);

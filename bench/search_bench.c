@@ -1,7 +1,7 @@
-/* Runs the search on so many made-up elections of a shape: ROWS COLUMNS HOUSE ELECTIONS.
+/* Runs the searches on so many made-up elections of a shape: ROWS COLUMNS HOUSE ELECTIONS.
  *
- * It prints the answers, a number that the divisors and seats lead to, and the half-steps. The proved program prints
- * the first two. */
+ * It prints the answers, a number that the divisors and seats lead to, and, as errors, the half-steps and how many of the
+ * elections have their seats by the second search. The proved program prints the first two. */
 #include "search.h"
 
 #include <stdio.h>
@@ -53,14 +53,16 @@ int main(int argc, char **argv) {
     static struct question q;
     static struct outcome o;
     int answers[4] = {0};
-    long half_steps = 0;
+    long half_steps = 0, second = 0;
     uint64_t sum = 0;
     for (int election = 1; election <= elections; election++) {
         if (!make(&q, rows, columns, house, (uint64_t)election))
             continue;
         find(&q, &o);
-        answers[o.answer]++;
         half_steps += o.half_steps;
+        if (o.answer == EXHAUSTED)
+            second += second_search(&q, &o);
+        answers[o.answer]++;
         if (o.answer != FOUND)
             continue;
         for (int d = 0; d < rows; d++)
@@ -71,6 +73,6 @@ int main(int argc, char **argv) {
             sum = mixed(sum, o.seats[k]);
     }
     printf("%d found, %d tied, %d exhausted, %llu\n", answers[FOUND], answers[TIED], answers[EXHAUSTED], (unsigned long long)sum);
-    fprintf(stderr, "%ld\n", half_steps);
+    fprintf(stderr, "%ld %ld\n", half_steps, second);
     return 0;
 }

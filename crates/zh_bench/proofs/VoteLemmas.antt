@@ -1,7 +1,7 @@
 -- A matrix in which every cell has votes.
 use Rattle.std.proofs.Common.{ℕ, ◌+◌, ◌*◌, ◌<◌, ◌≤◌, List, All, length, get_or, arith}
 use Rattle.std.proofs.Math.Nat.{mul-le-mul_right}
-use Rattle.zh_lower.specs.Question.{VoteMatrix, IsVoteMatrix, EachColumnHasVotes, question}
+use Rattle.zh_matrices.specs.Question.{VoteMatrix, IsVoteMatrix, EachColumnHasVotes, question}
 use Rattle.zh_divisors.proofs.CallerLemmas.{term-le-sum_to}
 
 pub EachColumnHasVotes-cells : (matrix : VoteMatrix) (row_totals column_totals : List ℕ) → IsVoteMatrix matrix →

@@ -1,6 +1,6 @@
 //! Made-up elections.
 ghost use Rattle.std.specs.Prelude.{◌≡◌, ◌*◌, ◌^◌, ◌≤◌, All, IfOk, IfSome, IsTrue, length, vec_len};
-ghost use Rattle.zh_lower.specs.Question.{AreTotals};
+ghost use Rattle.zh_matrices.specs.Question.{AreSeatTotals};
 
 use crate::numbers::Numbers;
 use crate::shape::Shape;
@@ -55,7 +55,7 @@ fn sums_of(
 
 /// Whether these are totals of 1 to 400 seats, one for each of so many lines.
 fn are_totals(lines: usize, totals: &[u32]) -> bool
-    ensures { IsTrue result → AreTotals lines totals.now }
+    ensures { IsTrue result → AreSeatTotals lines totals.now }
 {
     totals.len() == lines && totals.iter().all(|seats| (1..=400).contains(seats))
 }
@@ -66,7 +66,7 @@ fn totals_of(alloc: Global, sums: &[u64], house: u32) -> Result<Option<Shares>, 
     requires few { length sums.now ≤ 32 }
     requires some_seat { 1 ≤ house }
     requires few_seats { house ≤ 400 }
-    ensures { IfOk result (λ totals. IfSome totals (λ shares. AreTotals (length sums.now) shares.seats)) }
+    ensures { IfOk result (λ totals. IfSome totals (λ shares. AreSeatTotals (length sums.now) shares.seats)) }
 {
     if !sums.iter().all(|sum| *sum <= 100_000_000_000_000) || !sums.iter().any(|sum| *sum > 0) {
         return Ok(None);

@@ -1,8 +1,7 @@
 pub mod CallerLemmas
-mod CellLemmas
-mod FilledLemmas
-mod LineLemmas
-mod OneAnswerLemmas
-mod PlaceLemmas
-mod StateLemmas
-mod SumLemmas
+mod ExtremeLemmas
+mod MiddleLemmas
+mod SeatingLemmas
+mod SecondLemmas
+mod ShownLemmas
+mod StepLemmas

@@ -1,9 +1,4 @@
-pub mod Asked
-pub mod Divisors
-pub mod Outcomes
-pub mod Places
-pub mod Question
-pub mod RoundingOf
-pub mod SeatMatrix
-pub mod States
+pub mod Seating
+pub mod Second
+pub mod SecondEnds
 pub mod Tables

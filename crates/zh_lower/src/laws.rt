@@ -1,13 +1,13 @@
 //! What is true of every lower apportionment.
 ghost use Rattle.std.specs.Prelude.{◌≡◌, ◌≢◌, ℕ, List};
-ghost use Rattle.zh_lower.specs.Divisors.{Divisors};
-ghost use Rattle.zh_lower.specs.Question.{Question};
-ghost use Rattle.zh_lower.specs.Outcomes.{IsReached};
-ghost use Rattle.zh_lower.specs.SeatMatrix.{IsStrict, IsWeak, SeatMatrix};
+ghost use Rattle.zh_matrices.specs.Divisors.{Divisors};
+ghost use Rattle.zh_matrices.specs.Question.{Question};
+ghost use Rattle.zh_lower.specs.Second.{IsShown};
+ghost use Rattle.zh_matrices.specs.SeatMatrix.{IsStrict, IsWeak, SeatMatrix};
 
 /// Where some divisors give seats with no quotient on a half, these are the seats under all divisors, of
 /// any scale, halves rounded either way. Where divisors give two different matrices, none is free of halves.
-/// Of the divisors that the search comes to, one pair alone gives seats.
+/// Of the divisors that are shown, one pair alone gives seats.
 pub fn one_answer()
     ensures one { (q : Question) (divisors other_divisors : Divisors) (seats other_seats : List ℕ) →
         IsStrict q divisors seats → IsWeak q other_divisors other_seats → other_seats ≡ seats }
@@ -15,8 +15,8 @@ pub fn one_answer()
         IsWeak q divisors seats → IsWeak q divisors other_seats → seats ≢ other_seats →
         (strict_divisors : Divisors) (strict_seats : List ℕ) → ¬ IsStrict q strict_divisors strict_seats }
 
-    // Of the divisors that the search comes to, one pair alone gives seats.
+    // Of the divisors that are shown, one pair alone gives seats.
     ensures reached { (q : Question) (one other : SeatMatrix) →
-        IsReached q one.divisors → IsStrict q one.divisors one.seats →
-        IsReached q other.divisors → IsStrict q other.divisors other.seats → other ≡ one }
+        IsShown q one.divisors → IsStrict q one.divisors one.seats →
+        IsShown q other.divisors → IsStrict q other.divisors other.seats → other ≡ one }
 {}

@@ -5,29 +5,21 @@
 //! their totals. Where some divisors do so without a half, no others lead to other seats.
 #![tactic(auto)]
 
-pub use certificates::{is_strict, is_weak};
 pub use fault::LowerFault;
 pub use laws::one_answer;
 pub use lower::Lower;
-pub use matrix::Matrix;
 pub use outcome::find;
+pub use zh_matrices::{Matrix, is_strict, is_weak};
 
-mod cells;
-mod certificates;
-mod cycles;
-mod end_test;
+mod cheapest_paths;
+mod extremes;
 mod fault;
-mod half_step;
+mod first_seats;
 mod laws;
+mod logarithms;
 mod lower;
-mod matrix;
+mod middle;
 mod outcome;
-mod paths;
-mod question;
-mod quotient;
-mod rounding;
-mod search;
+mod second;
 mod tables;
-mod totals;
-mod two_ways;
 mod votes;

@@ -1,7 +1,7 @@
 //! The seats that were found, with their divisors.
 ghost use Rattle.std.specs.Prelude.{◌≡◌, ◌-◌, ◌*◌, ◌≤◌, length, slice_index};
-ghost use Rattle.zh_lower.specs.Divisors.{millionths};
-ghost use Rattle.zh_lower.specs.SeatMatrix.{seats_of};
+ghost use Rattle.zh_matrices.specs.Divisors.{millionths};
+ghost use Rattle.zh_matrices.specs.SeatMatrix.{seats_of};
 
 use std::marker::Model;
 
@@ -16,8 +16,8 @@ pub struct Lower {
 
 impl Model for Lower {
     ghost use Rattle.std.specs.Prelude.{◌≡◌, ◌*◌, length};
-    ghost use Rattle.zh_lower.specs.Divisors.{millionths};
-    ghost use Rattle.zh_lower.specs.SeatMatrix.{SeatMatrix};
+    ghost use Rattle.zh_matrices.specs.Divisors.{millionths};
+    ghost use Rattle.zh_matrices.specs.SeatMatrix.{SeatMatrix};
 
     ghost Value = { SeatMatrix };
 

@@ -1,23 +1,30 @@
-//! The tables of a search.
+//! The tables of both searches.
 
-use crate::question::Question;
+use crate::logarithms::{Logarithms, ODDS};
 use std::alloc::{AllocError, Global};
+use zh_matrices::Question;
+use zh_search::Quotient;
 
-/// The divisors of a search, with the seats that they give. All its memory is taken at its start.
+/// The divisors of a search, with the seats that they give. The memory of both is taken before the first begins.
 #[derive(Drop)]
 pub(crate) struct Tables {
     pub row_divisors: Vec<u64>,
     pub column_divisors: Vec<u64>,
     /// The votes of a line.
     pub line: Vec<u64>,
+    /// The quotients of the cells.
+    pub quotients: Vec<Quotient>,
     pub seats: Vec<u32>,
     /// The seats that the same divisors give where halves are rounded otherwise.
     pub others: Vec<u32>,
+    /// The greatest columns that give some seats.
+    pub greatest: Vec<u64>,
+    pub logarithms: Logarithms,
 }
 
 impl Tables {
     ghost use Rattle.std.specs.Prelude.{IfOk};
-    ghost use Rattle.zh_lower.specs.Asked.{asked};
+    ghost use Rattle.zh_matrices.specs.Asked.{asked};
     ghost use Rattle.zh_lower.specs.Tables.{AreStarted};
 
     /// The tables of a search that has not begun: every column stands at 1.
@@ -29,8 +36,14 @@ impl Tables {
             row_divisors: vec![in alloc; 0; question.rows]?,
             column_divisors: vec![in alloc; 1_000_000; question.columns]?,
             line: vec![in alloc; 0; question.rows]?,
+            quotients: vec![in alloc; Quotient::NONE; cells]?,
             seats: vec![in alloc; 0; cells]?,
             others: vec![in alloc; 0; cells]?,
+            greatest: vec![in alloc; 0; question.columns]?,
+            logarithms: Logarithms {
+                of_votes: vec![in alloc; 0; cells]?,
+                of_odds: vec![in alloc; 0; ODDS]?,
+            },
         })
     }
 }

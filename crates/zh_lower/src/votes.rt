@@ -1,12 +1,12 @@
 //! Which rows have votes.
 ghost use Rattle.std.specs.Prelude.{◌<◌, ◌↔◌, IfNone, IfSome, IsTrue};
-ghost use Rattle.zh_lower.specs.Asked.{asked};
-ghost use Rattle.zh_lower.specs.Question.{EachRowHasVotes, HasVotes, IsFirstWithoutVotes, row_votes};
+ghost use Rattle.zh_matrices.specs.Asked.{asked};
+ghost use Rattle.zh_matrices.specs.Question.{EachRowHasVotes, HasVotes, IsFirstWithoutVotes, row_votes};
 
-use crate::question::Question;
+use zh_matrices::Question;
 
 /// Whether a row has a vote.
-#[tactic(auto, using(crate::proofs::SumLemmas::sum_steps))]
+#[tactic(auto, using(crate::proofs::StepLemmas::sum_steps))]
 fn row_has_votes(question: &Question<'_>, row: usize) -> bool
     requires { row < question.now.rows }
     ensures { IsTrue result ↔ HasVotes question.now.columns (row_votes (asked question.now) row) }

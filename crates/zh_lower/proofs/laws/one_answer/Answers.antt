@@ -1,4 +1,5 @@
-use Rattle.zh_lower.proofs.OneAnswerLemmas.{no_seats, only_matrix, only_seats}
+use Rattle.zh_matrices.proofs.CallerLemmas.{no_seats, only_seats}
+use Rattle.zh_lower.proofs.ShownLemmas.{only_shown}
 use Rattle.zh_lower.proofs.laws.one_answer.Goals as goal
 
 pub returns-clause-one : goal.returns-clause-one
@@ -8,4 +9,4 @@ pub returns-clause-tied : goal.returns-clause-tied
 returns-clause-tied c = no_seats
 
 pub returns-clause-reached : goal.returns-clause-reached
-returns-clause-reached c = only_matrix
+returns-clause-reached c = only_shown

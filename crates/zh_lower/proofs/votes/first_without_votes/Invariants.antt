@@ -1,6 +1,6 @@
 use Rattle.std.proofs.Common.{ℕ, ◌<◌}
-use Rattle.zh_lower.specs.Asked.{asked}
-use Rattle.zh_lower.specs.Question.{HasVotes, row_votes}
+use Rattle.zh_matrices.specs.Asked.{asked}
+use Rattle.zh_matrices.specs.Question.{HasVotes, row_votes}
 use Rattle.zh_lower.proofs.votes.first_without_votes.Given as goal
 
 abbrev pub invariant-loop-row : goal.invariant-loop-row

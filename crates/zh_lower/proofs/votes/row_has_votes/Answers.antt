@@ -1,7 +1,7 @@
 use Rattle.std.proofs.Common.{arith, refl}
 use Rattle.zh_divisors.proofs.CallerLemmas.{term-le-sum_to}
-use Rattle.zh_lower.specs.Asked.{asked}
-use Rattle.zh_lower.specs.Question.{row_votes}
+use Rattle.zh_matrices.specs.Asked.{asked}
+use Rattle.zh_matrices.specs.Question.{row_votes}
 use Rattle.zh_lower.proofs.votes.row_has_votes.Goals as goal
 
 pub returns-then-question-row-gt0 : goal.returns-then-question-row-gt0

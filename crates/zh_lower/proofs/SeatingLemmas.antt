@@ -1,0 +1,66 @@
+-- What each end of the two searches gives.
+use Rattle.std.proofs.Common.{◌≡◌, ℕ, ◌-◌, List, Result, Ok, Err, IfOk, refl, inl, inr, ap, arith}
+use Rattle.std.specs.Prelude.{IsErrOf}
+use Rattle.std.proofs.lemmas.Bool.{cases_order}
+use Rattle.zh_matrices.specs.Divisors.{AreWithinLimits, Divisors, millionths}
+use Rattle.zh_search.specs.Outcomes.{ComesToTie, IsProper}
+use Rattle.zh_matrices.specs.Question.{IsFirstWithoutVotes, Question}
+use Rattle.zh_matrices.specs.SeatMatrix.{IsStrict, IsWeak, SeatMatrix}
+use Rattle.zh_lower.specs.Seating.{HasFault, LowerOutcome}
+use Rattle.zh_lower.specs.Second.{IsShown}
+use Rattle.zh_lower.specs.declared.fault.LowerFault.{LowerFault}
+use Rattle.zh_lower.specs.declared.fault.LowerFault.TheVariants.{Memory, NoVotes, Tied}
+use Rattle.zh_matrices.proofs.CallerLemmas.{no_seats, only_seats}
+
+votes_there : (q : Question) → IsProper q → (d : ℕ) → ¬ IsFirstWithoutVotes q d
+votes_there q proper d first = first.none (proper.row_votes (d - 1) (omega (arith, first.from_1, first.there)))
+
+-- a fault of a question with votes in each row
+pub faulted : (q : Question) (fault : LowerFault) → IsProper q → HasFault q fault → LowerOutcome q (Err fault)
+faulted q fault proper has = record { seats = tt; fault = has; no_votes = λ d first. absurd (votes_there q proper d first) }
+
+-- the seats and divisors at hand
+pub seated : (q : Question) (lower : SeatMatrix) (seats of_rows of_columns : List ℕ) → IsProper q →
+    lower ≡ record { seats = seats; divisors = millionths of_rows of_columns } → IsStrict q (millionths of_rows of_columns) seats →
+    AreWithinLimits q of_rows of_columns → IsShown q (millionths of_rows of_columns) → LowerOutcome q (Ok lower)
+seated q lower seats of_rows of_columns proper is strict limits shown = record {
+  seats = rw is (record { strict = strict; in_millionths = refl; limits = limits; shown = shown });
+  fault = tt;
+  no_votes = λ d first. absurd (votes_there q proper d first);
+}
+
+same_row : (q : Question) (d e : ℕ) → IsFirstWithoutVotes q d → IsFirstWithoutVotes q e → d ≡ e
+same_row q d e D E = elim (cases_order d e) [
+  | inl same ↦ same
+  | inr (inl less) ↦ absurd (D.none (E.before (d - 1) (omega (arith, less, D.from_1))))
+  | inr (inr more) ↦ absurd (E.none (D.before (e - 1) (omega (arith, more, E.from_1))))
+]
+
+-- a row without votes is returned whatever memory does
+pub same_fault : (q : Question) (d e : ℕ) → IsFirstWithoutVotes q d → IsFirstWithoutVotes q e → IsErrOf {T = SeatMatrix} (Err (NoVotes d)) (NoVotes e)
+same_fault q d e D E = ap (λ row. Err (NoVotes row)) (same_row q d e D E)
+
+pub without_votes : (q : Question) (d : ℕ) → IsFirstWithoutVotes q d → LowerOutcome q (Err (NoVotes d))
+without_votes q d is = record { seats = tt; fault = is; no_votes = λ e first. inl (same_fault q d e is first) }
+
+-- memory can be refused before a row is looked at
+pub memory_refused : (q : Question) → LowerOutcome q (Err Memory)
+memory_refused q = record { seats = tt; fault = tt; no_votes = λ d first. inr refl }
+
+-- no other seats follow
+pub only_answer : (q : Question) (result : Result SeatMatrix LowerFault) → LowerOutcome q result →
+    IfOk result (λ lower. (x : Divisors) (seats : List ℕ) → IsWeak q x seats → seats ≡ lower.seats)
+only_answer q (Ok lower) found = λ x seats weak. only_seats q lower.divisors x lower.seats seats found.seats.strict weak
+only_answer q (Err fault) found = tt
+
+tied-none : (q : Question) (d g : ℕ) → ComesToTie q d g → (x : Divisors) (seats : List ℕ) → ¬ IsStrict q x seats
+tied-none q d g is =
+    let ways = is.tied.ways in
+    no_seats q is.divisors is.tied.seats is.tied.others ways.one_way ways.other_way ways.differ
+
+-- nor any strictly where some are tied
+pub no_answer : (q : Question) (result : Result SeatMatrix LowerFault) (d g : ℕ) → LowerOutcome q result → IsErrOf result (Tied d g) →
+    (x : Divisors) (seats : List ℕ) → ¬ IsStrict q x seats
+no_answer q result d g found is =
+    let found_tied : LowerOutcome q (Err (Tied d g)) = rw is at found in
+    tied-none q d g found_tied.fault

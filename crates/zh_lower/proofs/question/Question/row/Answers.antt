@@ -1,6 +1,0 @@
-use Rattle.std.proofs.Common.{arith}
-use Rattle.std.proofs.lemmas.Grind.{common_steps}
-use Rattle.zh_lower.proofs.question.Question.row.Goals as goal
-
-pub returns-clause-votes : goal.returns-clause-votes
-returns-clause-votes c = grind (arith, common_steps)

@@ -1,0 +1,29 @@
+-- What a lower apportionment gives: seats with the divisors that are shown, or why there are none.
+use Rattle.std.specs.Prelude.{◌≡◌, ℕ, ◌⊎◌, Result, IfOk, IfErr, IsErrOf}
+use Rattle.zh_matrices.specs.Divisors.{AreWithinLimits, millionths}
+use Rattle.zh_search.specs.Outcomes.{ComesToTie, NoneBefore}
+use Rattle.zh_matrices.specs.Question.{IsFirstWithoutVotes, Question}
+use Rattle.zh_matrices.specs.SeatMatrix.{IsStrict, SeatMatrix}
+use Rattle.zh_lower.specs.Second.{IsShown}
+use Rattle.zh_lower.specs.declared.fault.LowerFault.{LowerFault}
+use Rattle.zh_lower.specs.declared.fault.LowerFault.TheVariants.{Exhausted, Memory, NoVotes, Tied}
+
+-- seats that follow strictly from the divisors that are shown, which are in millionths and within the limits
+pub record IsSeating (q : Question) (lower : SeatMatrix) : Type 0 where
+  pub strict : IsStrict q lower.divisors lower.seats
+  pub in_millionths : lower.divisors ≡ millionths lower.divisors.of_rows lower.divisors.of_columns
+  pub limits : AreWithinLimits q lower.divisors.of_rows lower.divisors.of_columns
+  pub shown : IsShown q lower.divisors
+
+-- what is so where a fault is returned; memory can be refused at any time
+abbrev pub HasFault : Question → LowerFault → Type 0
+HasFault q Memory = Unit {0}
+HasFault q (NoVotes d) = IsFirstWithoutVotes q d
+HasFault q (Tied d g) = ComesToTie q d g
+HasFault q Exhausted = NoneBefore q 2001
+
+-- seats, or a fault that there is; a row without votes is always reported where memory is not refused
+pub record LowerOutcome (q : Question) (result : Result SeatMatrix LowerFault) : Type 0 where
+  pub seats : IfOk result (IsSeating q)
+  pub fault : IfErr result (HasFault q)
+  pub no_votes : (d : ℕ) → IsFirstWithoutVotes q d → IsErrOf result (NoVotes d) ⊎ IsErrOf result Memory

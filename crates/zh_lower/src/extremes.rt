@@ -1,0 +1,205 @@
+//! The least rows and the greatest columns among the divisors that give some seats.
+//!
+//! Rows stand at the least whole numbers, columns at the greatest, and move only as far as a cell makes them. So no
+//! row rises above, and no column falls below, what any divisors within the limits have that give these seats.
+ghost use Rattle.std.specs.Prelude.{◌≡◌, ℕ, ◌+◌, ◌-◌, ◌*◌, ◌^◌, ◌<◌, ◌≤◌, All, length};
+ghost use Rattle.zh_matrices.specs.Asked.{asked};
+ghost use Rattle.zh_matrices.specs.Divisors.{AreWithin};
+ghost use Rattle.zh_lower.specs.Second.{Enclose, IfOut, IsAbove, IsBelow, NoneGive};
+
+use zh_matrices::Question;
+
+const MOST_OF_ROW: u64 = 1_000_000_000_000_000_000;
+
+const ROUNDS: u32 = 1000;
+
+/// What becomes of lines that are moved.
+#[derive(Clone, Copy)]
+pub(crate) enum Move {
+    Still,
+    Moved,
+    /// One left its limits.
+    Out,
+}
+
+/// The least divisor of a row, from `divisor` on, under which a quotient is below the half above its seats.
+fn raised_by_cell(votes: u64, seats: u32, column: u64, divisor: u128) -> u128
+    requires votes { votes ≤ 10 ^ 14 }
+    requires seats { seats ≤ 400 }
+    requires from_1 { 1 ≤ column }
+    requires at_most { column ≤ 10 ^ 12 }
+    ensures at_least { divisor ≤ result }
+    ensures below { 2 * (votes * 10 ^ 12) < (2 * seats + 1) * (result * column) }
+    ensures least { (other : ℕ) → divisor ≤ other → 2 * (votes * 10 ^ 12) < (2 * seats + 1) * (other * column) → result ≤ other }
+{
+    let twice = 2 * (u128::from(votes) * 1_000_000_000_000);
+    let least = twice / ((2 * u128::from(seats) + 1) * u128::from(column)) + 1;
+    divisor.max(least)
+}
+
+/// The greatest divisor of a column, up to `divisor`, under which a quotient is above the half below its seats.
+fn lowered_by_cell(votes: u64, seats: u32, row: u64, divisor: u64) -> u64
+    requires votes { votes ≤ 10 ^ 14 }
+    requires seats { seats ≤ 400 }
+    requires from_1 { 1 ≤ row }
+    requires at_most { row ≤ 10 ^ 18 }
+    ensures at_most { result ≤ divisor }
+    ensures above { 1 ≤ result → 1 ≤ seats → (2 * seats - 1) * (row * result) < 2 * (votes * 10 ^ 12) }
+    ensures greatest { (other : ℕ) → other ≤ divisor →
+        (1 ≤ seats → (2 * seats - 1) * (row * other) < 2 * (votes * 10 ^ 12)) → other ≤ result }
+{
+    if seats == 0 {
+        return divisor;
+    }
+    let twice = 2 * (u128::from(votes) * 1_000_000_000_000);
+    let greatest = twice.saturating_sub(1) / ((2 * u128::from(seats) - 1) * u128::from(row));
+    greatest.min(u128::from(divisor)) as u64
+}
+
+/// The least divisor of a row, from `divisor` on, under which no quotient is above the half beyond its seats.
+fn raised(
+    question: &Question<'_>,
+    seats: &[u32],
+    of_columns: &[u64],
+    row: usize,
+    divisor: u64,
+) -> u128
+    requires columns { AreWithin question.now.columns (10 ^ 12) of_columns.now }
+    requires seats { length seats.now ≡ question.now.rows * question.now.columns }
+    requires few { All (λ s. s ≤ 400) seats.now }
+    requires row { row < question.now.rows }
+    ensures at_least { divisor ≤ result }
+    ensures below { IsBelow (asked question.now) seats.now of_columns.now row result }
+    ensures least { (other : ℕ) → divisor ≤ other → IsBelow (asked question.now) seats.now of_columns.now row other → result ≤ other }
+{
+    let mut least = u128::from(divisor);
+    for column in 0..question.columns {
+        let place = row * question.columns + column;
+        least = raised_by_cell(
+            question.votes[place],
+            seats[place],
+            of_columns[column],
+            least,
+        );
+    }
+    least
+}
+
+/// The greatest divisor of a column, up to `divisor`, under which no quotient is below the half before its seats; 0
+/// if there is none.
+fn lowered(
+    question: &Question<'_>,
+    seats: &[u32],
+    of_rows: &[u64],
+    column: usize,
+    divisor: u64,
+) -> u64
+    requires rows { AreWithin question.now.rows (10 ^ 18) of_rows.now }
+    requires seats { length seats.now ≡ question.now.rows * question.now.columns }
+    requires few { All (λ s. s ≤ 400) seats.now }
+    requires column { column < question.now.columns }
+    ensures at_most { result ≤ divisor }
+    ensures above { 1 ≤ result → IsAbove (asked question.now) seats.now of_rows.now column result }
+    ensures greatest { (other : ℕ) → other ≤ divisor → IsAbove (asked question.now) seats.now of_rows.now column other → other ≤ result }
+{
+    let mut greatest = divisor;
+    for row in 0..question.rows {
+        let place = row * question.columns + column;
+        greatest = lowered_by_cell(question.votes[place], seats[place], of_rows[row], greatest);
+    }
+    greatest
+}
+
+/// Raises each row as far as its cells ask for.
+fn raise_rows(
+    question: &Question<'_>,
+    seats: &[u32],
+    of_columns: &[u64],
+    of_rows: &mut [u64],
+) -> Move
+    requires columns { AreWithin question.now.columns (10 ^ 12) of_columns.now }
+    requires rows { AreWithin question.now.rows (10 ^ 18) of_rows.old }
+    requires seats { length seats.now ≡ question.now.rows * question.now.columns }
+    requires few { All (λ s. s ≤ 400) seats.now }
+    ensures rows { AreWithin question.now.rows (10 ^ 18) of_rows.new }
+    ensures enclose { (top : ℕ) → Enclose (asked question.now) top seats.now of_rows.old of_columns.now →
+        Enclose (asked question.now) top seats.now of_rows.new of_columns.now }
+    ensures out { IfOut result ((top : ℕ) → Enclose (asked question.now) top seats.now of_rows.old of_columns.now →
+        NoneGive (asked question.now) top seats.now) }
+{
+    let mut moved = false;
+    for row in 0..question.rows {
+        let divisor = raised(question, seats, of_columns, row, of_rows[row]);
+        if divisor > u128::from(MOST_OF_ROW) {
+            return Move::Out;
+        }
+        moved = moved || divisor != u128::from(of_rows[row]);
+        of_rows[row] = divisor as u64;
+    }
+    if moved { Move::Moved } else { Move::Still }
+}
+
+/// Lowers each column as far as its cells ask for.
+fn lower_columns(
+    question: &Question<'_>,
+    seats: &[u32],
+    of_rows: &[u64],
+    of_columns: &mut [u64],
+    top: u64,
+) -> Move
+    requires rows { AreWithin question.now.rows (10 ^ 18) of_rows.now }
+    requires columns { AreWithin question.now.columns top of_columns.old }
+    requires seats { length seats.now ≡ question.now.rows * question.now.columns }
+    requires few { All (λ s. s ≤ 400) seats.now }
+    ensures columns { AreWithin question.now.columns top of_columns.new }
+    ensures enclose { Enclose (asked question.now) top seats.now of_rows.now of_columns.old →
+        Enclose (asked question.now) top seats.now of_rows.now of_columns.new }
+    ensures out { IfOut result (Enclose (asked question.now) top seats.now of_rows.now of_columns.old →
+        NoneGive (asked question.now) top seats.now) }
+{
+    let mut moved = false;
+    for column in 0..question.columns {
+        let divisor = lowered(question, seats, of_rows, column, of_columns[column]);
+        if divisor == 0 {
+            return Move::Out;
+        }
+        moved = moved || divisor != of_columns[column];
+        of_columns[column] = divisor;
+    }
+    if moved { Move::Moved } else { Move::Still }
+}
+
+/// Takes rows at 1 and columns at the top, and moves them until nothing moves: what then stands still is least and
+/// greatest.
+pub(crate) fn settle(
+    question: &Question<'_>,
+    seats: &[u32],
+    top: u64,
+    of_rows: &mut [u64],
+    of_columns: &mut [u64],
+) -> Move
+    requires from_1 { 1 ≤ top }
+    requires at_most { top ≤ 10 ^ 12 }
+    requires rows { length of_rows.old ≡ question.now.rows }
+    requires columns { length of_columns.old ≡ question.now.columns }
+    requires seats { length seats.now ≡ question.now.rows * question.now.columns }
+    requires few { All (λ s. s ≤ 400) seats.now }
+    ensures rows { AreWithin question.now.rows (10 ^ 18) of_rows.new }
+    ensures columns { AreWithin question.now.columns top of_columns.new }
+    ensures enclose { Enclose (asked question.now) top seats.now of_rows.new of_columns.new }
+    ensures out { IfOut result (NoneGive (asked question.now) top seats.now) }
+{
+    of_rows.fill(1);
+    of_columns.fill(top);
+    for _round in 0..ROUNDS {
+        if let Move::Out = raise_rows(question, seats, of_columns, of_rows) {
+            return Move::Out;
+        }
+        match lower_columns(question, seats, of_rows, of_columns, top) {
+            Move::Moved => {}
+            Move::Still => return Move::Still,
+            Move::Out => return Move::Out,
+        }
+    }
+    Move::Moved
+}

@@ -1,0 +1,184 @@
+//! The second search: for seats that are found elsewhere, divisors in the middle of those that give them.
+ghost use Rattle.std.specs.Prelude.{◌≡◌, ℕ, ◌*◌, ◌^◌, ◌≤◌, ◌↔◌, All, IsTrue, List, length};
+ghost use Rattle.zh_matrices.specs.Asked.{asked};
+ghost use Rattle.zh_matrices.specs.Divisors.{AreWithin, AreWithinLimits, Divisors, millionths};
+ghost use Rattle.zh_search.specs.Outcomes.{IsProper};
+ghost use Rattle.zh_lower.specs.Second.{IsMiddle, IsSecond, middle_from};
+ghost use Rattle.zh_lower.specs.SecondEnds.{EndsWithin};
+ghost use Rattle.zh_matrices.specs.SeatMatrix.{IsStrict};
+
+use crate::cheapest_paths::seats_by_paths;
+use crate::extremes::{Move, settle};
+use crate::logarithms::{Logarithms, take_logarithms};
+use crate::middle::{middle, scale_down};
+use zh_matrices::{Question, Rounding, follows};
+
+const NARROW: u64 = 1_000_000_000;
+
+const WIDE: u64 = 1_000_000_000_000;
+
+/// What becomes of the search for divisors whose columns are within a top.
+#[derive(Clone, Copy)]
+pub(crate) enum Within {
+    Found,
+    /// None within the top give the seats.
+    Nowhere,
+    Unknown,
+}
+
+/// Whether the middle from these columns gives the seats.
+fn middle_gives(
+    question: &Question<'_>,
+    seats: &[u32],
+    of_rows: &mut [u64],
+    of_columns: &mut [u64],
+    votes: &mut [u64],
+) -> bool
+    requires proper { IsProper (asked question.now) }
+    requires seats { length seats.now ≡ question.now.rows * question.now.columns }
+    requires few { All (λ s. s ≤ 400) seats.now }
+    requires rows { length of_rows.old ≡ question.now.rows }
+    requires columns { AreWithin question.now.columns (10 ^ 12) of_columns.old }
+    requires votes { length votes.old ≡ question.now.rows }
+    ensures middle { millionths of_rows.new of_columns.new ≡ middle_from (asked question.now) of_columns.old }
+    ensures limits { AreWithinLimits (asked question.now) of_rows.new of_columns.new }
+    ensures gives { IsTrue result ↔ IsStrict (asked question.now) (millionths of_rows.new of_columns.new) seats.now }
+{
+    middle(question, of_rows, of_columns, votes);
+    follows(Rounding::Strict, question, of_rows, of_columns, seats)
+}
+
+/// Whether the middle from the greatest columns gives the only seats: at a smaller scale, or else from themselves.
+fn gives_from(
+    question: &Question<'_>,
+    seats: &[u32],
+    greatest: &[u64],
+    scale: u64,
+    of_rows: &mut [u64],
+    of_columns: &mut [u64],
+    votes: &mut [u64],
+) -> bool
+    requires proper { IsProper (asked question.now) }
+    requires seats { length seats.now ≡ question.now.rows * question.now.columns }
+    requires few { All (λ s. s ≤ 400) seats.now }
+    requires greatest { AreWithin question.now.columns (10 ^ 12) greatest.now }
+    requires scale { 1 ≤ scale }
+    requires rows { length of_rows.old ≡ question.now.rows }
+    requires columns { length of_columns.old ≡ question.now.columns }
+    requires votes { length votes.old ≡ question.now.rows }
+    requires only { (x : Divisors) (others : List ℕ) → IsStrict (asked question.now) x others → others ≡ seats.now }
+    ensures middle { IsTrue result → IsMiddle (asked question.now) scale greatest.now (millionths of_rows.new of_columns.new) }
+    ensures strict { IsTrue result → IsStrict (asked question.now) (millionths of_rows.new of_columns.new) seats.now }
+    ensures limits { AreWithinLimits (asked question.now) of_rows.new of_columns.new }
+{
+    scale_down(greatest, scale, of_columns);
+    if middle_gives(question, seats, of_rows, of_columns, votes) {
+        return true;
+    }
+    of_columns.copy_from_slice(greatest);
+    middle_gives(question, seats, of_rows, of_columns, votes)
+}
+
+/// The search for divisors that give these seats, with columns within a top. `greatest` takes the greatest columns.
+fn find_within(
+    question: &Question<'_>,
+    seats: &[u32],
+    top: u64,
+    of_rows: &mut [u64],
+    of_columns: &mut [u64],
+    greatest: &mut [u64],
+    votes: &mut [u64],
+) -> Within
+    requires proper { IsProper (asked question.now) }
+    requires from { 1000000 ≤ top }
+    requires at_most { top ≤ 10 ^ 12 }
+    requires seats { length seats.now ≡ question.now.rows * question.now.columns }
+    requires few { All (λ s. s ≤ 400) seats.now }
+    requires rows { length of_rows.old ≡ question.now.rows }
+    requires columns { length of_columns.old ≡ question.now.columns }
+    requires greatest { length greatest.old ≡ question.now.columns }
+    requires votes { length votes.old ≡ question.now.rows }
+    ensures { EndsWithin (asked question.now) top seats.now of_rows.new of_columns.new result }
+{
+    match settle(question, seats, top, of_rows, greatest) {
+        Move::Out => return Within::Nowhere,
+        Move::Moved => return Within::Unknown,
+        Move::Still => {}
+    }
+    if !follows(Rounding::Strict, question, of_rows, greatest, seats) {
+        return Within::Unknown;
+    }
+    let scale = top / 1_000_000;
+    if gives_from(question, seats, greatest, scale, of_rows, of_columns, votes) {
+        return Within::Found;
+    }
+    Within::Unknown
+}
+
+/// Whether there are divisors that give these seats, with columns within 1000, or within 1000000 only where no
+/// columns within 1000 do.
+fn find_divisors(
+    question: &Question<'_>,
+    seats: &[u32],
+    of_rows: &mut [u64],
+    of_columns: &mut [u64],
+    greatest: &mut [u64],
+    votes: &mut [u64],
+) -> bool
+    requires proper { IsProper (asked question.now) }
+    requires seats { length seats.now ≡ question.now.rows * question.now.columns }
+    requires few { All (λ s. s ≤ 400) seats.now }
+    requires rows { length of_rows.old ≡ question.now.rows }
+    requires columns { length of_columns.old ≡ question.now.columns }
+    requires greatest { length greatest.old ≡ question.now.columns }
+    requires votes { length votes.old ≡ question.now.rows }
+    ensures second { IsTrue result → IsSecond (asked question.now) (millionths of_rows.new of_columns.new) }
+    ensures strict { IsTrue result → IsStrict (asked question.now) (millionths of_rows.new of_columns.new) seats.now }
+    ensures limits { IsTrue result → AreWithinLimits (asked question.now) of_rows.new of_columns.new }
+{
+    match find_within(
+        question, seats, NARROW, of_rows, of_columns, greatest, votes,
+    ) {
+        Within::Found => true,
+        Within::Unknown => false,
+        Within::Nowhere => match find_within(
+            question, seats, WIDE, of_rows, of_columns, greatest, votes,
+        ) {
+            Within::Found => true,
+            _ => false,
+        },
+    }
+}
+
+/// Whether there are at most 400 seats in each cell.
+fn are_few(seats: &[u32]) -> bool
+    ensures { IsTrue result → All (λ s. s ≤ 400) seats.now }
+{
+    seats.iter().all(|s| *s <= 400)
+}
+
+/// Whether there are seats, which are looked for along cheapest paths, with divisors that give them.
+pub(crate) fn second_search(
+    question: &Question<'_>,
+    logarithms: &mut Logarithms,
+    seats: &mut [u32],
+    of_rows: &mut [u64],
+    of_columns: &mut [u64],
+    greatest: &mut [u64],
+    votes: &mut [u64],
+) -> bool
+    requires proper { IsProper (asked question.now) }
+    requires seats { length seats.old ≡ question.now.rows * question.now.columns }
+    requires rows { length of_rows.old ≡ question.now.rows }
+    requires columns { length of_columns.old ≡ question.now.columns }
+    requires greatest { length greatest.old ≡ question.now.columns }
+    requires votes { length votes.old ≡ question.now.rows }
+    ensures second { IsTrue result → IsSecond (asked question.now) (millionths of_rows.new of_columns.new) }
+    ensures strict { IsTrue result → IsStrict (asked question.now) (millionths of_rows.new of_columns.new) seats.new }
+    ensures limits { IsTrue result → AreWithinLimits (asked question.now) of_rows.new of_columns.new }
+{
+    take_logarithms(question, logarithms);
+    seats_by_paths(question, logarithms, seats)
+        && are_few(seats)
+        && find_divisors(question, seats, of_rows, of_columns, greatest, votes)
+}

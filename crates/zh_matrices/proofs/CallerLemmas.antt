@@ -1,0 +1,6 @@
+-- What the crates above may use.
+pub use Rattle.zh_matrices.proofs.CellLemmas.{one_if}
+pub use Rattle.zh_matrices.proofs.MatrixPlaceLemmas.{column_of, place-div, place-mod, positive_place, row_of}
+pub use Rattle.zh_matrices.proofs.OneAnswerLemmas.{no_seats, only_seats, weakened}
+pub use Rattle.zh_matrices.proofs.SumLemmas.{same_terms, total-swap}
+pub use Rattle.zh_matrices.proofs.TwoRoundingLemmas.{Separates, same_seats}

@@ -1,0 +1,53 @@
+-- One cell under two sets of divisors.
+use Rattle.std.proofs.Common.{◌≡◌, ℕ, ◌+◌, ◌-◌, ◌*◌, ◌<◌, ◌≤◌, Bool, true, false, cond, inl, inr, refl, arith}
+use Rattle.std.proofs.lemmas.Bool.{cases_lt}
+use Rattle.std.proofs.Math.Nat.{mul-le-mul_left, mul-le-mul_right, mul-lt-mul_of_pos_right, mul-le-mul, le_of_mul-le-mul_left, mul-pos}
+use Rattle.zh_divisors.specs.Rounding.{Rounds}
+use Rattle.zh_matrices.specs.SeatMatrix.{MayRound}
+
+-- a larger divisor gives no more
+pub fewer : (v k k' p p' s s' : ℕ) → 0 < k' → Rounds (v * k) p s → MayRound (v * k') p' s' →
+    p * k' ≤ p' * k → s' ≤ s
+fewer v k k' p p' s s' pos h h' le =
+    elim (cases_lt s s') [
+      | inl lt ↦
+          let a : (2 * s' - 1) * p' * k ≤ 2 * (v * k') * k = mul-le-mul_right k (h'.from_lower (omega arith)) in
+          let b : 2 * (v * k) * k' < (2 * s + 1) * p * k' = mul-lt-mul_of_pos_right h.below_upper pos in
+          let c : (2 * s + 1) * (p * k') ≤ (2 * s + 1) * (p' * k) = mul-le-mul_left (2 * s + 1) le in
+          let d : (2 * s + 1) * (p' * k) ≤ (2 * s' - 1) * (p' * k) = mul-le-mul_right (p' * k) (omega arith) in
+          absurd (omega arith)
+      | inr le ↦ le
+    ]
+
+-- a smaller divisor gives no fewer
+pub more : (v k k' p p' s s' : ℕ) → 0 < k' → Rounds (v * k) p s → MayRound (v * k') p' s' →
+    p' * k ≤ p * k' → s ≤ s'
+more v k k' p p' s s' pos h h' le =
+    elim (cases_lt s' s) [
+      | inl lt ↦
+          let a : (2 * s - 1) * p * k' < 2 * (v * k) * k' = mul-lt-mul_of_pos_right (h.above_lower (omega arith)) pos in
+          let b : 2 * (v * k') * k ≤ (2 * s' + 1) * p' * k = mul-le-mul_right k h'.to_upper in
+          let c : (2 * s' + 1) * (p' * k) ≤ (2 * s' + 1) * (p * k') = mul-le-mul_left (2 * s' + 1) le in
+          let d : (2 * s' + 1) * (p * k') ≤ (2 * s - 1) * (p * k') = mul-le-mul_right (p * k') (omega arith) in
+          absurd (omega arith)
+      | inr le ↦ le
+    ]
+
+-- ratios in a chain
+pub chain : (a a' b b' u w : ℕ) → 0 < a → 0 < a' → a' * b ≤ b' * a → a * u ≤ a' * w → b * u ≤ b' * w
+chain a a' b b' u w p q h k =
+    let e : (a' * b) * (a * u) ≤ (b' * a) * (a' * w) = mul-le-mul h k in
+    let f : (a * a') * (b * u) ≤ (a * a') * (b' * w) = omega arith in
+    le_of_mul-le-mul_left f (mul-pos p q)
+
+-- 1 for yes and 0 for no
+abbrev pub one_if : Bool → ℕ
+one_if b = cond b 1 0
+
+pub weighed : (a b : Bool) (s t : ℕ) →
+    (a ≡ true → b ≡ false → t ≤ s) → (a ≡ false → b ≡ true → s ≤ t) →
+    one_if a * t + one_if b * s ≤ one_if a * s + one_if b * t
+weighed true true s t h k = omega arith
+weighed true false s t h k = omega (arith, h refl refl)
+weighed false true s t h k = omega (arith, k refl refl)
+weighed false false s t h k = omega arith

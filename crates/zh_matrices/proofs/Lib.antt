@@ -1,0 +1,6 @@
+pub mod CallerLemmas
+mod CellLemmas
+mod MatrixPlaceLemmas
+mod OneAnswerLemmas
+mod SumLemmas
+mod TwoRoundingLemmas

@@ -1,0 +1,12 @@
+-- What a borrowed question of the code asks.
+use Rattle.zh_matrices.specs.Question.{Question}
+use Rattle.zh_matrices.specs.declared.question.Question as borrowed
+
+abbrev pub asked : borrowed.Question → Question
+asked q = record {
+  rows = q.rows;
+  columns = q.columns;
+  votes = q.votes.now;
+  row_totals = q.row_totals.now;
+  column_totals = q.column_totals.now;
+}

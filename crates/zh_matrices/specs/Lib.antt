@@ -1,0 +1,6 @@
+pub mod Asked
+pub mod Divisors
+pub mod NearlyTied
+pub mod Question
+pub mod RoundingOf
+pub mod SeatMatrix

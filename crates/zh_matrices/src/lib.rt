@@ -1,0 +1,15 @@
+//! Matrices of votes with the seats that their rows and columns are to get, and which seats follow from them under
+//! divisors (GPR section 104). It needs no search: who has the seats and the divisors can test them.
+#![tactic(auto)]
+
+pub use certificates::{follows, is_strict, is_weak};
+pub use matrix::Matrix;
+pub use question::Question;
+pub use rounding::Rounding;
+pub use totals::{column_sum, row_sum};
+
+mod certificates;
+mod matrix;
+mod question;
+mod rounding;
+mod totals;

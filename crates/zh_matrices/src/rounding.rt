@@ -1,0 +1,80 @@
+//! Whether a quotient rounds to a number of seats, tested by cross products below 2^127.
+ghost use Rattle.std.specs.Prelude.{◌+◌, ◌*◌, ◌^◌, ◌≤◌, ◌↔◌, IsTrue};
+ghost use Rattle.zh_divisors.specs.Rounding.{Rounds};
+ghost use Rattle.zh_matrices.specs.NearlyTied.{NearlyRounds};
+ghost use Rattle.zh_matrices.specs.RoundingOf.{RoundsBy};
+ghost use Rattle.zh_matrices.specs.SeatMatrix.{MayRound};
+
+/// What becomes of a quotient on a half.
+#[derive(Clone, Copy)]
+pub enum Rounding {
+    /// It rounds to no number.
+    Strict,
+    /// It rounds to the number below it and to the one above.
+    Weak,
+    /// So does a quotient that passes a half by at most the factor 131073 / 131072 = 1 + 2^-17.
+    Near,
+}
+
+/// Whether a quotient of votes and a product of divisors rounds to the seats, and lies on no half.
+fn rounds(votes: u128, product: u128, seats: u128) -> bool
+    requires votes { votes ≤ 10 ^ 26 }
+    requires product { product ≤ 10 ^ 30 }
+    requires seats { seats ≤ 400 }
+    ensures { IsTrue result ↔ Rounds votes product seats }
+{
+    if 2 * votes >= (2 * seats + 1) * product {
+        return false;
+    }
+    seats == 0 || (2 * seats - 1) * product < 2 * votes
+}
+
+/// Whether it rounds to the seats, where a half may go either way.
+fn may_round(votes: u128, product: u128, seats: u128) -> bool
+    requires votes { votes ≤ 10 ^ 26 }
+    requires product { product ≤ 10 ^ 30 }
+    requires seats { seats ≤ 400 }
+    ensures { IsTrue result ↔ MayRound votes product seats }
+{
+    if 2 * votes > (2 * seats + 1) * product {
+        return false;
+    }
+    seats == 0 || (2 * seats - 1) * product <= 2 * votes
+}
+
+/// Whether it lies at most the factor beyond the halves around the seats.
+fn nearly_rounds(votes: u128, product: u128, seats: u128) -> bool
+    requires votes { votes ≤ 10 ^ 26 }
+    requires product { product ≤ 10 ^ 30 }
+    requires seats { seats ≤ 400 }
+    ensures { IsTrue result ↔ NearlyRounds votes product seats }
+{
+    if 131_072 * (2 * votes) > 131_073 * ((2 * seats + 1) * product) {
+        return false;
+    }
+    seats == 0 || 131_072 * ((2 * seats - 1) * product) <= 131_073 * (2 * votes)
+}
+
+/// Whether the votes of a cell over its two divisors, in millionths, round to its seats.
+pub(crate) fn rounds_by(
+    rounding: Rounding,
+    votes: u64,
+    row_divisor: u64,
+    column_divisor: u64,
+    seats: u32,
+) -> bool
+    requires votes { votes ≤ 10 ^ 14 }
+    requires row { row_divisor ≤ 10 ^ 18 }
+    requires column { column_divisor ≤ 10 ^ 12 }
+    requires seats { seats ≤ 400 }
+    ensures { IsTrue result ↔ RoundsBy rounding (votes * (1000000 * 1000000)) (row_divisor * column_divisor) seats }
+{
+    let votes = u128::from(votes) * 1_000_000_000_000;
+    let product = u128::from(row_divisor) * u128::from(column_divisor);
+    let seats = u128::from(seats);
+    match rounding {
+        Rounding::Strict => rounds(votes, product, seats),
+        Rounding::Weak => may_round(votes, product, seats),
+        Rounding::Near => nearly_rounds(votes, product, seats),
+    }
+}

@@ -1,0 +1,40 @@
+-- Why no seats exist under any divisors: rows whose votes lie in columns that have fewer seats than they.
+use Rattle.std.specs.Prelude.{◌≡◌, ℕ, ◌*◌, ◌<◌, Bool, false, nat_lt, if◌then◌else◌, List, length, slice_index, slice_index_or}
+use Rattle.zh_divisors.specs.Sums.{sum_to}
+use Rattle.zh_matrices.specs.Question.{Question, cell}
+use Rattle.zh_matrices.specs.SeatMatrix.{ColumnsAddUp, RowsAddUp}
+
+-- no seats where there are no votes
+abbrev pub AreOnVotes : Question → List ℕ → Type 0
+AreOnVotes q seats = (d g : ℕ) → d < q.rows → g < q.columns → cell q.columns q.votes d g ≡ 0 → cell q.columns seats d g ≡ 0
+
+-- a matrix on these votes with these totals
+pub record FitsVotes (q : Question) (seats : List ℕ) : Type 0 where
+  pub one_each : length seats ≡ q.rows * q.columns
+  pub rows_add_up : RowsAddUp q seats
+  pub columns_add_up : ColumnsAddUp q seats
+  pub on_votes : AreOnVotes q seats
+
+-- there is such a matrix
+abbrev pub IsPossible : Question → Type 0
+IsPossible q = (seats : List ℕ) × FitsVotes q seats
+
+-- row d, counted from 0, is among these
+abbrev pub is_among : List Bool → ℕ → Bool
+is_among rows d = slice_index_or rows d false
+
+-- the votes of these rows in column g
+abbrev pub votes_among : Question → List Bool → ℕ → ℕ
+votes_among q rows g = sum_to q.rows (λ d. if is_among rows d then cell q.columns q.votes d g else 0)
+
+-- the seats that these rows are to get
+abbrev pub seats_due : Question → List Bool → ℕ
+seats_due q rows = sum_to q.rows (λ d. if is_among rows d then slice_index q.row_totals d else 0)
+
+-- the seats of the columns in which they have votes
+abbrev pub seats_there : Question → List Bool → ℕ
+seats_there q rows = sum_to q.columns (λ g. if nat_lt 0 (votes_among q rows g) then slice_index q.column_totals g else 0)
+
+-- the votes of these rows lie in columns that have fewer seats than they
+abbrev pub HasTooFewSeats : Question → List Bool → Type 0
+HasTooFewSeats q rows = seats_there q rows < seats_due q rows

@@ -1,0 +1,4 @@
+pub mod Candidates
+pub mod Explained
+pub mod Impossible
+pub mod Ways

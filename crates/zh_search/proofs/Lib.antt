@@ -1,0 +1,7 @@
+pub mod CallerLemmas
+mod FilledLemmas
+mod LineLemmas
+mod PlaceLemmas
+mod QuotientLemmas
+mod ReachedLemmas
+mod StateLemmas

@@ -1,0 +1,9 @@
+use Rattle.std.proofs.Common.{refl, sym}
+use Rattle.zh_search.proofs.PlaceLemmas.{IsFirstHalf-of, IsFirstHalfPlace-of}
+use Rattle.zh_matrices.specs.Asked.{asked}
+use Rattle.zh_matrices.specs.Divisors.{millionths}
+use Rattle.zh_search.proofs.cells.first_half.Goals as goal
+
+pub returns-in-Some : goal.returns-in-Some
+returns-in-Some c = λ of_rows of_columns is. IsFirstHalf-of _ _ c.in-Some.place _ _ refl
+    (IsFirstHalfPlace-of (asked c.args.question.now) (millionths of_rows of_columns) c.args.quotients.now c.in-Some.place is (sym c.in-Some.ensures)) refl refl

@@ -1,0 +1,4 @@
+pub mod Outcomes
+pub mod Places
+pub mod Quotients
+pub mod States

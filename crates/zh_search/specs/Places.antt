@@ -1,0 +1,49 @@
+-- The cells of a matrix by their places, row by row, under divisors in millionths.
+use Rattle.std.specs.Prelude.{◌≡◌, ℕ, ◌*◌, ◌/◌, ◌%◌, ◌^◌, ◌<◌, min, Bool, false, IsTrue, List, map, length, slice_index}
+use Rattle.std.specs.List.{range_with_len}
+use Rattle.zh_divisors.specs.Line.{half_up}
+use Rattle.zh_matrices.specs.Divisors.{Divisors}
+use Rattle.zh_matrices.specs.Question.{Question}
+use Rattle.zh_search.specs.States.{is_half}
+use Rattle.zh_search.specs.declared.quotient.Quotient.{Quotient}
+
+-- the product of the two divisors of a place
+abbrev pub product_at : Question → Divisors → ℕ → ℕ
+product_at q x place = slice_index x.of_rows (place / q.columns) * slice_index x.of_columns (place % q.columns)
+
+-- its quotient rounded half up, and 400 where it is more
+abbrev pub rounded_at : Question → Divisors → ℕ → ℕ
+rounded_at q x place = min 400 (half_up (slice_index q.votes place * 10 ^ 12) (product_at q x place))
+
+abbrev pub is_half_at : Question → Divisors → ℕ → Bool
+is_half_at q x place = is_half (slice_index q.votes place * 10 ^ 12) (product_at q x place)
+
+-- its quotient, rounded half up, and whether it lies on a half
+abbrev pub quotient_at : Question → Divisors → ℕ → Quotient
+quotient_at q x place = record {
+  rounded = half_up (slice_index q.votes place * 10 ^ 12) (product_at q x place);
+  is_half = is_half_at q x place;
+}
+
+-- in place of one that is not there
+abbrev pub no_quotient : Quotient
+no_quotient = record { rounded = 0; is_half = false }
+
+abbrev pub quotients : Question → Divisors → List Quotient
+quotients q x = map (quotient_at q x) (range_with_len 0 (q.rows * q.columns))
+
+abbrev pub rounded : Question → Divisors → List ℕ
+rounded q x = map (rounded_at q x) (range_with_len 0 (q.rows * q.columns))
+
+-- the first place on a half
+pub record IsFirstHalfPlace (q : Question) (x : Divisors) (place : ℕ) : Type 0 where
+  pub within : place < q.rows * q.columns
+  pub half : IsTrue (is_half_at q x place)
+  pub before : (k : ℕ) → k < place → ¬ IsTrue (is_half_at q x k)
+
+-- room for the votes of a column, for the quotients, and for two matrices of seats
+pub record IsRoom (q : Question) (line : List ℕ) (quotients : List Quotient) (seats others : List ℕ) : Type 0 where
+  pub line_length : length line ≡ q.rows
+  pub quotients_length : length quotients ≡ q.rows * q.columns
+  pub seats_length : length seats ≡ q.rows * q.columns
+  pub others_length : length others ≡ q.rows * q.columns
