@@ -10,7 +10,7 @@ use Rattle.std.proofs.lemmas.List.Sums.{get_or-le-sum_by, sum_by-le}
 use Rattle.std.proofs.lemmas.Option.{slice_get-get_or}
 use Rattle.zh_divisors.proofs.CallerLemmas.{term-le-sum_to}
 use Rattle.zh_districts.specs.Canton.{IsCanton}
-use Rattle.zh_lower.specs.Question.{AreTotals, EachColumnHasVotes, column_votes}
+use Rattle.zh_matrices.specs.Question.{AreSeatTotals, EachColumnHasVotes, column_votes}
 use Rattle.zh_quorum.specs.Quorum.{TakesPart}
 use Rattle.zh_quorum.proofs.CallerLemmas.{HasVotes, has_votes}
 use Rattle.zh_totals.specs.Totals as totals
@@ -58,7 +58,7 @@ length-voters t a = a.sums.one_each
 pub length-upper : (t : VoteTotals) (a : Targets t) → length a.upper ≡ length t.canton.groups
 length-upper t a = a.groups.one_each ∙ a.sums.one_each
 
-length-taking : (t : VoteTotals) (a : Targets t) → length a.upper ≡ length a.taking
+pub length-taking : (t : VoteTotals) (a : Targets t) → length a.upper ≡ length a.taking
 length-taking t a = length-upper t a ∙ sym a.participation.one_each
 
 test_cases : (b : Bool) → (b ≡ true) ⊎ (b ≡ false)
@@ -123,7 +123,7 @@ column_has_votes t a k lt =
     = at_seated_votes t a.upper (has.d - 1) k row lt ∙ ap (λ d. votes_in t d g) number in
     omega (arith, votes, has.some_votes, term-le-sum_to (length t.canton.constituencies) (column_votes (lower_question t a.seats a.upper) k) (has.d - 1) row)
 
-row_totals : (t : VoteTotals) (a : Targets t) → IsCanton t.canton → AreTotals (length t.canton.constituencies) a.seats
+row_totals : (t : VoteTotals) (a : Targets t) → IsCanton t.canton → AreSeatTotals (length t.canton.constituencies) a.seats
 row_totals t a canton = record {
   one_each = a.constituencies.in_proportion.one_each ∙ length-map t.canton.constituencies (λ x. x.persons);
   from_1 = All-from_get_or (λ s. 1 ≤ s) a.seats 0 a.constituencies.each;
@@ -131,7 +131,7 @@ row_totals t a canton = record {
 }
 
 column_totals : (t : VoteTotals) (a : Targets t) → IsCanton t.canton →
-    AreTotals (length (seated_groups a.upper)) (map (λ g. get_or a.upper (g - 1) 0) (seated_groups a.upper))
+    AreSeatTotals (length (seated_groups a.upper)) (map (λ g. get_or a.upper (g - 1) 0) (seated_groups a.upper))
 column_totals t a canton = record {
   one_each = length-map (seated_groups a.upper) (λ g. get_or a.upper (g - 1) 0);
   from_1 = All-map (λ s. 1 ≤ s) (λ g. get_or a.upper (g - 1) 0) (seated_groups a.upper) (λ k d lt. (seated_are a.upper k d lt).seated);

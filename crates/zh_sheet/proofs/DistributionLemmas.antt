@@ -1,5 +1,5 @@
 -- Which answer each part below leads to.
-use Rattle.std.proofs.Common.{◌≡◌, ℕ, ◌+◌, ◌-◌, ◌<◌, ◌≤◌, ◌↔◌, Bool, true, false, All, List, length, get_or, Result, Ok, Err, IfOk, refl, inl, inr, ap, sym, ◌∙◌, subst, arith}
+use Rattle.std.proofs.Common.{◌≡◌, ℕ, ◌+◌, ◌-◌, ◌<◌, ◌≤◌, Bool, true, false, All, List, length, get_or, Result, Ok, Err, refl, inl, inr, ap, sym, ◌∙◌, subst, arith}
 use Rattle.std.specs.Prelude.{IsErrOf}
 use Rattle.std.proofs.lemmas.List.{get_or_default}
 use Rattle.zh_districts.specs.Seats.{AreSeats, IsFirstWithout, persons}
@@ -7,10 +7,9 @@ use Rattle.zh_districts.specs.declared.shares.SeatFault.{SeatFault}
 use Rattle.zh_districts.specs.declared.shares.SeatFault.TheVariants as seat_faults
 use Rattle.zh_divisors.specs.Fit as fits
 use Rattle.zh_divisors.specs.Shares.{Apportionment}
-use Rattle.zh_lower.specs.Divisors.{AreWithinLimits, millionths}
-use Rattle.zh_lower.specs.Outcomes.{IsReached, IsTied, NoneBefore}
-use Rattle.zh_lower.specs.Question.{IsFirstWithoutVotes, Question}
-use Rattle.zh_lower.specs.SeatMatrix.{IsStrict, SeatMatrix}
+use Rattle.zh_matrices.specs.Question.{IsFirstWithoutVotes}
+use Rattle.zh_matrices.specs.SeatMatrix.{IsStrict, SeatMatrix}
+use Rattle.zh_lower.specs.Seating.{LowerOutcome}
 use Rattle.zh_lower.specs.declared.fault.LowerFault.{LowerFault}
 use Rattle.zh_lower.specs.declared.fault.LowerFault.TheVariants as lower_faults
 use Rattle.zh_lower.proofs.CallerLemmas.{no_seats}
@@ -22,7 +21,7 @@ use Rattle.zh_upper.specs.declared.fault.UpperFault.{UpperFault}
 use Rattle.zh_upper.specs.declared.fault.UpperFault.TheVariants as upper_faults
 use Rattle.zh_sheet.specs.Distribution.{HaveSeats, Targets, lower_question, seated_groups}
 use Rattle.zh_sheet.specs.Refusals.{HaveNoVoters, IsAnswer, NoneOf, NoneTakesPart}
-use Rattle.zh_sheet.specs.Stages.{HasColumn, LowerOutcome, StandAbove, group_at, of_lower, of_seats, of_upper}
+use Rattle.zh_sheet.specs.Stages.{HasColumn, StandAbove, group_at, of_lower, of_seats, of_upper}
 use Rattle.zh_sheet.specs.declared.fault.SheetFault.TheVariants as faults
 use Rattle.zh_sheet.proofs.AskedLemmas.{All-participants, participant_at}
 use Rattle.zh_sheet.proofs.RefusalLemmas.{given_answer, memory_answer, none_1, none_2, none_3, none_4, none_5, none_6, none_yet, refused_answer}
@@ -170,13 +169,13 @@ pub lower_refused : {Sheet : Type 0} (t : VoteTotals) (a : Targets t) → NoneOf
 lower_refused t a before lower_faults.Memory found = memory_answer t
 lower_refused t a before (lower_faults.NoVotes d) found =
     refused_answer t (faults.NoVotes d) (omega arith)
-    (record { holds = record { targets = a; first = found.no_votes d refl }; first = none_5 t before (not_tied_above t a) })
+    (record { holds = record { targets = a; first = found.fault }; first = none_5 t before (not_tied_above t a) })
     (λ d g e. absurd (cc))
 lower_refused t a before (lower_faults.Tied d column) found =
-    let tied = found.tied d column refl in
+    let tied = found.fault in
     let first = tied.tied.first in
     let ways = tied.tied.ways in
-    let rows = none_of_rows t a before (λ c first. elim (found.always c first) [ inl e ↦ absurd (cc) | inr e ↦ absurd (cc) ]) in
+    let rows = none_of_rows t a before (λ c first. elim (found.no_votes c first) [ inl e ↦ absurd (cc) | inr e ↦ absurd (cc) ]) in
     refused_answer t (faults.TiedLower d (group_at (seated_groups a.upper) column)) (omega arith)
     (record {
       holds = record { targets = a; column = column; column_from_one = first.column_from_1; column_there = first.column; of_group = refl; tied = tied };
@@ -186,54 +185,20 @@ lower_refused t a before (lower_faults.Tied d column) found =
     no_seats (lower_question t a.seats a.upper) tied.divisors tied.tied.seats tied.tied.others ways.one_way ways.other_way ways.differ divisors seats
     (subst (λ q. IsStrict q divisors seats) (same_question t a b) strict))
 lower_refused t a before lower_faults.Exhausted found =
-    let rows = none_of_rows t a before (λ c first. elim (found.always c first) [ inl e ↦ absurd (cc) | inr e ↦ absurd (cc) ]) in
+    let rows = none_of_rows t a before (λ c first. elim (found.no_votes c first) [ inl e ↦ absurd (cc) | inr e ↦ absurd (cc) ]) in
     refused_answer t faults.Exhausted (omega arith)
-    (record { holds = record { targets = a; none = found.exhausted refl }; first = rows })
+    (record { holds = record { targets = a; none = found.fault }; first = rows })
     (λ d g e. absurd (cc))
 
 -- the seats of the lists are there
 pub lower_given : {Sheet : Type 0} (t : VoteTotals) (a : Targets t) → NoneOf 4 t → (lower : SeatMatrix) (sheet : Sheet) →
     LowerOutcome (lower_question t a.seats a.upper) (Ok lower) → IsAnswer t (Ok sheet)
 lower_given t a before lower sheet found =
-    given_answer t sheet (none_of_rows t a before (λ c first. elim (found.always c first) [ inl e ↦ absurd (cc) | inr e ↦ absurd (cc) ]))
+    given_answer t sheet (none_of_rows t a before (λ c first. elim (found.no_votes c first) [ inl e ↦ absurd (cc) | inr e ↦ absurd (cc) ]))
 
 -- a tie is found in one of the columns
 pub column_there : (t : VoteTotals) (a : Targets t) → (e : LowerFault) → LowerOutcome (lower_question t a.seats a.upper) (Err e) → HasColumn e (seated_groups a.upper)
 column_there t a lower_faults.Memory found = tt
 column_there t a (lower_faults.NoVotes d) found = tt
-column_there t a (lower_faults.Tied d column) found = let first = (found.tied d column refl).tied.first in (first.column_from_1, first.column)
+column_there t a (lower_faults.Tied d column) found = let first = found.fault.tied.first in (first.column_from_1, first.column)
 column_there t a lower_faults.Exhausted found = tt
-
--- memory is refused below
-pub memory_outcome : (q : Question) → LowerOutcome q (Err lower_faults.Memory)
-memory_outcome q = record {
-  no_votes = λ d e. absurd (cc);
-  always = λ d first. inr refl;
-  strict = tt;
-  in_millionths = tt;
-  limits = tt;
-  reached = tt;
-  tied = λ d column e. absurd (cc);
-  exhausted = λ e. absurd (cc);
-}
-
--- what `find` ensures of a question, of an equal one
-pub find_outcome : (asked q : Question) → asked ≡ q → (r : Result SeatMatrix LowerFault) →
-    ((d : ℕ) → IsErrOf r (lower_faults.NoVotes d) ↔ IsFirstWithoutVotes asked d) →
-    IfOk r (λ lower. IsStrict asked lower.divisors lower.seats) →
-    IfOk r (λ lower. lower.divisors ≡ millionths lower.divisors.of_rows lower.divisors.of_columns) →
-    IfOk r (λ lower. AreWithinLimits asked lower.divisors.of_rows lower.divisors.of_columns) →
-    IfOk r (λ lower. IsReached asked lower.divisors) →
-    ((d g : ℕ) → IsErrOf r (lower_faults.Tied d g) → IsTied asked d g) →
-    (IsErrOf r lower_faults.Exhausted → NoneBefore asked 2001) → LowerOutcome q r
-find_outcome asked q same r no_votes strict in_millionths limits reached tied exhausted =
-    rw (← same) (record {
-      no_votes = λ d. (no_votes d).0;
-      always = λ d first. inl ((no_votes d).1 first);
-      strict = strict;
-      in_millionths = in_millionths;
-      limits = limits;
-      reached = reached;
-      tied = tied;
-      exhausted = exhausted;
-    })

@@ -1,7 +1,9 @@
 pub mod CallerLemmas
 mod AskedLemmas
+mod BalanceLemmas
 mod DistributionLemmas
 mod OneSheetLemmas
+mod ReasonLemmas
 mod RefusalLemmas
 mod SeatedLemmas
 mod SheetLemmas

@@ -4,8 +4,8 @@ use Rattle.std.proofs.lemmas.Bool.{cases_order}
 use Rattle.zh_districts.specs.Seats.{persons}
 use Rattle.zh_divisors.specs.Shares.{Apportionment, HasDivisor}
 use Rattle.zh_divisors.specs.Worth.{IsLeastLast, IsMostNext}
-use Rattle.zh_lower.proofs.CallerLemmas.{only_matrix}
-use Rattle.zh_lower.specs.Outcomes.{IsReached}
+use Rattle.zh_lower.proofs.CallerLemmas.{only_shown}
+use Rattle.zh_lower.specs.Second.{IsShown}
 use Rattle.zh_upper.specs.UpperSeats.{of_participants, shares_of_participants}
 use Rattle.zh_sheet.specs.Distribution.{Distribution, IsDistribution, Targets, lower_question, question_of}
 use Rattle.zh_sheet.proofs.SheetLemmas.{targets}
@@ -60,8 +60,8 @@ same_asked x y totals seats upper =
     ∙ ap (λ u. lower_question x.totals x.seats.seats u.seats) upper
 
 -- two distributions of the same votes, both with divisors that the search comes to
-pub same_distribution : (x y : Distribution) → IsDistribution x → IsReached (question_of x) x.lower.divisors →
-    IsDistribution y → IsReached (question_of y) y.lower.divisors → y.totals ≡ x.totals → y ≡ x
+pub same_distribution : (x y : Distribution) → IsDistribution x → IsShown (question_of x) x.lower.divisors →
+    IsDistribution y → IsShown (question_of y) y.lower.divisors → y.totals ≡ x.totals → y ≡ x
 same_distribution x y X x_reached Y y_reached totals =
     let other : Targets x.totals = record {
       seats = y.seats.seats;
@@ -82,5 +82,5 @@ same_distribution x y X x_reached Y y_reached totals =
     let upper : y.upper ≡ x.upper = same_upper_shares x.taking x.upper y.upper same.upper shares in
     let question : question_of y ≡ question_of x = same_asked x y totals seats upper in
     let lower : y.lower ≡ x.lower
-    = only_matrix (question_of x) x.lower y.lower x_reached X.lower (rw (← question) y_reached) (rw (← question) Y.lower) in
+    = only_shown (question_of x) x.lower y.lower x_reached X.lower (rw (← question) y_reached) (rw (← question) Y.lower) in
     same_parts x y totals seats same.taking same.voters upper lower

@@ -7,7 +7,7 @@ use Rattle.zh_districts.specs.Seats.{AreSeats, IsFirstWithout, persons}
 use Rattle.zh_divisors.specs.Fit as fits
 use Rattle.zh_divisors.proofs.CallerLemmas.{only_fit, no_strict_fit}
 use Rattle.zh_divisors.specs.Fit.{IsFit, IsStrictFit}
-use Rattle.zh_lower.specs.Question.{IsFirstWithoutVotes, Question}
+use Rattle.zh_matrices.specs.Question.{IsFirstWithoutVotes, Question}
 use Rattle.zh_quorum.specs.Quorum.{AreParticipating}
 use Rattle.zh_totals.specs.Totals.{VoteTotals}
 use Rattle.zh_upper.specs.UpperSeats.{AreUpperSeats, of_participants}

@@ -3,9 +3,9 @@ use Rattle.std.specs.Prelude.{◌≡◌, ℕ, ◌-◌, ◌<◌, ◌≤◌, Bool,
 use Rattle.std.specs.List.{range_with_len}
 use Rattle.zh_districts.specs.Seats.{AreSeats, persons}
 use Rattle.zh_divisors.specs.Shares.{Apportionment, HasDivisor}
-use Rattle.zh_lower.specs.Divisors.{AreWithinLimits, millionths}
-use Rattle.zh_lower.specs.Question.{Question}
-use Rattle.zh_lower.specs.SeatMatrix.{IsStrict, SeatMatrix}
+use Rattle.zh_matrices.specs.Divisors.{AreWithinLimits, millionths}
+use Rattle.zh_matrices.specs.Question.{Question}
+use Rattle.zh_matrices.specs.SeatMatrix.{IsStrict, SeatMatrix}
 use Rattle.zh_quorum.specs.Quorum.{AreParticipating}
 use Rattle.zh_totals.specs.Totals.{AreTotals, VoteTotals, votes_in}
 use Rattle.zh_upper.specs.UpperSeats.{AreUpperSeats, of_participants, shares_of_participants}
@@ -43,7 +43,8 @@ seated_groups upper = filter (λ g. nat_lt 0 (slice_index upper (g - 1))) (range
 
 -- the votes of the seated groups, constituency by constituency
 abbrev pub seated_votes : VoteTotals → List ℕ → List ℕ
-seated_votes totals upper = flat_map (λ d. map (votes_in totals d) (seated_groups upper)) (range_with_len 1 (length totals.canton.constituencies))
+seated_votes totals upper =
+    flat_map (λ d. map (votes_in totals d) (seated_groups upper)) (range_with_len 1 (length totals.canton.constituencies))
 
 -- the lower apportionment: constituencies in rows, seated groups in columns
 abbrev pub lower_question : VoteTotals → List ℕ → List ℕ → Question

@@ -4,9 +4,16 @@ use Rattle.zh_sheet.specs.Distribution.{Distribution, IsDistribution, seated_gro
 use Rattle.zh_sheet.specs.declared.sheet.Sheet.TheInside.{Inside}
 
 abbrev pub distribution_in : Inside → Distribution
-distribution_in s = record { totals = s.totals; seats = s.seats; taking = s.taking.items; voters = s.voters.items; upper = s.upper; lower = s.lower }
+distribution_in s = record {
+  totals = s.totals;
+  seats = s.seats;
+  taking = s.taking.items;
+  voters = s.voters.items;
+  upper = s.upper;
+  lower = s.lower;
+}
 
 -- the parts follow from one another, and the seated groups are at hand
-pub record IsInside (s : Inside) : Type 0 where
+pub record IsSheetInside (s : Inside) : Type 0 where
   pub distribution : IsDistribution (distribution_in s)
   pub seated : s.seated.items ≡ seated_groups s.upper.seats

@@ -1,5 +1,7 @@
 pub mod Distribution
 pub mod Inside
+pub mod Made
 pub mod Readings
+pub mod Reasons
 pub mod Refusals
 pub mod Stages

@@ -1,7 +1,8 @@
 -- What a sheet says of a constituency, a group or a list.
-use Rattle.std.specs.Prelude.{ℕ, ◌+◌, ◌-◌, Bool, false, if◌then◌else◌, ◌==◌, List, [], slice_get, slice_index, slice_index_or, Option, Some, None, position}
+use Rattle.std.specs.Prelude.{ℕ, ◌+◌, ◌-◌, Bool, false, if◌then◌else◌, ◌==◌, Option, Some, None}
+use Rattle.std.specs.Prelude.{List, [], slice_get, slice_index, slice_index_or, position}
 use Rattle.std.specs.Option.{option_map_or}
-use Rattle.zh_lower.specs.SeatMatrix.{seats_of}
+use Rattle.zh_matrices.specs.SeatMatrix.{seats_of}
 use Rattle.zh_totals.specs.Totals.{votes_in}
 use Rattle.zh_upper.specs.VoterNumbers.{voter_number}
 use Rattle.zh_sheet.specs.Distribution.{Distribution, seated_groups}

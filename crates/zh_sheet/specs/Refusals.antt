@@ -2,10 +2,10 @@
 use Rattle.std.specs.Prelude.{◌≡◌, ℕ, ◌-◌, ◌≤◌, Bool, List, Result, IsErrOf, ◌⊎◌, length, slice_index}
 use Rattle.zh_districts.specs.Seats.{AreSeats, IsFirstWithout, persons}
 use Rattle.zh_divisors.specs.Fit as fits
-use Rattle.zh_lower.specs.Divisors.{Divisors}
-use Rattle.zh_lower.specs.Outcomes.{IsTied, NoneBefore}
-use Rattle.zh_lower.specs.Question.{IsFirstWithoutVotes}
-use Rattle.zh_lower.specs.SeatMatrix.{IsStrict}
+use Rattle.zh_matrices.specs.Divisors.{Divisors}
+use Rattle.zh_search.specs.Outcomes.{ComesToTie, NoneBefore}
+use Rattle.zh_matrices.specs.Question.{IsFirstWithoutVotes}
+use Rattle.zh_matrices.specs.SeatMatrix.{IsStrict}
 use Rattle.zh_quorum.specs.Quorum.{AreParticipating, TakesPart}
 use Rattle.zh_totals.specs.Totals.{VoteTotals}
 use Rattle.zh_upper.specs.UpperSeats.{of_participants}
@@ -52,7 +52,7 @@ pub record IsTiedBelow (totals : VoteTotals) (d g : ℕ) : Type 0 where
   pub column_from_one : 1 ≤ column
   pub column_there : column ≤ length (seated_groups targets.upper)
   pub of_group : slice_index (seated_groups targets.upper) (column - 1) ≡ g
-  pub tied : IsTied (lower_question totals targets.seats targets.upper) d column
+  pub tied : ComesToTie (lower_question totals targets.seats targets.upper) d column
 
 -- none of the states of the search leads to seats
 pub record IsExhausted (totals : VoteTotals) : Type 0 where
@@ -60,45 +60,47 @@ pub record IsExhausted (totals : VoteTotals) : Type 0 where
   pub none : NoneBefore (lower_question totals targets.seats targets.upper) 2001
 
 -- the case of each refusal; memory can be refused at any time
-abbrev pub Holds : VoteTotals → SheetFault → Type 0
-Holds totals faults.Memory = Unit {0}
-Holds totals faults.TiedSeats = fits.IsTied (persons totals.canton) totals.canton.house
-Holds totals (faults.NoSeat d) = GetsNoSeat totals d
-Holds totals faults.NoGroup = NoneTakesPart totals
-Holds totals faults.NoVoters = HaveNoVoters totals
-Holds totals faults.TiedUpper = IsTiedAbove totals
-Holds totals (faults.NoVotes d) = HasNoVotes totals d
-Holds totals (faults.TiedLower d g) = IsTiedBelow totals d g
-Holds totals faults.Exhausted = IsExhausted totals
+abbrev pub IsCaseOf : VoteTotals → SheetFault → Type 0
+IsCaseOf totals faults.Memory = Unit {0}
+IsCaseOf totals faults.TiedSeats = fits.IsTied (persons totals.canton) totals.canton.house
+IsCaseOf totals (faults.NoSeat d) = GetsNoSeat totals d
+IsCaseOf totals faults.NoGroup = NoneTakesPart totals
+IsCaseOf totals faults.NoVoters = HaveNoVoters totals
+IsCaseOf totals faults.TiedUpper = IsTiedAbove totals
+IsCaseOf totals (faults.NoVotes d) = HasNoVotes totals d
+IsCaseOf totals (faults.TiedLower d g) = IsTiedBelow totals d g
+IsCaseOf totals faults.Exhausted = IsExhausted totals
 
 -- the place of a refusal in their order; memory has none
-abbrev pub place_of : SheetFault → ℕ
-place_of faults.Memory = 0
-place_of faults.TiedSeats = 1
-place_of (faults.NoSeat d) = 2
-place_of faults.NoGroup = 3
-place_of faults.NoVoters = 4
-place_of faults.TiedUpper = 5
-place_of (faults.NoVotes d) = 6
-place_of (faults.TiedLower d g) = 7
-place_of faults.Exhausted = 7
+abbrev pub place_in_order : SheetFault → ℕ
+place_in_order faults.Memory = 0
+place_in_order faults.TiedSeats = 1
+place_in_order (faults.NoSeat d) = 2
+place_in_order faults.NoGroup = 3
+place_in_order faults.NoVoters = 4
+place_in_order faults.TiedUpper = 5
+place_in_order (faults.NoVotes d) = 6
+place_in_order (faults.TiedLower d g) = 7
+place_in_order faults.Exhausted = 7
 
 -- none of the first n cases holds
 abbrev pub NoneOf : ℕ → VoteTotals → Type 0
-NoneOf n totals = (fault : SheetFault) → 1 ≤ place_of fault → place_of fault ≤ n → ¬ Holds totals fault
+NoneOf n totals = (fault : SheetFault) → 1 ≤ place_in_order fault → place_in_order fault ≤ n → ¬ IsCaseOf totals fault
 
 -- the case of this refusal is the first that holds
-pub record IsRefused (totals : VoteTotals) (fault : SheetFault) : Type 0 where
-  pub holds : Holds totals fault
-  pub first : NoneOf (place_of fault - 1) totals
+pub record IsFirstCase (totals : VoteTotals) (fault : SheetFault) : Type 0 where
+  pub holds : IsCaseOf totals fault
+  pub first : NoneOf (place_in_order fault - 1) totals
 
 -- no seats follow strictly from any divisors
 abbrev pub HasNoMatrix : (totals : VoteTotals) → Targets totals → Type 0
-HasNoMatrix totals targets = (divisors : Divisors) (seats : List ℕ) → ¬ IsStrict (lower_question totals targets.seats targets.upper) divisors seats
+HasNoMatrix totals targets = (divisors : Divisors) (seats : List ℕ) →
+    ¬ IsStrict (lower_question totals targets.seats targets.upper) divisors seats
 
 -- the refusals of the first six places come exactly where their case is the first that holds, memory aside; a tie of the
 -- lower apportionment leaves no seats that could be right
 pub record IsAnswer {Sheet : Type 0} (totals : VoteTotals) (result : Result Sheet SheetFault) : Type 0 where
-  pub refused : (fault : SheetFault) → IsErrOf result fault → IsRefused totals fault
-  pub exactly : (fault : SheetFault) → 1 ≤ place_of fault → place_of fault ≤ 6 → IsRefused totals fault → IsErrOf result fault ⊎ IsErrOf result faults.Memory
+  pub refused : (fault : SheetFault) → IsErrOf result fault → IsFirstCase totals fault
+  pub exactly : (fault : SheetFault) → 1 ≤ place_in_order fault → place_in_order fault ≤ 6 → IsFirstCase totals fault →
+      IsErrOf result fault ⊎ IsErrOf result faults.Memory
   pub tied : (d g : ℕ) → IsErrOf result (faults.TiedLower d g) → (targets : Targets totals) → HasNoMatrix totals targets

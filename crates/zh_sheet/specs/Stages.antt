@@ -1,13 +1,10 @@
 -- What stands between the steps to a sheet.
-use Rattle.std.specs.Prelude.{◌≡◌, ℕ, ◌≤◌, Bool, List, Result, IfOk, IsErrOf, ◌⊎◌, length, slice_index, ◌-◌}
+use Rattle.std.specs.Prelude.{ℕ, ◌≤◌, Bool, List, Result, Err, IfOk, IfErr, length, slice_index, ◌-◌}
 use Rattle.zh_districts.specs.declared.shares.SeatFault.{SeatFault}
 use Rattle.zh_districts.specs.declared.shares.SeatFault.TheVariants as seat_faults
 use Rattle.zh_districts.specs.Seats.{persons}
 use Rattle.zh_divisors.specs.Shares.{Apportionment, HasDivisor}
-use Rattle.zh_lower.specs.Divisors.{AreWithinLimits, millionths}
-use Rattle.zh_lower.specs.Outcomes.{IsReached, IsTied, NoneBefore}
-use Rattle.zh_lower.specs.Question.{AreTotals, EachColumnHasVotes, IsFirstWithoutVotes, Question}
-use Rattle.zh_lower.specs.SeatMatrix.{IsStrict, SeatMatrix}
+use Rattle.zh_matrices.specs.Question.{AreSeatTotals, EachColumnHasVotes, Question}
 use Rattle.zh_lower.specs.declared.fault.LowerFault.{LowerFault}
 use Rattle.zh_lower.specs.declared.fault.LowerFault.TheVariants as lower_faults
 use Rattle.zh_quorum.specs.Quorum.{AreParticipating}
@@ -16,8 +13,9 @@ use Rattle.zh_upper.specs.UpperSeats.{AreUpperSeats, of_participants, shares_of_
 use Rattle.zh_upper.specs.VoterNumbers.{AreVoterSums}
 use Rattle.zh_upper.specs.declared.fault.UpperFault.{UpperFault}
 use Rattle.zh_upper.specs.declared.fault.UpperFault.TheVariants as upper_faults
-use Rattle.zh_sheet.specs.Distribution.{HaveSeats}
-use Rattle.zh_sheet.specs.Refusals.{NoneOf}
+use Rattle.zh_sheet.specs.Distribution.{Distribution, HaveSeats}
+use Rattle.zh_sheet.specs.Refusals.{IsAnswer, NoneOf}
+use Rattle.zh_sheet.specs.declared.above.Above.{Above}
 use Rattle.zh_sheet.specs.declared.fault.SheetFault.{SheetFault}
 use Rattle.zh_sheet.specs.declared.fault.SheetFault.TheVariants as faults
 
@@ -34,7 +32,8 @@ of_upper upper_faults.NoVoters = faults.NoVoters
 of_upper upper_faults.Tied = faults.TiedUpper
 
 -- the seats of the constituencies and of the groups, and what they follow from; no case before a tie of the groups holds
-pub record StandAbove (totals : VoteTotals) (seats : Apportionment) (taking : List Bool) (voters : List ℕ) (upper : Apportionment) : Type 0 where
+pub record StandAbove (totals : VoteTotals) (seats : Apportionment) (taking : List Bool) (voters : List ℕ)
+    (upper : Apportionment) : Type 0 where
   pub constituencies : HaveSeats totals seats.seats
   pub seats_key : HasDivisor (persons totals.canton) seats
   pub participation : AreParticipating totals taking
@@ -43,26 +42,20 @@ pub record StandAbove (totals : VoteTotals) (seats : Apportionment) (taking : Li
   pub upper_key : HasDivisor (of_participants voters taking) (shares_of_participants upper taking)
   pub none : NoneOf 4 totals
 
+-- they stand, or this is why there is no sheet
+pub record IsAboveLists (totals : VoteTotals) (result : Result Above SheetFault) : Type 0 where
+  pub given : IfOk result (λ above. StandAbove totals above.seats above.taking.items above.voters.items above.upper)
+  pub refused : IfErr result (λ fault. IsAnswer {Sheet = Distribution} totals (Err fault))
+
 -- what a lower apportionment may be asked: 1 to 32 lines, each with a total of 1 to 400 seats, and votes in each column
 pub record CanBeAsked (q : Question) : Type 0 where
   pub some_row : 1 ≤ q.rows
   pub few_rows : q.rows ≤ 32
   pub some_column : 1 ≤ q.columns
   pub few_columns : q.columns ≤ 32
-  pub row_totals : AreTotals q.rows q.row_totals
-  pub column_totals : AreTotals q.columns q.column_totals
+  pub row_totals : AreSeatTotals q.rows q.row_totals
+  pub column_totals : AreSeatTotals q.columns q.column_totals
   pub votes : EachColumnHasVotes q
-
--- what a lower apportionment gives, with the groups as columns
-pub record LowerOutcome (q : Question) (result : Result SeatMatrix LowerFault) : Type 0 where
-  pub no_votes : (d : ℕ) → IsErrOf result (lower_faults.NoVotes d) → IsFirstWithoutVotes q d
-  pub always : (d : ℕ) → IsFirstWithoutVotes q d → IsErrOf result (lower_faults.NoVotes d) ⊎ IsErrOf result lower_faults.Memory
-  pub strict : IfOk result (λ lower. IsStrict q lower.divisors lower.seats)
-  pub in_millionths : IfOk result (λ lower. lower.divisors ≡ millionths lower.divisors.of_rows lower.divisors.of_columns)
-  pub limits : IfOk result (λ lower. AreWithinLimits q lower.divisors.of_rows lower.divisors.of_columns)
-  pub reached : IfOk result (λ lower. IsReached q lower.divisors)
-  pub tied : (d column : ℕ) → IsErrOf result (lower_faults.Tied d column) → IsTied q d column
-  pub exhausted : IsErrOf result lower_faults.Exhausted → NoneBefore q 2001
 
 -- the group of a column, from 1, among the seated groups
 abbrev pub group_at : List ℕ → ℕ → ℕ

@@ -1,22 +1,17 @@
-ghost use Rattle.std.specs.Prelude.{◌≡◌, ℕ, IfOk, List, ◌-◌};
-ghost use Rattle.zh_lower.specs.Divisors.{Divisors};
-ghost use Rattle.zh_lower.specs.Outcomes.{IsReached};
-ghost use Rattle.zh_lower.specs.SeatMatrix.{IsWeak};
-ghost use Rattle.zh_sheet.specs.Distribution.{IsDistribution, question_of};
-ghost use Rattle.zh_sheet.specs.Refusals.{IsAnswer};
+ghost use Rattle.std.specs.Prelude.{◌≡◌};
+ghost use Rattle.zh_sheet.specs.Made.{IsMade};
 ghost use Rattle.zh_sheet.specs.Stages.{HasColumn, StandAbove, of_lower};
 
+use crate::above::{Above, seats_above};
 use crate::fault::SheetFault;
 use crate::lower::seats_of_lists;
 use crate::seated::seated_groups;
 use crate::sheet::Sheet;
 use std::alloc::Global;
-use zh_districts::seats;
 use zh_divisors::Shares;
 use zh_lower::LowerFault;
-use zh_quorum::participating;
 use zh_totals::Totals;
-use zh_upper::{Upper, upper, voters};
+use zh_upper::Upper;
 
 /// The refusal of a sheet for one of the lower apportionment, whose columns are the seated groups.
 fn fault_of(fault: LowerFault, seated: &[u32]) -> SheetFault
@@ -43,12 +38,7 @@ fn with_lists<'s>(
     upper: Upper,
 ) -> Result<Sheet<'s>, SheetFault>
     requires { StandAbove totals.now seats taking.items voters.items upper }
-    ensures totals { IfOk result (λ sheet. sheet.totals ≡ totals.now) }
-    ensures meets { IfOk result (λ sheet. IsDistribution sheet) }
-    ensures reached { IfOk result (λ sheet. IsReached (question_of sheet) sheet.lower.divisors) }
-    ensures one_answer { IfOk result (λ sheet. (divisors : Divisors) (seats : List ℕ) →
-        IsWeak (question_of sheet) divisors seats → seats ≡ sheet.lower.seats) }
-    ensures answer { IsAnswer totals.now result }
+    ensures { IsMade totals.now result }
 {
     let seated = seated_groups(alloc, &upper, totals.setup().groups())?;
     let totals = totals.copy(alloc)?;
@@ -70,21 +60,18 @@ fn with_lists<'s>(
 /// The sheet of these totals, or why there is none: the first case that holds decides, in the order of `SheetFault`.
 ///
 /// No other seats follow from any divisors, of any scale, and the divisors are those of the first state of the search
-/// (docs/DEFINITIONS.md) that gives seats: the same votes have one sheet. Where the seats of the lists are tied, no divisors
-/// give seats without a quotient on a half. `Memory` can come in place of every answer, and `Exhausted` where no state of
-/// the search gives seats.
+/// (docs/DEFINITIONS.md) that gives seats, or where none does those in the middle of what gives them: the same votes have
+/// one sheet. Where the seats of the lists are tied, no divisors give seats without a quotient on a half. `Memory` can come
+/// in place of every answer, and `Exhausted` where no state of the search gives seats.
 pub fn make<'s>(alloc: Global, totals: &Totals<'s>) -> Result<Sheet<'s>, SheetFault>
-    ensures totals { IfOk result (λ sheet. sheet.totals ≡ totals.now) }
-    ensures meets { IfOk result (λ sheet. IsDistribution sheet) }
-    ensures reached { IfOk result (λ sheet. IsReached (question_of sheet) sheet.lower.divisors) }
-    ensures one_answer { IfOk result (λ sheet. (divisors : Divisors) (seats : List ℕ) →
-        IsWeak (question_of sheet) divisors seats → seats ≡ sheet.lower.seats) }
-    ensures answer { IsAnswer totals.now result }
+    ensures { IsMade totals.now result }
 {
-    let setup = totals.setup();
-    let seats = seats(alloc, setup)?;
-    let taking = participating(alloc, totals)?;
-    let voters = voters(alloc, totals, seats.seats())?;
-    let upper = upper(alloc, &voters, &taking, setup.house())?;
+    let above = seats_above(alloc, totals)?;
+    let Above {
+        seats,
+        taking,
+        voters,
+        upper,
+    } = above;
     with_lists(alloc, totals, seats, taking, voters, upper)
 }

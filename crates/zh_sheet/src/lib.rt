@@ -2,14 +2,17 @@
 //! check each seat (GPR sections 88 and 102 to 104).
 #![tactic(auto)]
 
+mod above;
 mod apportionment;
 mod fault;
 mod laws;
 mod lower;
+mod reason;
 mod seated;
 mod sheet;
 
 pub use apportionment::make;
 pub use fault::SheetFault;
 pub use laws::one_sheet;
+pub use reason::{ExhaustedReason, explain};
 pub use sheet::Sheet;

@@ -1,7 +1,8 @@
 //! The seats of the lists, from those of the constituencies and of the groups.
 ghost use Rattle.std.specs.Prelude.{◌≡◌, length};
+ghost use Rattle.zh_lower.specs.Seating.{LowerOutcome};
 ghost use Rattle.zh_sheet.specs.Distribution.{lower_question, seated_groups};
-ghost use Rattle.zh_sheet.specs.Stages.{CanBeAsked, LowerOutcome};
+ghost use Rattle.zh_sheet.specs.Stages.{CanBeAsked};
 
 use crate::seated::{seats_of, votes_of};
 use std::alloc::Global;

@@ -25,18 +25,19 @@ pub struct Sheet<'s> {
 
 impl<'s> Model for Sheet<'s> {
     ghost use Rattle.zh_sheet.specs.Distribution.{Distribution};
-    ghost use Rattle.zh_sheet.specs.Inside.{IsInside, distribution_in};
+    ghost use Rattle.zh_sheet.specs.Inside.{IsSheetInside, distribution_in};
 
     ghost Value = { Distribution };
 
     ghost view = { distribution_in };
 
-    ghost invariant = { IsInside };
+    ghost invariant = { IsSheetInside };
 }
 
 impl<'s> Sheet<'s> {
     ghost use Rattle.zh_sheet.specs.Distribution.{IsDistribution};
-    ghost use Rattle.zh_sheet.specs.Readings.{column_of, constituency_name, group_divisor, group_name, list_seats, list_voters, takes_part, voters_of};
+    ghost use Rattle.zh_sheet.specs.Readings.{column_of, constituency_name, group_divisor, group_name};
+    ghost use Rattle.zh_sheet.specs.Readings.{list_seats, list_voters, takes_part, voters_of};
 
     /// The set-up of the election. The sheet meets the definitions.
     pub fn setup(&self) -> &'s Setup

@@ -5,18 +5,18 @@ use Rattle.std.proofs.lemmas.List.{drop-replicate, length-replicate}
 use Rattle.zh_sheet_text.specs.SheetText.{six_digits}
 
 -- the page is what it was, and then this text
-pub record Puts (old page text : List ℕ) : Type 0 where
+pub record EndsWith (old page text : List ℕ) : Type 0 where
   pub is : page ≡ old ++ text
 
-pub put_first : {A : Type 0} (old page : List ℕ) (text : A → List ℕ) (n m : A) → page ≡ old ++ text n → n ≡ m → Puts old page (text m)
+pub put_first : {A : Type 0} (old page : List ℕ) (text : A → List ℕ) (n m : A) → page ≡ old ++ text n → n ≡ m → EndsWith old page (text m)
 put_first old page text n m put same = record { is = put ∙ ap (λ k. old ++ text k) same }
 
-pub put_next : {A : Type 0} (old before page next : List ℕ) (text : A → List ℕ) (n m : A) → Puts old page before → next ≡ page ++ text n → n ≡ m → Puts old next (before ++ text m)
+pub put_next : {A : Type 0} (old before page next : List ℕ) (text : A → List ℕ) (n m : A) → EndsWith old page before → next ≡ page ++ text n → n ≡ m → EndsWith old next (before ++ text m)
 put_next old before page next text n m first put same = record {
   is = put ∙ (ap (λ k. page ++ text k) same ∙ (ap (λ t. t ++ text m) first.is ∙ append_assoc old before (text m)));
 }
 
-pub put_words : (old before page next words : List ℕ) → Puts old page before → next ≡ page ++ words → Puts old next (before ++ words)
+pub put_words : (old before page next words : List ℕ) → EndsWith old page before → next ≡ page ++ words → EndsWith old next (before ++ words)
 put_words old before page next words first put = record { is = put ∙ (ap (λ t. t ++ words) first.is ∙ append_assoc old before words) }
 
 abbrev pub six_zeros : List ℕ

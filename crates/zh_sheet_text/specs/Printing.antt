@@ -1,6 +1,13 @@
 -- Text on its way to a writer, of which some waits on a page.
-use Rattle.std.specs.Prelude.{◌≡◌, ℕ, ◌<◌, List, ◌++◌, Option, length, take}
+use Rattle.std.specs.Prelude.{◌≡◌, ℕ, ◌+◌, ◌<◌, ◌≤◌, List, ◌++◌, Option, Result, OnErr, OnOk, length, take}
 use Rattle.std.specs.Io.KnownBytes.{Appends}
+use Rattle.zh_commands.specs.declared.output.WriteFault.{WriteFault}
+use Rattle.zh_sheet_text.specs.declared.page.TheConstants.{LINE, ROOM}
+
+-- the page is what it was and then these words, at most so many bytes
+pub record Puts (most : ℕ) (words old new : List ℕ) : Type 0 where
+  pub text : new ≡ old ++ words
+  pub short : length new ≤ length old + most
 
 -- the text follows what waited: the writer got the front of both, and the rest waits
 pub record Prints (before : Option (List ℕ)) (waiting : List ℕ) (after : Option (List ℕ)) (left text : List ℕ) : Type 0 where
@@ -11,3 +18,10 @@ pub record Prints (before : Option (List ℕ)) (waiting : List ℕ) (after : Opt
 -- the writer got a front of the text, not all of it
 abbrev pub WritesFront : Option (List ℕ) → Option (List ℕ) → List ℕ → Type 0
 WritesFront before after text = (n : ℕ) × (n < length text) × Appends before after (take n text)
+
+-- The text follows what waited, and room is left for one more line; or the writer failed, and got a front of both.
+pub record PrintsAll (text : List ℕ) (result : Result (Unit {0}) WriteFault) (before : Option (List ℕ)) (waiting : List ℕ)
+    (after : Option (List ℕ)) (left : List ℕ) : Type 0 where
+  pub all : OnOk result (Prints before waiting after left text)
+  pub room : OnOk result (length left + LINE ≤ ROOM)
+  pub front : OnErr result (WritesFront before after (waiting ++ text))

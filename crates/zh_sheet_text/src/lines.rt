@@ -1,6 +1,8 @@
 //! The lines of a sheet (docs/FORMATS.md, "The sheet").
-ghost use Rattle.std.specs.Prelude.{◌≡◌, ◌+◌, ◌≤◌, ◌++◌, length};
-ghost use Rattle.zh_sheet_text.specs.SheetText.{constituency_line, group_line, head_line, house_line, key_lines, kind, list_line, quorum_line, yes_or_no};
+ghost use Rattle.std.specs.Prelude.{◌≡◌, ◌+◌, ◌≤◌, length};
+ghost use Rattle.zh_sheet_text.specs.Printing.{Puts};
+ghost use Rattle.zh_sheet_text.specs.SheetText.{constituency_line, group_line, head_line, house_line, key_lines};
+ghost use Rattle.zh_sheet_text.specs.SheetText.{kind, list_line, quorum_line, yes_or_no};
 
 use crate::page::{LINE, Page, ROOM};
 use zh_sheet::Sheet;
@@ -23,8 +25,7 @@ fn yes_or_no(yes: bool) -> &'static str
 /// The first line: the desk, whether the sheet is final, and how many commands were accepted.
 pub(crate) fn push_head(page: &mut Page, desk: u8, is_final: bool, accepted: u64)
     requires { length page.old + LINE ≤ ROOM }
-    ensures text { page.new ≡ page.old ++ head_line desk is_final accepted }
-    ensures short { length page.new ≤ length page.old + LINE }
+    ensures { Puts LINE (head_line desk is_final accepted) page.old page.new }
 {
     page.push_number(u64::from(desk));
     page.push(b" sheet ");
@@ -36,8 +37,7 @@ pub(crate) fn push_head(page: &mut Page, desk: u8, is_final: bool, accepted: u64
 /// The house.
 pub(crate) fn push_house(page: &mut Page, sheet: &Sheet<'_>)
     requires { length page.old + LINE ≤ ROOM }
-    ensures text { page.new ≡ page.old ++ house_line sheet.now }
-    ensures short { length page.new ≤ length page.old + LINE }
+    ensures { Puts LINE (house_line sheet.now) page.old page.new }
 {
     page.push_field(b"house ", u64::from(sheet.setup().house()));
     page.push(b"\n");
@@ -46,8 +46,7 @@ pub(crate) fn push_house(page: &mut Page, sheet: &Sheet<'_>)
 /// The divisors of the constituencies' seats and of the groups' seats, each a fraction.
 pub(crate) fn push_keys(page: &mut Page, sheet: &Sheet<'_>)
     requires { length page.old + LINE ≤ ROOM }
-    ensures text { page.new ≡ page.old ++ key_lines sheet.now }
-    ensures short { length page.new ≤ length page.old + LINE }
+    ensures { Puts LINE (key_lines sheet.now) page.old page.new }
 {
     page.push_field(b"seats key ", sheet.seats().num());
     page.push_field(b"/", u64::from(sheet.seats().den()));
@@ -60,8 +59,7 @@ pub(crate) fn push_keys(page: &mut Page, sheet: &Sheet<'_>)
 /// The canton-wide quorum, where the set-up has one.
 pub(crate) fn push_quorum(page: &mut Page, sheet: &Sheet<'_>)
     requires { length page.old + LINE ≤ ROOM }
-    ensures text { page.new ≡ page.old ++ quorum_line sheet.now }
-    ensures short { length page.new ≤ length page.old + LINE }
+    ensures { Puts LINE (quorum_line sheet.now) page.old page.new }
 {
     if let Some(per_mille) = sheet.setup().canton_quorum() {
         page.push_field(b"quorum canton ", u64::from(per_mille));
@@ -74,8 +72,7 @@ pub(crate) fn push_constituency(page: &mut Page, sheet: &Sheet<'_>, constituency
     requires from_one { 1 ≤ constituency }
     requires there { constituency ≤ length sheet.now.totals.canton.constituencies }
     requires room { length page.old + LINE ≤ ROOM }
-    ensures text { page.new ≡ page.old ++ constituency_line sheet.now constituency }
-    ensures short { length page.new ≤ length page.old + LINE }
+    ensures { Puts LINE (constituency_line sheet.now constituency) page.old page.new }
 {
     let setup = sheet.setup();
     page.push_field(b"constituency ", u64::from(constituency));
@@ -97,8 +94,7 @@ pub(crate) fn push_group(page: &mut Page, sheet: &Sheet<'_>, group: u32)
     requires from_one { 1 ≤ group }
     requires there { group ≤ length sheet.now.totals.canton.groups }
     requires room { length page.old + LINE ≤ ROOM }
-    ensures text { page.new ≡ page.old ++ group_line sheet.now group }
-    ensures short { length page.new ≤ length page.old + LINE }
+    ensures { Puts LINE (group_line sheet.now group) page.old page.new }
 {
     page.push_field(b"group ", u64::from(group));
     page.push(b" quorum ");
@@ -120,8 +116,7 @@ pub(crate) fn push_list(page: &mut Page, sheet: &Sheet<'_>, constituency: u32, g
     requires group_from_one { 1 ≤ group }
     requires group_there { group ≤ length sheet.now.totals.canton.groups }
     requires room { length page.old + LINE ≤ ROOM }
-    ensures text { page.new ≡ page.old ++ list_line sheet.now constituency group }
-    ensures short { length page.new ≤ length page.old + LINE }
+    ensures { Puts LINE (list_line sheet.now constituency group) page.old page.new }
 {
     page.push_field(b"list ", u64::from(constituency));
     page.push_field(b" ", u64::from(group));

@@ -1,6 +1,6 @@
 //! Text that waits for the writer.
 ghost use Rattle.std.specs.Prelude.{◌≡◌, ◌+◌, ◌<◌, ◌≤◌, ◌++◌, [], length, decimal, OnErr, OnOk};
-ghost use Rattle.zh_sheet_text.specs.Printing.{Prints, WritesFront};
+ghost use Rattle.zh_sheet_text.specs.Printing.{Prints, Puts, WritesFront};
 ghost use Rattle.zh_sheet_text.specs.SheetText.{divisor_text, field, or_dash, six_digits};
 
 use itoa::Buffer;
@@ -55,8 +55,7 @@ impl Page {
     /// Puts a number at the end.
     pub fn push_number(&mut self, number: u64)
         requires { length self.old + 20 ≤ ROOM }
-        ensures text { self.new ≡ self.old ++ decimal number }
-        ensures short { length self.new ≤ length self.old + 20 }
+        ensures { Puts 20 (decimal number) self.old self.new }
     {
         self.push(Buffer::new().format(number).as_bytes());
     }
@@ -64,8 +63,7 @@ impl Page {
     /// Puts words and a number at the end.
     pub fn push_field(&mut self, words: &[u8], number: u64)
         requires { length self.old + length words.now + 20 ≤ ROOM }
-        ensures text { self.new ≡ self.old ++ field words.now number }
-        ensures short { length self.new ≤ length self.old + length words.now + 20 }
+        ensures { Puts (length words.now + 20) (field words.now number) self.old self.new }
     {
         self.push(words);
         self.push_number(number);
@@ -75,8 +73,7 @@ impl Page {
     fn push_six_digits(&mut self, number: u64)
         requires small { number < 1000000 }
         requires room { length self.old + 6 ≤ ROOM }
-        ensures text { self.new ≡ self.old ++ six_digits number }
-        ensures short { length self.new ≤ length self.old + 6 }
+        ensures { Puts 6 (six_digits number) self.old self.new }
     {
         let zeros = [b'0'; 6];
         let mut buffer = Buffer::new();
@@ -88,8 +85,7 @@ impl Page {
     /// Puts a divisor in millionths at the end, with six digits after the dot.
     pub fn push_divisor(&mut self, millionths: u64)
         requires { length self.old + 27 ≤ ROOM }
-        ensures text { self.new ≡ self.old ++ divisor_text millionths }
-        ensures short { length self.new ≤ length self.old + 27 }
+        ensures { Puts 27 (divisor_text millionths) self.old self.new }
     {
         self.push_number(millionths / 1_000_000);
         self.push(b".");
@@ -99,8 +95,7 @@ impl Page {
     /// Puts a number at the end, or a dash where there is none.
     pub fn push_number_or_dash(&mut self, number: Option<u64>)
         requires { length self.old + 20 ≤ ROOM }
-        ensures text { self.new ≡ self.old ++ or_dash decimal number }
-        ensures short { length self.new ≤ length self.old + 20 }
+        ensures { Puts 20 (or_dash decimal number) self.old self.new }
     {
         match number {
             Some(number) => self.push_number(number),
@@ -111,8 +106,7 @@ impl Page {
     /// Puts a divisor in millionths at the end, or a dash where there is none.
     pub fn push_divisor_or_dash(&mut self, millionths: Option<u64>)
         requires { length self.old + 27 ≤ ROOM }
-        ensures text { self.new ≡ self.old ++ or_dash divisor_text millionths }
-        ensures short { length self.new ≤ length self.old + 27 }
+        ensures { Puts 27 (or_dash divisor_text millionths) self.old self.new }
     {
         match millionths {
             Some(millionths) => self.push_divisor(millionths),

@@ -1,7 +1,7 @@
 //! The text of a sheet, written through a page.
-ghost use Rattle.std.specs.Prelude.{ℕ, ◌+◌, ◌<◌, ◌≤◌, ◌++◌, length, OnErr, OnOk, take};
+ghost use Rattle.std.specs.Prelude.{ℕ, ◌+◌, ◌<◌, ◌≤◌, length, OnErr, OnOk, take};
 ghost use Rattle.std.specs.Io.KnownBytes.{Appends};
-ghost use Rattle.zh_sheet_text.specs.Printing.{Prints, WritesFront};
+ghost use Rattle.zh_sheet_text.specs.Printing.{PrintsAll};
 ghost use Rattle.zh_sheet_text.specs.SheetText.{constituency_lines, group_lines, list_lines, list_lines_in, sheet_text};
 
 use crate::lines::{
@@ -18,9 +18,7 @@ fn print_constituencies<W: Write>(
     sheet: &Sheet<'_>,
 ) -> Result<(), WriteFault>
     requires { length page.old + LINE ≤ ROOM }
-    ensures all { OnOk result (Prints (W.contents out.old) page.old (W.contents out.new) page.new (constituency_lines sheet.now)) }
-    ensures room { OnOk result (length page.new + LINE ≤ ROOM) }
-    ensures front { OnErr result (WritesFront (W.contents out.old) (W.contents out.new) (page.old ++ constituency_lines sheet.now)) }
+    ensures { PrintsAll (constituency_lines sheet.now) result (W.contents out.old) page.old (W.contents out.new) page.new }
 {
     for place in 0..sheet.setup().constituencies() {
         push_constituency(page, sheet, place + 1);
@@ -31,9 +29,7 @@ fn print_constituencies<W: Write>(
 
 fn print_groups<W: Write>(page: &mut Page, out: &mut W, sheet: &Sheet<'_>) -> Result<(), WriteFault>
     requires { length page.old + LINE ≤ ROOM }
-    ensures all { OnOk result (Prints (W.contents out.old) page.old (W.contents out.new) page.new (group_lines sheet.now)) }
-    ensures room { OnOk result (length page.new + LINE ≤ ROOM) }
-    ensures front { OnErr result (WritesFront (W.contents out.old) (W.contents out.new) (page.old ++ group_lines sheet.now)) }
+    ensures { PrintsAll (group_lines sheet.now) result (W.contents out.old) page.old (W.contents out.new) page.new }
 {
     for place in 0..sheet.setup().groups() {
         push_group(page, sheet, place + 1);
@@ -52,9 +48,7 @@ fn print_lists_in<W: Write>(
     requires from_one { 1 ≤ constituency }
     requires there { constituency ≤ length sheet.now.totals.canton.constituencies }
     requires room { length page.old + LINE ≤ ROOM }
-    ensures all { OnOk result (Prints (W.contents out.old) page.old (W.contents out.new) page.new (list_lines_in sheet.now constituency)) }
-    ensures room { OnOk result (length page.new + LINE ≤ ROOM) }
-    ensures front { OnErr result (WritesFront (W.contents out.old) (W.contents out.new) (page.old ++ list_lines_in sheet.now constituency)) }
+    ensures { PrintsAll (list_lines_in sheet.now constituency) result (W.contents out.old) page.old (W.contents out.new) page.new }
 {
     let setup = sheet.setup();
     for place in 0..setup.groups() {
@@ -68,9 +62,7 @@ fn print_lists_in<W: Write>(
 
 fn print_lists<W: Write>(page: &mut Page, out: &mut W, sheet: &Sheet<'_>) -> Result<(), WriteFault>
     requires { length page.old + LINE ≤ ROOM }
-    ensures all { OnOk result (Prints (W.contents out.old) page.old (W.contents out.new) page.new (list_lines sheet.now)) }
-    ensures room { OnOk result (length page.new + LINE ≤ ROOM) }
-    ensures front { OnErr result (WritesFront (W.contents out.old) (W.contents out.new) (page.old ++ list_lines sheet.now)) }
+    ensures { PrintsAll (list_lines sheet.now) result (W.contents out.old) page.old (W.contents out.new) page.new }
 {
     for place in 0..sheet.setup().constituencies() {
         print_lists_in(page, out, sheet, place + 1)?;

@@ -4,7 +4,7 @@ use Rattle.std.proofs.Math.Seq.{get_or-append_seam}
 use Rattle.std.proofs.lemmas.Bool.{cases_eq}
 use Rattle.std.proofs.lemmas.List.{get_or_append_left}
 use Rattle.std.proofs.lemmas.List.Elements.{All-nil, All-push}
-use Rattle.zh_totals.specs.Sums.{sum_to}
+use Rattle.zh_divisors.specs.Sums.{sum_to}
 use Rattle.zh_totals.specs.Totals.{VoteTotals, AreTotals, votes_in, constituency_votes}
 use Rattle.zh_upper.specs.VoterNumbers.{AreVoterSums, voter_number, voter_sum}
 use Rattle.zh_upper.proofs.CallerLemmas.{voter_number-le}

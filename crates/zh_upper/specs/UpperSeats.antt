@@ -1,5 +1,6 @@
 -- The seats of each group in the whole canton: GPR section 103.
-use Rattle.std.specs.Prelude.{◌≡◌, ℕ, ◌<◌, Bool, true, false, List, map, filter, All, Any, Contains, Some, Result, IsErrOf, ◌⊎◌, length, slice_get, slice_index}
+use Rattle.std.specs.Prelude.{◌≡◌, ℕ, ◌<◌, ◌⊎◌, Bool, true, false, Some, Result, IsErrOf}
+use Rattle.std.specs.Prelude.{List, map, filter, All, Any, Contains, length, slice_get, slice_index}
 use Rattle.std.specs.List.{zip}
 use Rattle.zh_divisors.specs.Fit.{IsStrictFit, IsTied}
 use Rattle.zh_divisors.specs.Shares.{Apportionment}

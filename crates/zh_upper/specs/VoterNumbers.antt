@@ -1,6 +1,6 @@
 -- Voter numbers: GPR section 103.
 use Rattle.std.specs.Prelude.{◌≡◌, ℕ, ◌+◌, ◌-◌, ◌*◌, ◌/◌, ◌<◌, ◌≤◌, List, length, slice_index}
-use Rattle.zh_totals.specs.Sums.{sum_to}
+use Rattle.zh_divisors.specs.Sums.{sum_to}
 use Rattle.zh_totals.specs.Totals.{VoteTotals, votes_in}
 
 -- votes over seats, rounded to the nearest whole number, is this number; a half is rounded up
@@ -14,7 +14,8 @@ voter_number votes seats = (2 * votes + seats) / (2 * seats)
 
 -- the voter sum of group g: the voter numbers of its lists, added over all constituencies, which have these seats
 abbrev pub voter_sum : VoteTotals → List ℕ → ℕ → ℕ
-voter_sum totals seats g = sum_to (length totals.canton.constituencies) (λ i. voter_number (votes_in totals (i + 1) g) (slice_index seats i))
+voter_sum totals seats g =
+    sum_to (length totals.canton.constituencies) (λ i. voter_number (votes_in totals (i + 1) g) (slice_index seats i))
 
 -- for each group in order its voter sum
 pub record AreVoterSums (totals : VoteTotals) (seats sums : List ℕ) : Type 0 where

@@ -1,7 +1,8 @@
 ghost use Rattle.std.specs.Prelude.{◌≡◌, ◌^◌, ◌<◌, ◌≤◌, All, Any, IfOk, MatchBool, length};
 ghost use Rattle.zh_divisors.specs.Fit.{IsStrictFit, IsTied};
 ghost use Rattle.zh_divisors.specs.Shares.{HasDivisor, RoundsEach};
-ghost use Rattle.zh_upper.specs.UpperSeats.{AreTied, AreUpperSeats, FromShares, HasNoGroup, HasNoVoters, IsReportedWhere, of_participants, shares_of_participants};
+ghost use Rattle.zh_upper.specs.UpperSeats.{AreTied, AreUpperSeats, FromShares, HasNoGroup, HasNoVoters, IsReportedWhere};
+ghost use Rattle.zh_upper.specs.UpperSeats.{of_participants, shares_of_participants};
 
 use crate::fault::UpperFault;
 use crate::participants::{of_participants, spread};

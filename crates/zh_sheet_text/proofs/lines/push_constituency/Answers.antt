@@ -5,8 +5,8 @@ use Rattle.zh_sheet_text.specs.SheetText.{divisor_text, field}
 use Rattle.zh_sheet_text.proofs.PageLemmas.{put_first, put_next, put_words}
 use Rattle.zh_sheet_text.proofs.lines.push_constituency.Goals as goal
 
-pub returns-clause-text : goal.returns-clause-text
-returns-clause-text c =
+pub returns : goal.returns
+returns c =
     let persons = c.from-2.ensures ∙ c.persons.ensures ∙ ap (λ k. persons_of k c.args.constituency) c.setup-setup.ensures.setup in
     let votes = c.constituency.ensures.votes ∙ ap (λ t. constituency_votes t c.args.constituency) c.totals.ensures in
     let number = put_first _ _ (field (codes "constituency ")) _ _ c.push_field.ensures.text c.from.ensures in
@@ -17,17 +17,16 @@ returns-clause-text c =
     let with_divisor = put_next _ _ _ _ divisor_text _ _ before_divisor c.push_divisor.ensures.text c.constituency_divisor.ensures in
     let before_name = put_words _ _ _ _ _ with_divisor c.push-2.ensures in
     let with_name = put_next _ _ _ _ (λ t. t) _ _ before_name c.push-3.ensures (c.as_bytes.ensures.value ∙ c.constituency_name.ensures.name) in
-    (put_words _ _ _ _ _ with_name c.push-4.ensures).is
+    record {
+      text = (put_words _ _ _ _ _ with_name c.push-4.ensures).is;
+      short = omega (arith, length-append {A = ℕ}, ap length c.push.ensures, ap length c.push-2.ensures, ap length c.push-3.ensures, ap length c.push-4.ensures);
+    }
 
 pub push-requires-3 : goal.push-requires-3
 push-requires-3 c = omega (arith, length-append {A = ℕ}, ap length c.push.ensures, ap length c.push-2.ensures)
 
 pub push-requires-4 : goal.push-requires-4
 push-requires-4 c = omega (arith, length-append {A = ℕ}, ap length c.push.ensures, ap length c.push-2.ensures, ap length c.push-3.ensures)
-
-pub returns-clause-short : goal.returns-clause-short
-returns-clause-short c =
-    omega (arith, length-append {A = ℕ}, ap length c.push.ensures, ap length c.push-2.ensures, ap length c.push-3.ensures, ap length c.push-4.ensures)
 
 pub push_field-requires-4 : goal.push_field-requires-4
 push_field-requires-4 c = omega arith

@@ -4,8 +4,8 @@ use Rattle.zh_sheet_text.specs.SheetText.{divisor_text, field, or_dash, yes_or_n
 use Rattle.zh_sheet_text.proofs.PageLemmas.{put_first, put_next, put_words}
 use Rattle.zh_sheet_text.proofs.lines.push_group.Goals as goal
 
-pub returns-clause-text : goal.returns-clause-text
-returns-clause-text c =
+pub returns : goal.returns
+returns c =
     let number = put_first _ _ (field (codes "group ")) _ _ c.push_field.ensures.text c.from.ensures in
     let before_quorum = put_words _ _ _ _ _ number c.push.ensures in
     let with_quorum = put_next _ _ _ _ (λ t. t) _ _ before_quorum c.push-2.ensures (c.as_bytes.ensures.value ∙ c.yes_or_no.ensures.word ∙ ap yes_or_no c.takes_part.ensures) in
@@ -16,7 +16,21 @@ returns-clause-text c =
     let with_divisor = put_next _ _ _ _ (or_dash divisor_text) _ _ before_divisor c.push_divisor_or_dash.ensures.text c.group_divisor.ensures in
     let before_name = put_words _ _ _ _ _ with_divisor c.push-5.ensures in
     let with_name = put_next _ _ _ _ (λ t. t) _ _ before_name c.push-6.ensures (c.as_bytes-2.ensures.value ∙ c.group_name.ensures.name) in
-    (put_words _ _ _ _ _ with_name c.push-7.ensures).is
+    record {
+      text = (put_words _ _ _ _ _ with_name c.push-7.ensures).is;
+      short =
+          omega (
+            arith,
+            length-append {A = ℕ},
+            ap length c.push.ensures,
+            ap length c.push-2.ensures,
+            ap length c.push-3.ensures,
+            ap length c.push-4.ensures,
+            ap length c.push-5.ensures,
+            ap length c.push-6.ensures,
+            ap length c.push-7.ensures,
+          );
+    }
 
 pub push_divisor_or_dash-requires : goal.push_divisor_or_dash-requires
 push_divisor_or_dash-requires c =
@@ -45,20 +59,6 @@ push-requires-7 c =
       ap length c.push-4.ensures,
       ap length c.push-5.ensures,
       ap length c.push-6.ensures,
-    )
-
-pub returns-clause-short : goal.returns-clause-short
-returns-clause-short c =
-    omega (
-      arith,
-      length-append {A = ℕ},
-      ap length c.push.ensures,
-      ap length c.push-2.ensures,
-      ap length c.push-3.ensures,
-      ap length c.push-4.ensures,
-      ap length c.push-5.ensures,
-      ap length c.push-6.ensures,
-      ap length c.push-7.ensures,
     )
 
 pub push-requires-5 : goal.push-requires-5

@@ -2,8 +2,9 @@ use Rattle.std.proofs.Common.{arith}
 use Rattle.std.proofs.lemmas.Grind.{common_steps}
 use Rattle.zh_sheet_text.proofs.lines.push_house.Goals as goal
 
-pub returns-clause-text : goal.returns-clause-text
-returns-clause-text c = grind (arith, common_steps)
-
-pub returns-clause-short : goal.returns-clause-short
-returns-clause-short c = grind (arith, common_steps)
+pub returns : goal.returns
+returns c =
+    record {
+      text = grind (arith, common_steps);
+      short = grind (arith, common_steps);
+    }

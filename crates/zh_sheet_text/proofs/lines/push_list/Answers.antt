@@ -4,8 +4,8 @@ use Rattle.zh_sheet_text.specs.SheetText.{field, or_dash}
 use Rattle.zh_sheet_text.proofs.PageLemmas.{put_first, put_next, put_words}
 use Rattle.zh_sheet_text.proofs.lines.push_list.Goals as goal
 
-pub returns-clause-text : goal.returns-clause-text
-returns-clause-text c =
+pub returns : goal.returns
+returns c =
     let votes = c.votes.ensures.votes ∙ ap (λ t. votes_in t c.args.constituency c.args.group) c.totals.ensures in
     let number = put_first _ _ (field (codes "list ")) _ _ c.push_field.ensures.text c.from.ensures in
     let with_group = put_next _ _ _ _ (field (codes " ")) _ _ number c.push_field-2.ensures.text c.from-2.ensures in
@@ -13,16 +13,16 @@ returns-clause-text c =
     let before_voters = put_words _ _ _ _ _ with_votes c.push.ensures in
     let with_voters = put_next _ _ _ _ (or_dash decimal) _ _ before_voters c.push_number_or_dash.ensures.text c.list_voters.ensures in
     let with_seats = put_next _ _ _ _ (field (codes " seats ")) _ _ with_voters c.push_field-4.ensures.text (c.from-3.ensures ∙ c.list_seats.ensures) in
-    (put_words _ _ _ _ _ with_seats c.push-2.ensures).is
+    record {
+      text = (put_words _ _ _ _ _ with_seats c.push-2.ensures).is;
+      short = omega (arith, length-append {A = ℕ}, ap length c.push.ensures, ap length c.push-2.ensures);
+    }
 
 pub push_field-requires-4 : goal.push_field-requires-4
 push_field-requires-4 c = omega (arith, length-append {A = ℕ}, ap length c.push.ensures)
 
 pub push-requires-2 : goal.push-requires-2
 push-requires-2 c = omega (arith, length-append {A = ℕ}, ap length c.push.ensures)
-
-pub returns-clause-short : goal.returns-clause-short
-returns-clause-short c = omega (arith, length-append {A = ℕ}, ap length c.push.ensures, ap length c.push-2.ensures)
 
 pub push_field-requires-3 : goal.push_field-requires-3
 push_field-requires-3 c = omega arith

@@ -1,4 +1,4 @@
-use Rattle.std.proofs.Common.{◌≡◌, ◌<◌, length, append-nil, ap, sym, ◌∙◌, arith}
+use Rattle.std.proofs.Common.{◌≡◌, ◌<◌, length, append-nil, ap, sym, ◌∙◌, arith, rules}
 use Rattle.zh_sheet_text.specs.SheetText.{list_lines_in}
 use Rattle.zh_sheet_text.proofs.PrintingLemmas.{Prints-put, at_error, lines_all, lines_printed, lines_stopped}
 use Rattle.zh_sheet_text.proofs.sheet_writer.print_lists.Goals as goal
@@ -6,11 +6,15 @@ use Rattle.zh_sheet_text.proofs.sheet_writer.print_lists.Goals as goal
 pub loop-place-init : goal.loop-place-init
 loop-place-init g c = (Prints-put _ _ _ _ (sym (append-nil _)), c.requires)
 
-pub returns-in_err-print_lists_in-clause-front : goal.returns-in_err-print_lists_in-clause-front
-returns-in_err-print_lists_in-clause-front g c =
-    let all : c.constituencies-place-end.result ≡ length c.args.sheet.now.totals.canton.constituencies = c.constituencies-place-end.ensures.count ∙ ap (λ k. length k.constituencies) c.setup.ensures.setup in
-    let there : c.loop-place.place < length c.args.sheet.now.totals.canton.constituencies = omega (arith, all, c.loop-place-test.true) in
-    at_error c.from_residual.result (lines_stopped _ _ _ _ _ (list_lines_in c.args.sheet.now) c.loop-place.place _ there c.loop-place.invariant.0 c.in_err-print_lists_in.ensures.front)
+pub returns-in_err-print_lists_in : goal.returns-in_err-print_lists_in
+returns-in_err-print_lists_in g c = record {
+  all = search rules;
+  room = search rules;
+  front =
+      let all : c.constituencies-place-end.result ≡ length c.args.sheet.now.totals.canton.constituencies = c.constituencies-place-end.ensures.count ∙ ap (λ k. length k.constituencies) c.setup.ensures.setup in
+      let there : c.loop-place.place < length c.args.sheet.now.totals.canton.constituencies = omega (arith, all, c.loop-place-test.true) in
+      at_error c.from_residual.result (lines_stopped _ _ _ _ _ (list_lines_in c.args.sheet.now) c.loop-place.place _ there c.loop-place.invariant.0 c.in_err-print_lists_in.ensures.front);
+}
 
 pub loop-place-preserved : goal.loop-place-preserved
 loop-place-preserved g c = (
@@ -18,10 +22,11 @@ loop-place-preserved g c = (
   c.in_ok-print_lists_in.ensures.room,
 )
 
-pub returns-clause-all : goal.returns-clause-all
-returns-clause-all g c =
-    let all : c.constituencies-place-end.result ≡ length c.args.sheet.now.totals.canton.constituencies = c.constituencies-place-end.ensures.count ∙ ap (λ k. length k.constituencies) c.setup.ensures.setup in
-    lines_all _ _ _ _ (list_lines_in c.args.sheet.now) _ _ (omega (arith, all, c.loop-place-test.false, c.loop-place.auto.place-end)) c.loop-place.invariant.0
-
-pub returns-clause-room : goal.returns-clause-room
-returns-clause-room g c = c.loop-place.invariant.1
+pub returns : goal.returns
+returns g c = record {
+  all =
+      let all : c.constituencies-place-end.result ≡ length c.args.sheet.now.totals.canton.constituencies = c.constituencies-place-end.ensures.count ∙ ap (λ k. length k.constituencies) c.setup.ensures.setup in
+      lines_all _ _ _ _ (list_lines_in c.args.sheet.now) _ _ (omega (arith, all, c.loop-place-test.false, c.loop-place.auto.place-end)) c.loop-place.invariant.0;
+  room = c.loop-place.invariant.1;
+  front = tt;
+}

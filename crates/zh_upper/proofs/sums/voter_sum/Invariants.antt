@@ -1,5 +1,5 @@
 use Rattle.std.proofs.Common.{◌≡◌}
-use Rattle.zh_totals.specs.Sums.{sum_to}
+use Rattle.zh_divisors.specs.Sums.{sum_to}
 use Rattle.zh_upper.proofs.VoterSumLemmas.{number_at}
 use Rattle.zh_upper.proofs.sums.voter_sum.Given as goal
 

@@ -1,6 +1,6 @@
 use Rattle.std.proofs.Common.{◌+◌, ◌∙◌, ap}
 use Rattle.std.specs.Option.{option_map_or}
-use Rattle.zh_lower.specs.SeatMatrix.{seats_of}
+use Rattle.zh_matrices.specs.SeatMatrix.{seats_of}
 use Rattle.zh_sheet.proofs.sheet.Sheet.list_seats.Goals as goal
 
 pub returns-in-Some : goal.returns-in-Some

@@ -19,11 +19,11 @@ push-requires-2 c =
     let few : length c.as_bytes-digits.result.now ≤ 6 = omega (arith, short, ap length (c.as_bytes-digits.ensures.value ∙ c.format.ensures.text)) in
     omega (arith, six_long _ _ c.as_bytes-digits.result.now c.push.ensures few, c.requires.room)
 
-pub returns-clause-text : goal.returns-clause-text
-returns-clause-text c = six_put _ _ _ c.as_bytes-digits.result.now c.args.number (c.as_bytes-digits.ensures.value ∙ c.format.ensures.text) c.push.ensures c.push-2.ensures
-
-pub returns-clause-short : goal.returns-clause-short
-returns-clause-short c =
+pub returns : goal.returns
+returns c =
     let short = length-decimal-le 6 c.args.number (omega arith) c.requires.small (omega (arith, c.requires.small)) in
     let few : length c.as_bytes-digits.result.now ≤ 6 = omega (arith, short, ap length (c.as_bytes-digits.ensures.value ∙ c.format.ensures.text)) in
-    omega (arith, six_long _ _ c.as_bytes-digits.result.now c.push.ensures few, ap length c.push-2.ensures, length-append c.push.new.self c.as_bytes-digits.result.now)
+    record {
+      text = six_put _ _ _ c.as_bytes-digits.result.now c.args.number (c.as_bytes-digits.ensures.value ∙ c.format.ensures.text) c.push.ensures c.push-2.ensures;
+      short = omega (arith, six_long _ _ c.as_bytes-digits.result.now c.push.ensures few, ap length c.push-2.ensures, length-append c.push.new.self c.as_bytes-digits.result.now);
+    }
