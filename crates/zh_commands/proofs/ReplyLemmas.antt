@@ -7,6 +7,8 @@ use Rattle.std.proofs.lemmas.Fmt.{decimal_is_IsNumeral, decimal_injective}
 use Rattle.std.proofs.lemmas.List.{append_cancel_right}
 use Rattle.std.proofs.lemmas.Bool.{le-ltb}
 use Rattle.std.proofs.lemmas.Str.Parse.{digit_at}
+use Rattle.zh_returns.specs.declared.verdict.Reason.TheVariants as reasons
+use Rattle.zh_desks.specs.declared.fault.RowFault.TheVariants as row_faults
 use Rattle.zh_commands.specs.declared.replies.Reply.{Reply}
 use Rattle.zh_commands.specs.declared.replies.Reply.TheVariants.{Stored, Same, Held, Dropped, Nothing, Shows, ShowsWithdrawn, LastDesk, Refused}
 use Rattle.zh_commands.specs.declared.replies.Refusal.{Refusal}
@@ -41,7 +43,7 @@ spaced_injective (v ∷ vs) (w ∷ ws) one two e =
 
 -- the words of a refusal's name, and of a reply after its desk
 abbrev pub name_words : Refusal → List (List ℕ)
-name_words (refusals.NotClosed municipality) = codes "notclosed" ∷ decimal municipality ∷ []
+name_words (refusals.Judged (reasons.NotClosed municipality)) = codes "notclosed" ∷ decimal municipality ∷ []
 name_words refusals.TiedSeats = codes "tied" ∷ codes "seats" ∷ []
 name_words (refusals.NoSeat constituency) = codes "noseat" ∷ decimal constituency ∷ []
 name_words refusals.TiedUpper = codes "tied" ∷ codes "upper" ∷ []
@@ -69,7 +71,7 @@ number_of-decimal n small = (decimal_is_IsNumeral n small).1
 
 -- the refusals whose names are one word
 abbrev plain : List Refusal
-plain = refusals.Syntax ∷ refusals.Desk ∷ refusals.Municipality ∷ refusals.List ∷ refusals.Votes ∷ refusals.Closed ∷ refusals.Stale ∷ refusals.Gap ∷ refusals.Conflict ∷ refusals.Twice ∷ refusals.NoBatch ∷ refusals.BatchFull ∷ refusals.Memory ∷ refusals.Device ∷ refusals.ReopenDisk ∷ refusals.Spent ∷ refusals.BatchOpen ∷ refusals.Csv ∷ refusals.NoGroup ∷ refusals.NoVoters ∷ refusals.Exhausted ∷ []
+plain = refusals.Syntax ∷ refusals.Desk ∷ refusals.Judged reasons.Municipality ∷ refusals.Judged reasons.List ∷ refusals.Judged reasons.Votes ∷ refusals.Judged reasons.Closed ∷ refusals.Judged reasons.Stale ∷ refusals.Judged reasons.Gap ∷ refusals.Judged reasons.Conflict ∷ refusals.Row row_faults.Twice ∷ refusals.NoBatch ∷ refusals.Row row_faults.BatchFull ∷ refusals.Memory ∷ refusals.Device ∷ refusals.ReopenDisk ∷ refusals.Spent ∷ refusals.BatchOpen ∷ refusals.Csv ∷ refusals.NoGroup ∷ refusals.NoVoters ∷ refusals.Exhausted ∷ []
 
 -- the tie of the words after the first
 abbrev tie_from : List (List ℕ) → Refusal
@@ -84,7 +86,7 @@ abbrev refusal_from : List (List ℕ) → Refusal
 refusal_from words =
     let word = get_or words 0 [] in
     let number = number_of (get_or words 1 []) in
-    cond (bytes_eq word (codes "notclosed")) (refusals.NotClosed number)
+    cond (bytes_eq word (codes "notclosed")) (refusals.Judged (reasons.NotClosed number))
     (cond (bytes_eq word (codes "noseat")) (refusals.NoSeat number)
     (cond (bytes_eq word (codes "novotes")) (refusals.NoVotes number)
     (cond (bytes_eq word (codes "tied")) (tie_from words)
@@ -114,20 +116,20 @@ record IsNamed (refusal : Refusal) : Type 0 where
 named : (refusal : Refusal) → IsRefusal refusal → IsNamed refusal
 named refusals.Syntax is = record { spelled = refl; words = (refl, tt); back = refl }
 named refusals.Desk is = record { spelled = refl; words = (refl, tt); back = refl }
-named refusals.Municipality is = record { spelled = refl; words = (refl, tt); back = refl }
-named refusals.List is = record { spelled = refl; words = (refl, tt); back = refl }
-named refusals.Votes is = record { spelled = refl; words = (refl, tt); back = refl }
-named refusals.Closed is = record { spelled = refl; words = (refl, tt); back = refl }
-named refusals.Stale is = record { spelled = refl; words = (refl, tt); back = refl }
-named refusals.Gap is = record { spelled = refl; words = (refl, tt); back = refl }
-named refusals.Conflict is = record { spelled = refl; words = (refl, tt); back = refl }
-named refusals.Twice is = record { spelled = refl; words = (refl, tt); back = refl }
+named (refusals.Judged reasons.Municipality) is = record { spelled = refl; words = (refl, tt); back = refl }
+named (refusals.Judged reasons.List) is = record { spelled = refl; words = (refl, tt); back = refl }
+named (refusals.Judged reasons.Votes) is = record { spelled = refl; words = (refl, tt); back = refl }
+named (refusals.Judged reasons.Closed) is = record { spelled = refl; words = (refl, tt); back = refl }
+named (refusals.Judged reasons.Stale) is = record { spelled = refl; words = (refl, tt); back = refl }
+named (refusals.Judged reasons.Gap) is = record { spelled = refl; words = (refl, tt); back = refl }
+named (refusals.Judged reasons.Conflict) is = record { spelled = refl; words = (refl, tt); back = refl }
+named (refusals.Row row_faults.Twice) is = record { spelled = refl; words = (refl, tt); back = refl }
 named refusals.NoBatch is = record { spelled = refl; words = (refl, tt); back = refl }
-named refusals.BatchFull is = record { spelled = refl; words = (refl, tt); back = refl }
-named (refusals.NotClosed m) is = record {
+named (refusals.Row row_faults.BatchFull) is = record { spelled = refl; words = (refl, tt); back = refl }
+named (refusals.Judged (reasons.NotClosed m)) is = record {
   spelled = simp append-nil;
   words = (refl, (IsWord-decimal m (omega (arith, is)), tt));
-  back = ap refusals.NotClosed (number_of-decimal m (omega (arith, is)));
+  back = ap (λ (n : ℕ). refusals.Judged (reasons.NotClosed n)) (number_of-decimal m (omega (arith, is)));
 }
 named refusals.Memory is = record { spelled = refl; words = (refl, tt); back = refl }
 named refusals.Device is = record { spelled = refl; words = (refl, tt); back = refl }

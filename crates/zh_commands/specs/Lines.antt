@@ -1,5 +1,7 @@
 -- The lines of the desks as bytes. A numeral is `decimal n`, with n below 2 ^ 32; 32 is the space.
-use Rattle.std.specs.Prelude.{◌≡◌, ◌≢◌, ◌==◌, ◌&&◌, ◌-◌, ◌^◌, ◌<◌, ◌≤◌, ℕ, List, [], ◌∷◌, ◌++◌, length, decimal, nat_le, if◌then◌else◌, IfSome, Result, Ok, Err}
+use Rattle.std.specs.Prelude.{◌≡◌, ◌≢◌, ◌==◌, ◌&&◌, ◌-◌, ◌^◌, ◌<◌, ◌≤◌, ℕ, List, [], ◌∷◌, ◌++◌, length, decimal}
+use Rattle.std.specs.Prelude.{nat_le, if◌then◌else◌, IfSome, Result, Ok, Err}
+use Rattle.zh_desks.specs.Numbers.{IsDesk}
 use Rattle.zh_commands.specs.Forms.{form_of, row_numbers}
 use Rattle.zh_commands.specs.Words.{first_word, numerals, AreNumerals}
 use Rattle.zh_records.specs.declared.row.Row.{Row}
@@ -21,11 +23,7 @@ request_text request = word_of request ++ numerals (numbers_of request)
 
 -- the one spelling of a line: its desk, a space, the request
 abbrev pub spelling : Line → List ℕ
-spelling line = decimal line.desk ++ 32 ∷ request_text line.request
-
--- the desks are 1 to 8
-abbrev pub IsDesk : ℕ → Type 0
-IsDesk desk = (1 ≤ desk) × (desk ≤ 8)
+spelling line = decimal line.desk.number ++ 32 ∷ request_text line.request
 
 -- the numbers of a row in their order, each after a space
 abbrev pub row_text : Row → List ℕ
@@ -39,9 +37,9 @@ IsRow row = AreNumerals (row_numbers row) × (1 ≤ row.number)
 abbrev pub IsRequest : Request → Type 0
 IsRequest request = AreNumerals (numbers_of request) × IfSome (form_of request).replacement (λ number. 1 ≤ number)
 
--- the line can be said: a desk that there is, and a request
+-- the line can be said
 abbrev pub IsLine : Line → Type 0
-IsLine line = IsDesk line.desk × IsRequest line.request
+IsLine line = IsRequest line.request
 
 -- at most 120 bytes, of which the first word is the number of a desk that there is not
 abbrev pub NamesNoDesk : List ℕ → Type 0

@@ -1,25 +1,33 @@
 -- The replies to the desks as bytes: 32 is the space, 10 the end of a line.
 use Rattle.std.specs.Prelude.{ℕ, ◌^◌, ◌<◌, List, [], ◌∷◌, ◌++◌, codes, decimal}
+use Rattle.zh_returns.specs.declared.verdict.Reason.{Reason}
+use Rattle.zh_returns.specs.declared.verdict.Reason.TheVariants as reasons
+use Rattle.zh_desks.specs.declared.fault.RowFault.TheVariants as row_faults
 use Rattle.zh_commands.specs.declared.replies.Reply.{Reply}
-use Rattle.zh_commands.specs.declared.replies.Reply.TheVariants.{Stored, Same, Held, Dropped, Nothing, Shows, ShowsWithdrawn, LastDesk, Refused}
+use Rattle.zh_commands.specs.declared.replies.Reply.TheVariants.{Stored, Same, Held, Dropped, Nothing}
+use Rattle.zh_commands.specs.declared.replies.Reply.TheVariants.{Shows, ShowsWithdrawn, LastDesk, Refused}
 use Rattle.zh_commands.specs.declared.replies.Refusal.{Refusal}
 use Rattle.zh_commands.specs.declared.replies.Refusal.TheVariants as refusals
+
+-- the name of a judgement's reason
+abbrev pub reason_name : Reason → List ℕ
+reason_name reasons.Municipality = codes "municipality"
+reason_name reasons.List = codes "list"
+reason_name reasons.Votes = codes "votes"
+reason_name reasons.Closed = codes "closed"
+reason_name reasons.Stale = codes "stale"
+reason_name reasons.Gap = codes "gap"
+reason_name reasons.Conflict = codes "conflict"
+reason_name (reasons.NotClosed municipality) = codes "notclosed " ++ decimal municipality
 
 -- the name of a refusal
 abbrev pub name : Refusal → List ℕ
 name refusals.Syntax = codes "syntax"
 name refusals.Desk = codes "desk"
-name refusals.Municipality = codes "municipality"
-name refusals.List = codes "list"
-name refusals.Votes = codes "votes"
-name refusals.Closed = codes "closed"
-name refusals.Stale = codes "stale"
-name refusals.Gap = codes "gap"
-name refusals.Conflict = codes "conflict"
-name refusals.Twice = codes "twice"
+name (refusals.Judged reason) = reason_name reason
+name (refusals.Row row_faults.Twice) = codes "twice"
+name (refusals.Row row_faults.BatchFull) = codes "batchfull"
 name refusals.NoBatch = codes "nobatch"
-name refusals.BatchFull = codes "batchfull"
-name (refusals.NotClosed municipality) = codes "notclosed " ++ decimal municipality
 name refusals.Memory = codes "memory"
 name refusals.Device = codes "device"
 name refusals.ReopenDisk = codes "reopen-disk"
@@ -37,7 +45,7 @@ name refusals.Exhausted = codes "exhausted"
 
 -- the numbers at the end of a refusal's name, if any
 abbrev pub name_numbers : Refusal → List ℕ
-name_numbers (refusals.NotClosed municipality) = decimal municipality
+name_numbers (refusals.Judged (reasons.NotClosed municipality)) = decimal municipality
 name_numbers (refusals.NoSeat constituency) = decimal constituency
 name_numbers (refusals.NoVotes constituency) = decimal constituency
 name_numbers (refusals.TiedLower constituency group) = decimal constituency ++ 32 ∷ decimal group
@@ -61,7 +69,7 @@ reply_text desk reply = decimal desk ++ 32 ∷ answer reply ++ 10 ∷ []
 
 -- the numbers of a refusal and of a reply fit their types
 abbrev pub IsRefusal : Refusal → Type 0
-IsRefusal (refusals.NotClosed municipality) = municipality < 2 ^ 32
+IsRefusal (refusals.Judged (reasons.NotClosed municipality)) = municipality < 2 ^ 32
 IsRefusal (refusals.NoSeat constituency) = constituency < 2 ^ 32
 IsRefusal (refusals.NoVotes constituency) = constituency < 2 ^ 32
 IsRefusal (refusals.TiedLower constituency group) = (constituency < 2 ^ 32) × (group < 2 ^ 32)

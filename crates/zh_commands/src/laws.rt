@@ -21,7 +21,7 @@ pub fn one_spelling()
 
 /// A line that is read is answered under its own desk.
 pub fn one_desk()
-    ensures { (bytes : List ℕ) (line : Line) → ParsesAs bytes (Ok line) → desk_of bytes ≡ line.desk }
+    ensures { (bytes : List ℕ) (line : Line) → ParsesAs bytes (Ok line) → desk_of bytes ≡ line.desk.number }
 {}
 
 /// The bytes of a reply determine the desk and the reply.

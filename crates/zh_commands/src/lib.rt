@@ -17,3 +17,5 @@ pub use parser::{desk_of, parse_line};
 pub use replies::{Refusal, Reply};
 pub use reply_writer::write_reply;
 pub use words::numeral;
+pub use zh_desks::{Desk, RowFault};
+pub use zh_returns::Reason;

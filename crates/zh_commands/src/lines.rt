@@ -4,13 +4,14 @@ ghost use Rattle.zh_commands.specs.Commands.{own_command};
 ghost use Rattle.zh_commands.specs.Lines.{IsLine};
 
 use thiserror::Error;
+use zh_desks::Desk;
 use zh_records::{Command, Row};
 
 /// What one line asks of the office.
 #[derive(Clone, Copy)]
 pub struct Line {
-    /// The desk that sent the line, 1 to 8.
-    pub desk: u8,
+    /// The desk that sent the line.
+    pub desk: Desk,
     /// What the desk asks for.
     pub request: Request,
 }
@@ -65,7 +66,7 @@ impl Line {
         ensures command { result ≡ own_command self.desk self.request }
         ensures numbers { IsLine self → IfSome result HasNumbers }
     {
-        let desk = self.desk;
+        let desk = self.desk.number;
         match self.request {
             Request::Return(row) => Some(Command::Return { desk, row }),
             Request::Withdraw {

@@ -1,10 +1,12 @@
-ghost use Rattle.std.specs.Prelude.{◌≡◌, ◌≢◌, ◌↔◌, ◌^◌, ◌<◌, ℕ, [], ◌∷◌, IsTrue, MatchOption};
+ghost use Rattle.std.specs.Prelude.{◌≡◌, ◌≢◌, ◌^◌, ◌<◌, ℕ, [], ◌∷◌, MatchOption};
 ghost use Rattle.zh_commands.specs.Words.{numerals};
-ghost use Rattle.zh_commands.specs.Lines.{request_text, word_of, numbers_of, row_text, IsDesk, IsRow, IsRequest, ParsesAs, desk_of};
+ghost use Rattle.zh_commands.specs.Lines.{request_text, word_of, numbers_of, row_text};
+ghost use Rattle.zh_commands.specs.Lines.{IsRow, IsRequest, ParsesAs, desk_of};
 
 use crate::lines::{Line, LineFault, Request};
 use crate::words::{after_space, numbers, numeral, split_word};
 use std::str;
+use zh_desks::Desk;
 use zh_records::Row;
 
 // The bytes that a line has at most.
@@ -21,29 +23,19 @@ pub fn parse_line(bytes: &[u8]) -> Result<Line, LineFault>
         return Err(LineFault::Syntax);
     }
     let (word, rest) = split_word(bytes);
-    let Some(desk) = numeral(word) else {
+    let Some(number) = numeral(word) else {
         return Err(LineFault::Syntax);
     };
-    if !is_desk(desk) {
+    let Some(desk) = Desk::new(number) else {
         return Err(LineFault::Desk);
-    }
+    };
     let Some(text) = after_space(rest) else {
         return Err(LineFault::Syntax);
     };
     let Some(request) = request_of(text) else {
         return Err(LineFault::Syntax);
     };
-    Ok(Line {
-        desk: desk as u8,
-        request,
-    })
-}
-
-// Whether there is such a desk.
-fn is_desk(number: u32) -> bool
-    ensures { IsTrue result ↔ IsDesk number }
-{
-    (1..=8).contains(&number)
+    Ok(Line { desk, request })
 }
 
 // What the text after the desk and the space asks for.

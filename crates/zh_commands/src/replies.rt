@@ -1,3 +1,6 @@
+use zh_desks::RowFault;
+use zh_returns::Reason;
+
 /// The reply to a line of a desk.
 #[derive(Clone, Copy, Debug, PartialEq, Eq)]
 pub enum Reply {
@@ -21,35 +24,19 @@ pub enum Reply {
     Refused(Refusal),
 }
 
-/// Why a line was refused, in the order of `docs/FORMATS.md`, "Replies".
+/// Why a line was refused. `docs/FORMATS.md`, "Replies", has the names.
 #[derive(Clone, Copy, Debug, PartialEq, Eq)]
 pub enum Refusal {
     /// The line has none of the forms.
     Syntax,
     /// The first word is a numeral, but not 1 to 8.
     Desk,
-    /// The set-up has no such municipality.
-    Municipality,
-    /// The list does not stand in the municipality's constituency.
-    List,
-    /// More than 1,000,000,000 votes.
-    Votes,
-    /// The municipality is closed.
-    Closed,
-    /// The number is below the one held.
-    Stale,
-    /// The number is above the next one.
-    Gap,
-    /// The number is held, with other content.
-    Conflict,
-    /// The batch has a row of this municipality and list.
-    Twice,
+    /// A command is judged so, or a row, or a question.
+    Judged(Reason),
+    /// The batch does not take the row.
+    Row(RowFault),
     /// The desk has no batch.
     NoBatch,
-    /// The batch has 1,000 rows.
-    BatchFull,
-    /// This municipality is open.
-    NotClosed(u32),
     /// Memory was refused.
     Memory,
     /// The disk failed; it may have the command or not.

@@ -1,8 +1,10 @@
 ghost use Rattle.std.specs.Prelude.{◌≡◌, ◌≤◌, ◌++◌, length, take};
-ghost use Rattle.zh_commands.specs.Replies.{name, name_numbers, answer, reply_text};
+ghost use Rattle.zh_commands.specs.Replies.{name, name_numbers, reason_name, answer, reply_text};
 
 use crate::replies::{Refusal, Reply};
 use crate::text::Text;
+use zh_desks::RowFault;
+use zh_returns::Reason;
 
 /// Writes a reply at the front of `out`, as `docs/FORMATS.md`, "Replies", has it, and gives the number of its bytes.
 ///
@@ -58,7 +60,9 @@ fn push_name(text: &mut Text, refusal: &Refusal)
 {
     let words = words_of(refusal);
     match refusal {
-        Refusal::NotClosed(number) | Refusal::NoSeat(number) | Refusal::NoVotes(number) => {
+        Refusal::Judged(Reason::NotClosed(number))
+        | Refusal::NoSeat(number)
+        | Refusal::NoVotes(number) => {
             text.push_numbered(words, *number);
         }
         Refusal::TiedLower(constituency, group) => {
@@ -77,17 +81,10 @@ fn words_of(refusal: &Refusal) -> &'static [u8]
     match refusal {
         Refusal::Syntax => b"syntax",
         Refusal::Desk => b"desk",
-        Refusal::Municipality => b"municipality",
-        Refusal::List => b"list",
-        Refusal::Votes => b"votes",
-        Refusal::Closed => b"closed",
-        Refusal::Stale => b"stale",
-        Refusal::Gap => b"gap",
-        Refusal::Conflict => b"conflict",
-        Refusal::Twice => b"twice",
+        Refusal::Judged(reason) => words_of_reason(reason),
+        Refusal::Row(RowFault::Twice) => b"twice",
+        Refusal::Row(RowFault::BatchFull) => b"batchfull",
         Refusal::NoBatch => b"nobatch",
-        Refusal::BatchFull => b"batchfull",
-        Refusal::NotClosed(_) => b"notclosed ",
         Refusal::Memory => b"memory",
         Refusal::Device => b"device",
         Refusal::ReopenDisk => b"reopen-disk",
@@ -102,5 +99,22 @@ fn words_of(refusal: &Refusal) -> &'static [u8]
         Refusal::NoVotes(_) => b"novotes ",
         Refusal::TiedLower(..) => b"tied lower ",
         Refusal::Exhausted => b"exhausted",
+    }
+}
+
+// The words of the name of a judgement's reason, likewise.
+fn words_of_reason(reason: &Reason) -> &'static [u8]
+    ensures words { reason_name reason.now ≡ result.now ++ name_numbers (Refusal.Judged reason.now) }
+    ensures short { length result.now ≤ 12 }
+{
+    match reason {
+        Reason::Municipality => b"municipality",
+        Reason::List => b"list",
+        Reason::Votes => b"votes",
+        Reason::Closed => b"closed",
+        Reason::Stale => b"stale",
+        Reason::Gap => b"gap",
+        Reason::Conflict => b"conflict",
+        Reason::NotClosed(_) => b"notclosed ",
     }
 }

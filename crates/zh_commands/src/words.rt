@@ -1,4 +1,5 @@
-ghost use Rattle.std.specs.Prelude.{◌≡◌, ◌≢◌, ◌==◌, ◌∷◌, ◌++◌, ◌^◌, ◌<◌, ◌↔◌, ℕ, List, length, slice_index, position, decimal, IsTrue, IfSome, IsSomeAnd, MatchOption};
+ghost use Rattle.std.specs.Prelude.{◌≡◌, ◌≢◌, ◌==◌, ◌∷◌, ◌++◌, ◌^◌, ◌<◌, ◌↔◌, ℕ, List, length, slice_index, position};
+ghost use Rattle.std.specs.Prelude.{decimal, IsTrue, IfSome, IsSomeAnd, MatchOption};
 ghost use Rattle.std.specs.Int.{IsInRange};
 ghost use Rattle.zh_commands.specs.Words.{first_word, AreNumerals, numerals};
 

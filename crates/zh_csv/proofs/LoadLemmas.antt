@@ -1,58 +1,34 @@
 -- What a text loads.
-use Rattle.std.proofs.Common.{◌≡◌, ◌≢◌, ◌≤◌, ℕ, List, [], ◌∷◌, ◌++◌, map, length, Option, Some, None, Bool, true, false, nat_le, refl, sym, ap, ◌∙◌, subst, arith, Result, Ok, Err, inl, inr}
+use Rattle.std.proofs.Common.{◌≡◌, ◌≢◌, ℕ, List, [], ◌∷◌, ◌++◌, map, Option, Some, None, sym, ap, ◌∙◌, subst, arith, Err, inl, inr}
 use Rattle.std.proofs.lemmas.List.{map-append}
 use Rattle.std.proofs.lemmas.List.Elements.{All-push}
 use Rattle.std.proofs.lemmas.Bool.Decides.{nat_tests}
 use Rattle.zh_districts.specs.Canton.{Canton}
-use Rattle.zh_districts.specs.Misplaced.{misplaced}
 use Rattle.zh_records.specs.declared.row.Row.{Row}
-use Rattle.zh_records.specs.Rows.{IsSpeakableRow, row_key, has_key}
-use Rattle.zh_returns.specs.Limits.{most_votes}
-use Rattle.zh_desks.specs.RowFaults.{fault_in}
-use Rattle.zh_desks.specs.declared.fault.RowFault.{RowFault}
-use Rattle.zh_desks.proofs.CallerLemmas.{rows_more}
+use Rattle.zh_records.specs.Rows.{IsSpeakableRow}
+use Rattle.zh_desks.specs.RowFaults.{unfit, fault_in}
+use Rattle.zh_desks.proofs.CallerLemmas.{rows_more, taken_by}
 use Rattle.csv.specs.declared.reader.Reader.{Reader}
 use Rattle.zh_csv.specs.Records.{Record, AreFirst, HasRead, HasOtherLength, GivesNone}
 use Rattle.zh_csv.specs.Load.{names, fields, fault_after, AreLoaded, IsReadable, IsUnread, StopsAt, Loads}
 use Rattle.zh_csv.specs.declared.fault.LoadFault.{LoadFault}
 use Rattle.zh_csv.specs.declared.fault.LoadFault.TheVariants as faults
 
--- a batch that refuses no row has none of its key, and room
-fresh : (rows : List Row) (row : Row) → fault_in rows row ≡ None → (has_key rows (row_key row) ≡ false) × (nat_le 1000 (length rows) ≡ false)
-fresh rows row none = by (has_key rows (row_key row)) (nat_le 1000 (length rows)) refl refl
-  where
-    by : (b c : Bool) → has_key rows (row_key row) ≡ b → nat_le 1000 (length rows) ≡ c → (has_key rows (row_key row) ≡ false) × (nat_le 1000 (length rows) ≡ false)
-    by true c e f = cc (rw e at none)
-    by false true e f = cc (rw (e, f) at none)
-    by false false e f = (e, f)
-
 -- a row more
-pub loaded_more : (canton : Canton) (rows : List Row) (row : Row) → AreLoaded canton rows → misplaced canton row.municipality row.list ≡ None → row.votes ≤ most_votes → fault_in rows row ≡ None → IsSpeakableRow row → AreLoaded canton (rows ++ row ∷ [])
-loaded_more canton rows row are placed votes none speakable =
-    let (own, room) = fresh rows row none in
+pub loaded_more : (canton : Canton) (rows : List Row) (row : Row) → AreLoaded canton rows → unfit canton row ≡ None → fault_in rows row ≡ None → IsSpeakableRow row → AreLoaded canton (rows ++ row ∷ [])
+loaded_more canton rows row are fit none speakable =
+    let (own, room) = taken_by rows row none in
     record {
       are_rows = rows_more rows row are.are_rows (grind (arith, nat_tests)) own speakable;
-      placed = All-push (λ (r : Row). misplaced canton r.municipality r.list ≡ None) rows row are.placed placed;
-      votes = All-push (λ (r : Row). r.votes ≤ most_votes) rows row are.votes votes;
+      fit = All-push (λ (r : Row). unfit canton r ≡ None) rows row are.fit fit;
     }
-
--- a batch that holds a row does not refuse it
-pub not_refused : (rows : List Row) (row : Row) (n : ℕ) (result : Result ℕ RowFault) → result ≡ Ok n → ((fault : RowFault) → fault_in rows row ≡ Some fault → result ≡ Err fault) → fault_in rows row ≡ None
-not_refused rows row n result held refused = by (fault_in rows row) refl
-  where
-    by : (o : Option RowFault) → fault_in rows row ≡ o → fault_in rows row ≡ None
-    by None e = e
-    by (Some fault) e = let wrong : Ok n ≡ Err fault = sym held ∙ refused fault e in cc wrong
 
 -- a text that stops at a fault loads nothing
 stopped : (canton : Canton) (text : List ℕ) (fault : LoadFault) → (fault ≢ faults.Memory → fault ≢ faults.Read → StopsAt canton text fault) → Loads canton text (Err fault)
 stopped canton text faults.Csv stops = inr (stops (λ e. cc e) (λ e. cc e))
 stopped canton text faults.Syntax stops = stops (λ e. cc e) (λ e. cc e)
-stopped canton text faults.Municipality stops = stops (λ e. cc e) (λ e. cc e)
-stopped canton text faults.List stops = stops (λ e. cc e) (λ e. cc e)
-stopped canton text faults.Votes stops = stops (λ e. cc e) (λ e. cc e)
-stopped canton text faults.Twice stops = stops (λ e. cc e) (λ e. cc e)
-stopped canton text faults.BatchFull stops = stops (λ e. cc e) (λ e. cc e)
+stopped canton text (faults.Judged reason) stops = stops (λ e. cc e) (λ e. cc e)
+stopped canton text (faults.Row fault) stops = stops (λ e. cc e) (λ e. cc e)
 stopped canton text faults.Memory stops = tt
 stopped canton text faults.Read stops = tt
 
@@ -71,11 +47,8 @@ none_given canton text rows faults.Csv are other = inr (other_stops canton text 
 none_given canton text rows faults.Memory are none = tt
 none_given canton text rows faults.Read are none = tt
 none_given canton text rows faults.Syntax are none = absurd none
-none_given canton text rows faults.Municipality are none = absurd none
-none_given canton text rows faults.List are none = absurd none
-none_given canton text rows faults.Votes are none = absurd none
-none_given canton text rows faults.Twice are none = absurd none
-none_given canton text rows faults.BatchFull are none = absurd none
+none_given canton text rows (faults.Judged reason) are none = absurd none
+none_given canton text rows (faults.Row fault) are none = absurd none
 
 -- it gave no first record
 no_expectation : (text : List ℕ) → HasOtherLength text [] → ⊥
@@ -86,11 +59,8 @@ first_not_given canton text faults.Csv other = absurd (no_expectation text other
 first_not_given canton text faults.Memory none = tt
 first_not_given canton text faults.Read none = tt
 first_not_given canton text faults.Syntax none = absurd none
-first_not_given canton text faults.Municipality none = absurd none
-first_not_given canton text faults.List none = absurd none
-first_not_given canton text faults.Votes none = absurd none
-first_not_given canton text faults.Twice none = absurd none
-first_not_given canton text faults.BatchFull none = absurd none
+first_not_given canton text (faults.Judged reason) none = absurd none
+first_not_given canton text (faults.Row fault) none = absurd none
 
 -- the records that a reader gave are the first of its text
 pub are_first : {R : Type 0} (remaining : R → Option (List ℕ)) (text : List ℕ) (records : List Record) (reader : Reader R) → HasRead remaining text records reader → AreFirst text records

@@ -8,12 +8,11 @@ use Rattle.std.proofs.lemmas.Bool.Decides.{nat_tests}
 use Rattle.std.proofs.lemmas.Fmt.{decimal_injective}
 use Rattle.std.proofs.lemmas.List.{append-nil, length-map, map-append}
 use Rattle.zh_districts.specs.Canton.{Canton}
-use Rattle.zh_districts.specs.Misplaced.{misplaced}
 use Rattle.zh_records.specs.declared.row.Row.{Row}
 use Rattle.zh_records.specs.Keys.{key_cmp}
 use Rattle.zh_records.specs.Rows.{IsSpeakableRow, row_key, has_key}
 use Rattle.zh_records.proofs.CallerLemmas.{fresh_from_distinct}
-use Rattle.zh_returns.specs.Limits.{most_votes}
+use Rattle.zh_desks.specs.RowFaults.{unfit}
 use Rattle.zh_csv.specs.Records.{Record, AreFirst}
 use Rattle.zh_csv.specs.Load.{names, fields, fault_after, AreLoaded, IsReadable, IsUnread, IsUnheld, StopsAt, HasNoNames, Loads, IsOfText}
 use Rattle.zh_csv.specs.declared.fault.LoadFault.{LoadFault}
@@ -98,17 +97,14 @@ module _ (canton : Canton) (rows : List Row) (row : Row) (others : List Row) (ar
   room : nat_le 1000 (length rows) ≡ false
   room = let few : length rows < 1000 = omega (arith, are.are_rows.most, length-append rows (row ∷ others)) in grind (arith, nat_tests)
 
-  placed : misplaced canton row.municipality row.list ≡ None
-  placed = subst (λ (r : Row). misplaced canton r.municipality r.list ≡ None) (at_seam rows row others row) (are.placed (length rows) row within)
-
-  few_votes : row.votes ≤ most_votes
-  few_votes = subst (λ (r : Row). r.votes ≤ most_votes) (at_seam rows row others row) (are.votes (length rows) row within)
+  is_fit : unfit canton row ≡ None
+  is_fit = subst (λ (r : Row). unfit canton r ≡ None) (at_seam rows row others row) (are.fit (length rows) row within)
 
   readable_there : IsReadable row
   readable_there = subst IsReadable (at_seam rows row others row) (all_readable canton _ are (length rows) row within)
 
   no_fault : fault_after canton rows row ≡ None
-  no_fault = rw placed (rw (own_key, room) (grind (arith, nat_tests, few_votes)))
+  no_fault = rw is_fit (rw (own_key, room) refl)
 
 -- so no record of one of them stops a text
 unstopped : (canton : Canton) (rows : List Row) (row : Row) (others : List Row) (fault : LoadFault) → AreLoaded canton (rows ++ row ∷ others) → (IsUnread (fields row) fault ⊎ IsUnheld canton rows (fields row) fault) → ⊥
@@ -199,11 +195,8 @@ refuses canton text faults.Csv (inr stops) of_text = inr stops
 refuses canton text faults.Memory loads of_text = absurd (of_text.0 refl)
 refuses canton text faults.Read loads of_text = absurd (of_text.1 refl)
 refuses canton text faults.Syntax stops of_text = inr stops
-refuses canton text faults.Municipality stops of_text = inr stops
-refuses canton text faults.List stops of_text = inr stops
-refuses canton text faults.Votes stops of_text = inr stops
-refuses canton text faults.Twice stops of_text = inr stops
-refuses canton text faults.BatchFull stops of_text = inr stops
+refuses canton text (faults.Judged reason) stops of_text = inr stops
+refuses canton text (faults.Row fault) stops of_text = inr stops
 
 loaded_or_refused : (canton : Canton) (text : List ℕ) (rows : List Row) (fault : LoadFault) → Loads canton text (Ok rows) → Loads canton text (Err fault) → IsOfText (Err fault) → ⊥
 loaded_or_refused canton text rows fault loads refused of_text =

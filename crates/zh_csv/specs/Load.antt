@@ -1,15 +1,12 @@
 -- What a text of records loads: the rows of a batch, or why it is refused.
-use Rattle.std.specs.Prelude.{◌≡◌, ◌≢◌, ◌⊎◌, ℕ, ◌<◌, ◌≤◌, ◌^◌, nat_lt, if◌then◌else◌, List, [], ◌∷◌, ◌++◌, map, length, All, IfOk, true, Bool, Option, Some, None, Result, Ok, Err, codes, decimal}
+use Rattle.std.specs.Prelude.{◌≡◌, ◌≢◌, ◌⊎◌, ℕ, ◌<◌, ◌≤◌, ◌^◌, List, [], ◌∷◌, ◌++◌, map, length, All}
+use Rattle.std.specs.Prelude.{IfOk, true, Bool, Option, Some, None, Result, Ok, Err, codes, decimal}
 use Rattle.zh_districts.specs.Canton.{Canton}
-use Rattle.zh_districts.specs.Misplaced.{misplaced}
-use Rattle.zh_districts.specs.declared.misplaced.Misplaced.{Misplaced}
-use Rattle.zh_districts.specs.declared.misplaced.Misplaced.TheVariants as places
 use Rattle.zh_records.specs.declared.row.Row.{Row}
 use Rattle.zh_records.specs.Rows.{AreRows}
-use Rattle.zh_returns.specs.Limits.{most_votes}
-use Rattle.zh_desks.specs.RowFaults.{fault_in}
+use Rattle.zh_returns.specs.declared.verdict.Reason.{Reason}
+use Rattle.zh_desks.specs.RowFaults.{unfit, fault_in}
 use Rattle.zh_desks.specs.declared.fault.RowFault.{RowFault}
-use Rattle.zh_desks.specs.declared.fault.RowFault.TheVariants as row_faults
 use Rattle.zh_csv.specs.Records.{Record, AreAll, AreFirst}
 use Rattle.zh_csv.specs.declared.fault.LoadFault.{LoadFault}
 use Rattle.zh_csv.specs.declared.fault.LoadFault.TheVariants as faults
@@ -29,27 +26,20 @@ pub record IsReadable (row : Row) : Type 0 where
   pub number : (1 ≤ row.number) × (row.number < 2 ^ 32)
   pub votes : row.votes < 2 ^ 32
 
--- the fault under which a batch refuses a row, memory aside
-abbrev pub batch_fault : Option RowFault → Option LoadFault
-batch_fault (Some row_faults.Twice) = Some faults.Twice
-batch_fault (Some row_faults.BatchFull) = Some faults.BatchFull
-batch_fault fault = None
-
--- why a row cannot follow these, memory aside: the first that applies
-abbrev pub place_fault : Option Misplaced → List Row → Row → Option LoadFault
-place_fault (Some places.Municipality) rows row = Some faults.Municipality
-place_fault (Some places.List) rows row = Some faults.List
-place_fault None rows row = if nat_lt most_votes row.votes then Some faults.Votes else batch_fault (fault_in rows row)
+-- why a row cannot follow others, memory aside: no batch may have it, or the batch does not take it
+abbrev pub first_fault : Option Reason → Option RowFault → Option LoadFault
+first_fault (Some reason) fault = Some (faults.Judged reason)
+first_fault None (Some fault) = Some (faults.Row fault)
+first_fault None None = None
 
 abbrev pub fault_after : Canton → List Row → Row → Option LoadFault
-fault_after canton rows row = place_fault (misplaced canton row.municipality row.list) rows row
+fault_after canton rows row = first_fault (unfit canton row) (fault_in rows row)
 
 -- rows that can be held together: at most 1,000, no two of one key, each of a list that stands in its municipality, with
 -- no more votes than a return may have
 pub record AreLoaded (canton : Canton) (rows : List Row) : Type 0 where
   pub are_rows : AreRows rows
-  pub placed : All (λ row. misplaced canton row.municipality row.list ≡ None) rows
-  pub votes : All (λ row. row.votes ≤ most_votes) rows
+  pub fit : All (λ row. unfit canton row ≡ None) rows
 
 -- why a record is no row: it does not have four fields, or no row has these
 abbrev pub IsUnread : Record → LoadFault → Type 0

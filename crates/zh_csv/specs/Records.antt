@@ -1,7 +1,8 @@
 -- The records of a text, as the crate `csv` reads them with no header row: comma-separated, none of another length than
 -- the first.
 use Rattle.std.specs.Prelude.{◌≡◌, ◌≢◌, ◌++◌, ℕ, List, [], ◌∷◌, length, Option, Some, None, false}
-use Rattle.csv.specs.Reading.{Reached, AreRecords, Ready, default_config, strip_bom, source_of, reader_config, reader_trim, reader_state, is_flexible, expected_len}
+use Rattle.csv.specs.Reading.{Reached, AreRecords, Ready, default_config, strip_bom, source_of}
+use Rattle.csv.specs.Reading.{reader_config, reader_trim, reader_state, is_flexible, expected_len}
 use Rattle.csv.specs.declared.error.ErrorKind.{ErrorKind}
 use Rattle.csv.specs.declared.error.ErrorKind.TheVariants as kinds
 use Rattle.csv.specs.declared.parser.State.{State}

@@ -1,11 +1,9 @@
 //! A batch read from a text.
 
 ghost use Rattle.std.specs.Prelude.{◌≡◌, ◌≢◌, List, ◌++◌, ◌∷◌, [], ℕ, Some, IfOk, IfErr, IsErrOf, OnOk, true};
-ghost use Rattle.zh_records.specs.declared.row.Row.{Row};
-ghost use Rattle.zh_desks.specs.declared.fault.RowFault.{RowFault};
 ghost use Rattle.zh_csv.specs.declared.fault.LoadFault.{LoadFault};
-ghost use Rattle.zh_csv.specs.Load.{place_fault, batch_fault, fault_after, names, Loads, AreLoaded, IsReadable};
-ghost use Rattle.zh_csv.specs.Noted.{has_failed, inside};
+ghost use Rattle.zh_csv.specs.Load.{fault_after, names, Loads, AreLoaded, IsReadable};
+ghost use Rattle.zh_csv.specs.Noted.{has_failed, inner_reader};
 ghost use Rattle.zh_csv.specs.Records.{HasRead};
 
 use crate::fault::LoadFault;
@@ -15,32 +13,9 @@ use crate::records::{next_record, reader_of};
 use csv::{ByteRecord, Reader};
 use std::alloc::Global;
 use std::io::Read;
-use zh_desks::{Batch, RowFault};
-use zh_districts::{Misplaced, Setup};
+use zh_desks::{Batch, unfit};
+use zh_districts::Setup;
 use zh_records::{MOST_ROWS, Row};
-use zh_returns::MOST_VOTES;
-
-/// The fault of a list that has no place.
-fn place_fault(place: Misplaced) -> LoadFault
-    ensures { (rows : List Row) (row : Row) → place_fault (Some place) rows row ≡ Some result }
-{
-    match place {
-        Misplaced::Municipality => LoadFault::Municipality,
-        Misplaced::List => LoadFault::List,
-    }
-}
-
-/// The fault of a row that a batch does not hold.
-fn batch_fault(fault: RowFault) -> LoadFault
-    ensures batch { fault ≢ RowFault.Memory → fault ≢ RowFault.NoBatch → batch_fault (Some fault) ≡ Some result }
-    ensures memory { fault ≡ RowFault.Memory → result ≡ LoadFault.Memory }
-{
-    match fault {
-        RowFault::Twice => LoadFault::Twice,
-        RowFault::BatchFull => LoadFault::BatchFull,
-        RowFault::NoBatch | RowFault::Memory => LoadFault::Memory,
-    }
-}
 
 /// Puts a row after those of a batch.
 fn hold(setup: &Setup, batch: &mut Batch, row: Row) -> Result<(), LoadFault>
@@ -49,19 +24,14 @@ fn hold(setup: &Setup, batch: &mut Batch, row: Row) -> Result<(), LoadFault>
     ensures loaded { AreLoaded setup.now batch.old → OnOk result (AreLoaded setup.now batch.new) }
     ensures refused { IfErr result (λ fault. fault ≢ LoadFault.Memory → fault_after setup.now batch.old row ≡ Some fault) }
 {
-    if let Some(place) = setup.misplaced(row.municipality, row.list) {
-        return Err(place_fault(place));
+    if let Some(reason) = unfit(setup, row) {
+        return Err(LoadFault::Judged(reason));
     }
-    if row.votes > MOST_VOTES {
-        return Err(LoadFault::Votes);
+    if let Some(fault) = batch.refuses(row) {
+        return Err(LoadFault::Row(fault));
     }
-    // So the row has room in its bytes.
-    let is_small = setup.municipalities() <= 512 && setup.groups() <= 32;
-    prove!(is_small);
-    match batch.hold(row) {
-        Ok(_) => Ok(()),
-        Err(fault) => Err(batch_fault(fault)),
-    }
+    batch.push(row)?;
+    Ok(())
 }
 
 /// Reads the rows that follow the names of the columns, 1,000 at most.
@@ -104,7 +74,7 @@ pub fn read_batch<R: Read>(
     setup: &Setup,
     text: &mut NotedReader<R>,
 ) -> Result<Batch, LoadFault>
-    ensures loads { (bytes : List ℕ) → R.remaining (inside text.old) ≡ Some bytes → Loads setup.now bytes result }
+    ensures loads { (bytes : List ℕ) → R.remaining (inner_reader text.old) ≡ Some bytes → Loads setup.now bytes result }
     ensures loaded { IfOk result (AreLoaded setup.now) }
     ensures read { IsErrOf result LoadFault.Read → has_failed text.new ≡ true }
 {

@@ -6,7 +6,8 @@ ghost use Rattle.csv.specs.Writing.{text_written};
 ghost use Rattle.std.specs.List.{flat_map};
 ghost use Rattle.zh_returns.specs.Payload.{numbers};
 ghost use Rattle.zh_csv.specs.Load.{names};
-ghost use Rattle.zh_csv.specs.Export.{line, record_of, entry_text, municipality_text, export_text, votes_field, ArePlain, IsBetween};
+ghost use Rattle.zh_csv.specs.Export.{line, record_of, entry_text, municipality_text, export_text, votes_field};
+ghost use Rattle.zh_csv.specs.Export.{ArePlain, IsBetween};
 
 use csv::{Error, ErrorKind, Writer, WriterBuilder};
 use itoa::Buffer;
@@ -40,7 +41,8 @@ fn write_record<W: Write + Drop>(
 ) -> Result<(), ExportFault>
     requires ready { IsBetween writer.old }
     requires plain { ArePlain (map (λ field. field.now) fields.now) }
-    ensures written { OnOk result (Appends (text_written W.contents writer.old) (text_written W.contents writer.new) (line (map (λ field. field.now) fields.now))) }
+    ensures written { OnOk result
+        (Appends (text_written W.contents writer.old) (text_written W.contents writer.new) (line (map (λ field. field.now) fields.now))) }
     ensures ready { OnOk result (IsBetween writer.new) }
 {
     match writer.write_fields(fields) {
@@ -67,7 +69,8 @@ fn write_entry<W: Write + Drop>(
     entry: Entry,
 ) -> Result<(), ExportFault>
     requires ready { IsBetween writer.old }
-    ensures written { OnOk result (Appends (text_written W.contents writer.old) (text_written W.contents writer.new) (line (record_of municipality list entry))) }
+    ensures written { OnOk result
+        (Appends (text_written W.contents writer.old) (text_written W.contents writer.new) (line (record_of municipality list entry))) }
     ensures ready { OnOk result (IsBetween writer.new) }
 {
     let mut municipality_numeral = Buffer::new();
@@ -91,7 +94,8 @@ fn write_held<W: Write + Drop>(
     held: Option<Entry>,
 ) -> Result<(), ExportFault>
     requires ready { IsBetween writer.old }
-    ensures written { OnOk result (Appends (text_written W.contents writer.old) (text_written W.contents writer.new) (entry_text municipality list held)) }
+    ensures written { OnOk result
+        (Appends (text_written W.contents writer.old) (text_written W.contents writer.new) (entry_text municipality list held)) }
     ensures ready { OnOk result (IsBetween writer.new) }
 {
     match held {
@@ -109,7 +113,8 @@ fn write_municipality<W: Write + Drop>(
     requires ready { IsBetween writer.old }
     requires from_one { 1 ≤ municipality }
     requires there { municipality ≤ length count.now.canton.municipalities }
-    ensures written { OnOk result (Appends (text_written W.contents writer.old) (text_written W.contents writer.new) (municipality_text count.now municipality)) }
+    ensures written { OnOk result
+        (Appends (text_written W.contents writer.old) (text_written W.contents writer.new) (municipality_text count.now municipality)) }
     ensures ready { OnOk result (IsBetween writer.new) }
 {
     for place in 0..count.setup().groups() {
@@ -125,7 +130,9 @@ fn write_entries<W: Write + Drop>(
     count: &Count<'_>,
 ) -> Result<(), ExportFault>
     requires ready { IsBetween writer.old }
-    ensures written { OnOk result (Appends (text_written W.contents writer.old) (text_written W.contents writer.new) (flat_map (municipality_text count.now) (numbers 1 (length count.now.canton.municipalities)))) }
+    ensures written { OnOk result
+        (Appends (text_written W.contents writer.old) (text_written W.contents writer.new)
+        (flat_map (municipality_text count.now) (numbers 1 (length count.now.canton.municipalities)))) }
 {
     for place in 0..count.setup().municipalities() {
         write_municipality(writer, count, place + 1)?;
@@ -136,7 +143,8 @@ fn write_entries<W: Write + Drop>(
 /// Writes the names of the columns.
 fn write_names<W: Write + Drop>(writer: &mut Writer<W>) -> Result<(), ExportFault>
     requires ready { IsBetween writer.old }
-    ensures written { OnOk result (Appends (text_written W.contents writer.old) (text_written W.contents writer.new) (line names)) }
+    ensures written { OnOk result
+        (Appends (text_written W.contents writer.old) (text_written W.contents writer.new) (line names)) }
     ensures ready { OnOk result (IsBetween writer.new) }
 {
     let columns = [

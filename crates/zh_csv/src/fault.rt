@@ -1,6 +1,12 @@
 //! Why a text is not loaded.
 
+ghost use Rattle.std.specs.Prelude.{◌≡◌};
+ghost use Rattle.zh_csv.specs.declared.fault.LoadFault.TheVariants.{Memory};
+
+use std::alloc::AllocError;
 use thiserror::Error;
+use zh_desks::RowFault;
+use zh_returns::Reason;
 
 /// Why a text gives no batch: of the first record that cannot be taken, the first reason that applies.
 #[derive(Clone, Copy, Debug, PartialEq, Eq, Error)]
@@ -11,25 +17,24 @@ pub enum LoadFault {
     /// A field is no numeral, or a replacement number is 0.
     #[error("syntax")]
     Syntax,
-    /// The set-up has no such municipality.
-    #[error("municipality")]
-    Municipality,
-    /// The list does not stand in the constituency of the municipality.
-    #[error("list")]
-    List,
-    /// A return has more votes than it may have.
-    #[error("votes")]
-    Votes,
-    /// An earlier record has this municipality and list.
-    #[error("twice")]
-    Twice,
-    /// There are 1,000 rows already.
-    #[error("batchfull")]
-    BatchFull,
+    /// No batch may have this row.
+    #[error("unfit")]
+    Judged(Reason),
+    /// The rows before it leave no room for this row.
+    #[error("row")]
+    Row(RowFault),
     /// Memory ran out.
     #[error("memory")]
     Memory,
     /// The reader failed.
     #[error("read")]
     Read,
+}
+
+impl From<AllocError> for LoadFault {
+    ghost from_gives = { λ _ fault. fault ≡ Memory };
+
+    fn from(_error: AllocError) -> LoadFault {
+        LoadFault::Memory
+    }
 }

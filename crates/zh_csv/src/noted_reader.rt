@@ -3,7 +3,7 @@
 ghost use Rattle.std.specs.Prelude.{◌≡◌, ◌↔◌, ◌⊎◌, true, false, IsErr};
 ghost use Rattle.std.specs.Io.{ReadsAtMost};
 ghost use Rattle.std.specs.Io.KnownBytes.{ReadConsumes};
-ghost use Rattle.zh_csv.specs.Noted.{inside, has_failed};
+ghost use Rattle.zh_csv.specs.Noted.{has_failed, inner_reader};
 
 use std::io::{Read, Result};
 
@@ -19,7 +19,7 @@ pub struct NotedReader<R> {
 impl<R: Read> NotedReader<R> {
     /// A reader of which no read has failed yet.
     pub fn new(inner: R) -> Self
-        ensures over { inside result ≡ inner }
+        ensures over { inner_reader result ≡ inner }
         ensures fresh { has_failed result ≡ false }
     {
         NotedReader {
@@ -41,7 +41,7 @@ impl<R: Read> Read for NotedReader<R> {
 
     fn read(&mut self, buf: &mut [u8]) -> Result<usize>
         ensures bound { ReadsAtMost result buf.new }
-        ensures bytes { ReadConsumes (R.remaining (inside self.old)) (R.remaining (inside self.new)) result buf.new }
+        ensures bytes { ReadConsumes (R.remaining (inner_reader self.old)) (R.remaining (inner_reader self.new)) result buf.new }
         ensures noted { (has_failed self.new ≡ true) ↔ ((has_failed self.old ≡ true) ⊎ IsErr result) }
     {
         let result = self.inner.read(buf);

@@ -1,19 +1,24 @@
 -- The rows of a batch by their keys.
-use Rattle.std.proofs.Common.{◌≡◌, ◌<◌, ℕ, suc, ◌==◌, ◌&&◌, Bool, true, false, cond, ◌||◌, List, [], ◌∷◌, ◌++◌, map, length, refl, sym, ap, ◌∙◌, subst, arith, Option, Some, None, is_some, Result, Ok, Err, OnOk, get_or, length-append}
+use Rattle.std.proofs.Common.{◌≡◌, ◌<◌, ◌≤◌, ℕ, nat_le, nat_lt, if◌then◌else◌, suc, ◌==◌, ◌&&◌, Bool, true, false, cond, ◌||◌, List, [], ◌∷◌, ◌++◌, map, length, refl, sym, ap, ◌∙◌, subst, arith, Option, Some, None, is_some, Result, Ok, Err, OnOk, get_or, length-append}
 use Rattle.std.proofs.Math.Seq.{take-append_seam}
 use Rattle.std.specs.List.{list_any, IsDistinct}
 use Rattle.std.specs.Map.{lookup, values_of}
 use Rattle.std.specs.Ordering.{eq_by_cmp}
 use Rattle.std.specs.Result.{is_err}
 use Rattle.std.proofs.lemmas.Grind.{common_steps}
+use Rattle.std.proofs.lemmas.Bool.Decides.{nat_tests}
 use Rattle.std.proofs.lemmas.List.{map-append, map_push, length_push}
 use Rattle.std.proofs.lemmas.List.Elements.{All-append, All-push}
 use Rattle.std.proofs.lemmas.Map.Keys.{IsDistinct-push}
+use Rattle.zh_districts.specs.declared.misplaced.Misplaced.{Misplaced}
+use Rattle.zh_returns.specs.Limits.{most_votes}
+use Rattle.zh_returns.specs.declared.verdict.Reason.TheVariants as reasons
 use Rattle.zh_records.specs.declared.row.Row.{Row}
 use Rattle.zh_records.specs.Rows.{row_key, has_key, AreRows, IsSpeakableRow}
 use Rattle.zh_records.specs.Keys.{key_cmp}
 use Rattle.zh_records.proofs.CallerLemmas.{key_test, keys_alike, fresh_from_distinct}
 use Rattle.zh_desks.specs.Batches.{AreKeyed}
+use Rattle.zh_desks.specs.RowFaults.{fault_in, unfit_at}
 
 -- a key is this one
 abbrev pub is_key : ℕ → ℕ → ℕ × ℕ → Bool
@@ -42,6 +47,24 @@ not_found m l es keyed none = by (lookup (is_key m l) es) (found m l es keyed �
 
 pub keyed_more : (es : List ((ℕ × ℕ) × Row)) (row : Row) → AreKeyed es → AreKeyed (es ++ (row_key row, row) ∷ [])
 keyed_more es row keyed = grind (arith, common_steps, All-append)
+
+-- rows that take one more are fewer than 1,000, and none has its key
+pub taken_by : (rows : List Row) (row : Row) → fault_in rows row ≡ None → (has_key rows (row_key row) ≡ false) × (nat_le 1000 (length rows) ≡ false)
+taken_by rows row none = by (has_key rows (row_key row)) (nat_le 1000 (length rows)) refl refl
+  where
+    by : (b c : Bool) → has_key rows (row_key row) ≡ b → nat_le 1000 (length rows) ≡ c → (has_key rows (row_key row) ≡ false) × (nat_le 1000 (length rows) ≡ false)
+    by true c e f = cc (rw e at none)
+    by false true e f = cc (rw (e, f) at none)
+    by false false e f = (e, f)
+
+-- a row that a batch may have is of a list that has a place there, with no more votes than a return may have
+pub fit_within : (place : Option Misplaced) (votes : ℕ) → unfit_at place votes ≡ None → (place ≡ None) × (votes ≤ most_votes)
+fit_within (Some place) votes none = absurd (cc none)
+fit_within None votes none = (refl, by (nat_lt most_votes votes) refl none)
+  where
+    by : (b : Bool) → nat_lt most_votes votes ≡ b → (if b then Some reasons.Votes else None) ≡ None → votes ≤ most_votes
+    by true more wrong = absurd (cc wrong)
+    by false few _ = grind (arith, nat_tests)
 
 -- a row with a key of its own after others
 pub rows_more : (rows : List Row) (row : Row) → AreRows rows → length rows < 1000 → has_key rows (row_key row) ≡ false → IsSpeakableRow row → AreRows (rows ++ row ∷ [])

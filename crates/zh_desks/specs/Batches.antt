@@ -2,6 +2,7 @@
 use Rattle.std.specs.Prelude.{◌≡◌, ℕ, ◌-◌, List, [], ◌∷◌, Option, None, get_or, set, All}
 use Rattle.zh_records.specs.declared.row.Row.{Row}
 use Rattle.zh_records.specs.Rows.{row_key}
+use Rattle.zh_desks.specs.declared.desk.Desk.{Desk}
 
 -- each row stands under its key
 abbrev pub AreKeyed : List ((ℕ × ℕ) × Row) → Type 0
@@ -11,13 +12,13 @@ AreKeyed entries = All (λ entry. entry.0 ≡ row_key entry.1) entries
 abbrev pub Held : Type 0
 Held = List (Option (List Row))
 
--- the rows of a desk's batch; desks are numbered from 1
-abbrev pub rows_of : Held → ℕ → Option (List Row)
-rows_of held desk = get_or held (desk - 1) None
+-- the rows of a desk's batch
+abbrev pub rows_of : Held → Desk → Option (List Row)
+rows_of held desk = get_or held (desk.number - 1) None
 
 -- with this batch, or none, at a desk
-abbrev pub with_batch : Held → ℕ → Option (List Row) → Held
-with_batch held desk batch = set held (desk - 1) batch
+abbrev pub with_batch : Held → Desk → Option (List Row) → Held
+with_batch held desk batch = set held (desk.number - 1) batch
 
 -- no desk has a batch
 abbrev pub no_batches : Held

@@ -1,9 +1,8 @@
 //! The rows of a batch.
 
-ghost use Rattle.std.specs.Prelude.{◌≡◌, ◌≢◌, ◌+◌, ◌<◌, ◌≤◌, ◌++◌, ◌∷◌, [], Some, Err, false, length, IfOk, IfErr, OnOk, OnErr};
-ghost use Rattle.zh_records.specs.Rows.{row_key, has_key, most_rows, rows_length, AreRows, IsBatch, IsSpeakableRow};
+ghost use Rattle.std.specs.Prelude.{◌≡◌, ◌≤◌, ◌++◌, ◌∷◌, [], None, length, OnOk, OnErr};
+ghost use Rattle.zh_records.specs.Rows.{has_key, rows_length, AreRows, IsBatch, IsSpeakableRow};
 ghost use Rattle.zh_desks.specs.RowFaults.{fault_in};
-ghost use Rattle.zh_desks.specs.declared.fault.RowFault.{RowFault};
 
 use crate::fault::RowFault;
 use indexmap::IndexMap;
@@ -57,11 +56,22 @@ impl Batch {
         self.rows.contains_key(&(municipality, list))
     }
 
-    /// Puts a row after the others, of a municipality and list of which none is held. Where memory is refused the batch
-    /// is as before.
+    /// Why the batch does not take a row, if so: the first that applies.
+    pub fn refuses(&self, row: Row) -> Option<RowFault>
+        ensures { result ≡ fault_in self.now row }
+    {
+        if self.has_key(row.municipality, row.list) {
+            return Some(RowFault::Twice);
+        }
+        if self.len() >= MOST_ROWS {
+            return Some(RowFault::BatchFull);
+        }
+        None
+    }
+
+    /// Puts a row after the others. Where memory is refused the batch is as before.
     pub fn push(&mut self, row: Row) -> Result<(), AllocError>
-        requires few { length self.old < most_rows }
-        requires new { has_key self.old (row_key row) ≡ false }
+        requires taken { fault_in self.old row ≡ None }
         requires speakable { IsSpeakableRow row }
         ensures pushed { OnOk result (self.new ≡ self.old ++ row ∷ []) }
         ensures kept { OnErr result (self.new ≡ self.old) }
@@ -72,26 +82,6 @@ impl Batch {
             return Err(AllocError);
         }
         Ok(())
-    }
-
-    /// Puts a row after the others, and returns how many there are then. After an error the batch is as before.
-    pub fn hold(&mut self, row: Row) -> Result<usize, RowFault>
-        requires speakable { IsSpeakableRow row }
-        ensures count { IfOk result (λ count. count ≡ length self.old + 1) }
-        ensures held { OnOk result (self.new ≡ self.old ++ row ∷ []) }
-        ensures kept { OnErr result (self.new ≡ self.old) }
-        ensures refused { (fault : RowFault) → fault_in self.old row ≡ Some fault → result ≡ Err fault }
-        ensures fault { IfErr result (λ fault. fault ≢ RowFault.Memory → fault_in self.old row ≡ Some fault) }
-    {
-        if self.has_key(row.municipality, row.list) {
-            return Err(RowFault::Twice);
-        }
-        let count = self.len();
-        if count >= MOST_ROWS {
-            return Err(RowFault::BatchFull);
-        }
-        self.push(row)?;
-        Ok(count + 1)
     }
 
     /// Writes the rows, of which there is one at least, into these bytes, and lends them from there. It takes no memory.

@@ -1,4 +1,4 @@
-use Rattle.std.proofs.Common.{rules, ap, drop, length, sym, ◌∙◌, arith}
+use Rattle.std.proofs.Common.{ap, drop, length, sym, ◌∙◌, arith, decimal}
 use Rattle.zh_commands.specs.Lines.{request_text}
 use Rattle.zh_commands.proofs.LineLemmas.{split_spelling, NamesDesk, length-spelling}
 use Rattle.zh_commands.proofs.parser.parse_line.Goals as goal
@@ -15,32 +15,28 @@ returns-in_default c =
     record {
       reads = (
         λ names. none names.1.0 names.1.1 (split.word ∙ names.1.3),
-        λ line is e. none line.desk (omega (arith, is.0.1)) (split_spelling _ _ _ line split.word split.whole is e).0,
+        λ line is e. none line.desk.number (omega (arith, line.desk.there)) (split_spelling _ _ _ line split.word split.whole e).0,
       );
     }
 
 pub returns-in_default-after_space : goal.returns-in_default-after_space
 returns-in_default-after_space c =
     let split = c.split_word.ensures in
+    let word = c.in-Some.ensures.1 ∙ ap decimal (sym c.in-Some-new.ensures) in
     record {
       reads = (
-        NamesDesk _ _ c.in-Some.desk split.word (c.is_desk.ensures.0 c.if-not-is_desk.false) c.in-Some.ensures.1,
-        λ line is e. c.in_default-after_space.ensures (request_text line.request) (split_spelling _ _ _ line split.word split.whole is e).1,
+        NamesDesk _ _ c.in-Some-new.desk split.word word,
+        λ line is e. c.in_default-after_space.ensures (request_text line.request) (split_spelling _ _ _ line split.word split.whole e).1,
       );
     }
 
 pub returns-in_default-request_of : goal.returns-in_default-request_of
 returns-in_default-request_of c =
     let split = c.split_word.ensures in
+    let word = c.in-Some.ensures.1 ∙ ap decimal (sym c.in-Some-new.ensures) in
     record {
       reads = (
-        NamesDesk _ _ c.in-Some.desk split.word (c.is_desk.ensures.0 c.if-not-is_desk.false) c.in-Some.ensures.1,
-        λ line is e. c.in_default-request_of.ensures line.request is.1 (ap (drop 1) (sym c.in-Some-after_space.ensures ∙ (split_spelling _ _ _ line split.word split.whole is e).1)),
+        NamesDesk _ _ c.in-Some-new.desk split.word word,
+        λ line is e. c.in_default-request_of.ensures line.request is (ap (drop 1) (sym c.in-Some-after_space.ensures ∙ (split_spelling _ _ _ line split.word split.whole e).1)),
       );
     }
-
-pub returns : goal.returns
-returns c = search rules
-
-pub returns-then-not-is_desk : goal.returns-then-not-is_desk
-returns-then-not-is_desk c = search rules

@@ -2,11 +2,8 @@ use Rattle.std.proofs.Common.{arith, rules}
 use Rattle.std.proofs.lemmas.Grind.{common_steps}
 use Rattle.zh_desks.proofs.desks.Desks.push.Goals as goal
 
-pub push-requires-clause-few : goal.push-requires-clause-few
-push-requires-clause-few c = grind (arith, common_steps)
-
-pub push-requires-clause-new : goal.push-requires-clause-new
-push-requires-clause-new c = grind (arith, common_steps)
+pub push-requires-clause-taken : goal.push-requires-clause-taken
+push-requires-clause-taken c = grind (arith, common_steps)
 
 pub unreachable-requires : goal.unreachable-requires
 unreachable-requires c = search rules
