@@ -1,5 +1,5 @@
 -- How an image that the ledger knows takes one more command.
-use Rattle.std.proofs.Common.{◌≡◌, inl, inr, ⊎_elim, ◌<◌, ◌-◌, ◌^◌, ℕ, ◌+◌, List, [], ◌∷◌, ◌++◌, length, arith, refl, subst, ap, sym, ◌∙◌, true}
+use Rattle.std.proofs.Common.{◌≡◌, inl, inr, ⊎_elim, ◌<◌, ◌-◌, ◌^◌, ℕ, ◌+◌, List, [], ◌∷◌, ◌++◌, length, arith, refl, subst, ap, sym, ◌∙◌, true, Result, Ok, Err}
 use Rattle.std.specs.Prelude.{All}
 use Rattle.std.proofs.lemmas.List.{map-append}
 use Rattle.std.proofs.lemmas.List.Elements.{All-append}
@@ -17,11 +17,15 @@ use Rattle.zh_records.specs.declared.format.Format.TheVariants.{Two}
 use Rattle.zh_returns.specs.declared.verdict.Verdict.{Verdict}
 use Rattle.zh_returns.specs.declared.verdict.Verdict.TheVariants.{Accept}
 use Rattle.zh_snapshot.specs.Image.{Content, IsClean, with_record}
+use Rattle.zh_snapshot.specs.Calls.{StoreAppends}
 use Rattle.zh_snapshot.specs.Store.{State, StoreAdds, StoreAddsOrNot, longer}
+use Rattle.zh_snapshot.specs.declared.fault.AppendFault.{AppendFault}
 use Rattle.zh_ledger.specs.Ledger.{Ledger, has_room}
 use Rattle.zh_ledger.specs.Kept.{ledger_of}
 use Rattle.zh_ledger.specs.Stands.{AreAccepted, Replays, StandsFor, Holds, IsKept}
-use Rattle.zh_ledger.specs.Images.{KeepsOrSteps, Stores}
+use Rattle.zh_ledger.specs.Images.{KeepsOrSteps, Stores, KeepsCommand, SameOutsideSlots}
+use Rattle.zh_ledger.specs.declared.outcome.Outcome.TheVariants.{Stored, Device}
+use Rattle.zh_ledger.proofs.OutsideLemmas.{within_journal}
 use Rattle.zh_ledger.proofs.RoomLemmas.{ready_already}
 
 -- the count after one command more
@@ -72,7 +76,7 @@ module _ (tally : Tally) (store : State) (c : Command) (speakable : IsSpeakable 
     stands = stands_more x tally c stands speakable accept number;
   }
 
-  pub stores : (old new : List ℕ) → StoreAdds store (command_spelling Two c) old new → Stores (ledger_of tally store) c old new
+  stores : (old new : List ℕ) → StoreAdds store (command_spelling Two c) old new → Stores (ledger_of tally store) c old new
   stores old new adds kept =
       let more = adds kept.content kept.end kept.clean kept.fits in
       subst (λ (l : Ledger). IsKept (record { tally = step tally c; store = longer l.store (length (command_spelling Two c)); format = Two }) new) (sym (ready_already (ledger_of tally store) c room)) (record {
@@ -83,15 +87,31 @@ module _ (tally : Tally) (store : State) (c : Command) (speakable : IsSpeakable 
         stands = stands_more kept.content tally c kept.stands speakable accept number;
       })
 
-  pub keeps_or_steps : (old new : List ℕ) → StoreAddsOrNot store (command_spelling Two c) old new → KeepsOrSteps (ledger_of tally store) c old new
+  keeps_or_steps : (old new : List ℕ) → StoreAddsOrNot store (command_spelling Two c) old new → KeepsOrSteps (ledger_of tally store) c old new
   keeps_or_steps old new adds kept =
       ⊎_elim
       (λ still. inl (record { content = kept.content; end = kept.end; format = Two; clean = still; stands = kept.stands }))
       (λ more. inr (added old new kept.content kept.end kept.stands more))
-      (adds kept.content kept.end kept.clean kept.fits)
+      (adds.clean kept.content kept.end kept.clean kept.fits)
 
-  pub each_moment : (t u : Trail) → Leaves (StoreAddsOrNot store (command_spelling Two c)) t u → Leaves (KeepsOrSteps (ledger_of tally store) c) t u
+  each_moment : (t u : Trail) → Leaves (StoreAddsOrNot store (command_spelling Two c)) t u → Leaves (KeepsOrSteps (ledger_of tally store) c) t u
   each_moment t u run = leaves_weaken _ _ t u (λ d e image by. keeps_or_steps d e by) run
 
-  pub last_moment : (t u : Trail) → Moves (StoreAdds store (command_spelling Two c)) t.now u.now → Moves (Stores (ledger_of tally store) c) t.now u.now
+  last_moment : (t u : Trail) → Moves (StoreAdds store (command_spelling Two c)) t.now u.now → Moves (Stores (ledger_of tally store) c) t.now u.now
   last_moment t u moves = λ d image. let from = moves d image in (from.0, from.1, stores from.0 d from.2)
+
+  -- what the append of its record does
+  module _ (payload : List ℕ) (spelled : payload ≡ command_spelling Two c) (t u : Trail) where
+    around : (result : Result (Unit {0}) AppendFault) → StoreAppends store payload result t u → Leaves SameOutsideSlots t u
+    around result by = leaves_weaken _ _ t u (λ x f image adds. within_journal store.slot x f adds.around) by.moments
+
+    pub appended : (accepted : ℕ) (done : Unit {0}) → StoreAppends store payload (Ok done) t u → KeepsCommand (ledger_of tally store) c (Stored accepted) t u
+    appended accepted done by =
+        let its = subst (λ (r : List ℕ). StoreAppends store r (Ok done) t u) spelled by in
+        record { leaves = (each_moment t u its.moments, last_moment t u its.done.moves); outside = around (Ok done) by }
+
+    pub append_failed : (fault : AppendFault) → StoreAppends store payload (Err fault) t u → KeepsCommand (ledger_of tally store) c Device t u
+    append_failed fault by = record {
+      leaves = each_moment t u (subst (λ (r : List ℕ). StoreAppends store r (Err fault) t u) spelled by).moments;
+      outside = around (Err fault) by;
+    }

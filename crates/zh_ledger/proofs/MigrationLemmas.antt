@@ -1,8 +1,8 @@
 -- What a migration leaves of its disk.
-use Rattle.std.proofs.Common.{◌≡◌, ◌≢◌, ◌∙◌, ◌-◌, ◌^◌, ◌⊎◌, inl, inr, ⊎_elim, ℕ, List, [], ◌∷◌, ◌++◌, sym, ap, subst, refl}
-use Rattle.std.proofs.lemmas.List.{append_cancel_right}
-use Rattle.zh_disk.specs.Disk.{Moment, Trail, IsImage, AllMove, Moves, Leaves, SameOutside, settled}
-use Rattle.zh_disk.proofs.CallerLemmas.{image_now, leaves_join, leaves_weaken}
+use Rattle.std.proofs.Common.{◌≡◌, ◌≢◌, ◌∙◌, ◌-◌, ◌^◌, ◌⊎◌, inl, inr, ⊎_elim, ℕ, List, [], ◌∷◌, ◌++◌, sym, ap, subst, refl, Ok, Err}
+use Rattle.zh_disk.specs.declared.disk.DiskFault.{DiskFault}
+use Rattle.zh_disk.specs.Disk.{Moment, Trail, IsImage, AllMove, Leaves, Lands, settled}
+use Rattle.zh_disk.proofs.CallerLemmas.{image_now, leaves_none, leaves_join, leaves_weaken}
 use Rattle.zh_districts.specs.Canton.{Canton}
 use Rattle.zh_records.specs.declared.format.Format.{Format}
 use Rattle.zh_records.specs.declared.format.Format.TheVariants.{One, Two}
@@ -10,41 +10,24 @@ use Rattle.zh_returns.specs.Limits.{IsTally}
 use Rattle.zh_returns.specs.Payload.{payload_spelling}
 use Rattle.zh_returns.specs.Tally.{Tally}
 use Rattle.zh_snapshot.specs.Image.{Content, IsClean, with_snapshot}
-use Rattle.zh_snapshot.specs.Layout.{other, slot_at, slot_length}
+use Rattle.zh_snapshot.specs.Calls.{StoreSwitch}
 use Rattle.zh_snapshot.specs.Store.{State, Settles, StoreSwitches, StoreSwitchesOrNot, switched}
+use Rattle.zh_snapshot.specs.declared.fault.SwitchFault.{SwitchFault}
 use Rattle.zh_snapshot.proofs.CallerLemmas.{framed_alike}
 use Rattle.zh_ledger.specs.Kept.{ledger_in, ledger_of}
-use Rattle.zh_ledger.specs.Ledger.{Ledger}
-use Rattle.zh_ledger.specs.Opened.{IsFound}
-use Rattle.zh_ledger.specs.Opening.{IsAtRest, MayLeave, Migrates}
-use Rattle.zh_ledger.specs.Stands.{Holds, StandsFor}
+use Rattle.zh_ledger.specs.Opened.{Knows}
+use Rattle.zh_ledger.specs.Opening.{IsAtRest, MayLeave, Migrates, MigratesFrom}
+use Rattle.zh_ledger.specs.Stands.{Holds}
 use Rattle.zh_ledger.proofs.OpenedLemmas.{one_image}
 use Rattle.zh_ledger.proofs.StandsLemmas.{one_count}
 use Rattle.zh_ledger.proofs.SwitchLemmas.{knows_switched, stands_anew}
 
--- where each image comes by two relations, it comes by both
-both_all : (R S T : List ℕ → List ℕ → Type 0) (old : Moment) → ((x y f : List ℕ) → IsImage old x → IsImage old y → R x f → S y f → T x f) → (ms : List Moment) → AllMove R old ms → AllMove S old ms → AllMove T old ms
-both_all R S T old both [] r s = tt
-both_all R S T old both (m ∷ ms) r s = (
-  λ c image.
-      let a = r.0 c image in
-      let b = s.0 c image in
-      (a.0, a.1, both a.0 b.0 c a.1 b.1 a.2 b.2),
-  both_all R S T old both ms r.1 s.1,
-)
-
-leaves_both : (R S T : List ℕ → List ℕ → Type 0) (a b : Trail) → ((x y f : List ℕ) → IsImage a.now x → IsImage a.now y → R x f → S y f → T x f) → Leaves R a b → Leaves S a b → Leaves T a b
-leaves_both R S T a b both r s =
-    let same : s.between ≡ r.between = append_cancel_right s.between r.between (a.now ∷ a.past) (sym s.run ∙ r.run) in
-    record { between = r.between; run = r.run; each = both_all R S T a.now both r.between r.each (subst (AllMove S a.now) same s.each) }
-
 -- a switch from a slot of format One, from a moment at which nothing is pending
-module _ (tally : Tally) (store : State) (limits : IsTally tally) (room : store.generation ≢ 2 ^ 64 - 1) (t u : Trail) (rest : IsAtRest (ledger_in One tally store) t.now) where
-  migrates : (x y f : List ℕ) → IsImage t.now x → IsImage t.now y → StoreSwitchesOrNot store (payload_spelling Two tally) x f → SameOutside (slot_at (other store.slot)) slot_length y f → MayLeave tally.canton t.now.bytes x f
-  migrates x y f first second by outside =
+module _ (tally : Tally) (store : State) (limits : IsTally tally) (t u : Trail) where
+  migrates : store.generation ≢ 2 ^ 64 - 1 → IsAtRest (ledger_in One tally store) t.now → (x f : List ℕ) → IsImage t.now x → StoreSwitchesOrNot store (payload_spelling Two tally) x f → MayLeave tally.canton t.now.bytes x f
+  migrates room rest x f image by =
       let found = rest.found in
-      let here : x ≡ t.now.bytes = one_image t.now x rest.pending first in
-      let there : y ≡ t.now.bytes = one_image t.now y rest.pending second in
+      let here : x ≡ t.now.bytes = one_image t.now x rest.pending image in
       let from : StoreSwitchesOrNot store (payload_spelling Two tally) t.now.bytes f = subst (λ (b : List ℕ). StoreSwitchesOrNot store (payload_spelling Two tally) b f) here by in (
         here,
         inr (record {
@@ -58,25 +41,48 @@ module _ (tally : Tally) (store : State) (limits : IsTally tally) (room : store.
           stands = found.stands;
           limits = limits;
           generation = λ last. room (sym found.fits.generation ∙ last);
-          outside = subst (λ (b : List ℕ). SameOutside (slot_at (other store.slot)) slot_length b f) there outside;
+          outside = from.around;
           kept = from.framed found.content found.end found.framed found.fits;
           clean = λ clean. from.clean found.content found.end clean found.fits;
         }),
       )
 
-  pub while_migrating : Leaves (StoreSwitchesOrNot store (payload_spelling Two tally)) t u → Leaves (SameOutside (slot_at (other store.slot)) slot_length) t u → Leaves (MayLeave tally.canton t.now.bytes) t u
-  while_migrating by outside = leaves_both _ _ _ t u migrates by outside
+  -- after it the ledger knows the bytes
+  migrated : IsAtRest (ledger_in One tally store) t.now → Lands (StoreSwitches store (payload_spelling Two tally)) t.now u.now → IsAtRest (ledger_of tally (switched store)) u.now
+  migrated rest lands =
+      let from = lands.moves u.now.bytes (image_now u.now) in
+      let here : from.0 ≡ t.now.bytes = one_image t.now from.0 rest.pending from.1 in
+      let kept = knows_switched tally store limits One from.0 u.now.bytes from.2 (subst (Knows (ledger_in One tally store)) (sym here) rest.found) in
+      record {
+        pending = lands.settled;
+        found = record { content = kept.content; end = kept.end; framed = kept.clean.framed; fits = kept.fits; stands = kept.stands };
+      }
 
--- after it the ledger knows the bytes
-pub migrated : (tally : Tally) (store : State) → IsTally tally → (old new : Moment) → IsAtRest (ledger_in One tally store) old → Moves (StoreSwitches store (payload_spelling Two tally)) old new → new.pending ≡ [] → IsAtRest (ledger_of tally (switched store)) new
-migrated tally store limits old new rest moves pending =
-    let from = moves new.bytes (image_now new) in
-    let here : from.0 ≡ old.bytes = one_image old from.0 rest.pending from.1 in
-    let kept = knows_switched tally store limits One from.0 new.bytes from.2 (subst (λ (b : List ℕ). IsFound b (ledger_in One tally store)) (sym here) rest.found) in
-    record {
-      pending = pending;
-      found = record { content = kept.content; end = kept.end; framed = kept.clean.framed; fits = kept.fits; stands = kept.stands };
+  module _ (format : Format) (is : format ≡ One) (room : store.generation ≢ 2 ^ 64 - 1) where
+    in_one : {m : Moment} → IsAtRest (ledger_in format tally store) m → IsAtRest (ledger_in One tally store) m
+    in_one {m} = subst (λ (f : Format). IsAtRest (ledger_in f tally store) m) is
+
+    moments : Leaves (StoreSwitchesOrNot store (payload_spelling Two tally)) t u → IsAtRest (ledger_in format tally store) t.now → Leaves (MayLeave tally.canton t.now.bytes) t u
+    moments run rest = leaves_weaken _ _ t u (migrates room (in_one rest)) run
+
+    pub migrates_well : (store' : State) → store' ≡ switched store → StoreSwitch store (payload_spelling Two tally) (Ok tt) t u → MigratesFrom (ledger_in format tally store) store' (Ok Two) t u
+    migrates_well store' anew by = record {
+      moments = moments by.moments;
+      rests = λ rest. subst (λ (s : State). IsAtRest (ledger_of tally s) u.now) (sym anew) (migrated (in_one rest) by.done);
     }
+
+    pub migrates_not : (store' : State) (fault : SwitchFault) (device : DiskFault) → StoreSwitch store (payload_spelling Two tally) (Err fault) t u → MigratesFrom (ledger_in format tally store) store' (Err device) t u
+    migrates_not store' fault device by = record { moments = moments by.moments; rests = λ rest. tt }
+
+-- where nothing is to be migrated, or no switch is left
+pub unmigrated : (format given : Format) (tally : Tally) (store store' : State) (t u : Trail) → given ≡ format → store' ≡ store → u ≡ t → MigratesFrom (ledger_in format tally store) store' (Ok given) t u
+unmigrated format given tally store store' t u same known still = record {
+  moments = λ rest. leaves_none _ t u still;
+  rests = λ rest.
+      subst (λ (f : Format). IsAtRest (ledger_in f tally store') u.now) (sym same)
+      (subst (λ (s : State). IsAtRest (ledger_in format tally s) u.now) (sym known)
+      (subst (λ (v : Trail). IsAtRest (ledger_in format tally store) v.now) (sym still) rest));
+}
 
 -- an opening reads, and may then migrate
 pub reads_then : (canton : Canton) (old mid new : Trail) → mid.now ≡ settled old.now.bytes → Leaves (Settles old.now.bytes) old mid → Leaves (MayLeave canton mid.now.bytes) mid new → Leaves (MayLeave canton old.now.bytes) old new

@@ -1,5 +1,5 @@
 -- What formatting leaves, and what opening finds.
-use Rattle.std.proofs.Common.{◌≡◌, ◌∙◌, ℕ, ◌≤◌, List, [], ◌++◌, Bool, true, false, Result, Err, length, take, drop, refl, sym, ap, subst, arith, append-nil}
+use Rattle.std.proofs.Common.{◌≡◌, ◌∙◌, ℕ, ◌≤◌, List, [], ◌++◌, Bool, true, false, Result, Ok, Err, length, take, drop, refl, sym, ap, subst, arith, append-nil}
 use Rattle.std.specs.Prelude.{◌↔◌, IsTrue, Some, slice_get}
 use Rattle.std.specs.Result.{IsErrAnd}
 use Rattle.std.proofs.lemmas.List.{take-append-le, take_all, drop_all}
@@ -8,20 +8,24 @@ use Rattle.zh_districts.specs.Spelling.{setup_spelling}
 use Rattle.zh_disk.specs.Disk.{Moment, Trail, IsImage, IsSettled, settled}
 use Rattle.zh_journal.specs.Pages.{Frames}
 use Rattle.zh_journal.specs.Place.{Rest}
-use Rattle.zh_disk.proofs.CallerLemmas.{synced_image}
+use Rattle.zh_disk.proofs.CallerLemmas.{not_err, synced_image}
 use Rattle.zh_returns.specs.Limits.{IsTally}
 use Rattle.zh_records.specs.declared.format.Format.{Format}
 use Rattle.zh_records.specs.declared.format.Format.TheVariants.{Two}
 use Rattle.zh_returns.specs.Payload.{payload_spelling, format_byte, IsPayload}
 use Rattle.zh_returns.specs.Tally.{Tally, empty}
+use Rattle.zh_snapshot.specs.Calls.{ComparesSetup}
 use Rattle.zh_snapshot.specs.Format.{Formats, IsFormatted}
 use Rattle.zh_returns.proofs.CallerLemmas.{tally_once, one_format, format_at, format_said, desks_said}
 use Rattle.zh_snapshot.specs.Image.{Content, IsBlank, IsFramed, IsClean}
+use Rattle.zh_snapshot.specs.Slots.{IsInUse}
 use Rattle.zh_snapshot.specs.Store.{State, Fits}
-use Rattle.zh_snapshot.specs.declared.fault.FormatFault.TheVariants as formatting
+use Rattle.zh_snapshot.specs.declared.fault.FormatFault.{FormatFault}
 use Rattle.zh_snapshot.proofs.CallerLemmas.{before, framed_once}
-use Rattle.zh_ledger.specs.Opened.{IsNew, IsDamaged, IsLeft, IsWrong}
-use Rattle.zh_ledger.specs.Opening.{DiskState, Formatting}
+use Rattle.zh_ledger.specs.Opened.{IsNew, IsDamaged, AwaitsReplay, IsWrong}
+use Rattle.zh_ledger.specs.Opening.{MakesNew, ReadsCount}
+use Rattle.zh_ledger.specs.declared.fault.OpenFault.{OpenFault}
+use Rattle.zh_ledger.specs.declared.fault.OpenFault.TheVariants as faults
 use Rattle.zh_ledger.specs.Stands.{StandsFor, Replays}
 use Rattle.zh_ledger.proofs.ReplayLemmas.{replays_none}
 
@@ -54,13 +58,8 @@ new_stands canton setup first same_setup same_first limits = record {
 }
 
 -- a formatting ends where memory is refused, before the first call of the device
-pub not_formatted : (honest : Type 0) (canton : Canton) (disk : DiskState) → Formatting honest canton disk disk (Err formatting.Memory)
-not_formatted honest canton disk = record {
-  later = omega arith;
-  cause = λ is. absurd (cc);
-  counted = tt;
-  makes = λ h. record { moments = before _ _ _; formatted = tt; fresh = tt; settled = tt };
-}
+pub not_formatted : (canton : Canton) (fault : FormatFault) (t : Trail) → MakesNew canton (Err fault) t t
+not_formatted canton fault t = record { moments = before _ _ _; formatted = tt; fresh = tt; settled = tt }
 
 pub new_image : (canton : Canton) (setup first : List ℕ) (m : Moment) → setup ≡ setup_spelling canton → first ≡ payload_spelling Two (empty canton) → IsTally (empty canton)
     → (m.pending ≡ []) × IsFormatted setup first m.bytes → (c : List ℕ) → IsImage m c → IsNew canton c
@@ -96,8 +95,8 @@ damaged_one canton bytes x j long framed wrong = record {
 }
 
 -- what a store's opening found and settled, and its reader has left
-pub left_there : (old new : Moment) (s : State) (rest : Rest) (x : Content) (j : ℕ) → new ≡ settled old.bytes → IsFramed x j old.bytes → Fits s x j old.bytes → Frames 0 rest.pages rest.page x.records rest.end → IsLeft s rest x new.bytes
-left_there old new s rest x j is framed fits left = subst (λ (m : Moment). IsLeft s rest x m.bytes) (sym is) (record { end = j; framed = framed; fits = fits; left = left })
+pub left_there : (old new : Moment) (s : State) (rest : Rest) (x : Content) (j : ℕ) → new ≡ settled old.bytes → IsFramed x j old.bytes → Fits s x j old.bytes → Frames 0 rest.pages rest.page x.records rest.end → AwaitsReplay s rest x new.bytes
+left_there old new s rest x j is framed fits left = subst (λ (m : Moment). AwaitsReplay s rest x m.bytes) (sym is) (record { end = j; framed = framed; fits = fits; left = left })
 
 -- what a comparison with the set-up bytes shows
 pub setup_equal : (equal : Bool) (setup given spelled : List ℕ) → IsTrue equal ↔ (setup ≡ given) → given ≡ spelled → equal ≡ true → setup ≡ spelled
@@ -110,6 +109,32 @@ setup_differs equal setup given spelled told is wrong same = let right = told.1 
 pub record IsRead (canton : Canton) (x : Content) (payload : List ℕ) : Type 0 where
   pub own : x.setup ≡ setup_spelling canton
   pub snapshot : payload ≡ x.snapshot
+
+-- so the set-up bytes and the snapshot, of a content whose records are yet to be gone through
+module _ (s : State) (rest : Rest) (canton : Canton) (given : List ℕ) (equal : Bool) (bytes : List ℕ) (spelled : given ≡ setup_spelling canton) (compares : ComparesSetup s.setup_length given bytes (Ok equal)) where
+  pub differs_so : equal ≡ false → (x : Content) → AwaitsReplay s rest x bytes → x.setup ≡ setup_spelling canton → ⊥
+  differs_so wrong x left = setup_differs equal x.setup given _ (compares x left.end left.framed left.fits.setup) spelled wrong
+
+  pub read_so : equal ≡ true → (payload : List ℕ) → ((x : Content) (j : ℕ) → IsFramed x j bytes → IsInUse s.slot bytes → payload ≡ x.snapshot) → (x : Content) → AwaitsReplay s rest x bytes → IsRead canton x payload
+  read_so right payload lends x left = record {
+    own = setup_equal equal x.setup given _ (compares x left.end left.framed left.fits.setup) spelled right;
+    snapshot = lends x left.end left.framed left.fits.slot;
+  }
+
+-- what is then said of the count: nothing where the device failed, that the set-up differs, that the content is wrong, or the
+-- format of the count
+module _ {s : State} {rest : Rest} {canton : Canton} {tally : Tally} {bytes : List ℕ} where
+  pub count_unread : (fault : OpenFault) → fault ≡ faults.Device → ReadsCount s rest canton tally bytes (Err fault)
+  count_unread fault is = subst (λ (e : OpenFault). ReadsCount s rest canton tally bytes (Err e)) (sym is) (record { found = λ x left. tt; differs = λ is. absurd cc; damaged = λ is. absurd cc })
+
+  pub count_differs : ((x : Content) → AwaitsReplay s rest x bytes → x.setup ≡ setup_spelling canton → ⊥) → ReadsCount s rest canton tally bytes (Err faults.SetupDiffers)
+  count_differs other = record { found = λ x left. tt; differs = λ is. other; damaged = λ is. absurd cc }
+
+  pub count_wrong : ((x : Content) → AwaitsReplay s rest x bytes → IsWrong canton x) → ReadsCount s rest canton tally bytes (Err faults.Damaged)
+  count_wrong wrong = record { found = λ x left. tt; differs = λ is. absurd cc; damaged = λ is. wrong }
+
+  pub count_read : (format : Format) → ((x : Content) → AwaitsReplay s rest x bytes → StandsFor format x tally) → ReadsCount s rest canton tally bytes (Ok format)
+  count_read format stands = record { found = stands; differs = λ is. absurd (not_err is); damaged = λ is. absurd (not_err is) }
 
 -- where the snapshot says no format
 pub wrong_format : (canton : Canton) (x : Content) (payload : List ℕ) → IsRead canton x payload → ((format : Format) → slice_get payload 72 ≡ Some (format_byte format) → ⊥) → IsWrong canton x

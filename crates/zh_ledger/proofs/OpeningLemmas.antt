@@ -1,87 +1,135 @@
 -- What an opening leaves of its disk, and how it ended.
-use Rattle.std.proofs.Common.{◌≡◌, ◌∙◌, ◌≤◌, ◌++◌, ◌∷◌, [], ℕ, List, Result, Ok, Err, refl, sym, ap, subst}
-use Rattle.std.specs.Result.{IsErrAnd}
-use Rattle.zh_disk.specs.Disk.{Moment, Trail, Leaves, AllMove, settled}
-use Rattle.zh_disk.proofs.CallerLemmas.{image_now}
+use Rattle.std.proofs.Common.{◌≡◌, ◌≢◌, ◌∙◌, ℕ, List, length, Result, Ok, Err, IsErr, refl, sym, ap, subst}
+use Rattle.zh_disk.specs.declared.disk.DiskFault.{DiskFault}
+use Rattle.zh_disk.specs.Disk.{Trail, Leaves, Asks, settled}
+use Rattle.zh_disk.specs.History.{History, Call}
+use Rattle.zh_disk.proofs.CallerLemmas.{leaves_none}
 use Rattle.zh_districts.specs.Canton.{Canton}
-use Rattle.zh_journal.specs.Cause.{HasRisen}
-use Rattle.zh_snapshot.specs.Faults as store_faults
-use Rattle.zh_snapshot.specs.Image.{Content, IsBlank, IsFramed}
-use Rattle.zh_snapshot.specs.Store.{Settles}
+use Rattle.zh_districts.specs.Spelling.{setup_spelling}
+use Rattle.zh_journal.specs.Place.{Rest}
+use Rattle.zh_records.specs.declared.format.Format.{Format}
+use Rattle.zh_returns.specs.Tally.{Tally}
+use Rattle.zh_snapshot.specs.Calls.{FindsStore, OpensStore}
+use Rattle.zh_snapshot.specs.Faults.{store_open_fails}
+use Rattle.zh_snapshot.specs.Image.{Content, IsFramed}
+use Rattle.zh_snapshot.specs.Store.{State, Fits, Settles}
 use Rattle.zh_snapshot.specs.declared.fault.OpenFault as store
 use Rattle.zh_snapshot.specs.declared.fault.OpenFault.TheVariants as of_store
-use Rattle.zh_snapshot.specs.declared.fault.StoreFault.{StoreFault}
-use Rattle.zh_snapshot.specs.declared.fault.StoreFault.TheVariants as of_calls
+use Rattle.zh_ledger.specs.Faults.{fault_of_store, open_fails}
+use Rattle.zh_ledger.specs.Kept.{ledger_in}
 use Rattle.zh_ledger.specs.Ledger.{Ledger}
-use Rattle.zh_ledger.specs.Opened.{IsFound, Differs, IsDamaged, OpenedAs, UnlessDevice}
-use Rattle.zh_ledger.specs.Opening.{DiskState, IsAtRest, IsCause, Opening}
+use Rattle.zh_ledger.specs.Opened.{AwaitsReplay, Differs, IsDamaged, IsReady, IsWrong, Knows}
+use Rattle.zh_ledger.specs.Opening.{IsAtRest, IsCause, MayLeave, MigratesFrom, Opening, Opens, ReadsCount}
 use Rattle.zh_ledger.specs.declared.fault.OpenFault.{OpenFault}
 use Rattle.zh_ledger.specs.declared.fault.OpenFault.TheVariants as faults
-use Rattle.zh_ledger.proofs.MigrationLemmas.{reads_alone}
-use Rattle.zh_ledger.proofs.OpenedLemmas.{damaged_all}
+use Rattle.zh_ledger.proofs.MigrationLemmas.{reads_alone, reads_then}
+use Rattle.zh_ledger.proofs.OpenedLemmas.{damaged_all, damaged_one, left_there}
 
--- once the count is read, nothing is pending, and the bytes are those of the ledger that was found
-pub at_rest : (old mid : Trail) (s : Ledger) → mid.now ≡ settled old.now.bytes → IsFound old.now.bytes s → IsAtRest s mid.now
-at_rest old mid s rests found = subst (IsAtRest s) (sym rests) (record { pending = refl; found = found })
+-- an opening that ends with a fault
+pub opening_fails : (canton : Canton) (a b : History) (r : Result Ledger OpenFault) → IsErr r → Call open_fails (Opens canton) a b r → Opening canton a b r
+opening_fails canton a b (Ok ledger) is call = absurd cc
+opening_fails canton a b (Err fault) is call = record { ready = tt; call = call }
 
--- the one fault of a store's other calls
-pub only_device : (f : StoreFault) → f ≡ of_calls.Device
-only_device of_calls.Device = refl
+-- where memory is refused
+pub memory_refused : (canton : Canton) (t : Trail) (fault : OpenFault) → fault ≡ faults.Memory → Opens canton (Err fault) t t
+memory_refused canton t fault is = subst (λ (e : OpenFault). Opens canton (Err e) t t) (sym is) (record {
+  moments = leaves_none _ t t refl;
+  opened = tt;
+  refused = tt;
+  unchanged = λ other. leaves_none _ t t refl;
+})
 
 -- a fault of a store's opening, as the ledger's
-store_cause : (f : store.OpenFault) (e : OpenFault) → OpenedAs f e → e ≡ faults.Device → f ≡ of_store.Device
-store_cause of_store.Device e renamed is = refl
-store_cause of_store.Blank e renamed is = let wrong : faults.Blank ≡ faults.Device = sym renamed ∙ is in absurd (cc)
-store_cause of_store.Damaged e renamed is = let wrong : faults.Damaged ≡ faults.Device = sym renamed ∙ is in absurd (cc)
-store_cause of_store.Memory e renamed is = let wrong : faults.Memory ≡ faults.Device = sym renamed ∙ is in absurd (cc)
+pub fails_as : (f : store.OpenFault) (e : OpenFault) → e ≡ fault_of_store f → store_open_fails {T = State × Rest} (Err f) ≡ open_fails {T = Ledger} (Err e)
+fails_as of_store.Device e is = rw is refl
+fails_as of_store.Blank e is = rw is refl
+fails_as of_store.Damaged e is = rw is refl
+fails_as of_store.Memory e is = rw is refl
 
-store_counted : (f : store.OpenFault) (e : OpenFault) (P : Type 0) → OpenedAs f e → store_faults.UnlessDevice {T = Ledger} (Err f) P → UnlessDevice {T = Ledger} (Err e) P
-store_counted of_store.Device e P renamed counted = subst (λ (x : OpenFault). UnlessDevice {T = Ledger} (Err x) P) (sym renamed) tt
-store_counted of_store.Blank e P renamed counted = subst (λ (x : OpenFault). UnlessDevice {T = Ledger} (Err x) P) (sym renamed) counted
-store_counted of_store.Damaged e P renamed counted = subst (λ (x : OpenFault). UnlessDevice {T = Ledger} (Err x) P) (sym renamed) counted
-store_counted of_store.Memory e P renamed counted = subst (λ (x : OpenFault). UnlessDevice {T = Ledger} (Err x) P) (sym renamed) counted
+store_why : (canton : Canton) (bytes : List ℕ) (f : store.OpenFault) → FindsStore bytes (Err f) → IsCause canton bytes (fault_of_store f)
+store_why canton bytes of_store.Device finds = tt
+store_why canton bytes of_store.Blank finds = finds.read.blank refl
+store_why canton bytes of_store.Damaged finds = damaged_all canton bytes (finds.read.damaged refl)
+store_why canton bytes of_store.Memory finds = tt
 
-store_why : (canton : Canton) (bytes : List ℕ) (f : store.OpenFault) (e : OpenFault) → OpenedAs f e → (f ≡ of_store.Blank → IsBlank bytes)
-    → (f ≡ of_store.Damaged → (IsBlank bytes → ⊥) × ((x : Content) (j : ℕ) → IsFramed x j bytes → ⊥)) → IsCause canton bytes e
-store_why canton bytes of_store.Device e renamed blank damaged = subst (IsCause canton bytes) (sym renamed) tt
-store_why canton bytes of_store.Blank e renamed blank damaged = subst (IsCause canton bytes) (sym renamed) (blank refl)
-store_why canton bytes of_store.Damaged e renamed blank damaged = subst (IsCause canton bytes) (sym renamed) (damaged_all canton bytes (damaged refl))
-store_why canton bytes of_store.Memory e renamed blank damaged = subst (IsCause canton bytes) (sym renamed) tt
+pub store_refused : (canton : Canton) (t u : Trail) (f : store.OpenFault) (e : OpenFault) → e ≡ fault_of_store f → OpensStore (Err f) t u → Opens canton (Err e) t u
+store_refused canton t u f e is opens = subst (λ (z : OpenFault). Opens canton (Err z) t u) (sym is) (record {
+  moments = reads_alone canton t u opens.moments;
+  opened = tt;
+  refused = store_why canton t.now.bytes f opens.found;
+  unchanged = λ other. opens.moments;
+})
 
--- an opening that failed where the count was read, after one that did not
-pub counted_then : (a b c : ℕ) (fault : OpenFault) → UnlessDevice {T = Ledger} (Err fault) (c ≡ b) → b ≡ a → UnlessDevice {T = Ledger} (Err fault) (c ≡ a)
-counted_then a b c faults.Memory then first = then ∙ first
-counted_then a b c faults.Device then first = tt
-counted_then a b c faults.Blank then first = then ∙ first
-counted_then a b c faults.Damaged then first = then ∙ first
-counted_then a b c faults.SetupDiffers then first = then ∙ first
-
-pub risen_then : (a b c : ℕ) → b ≡ a → HasRisen b c → HasRisen a c
-risen_then a b c first risen = subst (λ (n : ℕ). HasRisen n c) first risen
-
-pub count_why : (canton : Canton) (bytes : List ℕ) (fault : OpenFault) → (fault ≡ faults.Blank → ⊥) → (fault ≡ faults.SetupDiffers → Differs canton bytes) → (fault ≡ faults.Damaged → IsDamaged canton bytes) → IsCause canton bytes fault
+count_why : (canton : Canton) (bytes : List ℕ) (fault : OpenFault) → fault ≢ faults.Blank → (fault ≡ faults.SetupDiffers → Differs canton bytes) → (fault ≡ faults.Damaged → IsDamaged canton bytes) → IsCause canton bytes fault
 count_why canton bytes faults.Memory blank differs damaged = tt
 count_why canton bytes faults.Device blank differs damaged = tt
 count_why canton bytes faults.Blank blank differs damaged = absurd (blank refl)
 count_why canton bytes faults.Damaged blank differs damaged = damaged refl
 count_why canton bytes faults.SetupDiffers blank differs damaged = differs refl
 
--- an opening that ended with a fault, after a sync and reads at most
-pub refused_by : (honest : Type 0) (canton : Canton) (old new : DiskState) (fault : OpenFault) → old.failures ≤ new.failures → (fault ≡ faults.Device → HasRisen old.failures new.failures)
-    → UnlessDevice {T = Ledger} (Err fault) (new.failures ≡ old.failures) → (honest → Leaves (Settles old.trail.now.bytes) old.trail new.trail) → (honest → IsCause canton old.trail.now.bytes fault) → Opening honest canton old new (Err fault)
-refused_by honest canton old new fault later cause counted moments why = record {
-  later = later;
-  cause = λ is. cause (cc);
-  counted = counted;
-  ready = tt;
-  opens = λ h. record { moments = reads_alone canton old.trail new.trail (moments h); opened = tt; refused = why h; unchanged = λ other. moments h };
-}
+-- A store was opened, and the count read: that of this set-up.
+module _ (canton own : Canton) (same : own ≡ canton) (t u : Trail) (s : State) (rest : Rest) (opens : OpensStore (Ok (s, rest)) t u) where
+  there : (x : Content) × (j : ℕ) × IsFramed x j t.now.bytes × Fits s x j t.now.bytes
+  there = opens.found.read.framed
 
-pub store_refused : (honest : Type 0) (canton : Canton) (old new : DiskState) (f : store.OpenFault) (result : Result Ledger OpenFault) → IsErrAnd result (OpenedAs f) → old.failures ≤ new.failures
-    → (f ≡ of_store.Device → HasRisen old.failures new.failures) → store_faults.UnlessDevice {T = Ledger} (Err f) (new.failures ≡ old.failures) → (honest → Leaves (Settles old.trail.now.bytes) old.trail new.trail)
-    → (honest → f ≡ of_store.Blank → IsBlank old.trail.now.bytes)
-    → (honest → f ≡ of_store.Damaged → (IsBlank old.trail.now.bytes → ⊥) × ((x : Content) (j : ℕ) → IsFramed x j old.trail.now.bytes → ⊥)) → Opening honest canton old new result
-store_refused honest canton old new f (Err e) renamed later cause counted moments blank damaged = refused_by honest canton old new e later
-    (λ is. cause (store_cause f e renamed is)) (store_counted f e (new.failures ≡ old.failures) renamed counted) moments
-    (λ h. store_why canton old.trail.now.bytes f e renamed (blank h) (damaged h))
-store_refused honest canton old new f (Ok ledger) renamed later cause counted moments blank damaged = absurd renamed
+  awaits : AwaitsReplay s rest there.0 u.now.bytes
+  awaits = left_there t.now u.now s rest there.0 there.1 opens.settled there.2 there.3 (opens.found.read.left there.0 there.1 there.2)
+
+  -- since what followed were reads
+  alone : (v : Trail) → v ≡ u → Leaves (Settles t.now.bytes) t v
+  alone v still = subst (Leaves (Settles t.now.bytes) t) (sym still) opens.moments
+
+  -- it was not read
+  pub count_refused : (tally : Tally) (v : Trail) (fault given : OpenFault) → length t.now.bytes ≡ 1118720 → given ≡ fault → fault ≢ faults.Blank → Asks (ReadsCount s rest own tally) (Err fault) u v → Opens canton (Err given) t v
+  count_refused tally v fault given long is blank asks =
+      let moments = alone v asks.same in
+      let differs : fault ≡ faults.SetupDiffers → Differs canton t.now.bytes = λ here. record {
+        content = there.0;
+        end = there.1;
+        framed = there.2;
+        other = subst (λ (k : Canton). there.0.setup ≢ setup_spelling k) same (asks.told.differs (ap (λ (e : OpenFault). Err e) here) there.0 awaits);
+      } in
+      let damaged : fault ≡ faults.Damaged → IsDamaged canton t.now.bytes = λ here.
+      damaged_one canton t.now.bytes there.0 there.1 long there.2 (subst (λ (k : Canton). IsWrong k there.0) same (asks.told.damaged (ap (λ (e : OpenFault). Err e) here) there.0 awaits)) in
+      subst (λ (z : OpenFault). Opens canton (Err z) t v) (sym is) (record {
+        moments = reads_alone canton t v moments;
+        opened = tt;
+        refused = count_why canton t.now.bytes fault blank differs damaged;
+        unchanged = λ other. moments;
+      })
+
+  -- it was read, and then migrated where it has to be
+  module _ (tally : Tally) (v w : Trail) (format : Format) (kept : tally.canton ≡ own) (asks : Asks (ReadsCount s rest own tally) (Ok format) u v) where
+    knows : Knows (ledger_in format tally s) t.now.bytes
+    knows = record { content = there.0; end = there.1; framed = there.2; fits = there.3; stands = asks.told.found there.0 awaits }
+
+    rests : v.now ≡ settled t.now.bytes
+    rests = ap (λ (x : Trail). x.now) asks.same ∙ opens.settled
+
+    at_rest : IsAtRest (ledger_in format tally s) v.now
+    at_rest = subst (IsAtRest (ledger_in format tally s)) (sym rests) (record { pending = refl; found = knows })
+
+    moments : Leaves (MayLeave tally.canton v.now.bytes) v w → Leaves (MayLeave canton t.now.bytes) t w
+    moments run = reads_then canton t v w rests (alone v asks.same) (subst (λ (k : Canton). Leaves (MayLeave k v.now.bytes) v w) (kept ∙ same) run)
+
+    pub opened_well : (store' : State) (format' : Format) → IsReady canton (ledger_in format' tally store') → MigratesFrom (ledger_in format tally s) store' (Ok format') v w → Opens canton (Ok (ledger_in format' tally store')) t w
+    opened_well store' format' ready migrates =
+        let now = migrates.rests at_rest in
+        record {
+          moments = moments (migrates.moments at_rest);
+          opened = record {
+            stood = record { content = knows.content; end = knows.end; format = format; framed = knows.framed; stands = knows.stands };
+            pending = now.pending;
+            opened = record { ready = ready; found = now.found };
+          };
+          refused = tt;
+          unchanged = tt;
+        }
+
+    pub migration_failed : (store' : State) (device : DiskFault) (fault : OpenFault) → fault ≡ faults.Device → MigratesFrom (ledger_in format tally s) store' (Err device) v w → Opens canton (Err fault) t w
+    migration_failed store' device fault is migrates = subst (λ (z : OpenFault). Opens canton (Err z) t w) (sym is) (record {
+      moments = moments (migrates.moments at_rest);
+      opened = tt;
+      refused = tt;
+      unchanged = λ other. absurd (other refl);
+    })

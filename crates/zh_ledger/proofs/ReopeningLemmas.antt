@@ -16,7 +16,7 @@ use Rattle.zh_ledger.specs.Stands.{StandsFor, Holds, IsKept}
 use Rattle.zh_ledger.specs.Images.{HasSome}
 use Rattle.zh_ledger.specs.Opening.{MayLeave, Migrates, IsCause, Opens}
 use Rattle.zh_ledger.specs.Submissions.{nothing}
-use Rattle.zh_ledger.specs.Night.{Stretch, after_stop, IsLeft, Finds}
+use Rattle.zh_ledger.specs.Night.{Keeper, Stretch, after_stop, StopsWithin, Finds}
 use Rattle.zh_ledger.specs.declared.fault.OpenFault.{OpenFault}
 use Rattle.zh_ledger.specs.declared.fault.OpenFault.TheVariants as faults
 use Rattle.zh_ledger.proofs.MigrationLemmas.{Alters, leaves_altered, migrated_holds, read_now}
@@ -27,7 +27,7 @@ use Rattle.zh_ledger.proofs.JudgedLemmas.{judged_number, judged_take}
 use Rattle.zh_ledger.proofs.StretchLemmas.{left_by, count_of, IsSure, after_stop_sure}
 
 -- an opened ledger knows each image, where the bytes that were read held a count, and has this count
-module _ (canton : Canton) (old new : Trail) (ledger : Ledger) (opens : Opens canton old new (Ok ledger)) (tally : Tally) (own : tally.canton ≡ canton) (holds : Holds tally old.now.bytes) where
+module _ (canton : Canton) (old new : Trail) (ledger : Ledger) (opens : Opens canton (Ok ledger) old new) (tally : Tally) (own : tally.canton ≡ canton) (holds : Holds tally old.now.bytes) where
   pub found_count : ledger.tally ≡ tally
   found_count =
       let stood = opens.opened.stood in
@@ -56,7 +56,7 @@ module _ (canton : Canton) (old new : Trail) (ledger : Ledger) (opens : Opens ca
   knows_images c image = subst (IsKept ledger) (sym (one_image new.now c opens.opened.pending image)) knows_now
 
 -- A ledger is opened, or not.
-module _ (canton : Canton) (kept : List Command) (s : Stretch) (sure : IsSure canton kept s) where
+module _ (K : Keeper) (canton : Canton) (kept : List Command) (s : Stretch K) (sure : IsSure canton kept s) where
   abbrev pub read : HasSome (count_of canton kept) s.log.accepted s.log.acknowledged s.now.bytes
   read = sure.sound.each s.now.bytes (image_now s.now)
 
@@ -84,7 +84,10 @@ module _ (canton : Canton) (kept : List Command) (s : Stretch) (sure : IsSure ca
       })
       by
 
-  module _ (old new : Trail) (now : s.now ≡ old.now) (ledger : Ledger) (opens : Opens canton old new (Ok ledger)) where
+  module _ (old new : Trail) (now : s.now ≡ old.now) (holder : K.Holder) (opens : Opens canton (Ok (K.ledger holder)) old new) where
+    abbrev ledger : Ledger
+    ledger = K.ledger holder
+
     held : Holds counted old.now.bytes
     held = subst (λ (m : Moment). Holds counted m.bytes) now read.holds
 
@@ -97,7 +100,7 @@ module _ (canton : Canton) (kept : List Command) (s : Stretch) (sure : IsSure ca
     knows : (c : List ℕ) → IsImage new.now c → IsKept ledger c
     knows = knows_images canton old new ledger opens counted read_canton held
 
-    pub opened_sure : IsSure canton (kept ++ take read.number s.log.accepted) (record { now = new.now; ledger = Some ledger; log = nothing })
+    pub opened_sure : IsSure {K = K} canton (kept ++ take read.number s.log.accepted) (record { now = new.now; holder = Some holder; log = nothing })
     opened_sure = record {
       sound = record {
         each = λ c image. subst (λ (t : Tally). HasSome t [] 0 c) found_all (has_none ledger.tally [] c (holds_kept ledger c (knows c image)));
@@ -123,7 +126,7 @@ module _ (canton : Canton) (kept : List Command) (s : Stretch) (sure : IsSure ca
   only_faults faults.Damaged cause =
       absurd (cause.nothing read.holds.content read.holds.end read.holds.clean.framed read.holds.format counted read_canton read.holds.stands)
 
-  pub refused_sure : (old new : Trail) → s.now ≡ old.now → Leaves (MayLeave canton old.now.bytes) old new → IsSure canton kept (record { now = new.now; ledger = None; log = s.log })
+  pub refused_sure : (old new : Trail) → s.now ≡ old.now → Leaves (MayLeave canton old.now.bytes) old new → IsSure {K = K} canton kept (record { now = new.now; holder = None; log = s.log })
   refused_sure old new now leaves = record {
     sound = record {
       each = λ c image.
@@ -136,10 +139,10 @@ module _ (canton : Canton) (kept : List Command) (s : Stretch) (sure : IsSure ca
     judged = sure.judged;
   }
 
-  pub stopped_sure : (c : List ℕ) → IsImage s.now c → IsSure canton kept (after_stop c s.log)
+  pub stopped_sure : (c : List ℕ) → IsImage s.now c → IsSure {K = K} canton kept (after_stop c s.log)
   stopped_sure c image = after_stop_sure canton kept s c s.log sure (sure.sound.each c image) sure.sound.last sure.judged
 
-  pub stopped_opening_sure : (old new : Trail) (c : List ℕ) → s.now ≡ old.now → Leaves (MayLeave canton old.now.bytes) old new → IsLeft old new c → IsSure canton kept (after_stop c s.log)
+  pub stopped_opening_sure : (old new : Trail) (c : List ℕ) → s.now ≡ old.now → Leaves (MayLeave canton old.now.bytes) old new → StopsWithin old new c → IsSure {K = K} canton kept (after_stop c s.log)
   stopped_opening_sure old new c now leaves left =
       let from = left_by (Alters canton old.now.bytes) old new c (λ x. inl refl) (leaves_altered canton old new leaves) left in
       after_stop_sure canton kept s c s.log sure (altered_has old.now now from.0 c from.1 from.2) sure.sound.last sure.judged

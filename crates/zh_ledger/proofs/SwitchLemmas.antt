@@ -1,5 +1,5 @@
 -- How an image that the ledger knows comes to hold the count in its other slot.
-use Rattle.std.proofs.Common.{◌≡◌, ◌∙◌, ◌++◌, [], ⊎_elim, ℕ, List, false, length, drop, refl, sym, ap, subst, arith}
+use Rattle.std.proofs.Common.{◌≡◌, ◌∙◌, ◌++◌, [], ⊎_elim, ℕ, List, false, Result, Ok, Err, length, drop, refl, sym, ap, subst, arith}
 use Rattle.std.proofs.lemmas.List.{append-nil, drop_all}
 use Rattle.zh_disk.specs.Disk.{Moment, Trail, Moves, Leaves}
 use Rattle.zh_disk.proofs.CallerLemmas.{leaves_weaken}
@@ -11,12 +11,16 @@ use Rattle.zh_records.specs.declared.command.Command.{Command}
 use Rattle.zh_records.specs.declared.format.Format.{Format}
 use Rattle.zh_records.specs.declared.format.Format.TheVariants.{Two}
 use Rattle.zh_snapshot.specs.Image.{Content, with_snapshot}
+use Rattle.zh_snapshot.specs.Calls.{StoreSwitch}
+use Rattle.zh_snapshot.specs.Layout.{other}
 use Rattle.zh_snapshot.specs.Store.{State, StoreSwitches, StoreSwitchesOrNot, switched}
+use Rattle.zh_snapshot.specs.declared.fault.SwitchFault.{SwitchFault}
 use Rattle.zh_ledger.specs.Ledger.{Ledger, has_room}
 use Rattle.zh_ledger.specs.Kept.{ledger_in, ledger_of}
-use Rattle.zh_ledger.specs.Opened.{IsFound}
+use Rattle.zh_ledger.specs.Opened.{Knows}
 use Rattle.zh_ledger.specs.Stands.{StandsFor, IsKept}
-use Rattle.zh_ledger.specs.Images.{Keeps, Readies}
+use Rattle.zh_ledger.specs.Images.{Keeps, Readies, MakesRoom, SameOutsideSlots}
+use Rattle.zh_ledger.proofs.OutsideLemmas.{within_slot}
 use Rattle.zh_ledger.proofs.ReplayLemmas.{replays_none}
 use Rattle.zh_ledger.proofs.RoomLemmas.{ready_switched}
 
@@ -51,11 +55,11 @@ module _ (tally : Tally) (store : State) (limits : IsTally tally) where
       (by.clean kept.content kept.end kept.clean kept.fits)
 
   -- at each moment of a switch an image that the ledger knows holds its count
-  pub keeps_count : (t u : Trail) → Leaves (StoreSwitchesOrNot store (payload_spelling Two tally)) t u → Leaves (Keeps (ledger_of tally store)) t u
+  keeps_count : (t u : Trail) → Leaves (StoreSwitchesOrNot store (payload_spelling Two tally)) t u → Leaves (Keeps (ledger_of tally store)) t u
   keeps_count t u run = leaves_weaken _ _ t u (λ d e image by. still_holds d e by) run
 
   -- after it the ledger knows the new one, which is clean, whatever the format was
-  pub knows_switched : (format : Format) (old new : List ℕ) → StoreSwitches store (payload_spelling Two tally) old new → IsFound old (ledger_in format tally store) → IsKept (ledger_of tally (switched store)) new
+  pub knows_switched : (format : Format) (old new : List ℕ) → StoreSwitches store (payload_spelling Two tally) old new → Knows (ledger_in format tally store) old → IsKept (ledger_of tally (switched store)) new
   knows_switched format old new by found =
       let anew = by found.content found.end found.framed found.fits in
       record {
@@ -67,7 +71,7 @@ module _ (tally : Tally) (store : State) (limits : IsTally tally) where
       }
 
   -- so it is made ready for a command for which it lacked room
-  pub made_ready : (c : Command) → has_room (ledger_of tally store) c ≡ false → (old new : Moment) → Moves (StoreSwitches store (payload_spelling Two tally)) old new → Moves (Readies (ledger_of tally store) c) old new
+  made_ready : (c : Command) → has_room (ledger_of tally store) c ≡ false → (old new : Moment) → Moves (StoreSwitches store (payload_spelling Two tally)) old new → Moves (Readies (ledger_of tally store) c) old new
   made_ready c none old new moves = λ d image.
       let from = moves d image in (
         from.0,
@@ -75,3 +79,14 @@ module _ (tally : Tally) (store : State) (limits : IsTally tally) where
         λ kept. subst (λ (l : Ledger). IsKept l d) (sym (ready_switched (ledger_of tally store) c none))
             (knows_switched Two from.0 d from.2 (record { content = kept.content; end = kept.end; framed = kept.clean.framed; fits = kept.fits; stands = kept.stands })),
       )
+
+  -- so a switch makes room for it, or fails to
+  around : (result : Result (Unit {0}) SwitchFault) (t u : Trail) → StoreSwitch store (payload_spelling Two tally) result t u → Leaves SameOutsideSlots t u
+  around result t u by = leaves_weaken _ _ t u (λ x f image to. within_slot (other store.slot) x f to.around) by.moments
+
+  pub makes_room : (c : Command) (len : ℕ) (done : Unit {0}) (t u : Trail) → has_room (ledger_of tally store) c ≡ false → StoreSwitch store (payload_spelling Two tally) (Ok done) t u → MakesRoom (ledger_of tally store) c (Ok len) t u
+  makes_room c len done t u none by =
+      record { moments = keeps_count t u by.moments; outside = around (Ok done) t u by; done = made_ready c none t.now u.now by.done.moves }
+
+  pub makes_no_room : (c : Command) (e f : SwitchFault) (t u : Trail) → StoreSwitch store (payload_spelling Two tally) (Err e) t u → MakesRoom (ledger_of tally store) c (Err f) t u
+  makes_no_room c e f t u by = record { moments = keeps_count t u by.moments; outside = around (Err e) t u by; done = tt }

@@ -1,7 +1,8 @@
 -- What submitted commands leave on an honest disk, moment by moment.
-use Rattle.std.specs.Prelude.{◌≡◌, ◌⊎◌, ◌≤◌, ℕ, List, length, take}
+use Rattle.std.specs.Prelude.{◌≡◌, ◌⊎◌, ◌≤◌, ℕ, List, length, take, Result, OnOk}
 use Rattle.zh_disk.specs.Disk.{Trail, Moves, Leaves, SameOutside}
 use Rattle.zh_snapshot.specs.Layout.{head_length, slots_length}
+use Rattle.zh_snapshot.specs.declared.fault.SwitchFault.{SwitchFault}
 use Rattle.zh_returns.specs.Tally.{Tally}
 use Rattle.zh_returns.specs.Step.{step, after}
 use Rattle.zh_records.specs.declared.command.Command.{Command}
@@ -29,13 +30,26 @@ Readies s command old new = IsKept s old → IsKept (ready s command) new
 -- At each moment the command is kept whole or not at all; after `Stored` it is kept; after every other outcome but
 -- `Device` no call of the disk wrote or synced.
 abbrev pub LeavesBy : Ledger → Command → Outcome → Trail → Trail → Type 0
-LeavesBy s command (Stored accepted) old new = Leaves (KeepsOrSteps s command) old new × Moves (Stores s command) old.now new.now
+LeavesBy s command (Stored accepted) old new =
+    Leaves (KeepsOrSteps s command) old new × Moves (Stores s command) old.now new.now
 LeavesBy s command Device old new = Leaves (KeepsOrSteps s command) old new
 LeavesBy s command outcome old new = new ≡ old
 
 -- nothing outside the two slots is changed: not the gate of the disk, its header, its set-up bytes, or what is between
 abbrev pub SameOutsideSlots : List ℕ → List ℕ → Type 0
 SameOutsideSlots = SameOutside head_length slots_length
+
+-- What a command with this outcome does to the disk.
+pub record KeepsCommand (s : Ledger) (command : Command) (outcome : Outcome) (old new : Trail) : Type 0 where
+  pub leaves : LeavesBy s command outcome old new
+  -- whatever the images were
+  pub outside : Leaves SameOutsideSlots old new
+
+-- What making room for a command does: where too few pages are left, the store switches.
+pub record MakesRoom (s : Ledger) (command : Command) (result : Result ℕ SwitchFault) (old new : Trail) : Type 0 where
+  pub moments : Leaves (Keeps s) old new
+  pub outside : Leaves SameOutsideSlots old new
+  pub done : OnOk result (Moves (Readies s command) old.now new.now)
 
 -- a clean image that stands for the count after the first of these commands, in order, at least so many of them
 pub record HasSome (tally : Tally) (commands : List Command) (least : ℕ) (c : List ℕ) : Type 0 where

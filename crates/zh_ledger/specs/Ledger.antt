@@ -1,5 +1,6 @@
 -- The count on a disk, and what becomes of a command that is submitted.
-use Rattle.std.specs.Prelude.{◌≡◌, ◌⊎◌, ℕ, ◌+◌, ◌-◌, ◌^◌, ◌==◌, ◌&&◌, ◌||◌, not, nat_le, if◌then◌else◌, Bool, true, false, length}
+use Rattle.std.specs.Prelude.{◌≡◌, ◌⊎◌, ℕ, ◌+◌, ◌-◌, ◌^◌, ◌==◌, ◌&&◌, ◌||◌, not, nat_le, if◌then◌else◌}
+use Rattle.std.specs.Prelude.{Bool, true, false, length}
 use Rattle.zh_returns.specs.Tally.{Tally}
 use Rattle.zh_returns.specs.Judgement.{judge}
 use Rattle.zh_records.specs.Spelling.{command_spelling}
@@ -11,7 +12,6 @@ use Rattle.zh_returns.specs.declared.verdict.Verdict.{Verdict}
 use Rattle.zh_returns.specs.declared.verdict.Verdict.TheVariants as verdicts
 use Rattle.zh_journal.specs.Pages.{pages_of}
 use Rattle.zh_journal.specs.Place.{pages_left}
-use Rattle.zh_journal.specs.Cause.{HasRisen}
 use Rattle.zh_snapshot.specs.Store as store
 use Rattle.zh_ledger.specs.declared.outcome.Outcome.{Outcome}
 use Rattle.zh_ledger.specs.declared.outcome.Outcome.TheVariants.{Stored, Same, Refused, Spent, Device, Broken}
@@ -43,44 +43,48 @@ is_one Two = false
 abbrev pub is_spent : Ledger → Command → Bool
 is_spent ledger command = is_one ledger.format || ((ledger.tally.accepted == 2 ^ 64 - 1) || lacks_room ledger command)
 
--- it is stored as the next one, and no call of the disk failed; or the device failed, and then the disk's failure count rose
-abbrev pub StoredOrDevice : ℕ → ℕ → ℕ → Outcome → Type 0
-StoredOrDevice accepted failures failures' outcome = ((outcome ≡ Stored (accepted + 1)) × (failures' ≡ failures)) ⊎ ((outcome ≡ Device) × HasRisen failures failures')
+-- it is stored as the next one, or the device failed
+abbrev pub StoredOrDevice : ℕ → Outcome → Type 0
+StoredOrDevice accepted outcome = (outcome ≡ Stored (accepted + 1)) ⊎ (outcome ≡ Device)
 
 -- the outcomes for a command that is judged acceptable: spent exactly where it is, and else one of those two
-abbrev pub MayStoreWhere : Bool → ℕ → ℕ → ℕ → Outcome → Type 0
-MayStoreWhere true accepted failures failures' outcome = outcome ≡ Spent
-MayStoreWhere false accepted failures failures' outcome = StoredOrDevice accepted failures failures' outcome
+abbrev pub MayStoreWhere : Bool → ℕ → Outcome → Type 0
+MayStoreWhere true accepted outcome = outcome ≡ Spent
+MayStoreWhere false accepted outcome = StoredOrDevice accepted outcome
 
-abbrev pub MayStore : Ledger → Command → ℕ → ℕ → Outcome → Type 0
+abbrev pub MayStore : Ledger → Command → Outcome → Type 0
 MayStore ledger command = MayStoreWhere (is_spent ledger command) ledger.tally.accepted
 
 -- the outcomes for a command with this verdict
-abbrev pub MayFollow : Verdict → Ledger → Command → ℕ → ℕ → Outcome → Type 0
-MayFollow verdicts.Accept ledger command failures failures' outcome = MayStore ledger command failures failures' outcome
-MayFollow verdicts.Same ledger command failures failures' outcome = outcome ≡ Same
-MayFollow (verdicts.Refused reason) ledger command failures failures' outcome = outcome ≡ Refused reason
+abbrev pub MayFollow : Verdict → Ledger → Command → Outcome → Type 0
+MayFollow verdicts.Accept ledger command outcome = MayStore ledger command outcome
+MayFollow verdicts.Same ledger command outcome = outcome ≡ Same
+MayFollow (verdicts.Refused reason) ledger command outcome = outcome ≡ Refused reason
 
 -- after a fault of the device nothing is judged any more
-abbrev pub MayResultWhere : Bool → Ledger → Command → ℕ → ℕ → Outcome → Type 0
-MayResultWhere true ledger command failures failures' outcome = outcome ≡ Broken
-MayResultWhere false ledger command failures failures' outcome = MayFollow (judge ledger.tally command) ledger command failures failures' outcome
+abbrev pub MayResultWhere : Bool → Ledger → Command → Outcome → Type 0
+MayResultWhere true ledger command outcome = outcome ≡ Broken
+MayResultWhere false ledger command outcome = MayFollow (judge ledger.tally command) ledger command outcome
 
--- the outcomes that a command may have while the disk's failure count goes from the one number to the other
-abbrev pub MayResult : Ledger → Command → ℕ → ℕ → Outcome → Type 0
+-- the outcomes that a command may have
+abbrev pub MayResult : Ledger → Command → Outcome → Type 0
 MayResult ledger = MayResultWhere ledger.store.broken ledger
-
--- switched to its disk's other slot, with the count as its snapshot, in format Two
-abbrev pub switched : Ledger → Ledger
-switched ledger = record { tally = ledger.tally; store = store.switched ledger.store; format = Two }
 
 -- ready to store a command: where too few pages are left, the store has switched
 abbrev pub ready : Ledger → Command → Ledger
-ready ledger command = record { tally = ledger.tally; store = if has_room ledger command then ledger.store else store.switched ledger.store; format = ledger.format }
+ready ledger command = record {
+  tally = ledger.tally;
+  store = if has_room ledger command then ledger.store else store.switched ledger.store;
+  format = ledger.format;
+}
 
 -- with this command stored: the count is stepped, and the journal has its record
 abbrev pub stored : Ledger → Command → Ledger
-stored ledger command = record { tally = step ledger.tally command; store = store.longer (ready ledger command).store (length (command_spelling Two command)); format = ledger.format }
+stored ledger command = record {
+  tally = step ledger.tally command;
+  store = store.longer (ready ledger command).store (length (command_spelling Two command));
+  format = ledger.format;
+}
 
 -- after a fault of the device: the count is as it was, and the store must be opened again
 pub record IsFaulted (old new : Ledger) : Type 0 where

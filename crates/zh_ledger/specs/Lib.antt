@@ -1,3 +1,4 @@
+pub mod Faults
 pub mod Ledger
 pub mod Kept
 pub mod Code

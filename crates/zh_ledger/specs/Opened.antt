@@ -1,5 +1,5 @@
 -- What formatting leaves, and what opening finds.
-use Rattle.std.specs.Prelude.{◌≡◌, ◌≢◌, ◌-◌, ◌^◌, ℕ, List, Result, Ok, Err, false}
+use Rattle.std.specs.Prelude.{◌≡◌, ◌≢◌, ◌-◌, ◌^◌, ℕ, List, false}
 use Rattle.zh_districts.specs.Canton.{Canton}
 use Rattle.zh_districts.specs.Spelling.{setup_spelling}
 use Rattle.zh_records.specs.declared.format.Format.{Format}
@@ -9,10 +9,6 @@ use Rattle.zh_snapshot.specs.Image.{Content, IsBlank, IsFramed}
 use Rattle.zh_journal.specs.Pages.{Frames}
 use Rattle.zh_journal.specs.Place.{Rest}
 use Rattle.zh_snapshot.specs.Store.{State, Fits}
-use Rattle.zh_snapshot.specs.declared.fault.OpenFault as store
-use Rattle.zh_snapshot.specs.declared.fault.OpenFault.TheVariants as of_store
-use Rattle.zh_ledger.specs.declared.fault.OpenFault.{OpenFault}
-use Rattle.zh_ledger.specs.declared.fault.OpenFault.TheVariants as faults
 use Rattle.zh_ledger.specs.Ledger.{Ledger}
 use Rattle.zh_ledger.specs.Stands.{StandsFor, Holds}
 
@@ -27,7 +23,7 @@ pub record IsReady (canton : Canton) (s : Ledger) : Type 0 where
   pub last : s.format ≡ One → s.store.generation ≡ 2 ^ 64 - 1
 
 -- these bytes of a disk are framed, with a content that the ledger's store knows and that stands for its count
-pub record IsFound (bytes : List ℕ) (s : Ledger) : Type 0 where
+pub record Knows (s : Ledger) (bytes : List ℕ) : Type 0 where
   pub content : Content
   pub end : ℕ
   pub framed : IsFramed content end bytes
@@ -37,7 +33,7 @@ pub record IsFound (bytes : List ℕ) (s : Ledger) : Type 0 where
 -- a ledger of this set-up that holds what these bytes stand for
 pub record IsOpened (canton : Canton) (bytes : List ℕ) (s : Ledger) : Type 0 where
   pub ready : IsReady canton s
-  pub found : IsFound bytes s
+  pub found : Knows s bytes
 
 -- the disk gate is open, header, slot and records are right, and the set-up bytes are those of another set-up
 pub record Differs (canton : Canton) (bytes : List ℕ) : Type 0 where
@@ -50,10 +46,11 @@ pub record Differs (canton : Canton) (bytes : List ℕ) : Type 0 where
 pub record IsDamaged (canton : Canton) (bytes : List ℕ) : Type 0 where
   pub gate : IsBlank bytes → ⊥
   pub setup : (x : Content) (j : ℕ) → IsFramed x j bytes → x.setup ≡ setup_spelling canton
-  pub nothing : (x : Content) (j : ℕ) → IsFramed x j bytes → (format : Format) (tally : Tally) → tally.canton ≡ canton → StandsFor format x tally → ⊥
+  pub nothing : (x : Content) (j : ℕ) → IsFramed x j bytes
+      → (format : Format) (tally : Tally) → tally.canton ≡ canton → StandsFor format x tally → ⊥
 
 -- these bytes are framed with this content, which the store fits, and the reader has its records left
-pub record IsLeft (s : State) (rest : Rest) (x : Content) (bytes : List ℕ) : Type 0 where
+pub record AwaitsReplay (s : State) (rest : Rest) (x : Content) (bytes : List ℕ) : Type 0 where
   pub end : ℕ
   pub framed : IsFramed x end bytes
   pub fits : Fits s x end bytes
@@ -63,19 +60,3 @@ pub record IsLeft (s : State) (rest : Rest) (x : Content) (bytes : List ℕ) : T
 pub record IsWrong (canton : Canton) (x : Content) : Type 0 where
   pub own : x.setup ≡ setup_spelling canton
   pub nothing : (format : Format) (tally : Tally) → tally.canton ≡ canton → StandsFor format x tally → ⊥
-
--- the fault of a store's opening as one of a ledger's
-abbrev pub OpenedAs : store.OpenFault → OpenFault → Type 0
-OpenedAs of_store.Device e = e ≡ faults.Device
-OpenedAs of_store.Blank e = e ≡ faults.Blank
-OpenedAs of_store.Damaged e = e ≡ faults.Damaged
-OpenedAs of_store.Memory e = e ≡ faults.Memory
-
--- this holds, unless a fault of the device is reported
-abbrev pub UnlessDevice : {T : Type 0} → Result T OpenFault → Type 0 → Type 0
-UnlessDevice (Ok opened) P = P
-UnlessDevice (Err faults.Memory) P = P
-UnlessDevice (Err faults.Device) P = Unit {0}
-UnlessDevice (Err faults.Blank) P = P
-UnlessDevice (Err faults.Damaged) P = P
-UnlessDevice (Err faults.SetupDiffers) P = P

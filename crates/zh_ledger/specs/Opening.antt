@@ -1,9 +1,12 @@
 -- What a call leaves that formats a disk, or opens the ledger that stands there.
-use Rattle.std.specs.Prelude.{◌≡◌, ◌≢◌, ◌≤◌, ◌-◌, ◌^◌, ◌⊎◌, ℕ, List, [], Result, IfErr, IfOk, IsErrOf, OnOk}
+use Rattle.std.specs.Prelude.{◌≡◌, ◌≢◌, ◌-◌, ◌^◌, ◌⊎◌, ℕ, List, [], Result, IfErr, IfOk, IsErrOf, OnOk}
+use Rattle.zh_disk.specs.declared.disk.DiskFault.{DiskFault}
 use Rattle.zh_disk.specs.Disk.{Moment, Trail, IsImage, Leaves, SameOutside}
+use Rattle.zh_disk.specs.History.{History, Call}
 use Rattle.zh_districts.specs.Canton.{Canton}
 use Rattle.zh_districts.specs.Spelling.{setup_spelling}
-use Rattle.zh_journal.specs.Cause.{HasRisen}
+use Rattle.zh_journal.specs.Place.{Rest}
+use Rattle.zh_records.specs.declared.format.Format.{Format}
 use Rattle.zh_records.specs.declared.format.Format.TheVariants.{One, Two}
 use Rattle.zh_returns.specs.Payload.{payload_spelling}
 use Rattle.zh_returns.specs.Limits.{IsTally}
@@ -13,22 +16,15 @@ use Rattle.zh_snapshot.specs.Layout.{other, slot_at, slot_length}
 use Rattle.zh_snapshot.specs.Slots.{IsInUse}
 use Rattle.zh_snapshot.specs.declared.layout.Slot.{Slot}
 use Rattle.zh_snapshot.specs.Format.{Formats, IsFormatted}
-use Rattle.zh_snapshot.specs.Store.{Settles}
+use Rattle.zh_snapshot.specs.Store.{State, Settles}
 use Rattle.zh_snapshot.specs.declared.fault.FormatFault.{FormatFault}
-use Rattle.zh_snapshot.specs.declared.fault.FormatFault.TheVariants as formatting
+use Rattle.zh_ledger.specs.Faults.{open_fails}
+use Rattle.zh_ledger.specs.Kept.{ledger_in}
 use Rattle.zh_ledger.specs.Ledger.{Ledger}
-use Rattle.zh_ledger.specs.Opened.{IsNew, IsReady, IsFound, IsOpened, Differs, IsDamaged, UnlessDevice}
+use Rattle.zh_ledger.specs.Opened.{IsNew, IsReady, Knows, IsOpened, Differs, IsDamaged, AwaitsReplay, IsWrong}
 use Rattle.zh_ledger.specs.Stands.{Stands, StandsFor}
 use Rattle.zh_ledger.specs.declared.fault.OpenFault.{OpenFault}
 use Rattle.zh_ledger.specs.declared.fault.OpenFault.TheVariants as faults
-
--- of a disk, how often it has failed, and what it holds and has held
-pub record DiskState : Type 0 where
-  pub failures : ℕ
-  pub trail : Trail
-
-abbrev pub disk_state : ℕ → Trail → DiskState
-disk_state failures trail = record { failures = failures; trail = trail }
 
 -- a clean image with the count of this content as its snapshot in format Two, one generation later
 abbrev pub IsMigrated : Content → Tally → List ℕ → Type 0
@@ -72,36 +68,40 @@ pub record IsOpenedFrom (canton : Canton) (bytes : List ℕ) (now : Moment) (led
 -- at this moment nothing is pending, and the bytes are those of this ledger
 pub record IsAtRest (ledger : Ledger) (now : Moment) : Type 0 where
   pub pending : now.pending ≡ []
-  pub found : IsFound now.bytes ledger
+  pub found : Knows ledger now.bytes
+
+-- What is read of a set-up's count in these bytes, which a store and its reader found: the count, and its format.
+pub record ReadsCount (s : State) (rest : Rest) (canton : Canton) (tally : Tally) (bytes : List ℕ)
+    (answer : Result Format OpenFault) : Type 0 where
+  pub found : (x : Content) → AwaitsReplay s rest x bytes → IfOk answer (λ format. StandsFor format x tally)
+  pub differs : IsErrOf answer faults.SetupDiffers
+      → (x : Content) → AwaitsReplay s rest x bytes → x.setup ≢ setup_spelling canton
+  pub damaged : IsErrOf answer faults.Damaged → (x : Content) → AwaitsReplay s rest x bytes → IsWrong canton x
+
+-- What follows where nothing is pending, and the bytes are those of this ledger: at each moment those bytes alone are left,
+-- or what a migration makes of them, and at the end they are those of the ledger with this store, in the format given.
+pub record MigratesFrom (s : Ledger) (store : State) (result : Result Format DiskFault) (old new : Trail) : Type 0 where
+  pub moments : IsAtRest s old.now → Leaves (MayLeave s.tally.canton old.now.bytes) old new
+  pub rests : IsAtRest s old.now → IfOk result (λ format. IsAtRest (ledger_in format s.tally store) new.now)
 
 -- An opening takes an honest disk from the one trail to the other, with this result.
-pub record Opens (canton : Canton) (old new : Trail) (result : Result Ledger OpenFault) : Type 0 where
+pub record Opens (canton : Canton) (result : Result Ledger OpenFault) (old new : Trail) : Type 0 where
   pub moments : Leaves (MayLeave canton old.now.bytes) old new
   pub opened : IfOk result (IsOpenedFrom canton old.now.bytes new.now)
   pub refused : IfErr result (IsCause canton old.now.bytes)
   -- an opening that ends so migrates nothing; nor does one of a slot in format Two or at the last generation, as `moments` says
   pub unchanged : IfErr result (λ fault. (fault ≡ faults.Device → ⊥) → Leaves (Settles old.now.bytes) old new)
 
--- An opening takes a disk from the one state to the other, with this result; of what the disk holds only while it is honest.
-pub record Opening (honest : Type 0) (canton : Canton) (old new : DiskState) (result : Result Ledger OpenFault) : Type 0 where
-  pub later : old.failures ≤ new.failures
-  pub cause : IsErrOf result faults.Device → HasRisen old.failures new.failures
-  pub counted : UnlessDevice result (new.failures ≡ old.failures)
+-- An opening takes a disk from the one history to the other, with this result.
+pub record Opening (canton : Canton) (old new : History) (result : Result Ledger OpenFault) : Type 0 where
   pub ready : IfOk result (IsReady canton)
-  pub opens : honest → Opens canton old.trail new.trail result
+  pub call : Call open_fails (Opens canton) old new result
 
 -- A formatting takes an honest disk from the one trail to the other, with this result.
-pub record MakesNew (canton : Canton) (old new : Trail) (result : Result (Unit {0}) FormatFault) : Type 0 where
+pub record MakesNew (canton : Canton) (result : Result (Unit {0}) FormatFault) (old new : Trail) : Type 0 where
   -- the disk gate is closed, the disk is written, the gate is opened: docs/FORMATS.md has the moments
   pub moments : Formats (setup_spelling canton) (payload_spelling Two (empty canton)) old new
   pub formatted : OnOk result ((c : List ℕ) → IsImage new.now c → IsNew canton c)
   -- of the first generation, with zeros in its journal, so that nothing of an older count counts any more
   pub fresh : OnOk result (IsFormatted (setup_spelling canton) (payload_spelling Two (empty canton)) new.now.bytes)
   pub settled : OnOk result (new.now.pending ≡ [])
-
--- A formatting takes a disk from the one state to the other, with this result.
-pub record Formatting (honest : Type 0) (canton : Canton) (old new : DiskState) (result : Result (Unit {0}) FormatFault) : Type 0 where
-  pub later : old.failures ≤ new.failures
-  pub cause : IsErrOf result formatting.Device → HasRisen old.failures new.failures
-  pub counted : OnOk result (new.failures ≡ old.failures)
-  pub makes : honest → MakesNew canton old.trail new.trail result

@@ -17,7 +17,8 @@ use Rattle.zh_ledger.specs.Ledger.{Ledger}
 -- each of these commands is accepted in turn, with a number left for it
 abbrev pub AreAccepted : Tally → List Command → Type 0
 AreAccepted tally [] = Unit {0}
-AreAccepted tally (command ∷ commands) = (judge tally command ≡ Accept) × ((tally.accepted < 2 ^ 64 - 1) × AreAccepted (step tally command) commands)
+AreAccepted tally (command ∷ commands) =
+    (judge tally command ≡ Accept) × ((tally.accepted < 2 ^ 64 - 1) × AreAccepted (step tally command) commands)
 
 -- the records are those of these commands in this format, which are accepted in turn from the one count on and give the other
 pub record Replays (format : Format) (start : Tally) (records : List (List ℕ)) (tally : Tally) : Type 0 where

@@ -1,35 +1,26 @@
 -- Commands submitted one after the other.
 use Rattle.std.specs.Prelude.{◌≡◌, ℕ, ◌+◌, ◌≤◌, List, [], ◌∷◌, ◌++◌, length, take}
-use Rattle.zh_disk.specs.Disk.{Trail, Moves, Leaves}
+use Rattle.zh_disk.specs.Disk.{Moves, Leaves}
+use Rattle.zh_disk.specs.History.{History, Call}
 use Rattle.zh_returns.specs.Step.{after}
 use Rattle.zh_records.specs.declared.command.Command.{Command}
 use Rattle.zh_ledger.specs.declared.outcome.Outcome.{Outcome}
 use Rattle.zh_ledger.specs.declared.outcome.Outcome.TheVariants.{Stored, Device}
+use Rattle.zh_ledger.specs.Faults.{fails}
 use Rattle.zh_ledger.specs.Ledger.{Ledger, MayResult, Becomes}
-use Rattle.zh_ledger.specs.Images.{LeavesBy, ComesToHave, SameOutsideSlots}
+use Rattle.zh_ledger.specs.Images.{KeepsCommand, ComesToHave, SameOutsideSlots}
 
--- a ledger and its disk: how often the disk has failed, what it holds and has held
-pub record OnDisk : Type 0 where
-  pub ledger : Ledger
-  pub failures : ℕ
-  pub trail : Trail
+-- a ledger, or an office, and what is known of its disk
+pub record OnDisk (S : Type 0) : Type 0 where
+  pub holder : S
+  pub history : History
 
-abbrev pub on_disk : Ledger → ℕ → Trail → OnDisk
-on_disk ledger failures trail = record { ledger = ledger; failures = failures; trail = trail }
+abbrev pub on_disk : {S : Type 0} → S → History → OnDisk S
+on_disk holder history = record { holder = holder; history = history }
 
--- the command has this outcome, and then the ledger and its disk hold this; of the trail only while the disk is honest
-pub record Submission (honest : Type 0) (old : OnDisk) (command : Command) (outcome : Outcome) (new : OnDisk) : Type 0 where
-  pub results : MayResult old.ledger command old.failures new.failures outcome
-  pub after : Becomes old.ledger command outcome new.ledger
-  pub later : old.failures ≤ new.failures
-  pub leaves : honest → LeavesBy old.ledger command outcome old.trail new.trail
-  pub outside : honest → Leaves SameOutsideSlots old.trail new.trail
-
--- the disk is as it was, unless the outcome is `Stored` or `Device`
-abbrev pub UnlessStored : {D : Type 0} → Outcome → D → D → Type 0
-UnlessStored (Stored accepted) old new = Unit {0}
-UnlessStored Device old new = Unit {0}
-UnlessStored outcome old new = new ≡ old
+-- the same of the ledger in it alone
+abbrev pub of_ledger : {S : Type 0} → (S → Ledger) → OnDisk S → OnDisk Ledger
+of_ledger ledger o = on_disk (ledger o.holder) o.history
 
 -- the commands that were accepted, in order, and how many of them were acknowledged
 pub record Log : Type 0 where
@@ -48,19 +39,28 @@ logged command (Stored accepted) = record { accepted = command ∷ []; acknowled
 logged command Device = record { accepted = command ∷ []; acknowledged = 0 }
 logged command outcome = nothing
 
+-- The command has this outcome, and then the ledger and its disk hold this; it adds this to the log.
+pub record Submission (old : OnDisk Ledger) (command : Command) (outcome : Outcome) (new : OnDisk Ledger) : Type 0 where
+  pub results : MayResult old.holder command outcome
+  pub after : Becomes old.holder command outcome new.holder
+  pub call : Call fails (KeepsCommand old.holder command) old.history new.history outcome
+  pub log : Log
+  pub logs : log ≡ logged command outcome
+
 -- command after command is submitted with its outcome
-abbrev pub Submits : OnDisk → List (Command × Outcome) → Log → OnDisk → Type 0
+abbrev pub Submits : OnDisk Ledger → List (Command × Outcome) → Log → OnDisk Ledger → Type 0
 Submits old [] log new = (log ≡ nothing) × (new ≡ old)
 Submits old (x ∷ xs) log new =
-    (mid : OnDisk) × (others : Log) × Submission (Unit {0}) old x.0 x.1 mid × (log ≡ followed_by (logged x.0 x.1) others) × Submits mid xs others new
+    (mid : OnDisk Ledger) × (others : Log) × (by : Submission old x.0 x.1 mid)
+    × (log ≡ followed_by by.log others) × Submits mid xs others new
 
 -- What commands leave: at each moment an image has those accepted up to some, in order, none skipped; at the end it has
 -- all that were acknowledged, which are all but one at most, and the ledger counts these. Whatever the images were,
 -- nothing outside the two slots is changed.
-pub record IsLogged (old : OnDisk) (log : Log) (new : OnDisk) : Type 0 where
-  pub each_moment : Leaves (ComesToHave old.ledger log.accepted 0) old.trail new.trail
-  pub last_moment : Moves (ComesToHave old.ledger log.accepted log.acknowledged) old.trail.now new.trail.now
+pub record IsLogged (old : OnDisk Ledger) (log : Log) (new : OnDisk Ledger) : Type 0 where
+  pub each_moment : Leaves (ComesToHave old.holder log.accepted 0) old.history.trail new.history.trail
+  pub last_moment : Moves (ComesToHave old.holder log.accepted log.acknowledged) old.history.trail.now new.history.trail.now
   pub last : length log.accepted ≤ log.acknowledged + 1
   pub within : log.acknowledged ≤ length log.accepted
-  pub count : new.ledger.tally ≡ after old.ledger.tally (take log.acknowledged log.accepted)
-  pub outside : Leaves SameOutsideSlots old.trail new.trail
+  pub count : new.holder.tally ≡ after old.holder.tally (take log.acknowledged log.accepted)
+  pub outside : Leaves SameOutsideSlots old.history.trail new.history.trail

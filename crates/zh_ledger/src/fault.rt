@@ -2,8 +2,7 @@
 
 use std::alloc::AllocError;
 use thiserror::Error;
-use zh_journal::AreaFault;
-use zh_snapshot::StoreFault;
+use zh_disk::DiskFault;
 
 /// Why the ledger on a disk is not opened.
 #[derive(Clone, Copy, Debug, PartialEq, Eq, Error)]
@@ -34,32 +33,22 @@ impl From<AllocError> for OpenFault {
     }
 }
 
-impl From<StoreFault> for OpenFault {
+impl From<DiskFault> for OpenFault {
     ghost use Rattle.std.specs.Prelude.{◌≡◌};
     ghost use Rattle.zh_ledger.specs.declared.fault.OpenFault.TheVariants as faults;
 
     ghost from_gives = { λ _ e. e ≡ faults.Device };
 
-    fn from(_: StoreFault) -> Self {
-        OpenFault::Device
-    }
-}
-
-impl From<AreaFault> for OpenFault {
-    ghost use Rattle.std.specs.Prelude.{◌≡◌};
-    ghost use Rattle.zh_ledger.specs.declared.fault.OpenFault.TheVariants as faults;
-
-    ghost from_gives = { λ _ e. e ≡ faults.Device };
-
-    fn from(_: AreaFault) -> Self {
+    fn from(_: DiskFault) -> Self {
         OpenFault::Device
     }
 }
 
 impl From<zh_snapshot::OpenFault> for OpenFault {
-    ghost use Rattle.zh_ledger.specs.Opened.{OpenedAs};
+    ghost use Rattle.std.specs.Prelude.{◌≡◌};
+    ghost use Rattle.zh_ledger.specs.Faults.{fault_of_store};
 
-    ghost from_gives = { OpenedAs };
+    ghost from_gives = { λ fault e. e ≡ fault_of_store fault };
 
     fn from(fault: zh_snapshot::OpenFault) -> Self {
         match fault {

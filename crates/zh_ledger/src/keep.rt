@@ -1,16 +1,15 @@
 //! Keeping an accepted command: its record is stored, and then it is applied to the count.
 
-ghost use Rattle.std.specs.Prelude.{◌≡◌, ◌≢◌, ◌↔◌, ◌<◌, ◌≤◌, ◌-◌, ◌^◌, true, false, length, take, OnOk, IfOk, IsErrOf};
-ghost use Rattle.zh_disk.specs.Disk.{Leaves, Moves};
-ghost use Rattle.zh_journal.specs.Cause.{HasRisen};
+ghost use Rattle.std.specs.Prelude.{◌≡◌, ◌≢◌, ◌↔◌, ◌<◌, ◌-◌, ◌^◌, true, false, length, take, OnOk, IfOk, IsErrOf};
+ghost use Rattle.zh_disk.specs.History.{Call};
 ghost use Rattle.zh_returns.specs.Judgement.{judge};
-ghost use Rattle.zh_returns.specs.Limits.{IsTally};
 ghost use Rattle.zh_records.specs.declared.format.Format.{Format};
 ghost use Rattle.zh_records.specs.Spelling.{HasNumbers, IsSpeakable, command_spelling};
 ghost use Rattle.zh_ledger.specs.Ledger.{MayStore, StoredOrDevice, Becomes, ready, has_room, lacks_room};
-ghost use Rattle.zh_ledger.specs.Images.{LeavesBy, Keeps, Readies, SameOutsideSlots};
+ghost use Rattle.zh_ledger.specs.Faults.{fails, may_write};
+ghost use Rattle.zh_ledger.specs.Images.{KeepsCommand, MakesRoom};
 ghost use Rattle.zh_ledger.specs.Kept.{ledger_of};
-ghost use Rattle.zh_ledger.specs.Submissions.{UnlessStored};
+ghost use Rattle.zh_snapshot.specs.Faults.{store_switch_fails};
 
 use crate::outcome::Outcome;
 use crate::switch::switch;
@@ -33,13 +32,11 @@ pub(crate) fn keep<D: Disk>(
     requires accept { judge count.old command.now ≡ Verdict.Accept }
     requires whole { store.old.broken ≡ false }
     requires numbers { HasNumbers command.now }
-    ensures results { MayStore (ledger_of count.old store.old) command.now (D.failures disk.old) (D.failures disk.new) result }
+    ensures results { MayStore (ledger_of count.old store.old) command.now result }
     ensures after { Becomes (ledger_of count.old store.old) command.now result (ledger_of count.new store.new) }
-    ensures later { D.failures disk.old ≤ D.failures disk.new }
-    ensures kept { D.honest disk.new → D.honest disk.old }
-    ensures leaves { D.honest disk.new → LeavesBy (ledger_of count.old store.old) command.now result (D.trail disk.old) (D.trail disk.new) }
-    ensures outside { D.honest disk.new → Leaves SameOutsideSlots (D.trail disk.old) (D.trail disk.new) }
-    ensures untouched { UnlessStored result disk.old disk.new }
+    ensures call { Call fails (KeepsCommand (ledger_of count.old store.old) command.now)
+        (D.history disk.old) (D.history disk.new) result }
+    ensures untouched { may_write result ≡ false → disk.new ≡ disk.old }
 {
     if count.count().accepted() == u64::MAX {
         return Outcome::Spent;
@@ -72,13 +69,8 @@ fn make_room<D: Disk>(
     ensures spent { (result ≡ Err SwitchFault.Spent) ↔ (lacks_room (ledger_of count.now store.old) command.now ≡ true) }
     ensures broken { result ≢ Err SwitchFault.Broken }
     ensures untouched { IsErrOf result SwitchFault.Spent → (disk.new ≡ disk.old) × (store.new ≡ store.old) }
-    ensures later { D.failures disk.old ≤ D.failures disk.new }
-    ensures cause { IsErrOf result SwitchFault.Device → HasRisen (D.failures disk.old) (D.failures disk.new) }
-    ensures counted { OnOk result (D.failures disk.new ≡ D.failures disk.old) }
-    ensures kept { D.honest disk.new → D.honest disk.old }
-    ensures any_moment { D.honest disk.new → Leaves (Keeps (ledger_of count.now store.old)) (D.trail disk.old) (D.trail disk.new) }
-    ensures outside { D.honest disk.new → Leaves SameOutsideSlots (D.trail disk.old) (D.trail disk.new) }
-    ensures readied { D.honest disk.new → OnOk result (Moves (Readies (ledger_of count.now store.old) command.now) (D.trail disk.old).now (D.trail disk.new).now) }
+    ensures call { Call store_switch_fails (MakesRoom (ledger_of count.now store.old) command.now)
+        (D.history disk.old) (D.history disk.new) result }
 {
     let len = encode_command(command, buffer);
     if pages_of(len as u32) <= store.pages_left() {
@@ -102,12 +94,10 @@ fn append<D: Disk>(
     requires speakable { IsSpeakable Format.Two command.now }
     requires spelled { payload.now ≡ command_spelling Format.Two command.now }
     requires room { has_room (ledger_of count.old store.old) command.now ≡ true }
-    ensures results { StoredOrDevice count.old.accepted (D.failures disk.old) (D.failures disk.new) result }
+    ensures results { StoredOrDevice count.old.accepted result }
     ensures after { Becomes (ledger_of count.old store.old) command.now result (ledger_of count.new store.new) }
-    ensures later { D.failures disk.old ≤ D.failures disk.new }
-    ensures kept { D.honest disk.new → D.honest disk.old }
-    ensures leaves { D.honest disk.new → LeavesBy (ledger_of count.old store.old) command.now result (D.trail disk.old) (D.trail disk.new) }
-    ensures outside { D.honest disk.new → Leaves SameOutsideSlots (D.trail disk.old) (D.trail disk.new) }
+    ensures call { Call fails (KeepsCommand (ledger_of count.old store.old) command.now)
+        (D.history disk.old) (D.history disk.new) result }
 {
     match store.append(disk, payload) {
         Ok(()) => {

@@ -1,24 +1,27 @@
 //! Laws of a ledger on a disk.
 
-ghost use Rattle.std.specs.Prelude.{◌≡◌, ℕ, List};
+ghost use Rattle.std.specs.Prelude.{◌≡◌, ℕ, List, IsTrue};
 ghost use Rattle.zh_returns.specs.Tally.{Tally};
 ghost use Rattle.zh_records.specs.declared.command.Command.{Command};
 ghost use Rattle.zh_records.specs.declared.format.Format.{Format};
 ghost use Rattle.zh_snapshot.specs.Image.{Content, IsFramed};
-ghost use Rattle.zh_ledger.specs.Night.{Law};
+ghost use Rattle.zh_ledger.specs.Ledger.{Ledger};
+ghost use Rattle.zh_ledger.specs.Night.{Law, by_commands};
 ghost use Rattle.zh_ledger.specs.Stands.{StandsFor};
 ghost use Rattle.zh_ledger.specs.Submissions.{OnDisk, Log, Submits, IsLogged};
 ghost use Rattle.zh_ledger.specs.declared.outcome.Outcome.{Outcome};
 
 /// The bytes of a disk stand for one count of a set-up at most, in one format.
 pub fn one_count()
-    ensures { (bytes : List ℕ) (x y : Content) (j k : ℕ) (f g : Format) (tally other : Tally) → IsFramed x j bytes → IsFramed y k bytes →
-        StandsFor f x tally → StandsFor g y other → tally.canton ≡ other.canton → (f ≡ g) × (tally ≡ other) }
+    ensures { (bytes : List ℕ) (x y : Content) (j k : ℕ) (f g : Format) (tally other : Tally)
+        → IsFramed x j bytes → IsFramed y k bytes → StandsFor f x tally → StandsFor g y other
+        → tally.canton ≡ other.canton → (f ≡ g) × (tally ≡ other) }
 {}
 
 /// What commands that are submitted one after the other leave on an honest disk, at each moment and at the end.
 pub fn submissions()
-    ensures { (old : OnDisk) (commands : List (Command × Outcome)) (log : Log) (new : OnDisk) → Submits old commands log new → IsLogged old log new }
+    ensures { (old : OnDisk Ledger) (commands : List (Command × Outcome)) (log : Log) (new : OnDisk Ledger)
+        → IsTrue new.history.honest → Submits old commands log new → IsLogged old log new }
 {}
 
 /// A night of commands, stops and openings on an honest disk that was formatted for the ledger, event by event.
@@ -28,5 +31,5 @@ pub fn submissions()
 /// accepted commands, in order, among them all that were acknowledged, and each once. An opening is refused only for
 /// memory or by the device.
 pub fn nights()
-    ensures { Law }
+    ensures { Law by_commands }
 {}

@@ -1,9 +1,10 @@
 //! The ledger: the count, and the disk that keeps it.
 
-ghost use Rattle.std.specs.Prelude.{◌≡◌};
+ghost use Rattle.std.specs.Prelude.{◌≡◌, false};
 ghost use Rattle.zh_totals.specs.Counting.{totals_of};
 ghost use Rattle.zh_records.specs.Spelling.{HasNumbers};
-ghost use Rattle.zh_ledger.specs.Submissions.{Submission, UnlessStored, on_disk};
+ghost use Rattle.zh_ledger.specs.Faults.{may_write};
+ghost use Rattle.zh_ledger.specs.Submissions.{Submission, on_disk};
 
 use crate::keep::keep;
 use crate::outcome::Outcome;
@@ -68,13 +69,13 @@ impl<'s> Ledger<'s> {
     /// Judges a command, and where it is accepted stores it and counts it. It takes no memory.
     pub fn submit<D: Disk>(&mut self, disk: &mut D, command: &Command<'_>) -> Outcome
         requires numbers { HasNumbers command.now }
-        ensures kept { D.honest disk.new → D.honest disk.old }
 
         // While the disk is honest this also says what each image holds at each moment since the call began, and that
         // outside the two slots nothing is changed, whatever the images were.
-        ensures submission { Submission (D.honest disk.new) (on_disk self.old (D.failures disk.old) (D.trail disk.old)) command.now result (on_disk self.new (D.failures disk.new) (D.trail disk.new)) }
+        ensures submission { Submission (on_disk self.old (D.history disk.old)) command.now result
+            (on_disk self.new (D.history disk.new)) }
 
-        ensures untouched { UnlessStored result disk.old disk.new }
+        ensures untouched { may_write result ≡ false → disk.new ≡ disk.old }
     {
         if self.is_broken() {
             return Outcome::Broken;

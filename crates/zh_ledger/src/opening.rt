@@ -1,15 +1,14 @@
 //! Formatting a disk, and opening the ledger that stands there.
 
-ghost use Rattle.std.specs.Prelude.{◌≡◌, ◌≢◌, ◌≤◌, ◌-◌, ◌^◌, false, length, IfOk, OnOk, IsErrOf};
-ghost use Rattle.zh_disk.specs.Disk.{Leaves};
+ghost use Rattle.std.specs.Prelude.{◌≡◌, ◌≢◌, ◌≤◌, ◌-◌, ◌^◌, false, length, IfOk, OnOk, IsErrOf, is_err};
+ghost use Rattle.zh_disk.specs.Disk.{Asks};
+ghost use Rattle.zh_disk.specs.History.{Call};
 ghost use Rattle.zh_districts.specs.Spelling.{setup_spelling};
-ghost use Rattle.zh_journal.specs.Cause.{HasRisen};
 ghost use Rattle.zh_returns.specs.Tally.{empty};
-ghost use Rattle.zh_snapshot.specs.Image.{Content};
-ghost use Rattle.zh_ledger.specs.Opened.{IsLeft, IsWrong, UnlessDevice};
+ghost use Rattle.zh_snapshot.specs.Faults.{store_format_fails};
+ghost use Rattle.zh_ledger.specs.Faults.{open_fails};
 ghost use Rattle.zh_ledger.specs.Kept.{ledger_in};
-ghost use Rattle.zh_ledger.specs.Opening.{Formatting, IsAtRest, MayLeave, Opening, disk_state};
-ghost use Rattle.zh_ledger.specs.Stands.{StandsFor};
+ghost use Rattle.zh_ledger.specs.Opening.{MakesNew, MigratesFrom, Opening, ReadsCount};
 
 use crate::fault::OpenFault;
 use crate::ledger::Ledger;
@@ -34,10 +33,8 @@ impl<'s> Ledger<'s> {
     /// Makes a disk one on which nothing has been returned yet, whatever stands there. Memory is taken before the
     /// first call of the device.
     pub fn format<D: Disk>(alloc: Global, setup: &Setup, disk: &mut D) -> Result<(), FormatFault>
-        ensures kept { D.honest disk.new → D.honest disk.old }
-
         // While the disk is honest this also says what each image is at each moment since the call began.
-        ensures formatting { Formatting (D.honest disk.new) setup.now (disk_state (D.failures disk.old) (D.trail disk.old)) (disk_state (D.failures disk.new) (D.trail disk.new)) result }
+        ensures call { Call store_format_fails (MakesNew setup.now) (D.history disk.old) (D.history disk.new) result }
 
         ensures untouched { IsErrOf result FormatFault.Memory → disk.new ≡ disk.old }
     {
@@ -58,10 +55,8 @@ impl<'s> Ledger<'s> {
         setup: &'s Setup,
         disk: &mut D,
     ) -> Result<Ledger<'s>, OpenFault>
-        ensures kept { D.honest disk.new → D.honest disk.old }
-
         // While the disk is honest this also says what each image is at each moment since the call began.
-        ensures opening { Opening (D.honest disk.new) setup.now (disk_state (D.failures disk.old) (D.trail disk.old)) (disk_state (D.failures disk.new) (D.trail disk.new)) result }
+        ensures opening { Opening setup.now (D.history disk.old) (D.history disk.new) result }
 
         ensures untouched { IsErrOf result OpenFault.Memory → disk.new ≡ disk.old }
     {
@@ -93,17 +88,11 @@ fn read_count<D: Disk>(
     requires setup { setup.now ≡ setup_spelling count.old.canton }
     requires buffer { PAYLOAD_LENGTH ≤ length buffer.old }
     requires count { count.old ≡ empty count.old.canton }
-    ensures kept { D.honest disk.new → D.honest disk.old }
-    ensures same { D.honest disk.new → D.trail disk.new ≡ D.trail disk.old }
+    ensures call { Call open_fails (Asks (ReadsCount store.now reader.old count.old.canton count.new))
+        (D.history disk.old) (D.history disk.new) result }
     ensures canton { count.new.canton ≡ count.old.canton }
-    ensures found { D.honest disk.new → (x : Content) → IsLeft store.now reader.old x (D.trail disk.old).now.bytes → IfOk result (λ format. StandsFor format x count.new) }
-    ensures differs { D.honest disk.new → IsErrOf result OpenFault.SetupDiffers → (x : Content) → IsLeft store.now reader.old x (D.trail disk.old).now.bytes → x.setup ≢ setup.now }
-    ensures damaged { D.honest disk.new → IsErrOf result OpenFault.Damaged → (x : Content) → IsLeft store.now reader.old x (D.trail disk.old).now.bytes → IsWrong count.old.canton x }
     ensures blank { result ≢ Err OpenFault.Blank }
     ensures memory { result ≢ Err OpenFault.Memory }
-    ensures later { D.failures disk.old ≤ D.failures disk.new }
-    ensures cause { IsErrOf result OpenFault.Device → HasRisen (D.failures disk.old) (D.failures disk.new) }
-    ensures counted { UnlessDevice result (D.failures disk.new ≡ D.failures disk.old) }
 {
     if !store.setup_equals(disk, setup)? {
         return Err(OpenFault::SetupDiffers);
@@ -133,14 +122,10 @@ fn migrate<D: Disk>(
     requires buffer { length buffer.old ≡ PAYLOAD_LENGTH }
     requires whole { store.old.broken ≡ false }
 
-    ensures kept { D.honest disk.new → D.honest disk.old }
-    ensures moments { D.honest disk.new → IsAtRest (ledger_in format count.now store.old) (D.trail disk.old).now → Leaves (MayLeave count.now.canton (D.trail disk.old).now.bytes) (D.trail disk.old) (D.trail disk.new) }
-    ensures rests { D.honest disk.new → IsAtRest (ledger_in format count.now store.old) (D.trail disk.old).now → IfOk result (λ format. IsAtRest (ledger_in format count.now store.new) (D.trail disk.new).now) }
+    ensures call { Call is_err (MigratesFrom (ledger_in format count.now store.old) store.new)
+        (D.history disk.old) (D.history disk.new) result }
     ensures whole { OnOk result (store.new.broken ≡ false) }
     ensures last { IfOk result (λ format. format ≡ Format.One → store.new.generation ≡ 2 ^ 64 - 1) }
-    ensures later { D.failures disk.old ≤ D.failures disk.new }
-    ensures cause { IsErrOf result StoreFault.Device → HasRisen (D.failures disk.old) (D.failures disk.new) }
-    ensures counted { OnOk result (D.failures disk.new ≡ D.failures disk.old) }
 {
     match format {
         Format::Two => Ok(Format::Two),

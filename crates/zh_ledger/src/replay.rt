@@ -22,8 +22,11 @@ pub(crate) fn replay(
 ) -> bool
     requires { LONGEST_PAYLOAD ≤ length buffer.old }
 
-    ensures replayed { result ≡ true → (records : List (List ℕ)) → Frames 0 reader.old.pages reader.old.page records reader.old.end → Replays format count.old records count.new }
-    ensures refused { result ≡ false → (records : List (List ℕ)) → Frames 0 reader.old.pages reader.old.page records reader.old.end → (tally : Tally) → Replays format count.old records tally → ⊥ }
+    ensures replayed { result ≡ true → (records : List (List ℕ))
+        → Frames 0 reader.old.pages reader.old.page records reader.old.end → Replays format count.old records count.new }
+    ensures refused { result ≡ false → (records : List (List ℕ))
+        → Frames 0 reader.old.pages reader.old.page records reader.old.end
+        → (tally : Tally) → Replays format count.old records tally → ⊥ }
     ensures canton { count.new.canton ≡ count.old.canton }
 {
     while let Some(payload) = reader.next(buffer) {
@@ -37,7 +40,9 @@ pub(crate) fn replay(
 /// Applies the command of a record to the count, if the record has one that is accepted, and reports whether it has.
 fn replay_record(payload: &[u8], format: Format, count: &mut RunningCount<'_>) -> bool
     ensures replayed { result ≡ true → Replays format count.old (payload.now ∷ []) count.new }
-    ensures refused { result ≡ false → (command : Command) → IsSpeakable format command → command_spelling format command ≡ payload.now → judge count.old command ≡ Verdict.Accept → count.old.accepted < 2 ^ 64 - 1 → ⊥ }
+    ensures refused { result ≡ false → (command : Command) → IsSpeakable format command
+        → command_spelling format command ≡ payload.now → judge count.old command ≡ Verdict.Accept
+        → count.old.accepted < 2 ^ 64 - 1 → ⊥ }
     ensures unchanged { result ≡ false → count.new ≡ count.old }
     ensures canton { count.new.canton ≡ count.old.canton }
 {

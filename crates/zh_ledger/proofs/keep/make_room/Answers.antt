@@ -1,14 +1,15 @@
-use Rattle.std.proofs.Common.{◌≡◌, ◌∙◌, ◌++◌, ◌<◌, take, List, ℕ, length, arith, ap, false}
+use Rattle.std.proofs.Common.{◌≡◌, ◌∙◌, ◌++◌, ◌<◌, ◌≤◌, take, List, ℕ, length, arith, ap, refl, false}
 use Rattle.std.proofs.Math.Seq.{take-append_seam}
-use Rattle.std.proofs.lemmas.Bool.{lt-leb}
+use Rattle.std.proofs.lemmas.Bool.{lt-leb, le-leb}
+use Rattle.zh_disk.proofs.CallerLemmas.{no_call, handed, failed}
 use Rattle.zh_journal.specs.Pages.{pages_of}
 use Rattle.zh_journal.specs.Place.{pages_left}
 use Rattle.zh_records.specs.declared.format.Format.TheVariants.{Two}
 use Rattle.zh_records.proofs.CallerLemmas.{short, speakable_fit}
 use Rattle.zh_ledger.specs.Ledger.{has_room, pages_for}
 use Rattle.zh_ledger.specs.Kept.{ledger_of}
-use Rattle.zh_ledger.proofs.OutsideLemmas.{outside_switched}
-use Rattle.zh_ledger.proofs.SwitchLemmas.{keeps_count, made_ready}
+use Rattle.zh_ledger.proofs.ReadyLemmas.{has_made_room}
+use Rattle.zh_ledger.proofs.SwitchLemmas.{makes_room, makes_no_room}
 use Rattle.zh_ledger.proofs.keep.make_room.Goals as goal
 
 -- what was written to the front is there
@@ -27,22 +28,22 @@ returns-then-pages_of-pages_left-clause-written g c = in_front _ _ _ _ c.encode_
 pub returns-clause-written : goal.returns-clause-written
 returns-clause-written g c = in_front _ _ _ _ c.encode_command.ensures.spelling c.encode_command.ensures.length
 
-pub returns-clause-any_moment : goal.returns-clause-any_moment
-returns-clause-any_moment g c = λ honest. keeps_count c.args.count.now c.args.store.now c.switch.ensures.limits _ _ (c.switch.ensures.any_moment honest)
+pub returns-then-pages_of-pages_left-clause-call : goal.returns-then-pages_of-pages_left-clause-call
+returns-then-pages_of-pages_left-clause-call g c =
+    let x = c.args.command.now in
+    let enough : pages_for x ≤ pages_left c.args.store.now.area = omega (arith, c.if-pages_of-pages_left.true, c.pages_left.ensures, c.pages_of.ensures, ap pages_of c.encode_command-len.ensures.length) in
+    no_call refl (λ h. has_made_room (ledger_of c.args.count.now c.args.store.now) x _ _ (le-leb (pages_for x) (pages_left c.args.store.now.area) enough))
 
-pub returns-in_err-switch-clause-any_moment : goal.returns-in_err-switch-clause-any_moment
-returns-in_err-switch-clause-any_moment g c = λ honest. keeps_count c.args.count.now c.args.store.now c.switch.ensures.limits _ _ (c.switch.ensures.any_moment honest)
-
-pub returns-clause-readied : goal.returns-clause-readied
-returns-clause-readied g c = λ honest.
+pub returns-clause-call : goal.returns-clause-call
+returns-clause-call g c =
     let s = ledger_of c.args.count.now c.args.store.now in
     let x = c.args.command.now in
     let few : pages_left c.args.store.now.area < pages_for x = omega (arith, c.if-pages_of-pages_left.false, c.pages_left.ensures, c.pages_of.ensures, ap pages_of c.encode_command-len.ensures.length) in
     let none : has_room s x ≡ false = lt-leb (pages_for x) (pages_left c.args.store.now.area) few in
-    made_ready c.args.count.now c.args.store.now c.switch.ensures.limits x none _ _ (c.in_ok-switch.ensures.replaced honest)
+    handed refl (λ h by. makes_room c.args.count.now c.args.store.now c.switch.ensures.limits x _ _ _ _ none by) c.in_ok-switch.ensures.call
 
-pub returns-clause-outside : goal.returns-clause-outside
-returns-clause-outside g c = λ honest. outside_switched _ _ _ (c.switch.ensures.outside honest)
-
-pub returns-in_err-switch-clause-outside : goal.returns-in_err-switch-clause-outside
-returns-in_err-switch-clause-outside g c = λ honest. outside_switched _ _ _ (c.switch.ensures.outside honest)
+pub returns-in_err-switch-clause-call : goal.returns-in_err-switch-clause-call
+returns-in_err-switch-clause-call g c =
+    failed c.from_residual.ensures (λ e is. rw is refl)
+    (λ e is h by. makes_no_room c.args.count.now c.args.store.now c.switch.ensures.limits c.args.command.now _ e _ _ by)
+    c.in_err-switch.ensures.call
