@@ -1,14 +1,12 @@
 -- What is answered to the lines of sheets.
-use Rattle.std.specs.Prelude.{◌≡◌, ◌⊎◌, ℕ, ◌<◌, ◌≤◌, Bool, true, false, List, length, Result, Ok, Err, IfOk}
+use Rattle.std.specs.Prelude.{◌≡◌, ◌⊎◌, ℕ, ◌<◌, ◌≤◌, Bool, true, false, length, Result, Ok, Err}
 use Rattle.std.specs.FinSet as set
-use Rattle.zh_lower.specs.Divisors.{Divisors}
-use Rattle.zh_lower.specs.Outcomes.{IsReached}
-use Rattle.zh_lower.specs.SeatMatrix.{IsWeak}
 use Rattle.zh_returns.specs.Tally.{Tally}
+use Rattle.zh_returns.specs.declared.verdict.Reason.TheVariants as reasons
 use Rattle.zh_totals.specs.Counting.{totals_of}
 use Rattle.zh_totals.specs.Totals.{VoteTotals}
-use Rattle.zh_sheet.specs.Distribution.{Distribution, IsDistribution, question_of}
-use Rattle.zh_sheet.specs.Refusals.{IsAnswer}
+use Rattle.zh_sheet.specs.Distribution.{Distribution}
+use Rattle.zh_sheet.specs.Made.{IsMade}
 use Rattle.zh_sheet.specs.declared.fault.SheetFault.{SheetFault}
 use Rattle.zh_sheet.specs.declared.fault.SheetFault.TheVariants as faults
 use Rattle.zh_commands.specs.declared.replies.Reply.TheVariants.{Refused}
@@ -28,19 +26,6 @@ sheet_refusal faults.TiedUpper = refusals.TiedUpper
 sheet_refusal (faults.NoVotes constituency) = refusals.NoVotes constituency
 sheet_refusal (faults.TiedLower constituency group) = refusals.TiedLower constituency group
 sheet_refusal faults.Exhausted = refusals.Exhausted
-
--- the distribution of the seats by these totals: each part follows from those before it, no divisors lead to other seats,
--- and those shown are the ones that the search comes to
-pub record IsSheetOf (totals : VoteTotals) (sheet : Distribution) : Type 0 where
-  pub votes : sheet.totals ≡ totals
-  pub meets : IsDistribution sheet
-  pub reached : IsReached (question_of sheet) sheet.lower.divisors
-  pub one_answer : (divisors : Divisors) (seats : List ℕ) → IsWeak (question_of sheet) divisors seats → seats ≡ sheet.lower.seats
-
--- a sheet of these totals, or the first reason why there is none
-pub record IsMade (totals : VoteTotals) (made : Result Distribution SheetFault) : Type 0 where
-  pub sheet : IfOk made (IsSheetOf totals)
-  pub refused : IsAnswer totals made
 
 -- the answer with this sheet, or with why there is none
 abbrev pub answer_with : Bool → Result Distribution SheetFault → Answer
@@ -69,4 +54,5 @@ pub record IsFirstOpen (tally : Tally) (m : ℕ) : Type 0 where
 -- the lowest open municipality is reported; if none is open, the final sheet is given
 abbrev pub MayAnswerFinal : Tally → Answer → Type 0
 MayAnswerFinal tally answer =
-    ((m : ℕ) × IsFirstOpen tally m × (answer ≡ answers.Reply (Refused (refusals.NotClosed m)))) ⊎ (AreClosed tally × MayGive tally true answer)
+    ((m : ℕ) × IsFirstOpen tally m × (answer ≡ answers.Reply (Refused (refusals.Judged (reasons.NotClosed m)))))
+    ⊎ (AreClosed tally × MayGive tally true answer)

@@ -1,9 +1,11 @@
-//! What is answered to a line from the count and the batches of the desks alone.
+//! What a line that was read does to the count on its disk and to the batches of the desks, and what it is answered.
 #![tactic(auto)]
 
 mod answer;
-mod requests;
+mod commands;
+mod outcomes;
 mod sheets;
+mod without_command;
 
-pub use answer::{Answer, refusal_of};
-pub use requests::answer_without_command;
+pub use answer::Answer;
+pub use commands::{answer_to, submit_batch};

@@ -7,7 +7,7 @@ ghost use Rattle.zh_answers.specs.Sheets.{sheet_refusal, MayGiveFor, MayAnswerFi
 use crate::answer::Answer;
 use std::alloc::Global;
 use zh_commands::{Refusal, Reply};
-use zh_returns::Count;
+use zh_returns::{Count, Reason};
 use zh_sheet::{SheetFault, make};
 use zh_totals::Totals;
 
@@ -64,7 +64,9 @@ pub(crate) fn answer_to_final<'s>(
     ensures { MayAnswerFinal count.now result }
 {
     match first_open(count) {
-        Some(municipality) => Answer::Reply(Reply::Refused(Refusal::NotClosed(municipality))),
+        Some(municipality) => Answer::Reply(Reply::Refused(Refusal::Judged(Reason::NotClosed(
+            municipality,
+        )))),
         None => answer_with_sheet(alloc, totals, true),
     }
 }

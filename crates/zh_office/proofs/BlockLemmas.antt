@@ -2,15 +2,14 @@
 use Rattle.std.proofs.Common.{◌≡◌, ℕ, ◌+◌, ◌≤◌, ◌<◌, List, [], ◌∷◌, ◌++◌, map, take, length, refl, sym, ap, ◌∙◌, subst, arith, append_assoc, Option, Some, None, Result, Ok, Err, length-append}
 use Rattle.std.proofs.lemmas.List.{append-nil, take_all}
 use Rattle.std.specs.Io.KnownBytes.{Appends, Consumes}
-use Rattle.zh_ledger.specs.Submissions.{Log, nothing, followed_by}
-use Rattle.zh_office.specs.Office.{command_read}
-use Rattle.zh_office.specs.Runs.{OnDisk, Runs, Turn, logged, text_after}
+use Rattle.zh_ledger.specs.Submissions.{nothing, followed_by}
+use Rattle.zh_office.specs.Runs.{Turn, text_after}
 use Rattle.zh_answers.specs.declared.answer.Answer.{Answer}
 use Rattle.zh_office.specs.Text.{HasNoEnd, unfinished, truncated, ended_lines, last_line}
-use Rattle.zh_office.specs.Served.{BreaksOff, TakesBlock, Writes}
+use Rattle.zh_office.specs.Served.{Session, AnswersAll, BreaksOff, TakesBlock, WritesAnswer}
 use Rattle.zh_commands.specs.declared.output.WriteFault.{WriteFault}
 use Rattle.zh_office.proofs.TextLemmas.{ended_none, ended_first, unfinished_all, unfinished_first, HasNoEnd-append}
-use Rattle.zh_office.proofs.RunLemmas.{Runs-append, Runs-one, Runs-map}
+use Rattle.zh_office.proofs.RunLemmas.{Runs-append, Runs-none, Runs-one}
 
 -- what is appended in two parts
 pub Appends-append : (a b c : Option (List ℕ)) (xs ys : List ℕ) → Appends a b xs → Appends b c ys → Appends a c (xs ++ ys)
@@ -33,31 +32,38 @@ pub Consumes-none : (a : Option (List ℕ)) → Consumes a a []
 Consumes-none None = tt
 Consumes-none (Some a) = refl
 
+-- no line is answered, and nothing written
+pub AnswersAll-none : (now : Session) → AnswersAll [] now now
+AnswersAll-none now = record { out = []; log = nothing; written = Appends-none now.written; run = Runs-none now.office }
+
+-- some lines are answered, and then others
+pub AnswersAll-append : (old now new : Session) (lines more : List (List ℕ)) → AnswersAll lines old now → AnswersAll more now new → AnswersAll (lines ++ more) old new
+AnswersAll-append old now new lines more a b = record {
+  out = a.out ++ b.out;
+  log = followed_by a.log b.log;
+  written = Appends-append old.written now.written new.written a.out b.out a.written b.written;
+  run = Runs-append old.office now.office new.office lines more a.out b.out a.log b.log a.run b.run;
+}
+
+-- a line is answered, and its answer written
+pub AnswersAll-one : (old new : Session) (line : List ℕ) (answer : Answer) → Turn old.office line answer new.office → Appends old.written new.written (text_after line answer new.office) → AnswersAll (line ∷ []) old new
+AnswersAll-one old new line answer turn written =
+    record { out = text_after line answer new.office; log = turn.log; written = written; run = Runs-one old.office new.office line answer turn }
+
 -- of these lines some are answered, and what is left gives the others and what is unfinished after them
-pub record Progress (honest : Type 0) (first writer : Option (List ℕ)) (old now : OnDisk) (all : List (List ℕ)) (end line rest : List ℕ) (count : ℕ) : Type 0 where
+pub record Progress (old now : Session) (all : List (List ℕ)) (end line rest : List ℕ) (count : ℕ) : Type 0 where
   pub answered : List (List ℕ)
-  pub out : List ℕ
-  pub log : Log
-  pub written : Appends first writer out
-  pub run : Runs honest old answered out log now
+  pub answers : AnswersAll answered old now
   pub lines : all ≡ answered ++ ended_lines (line ++ rest)
   pub left : truncated (unfinished (line ++ rest)) ≡ end
   pub counted : count ≡ length answered
   pub clean : HasNoEnd line
 
--- the same under a stronger hypothesis
-pub Progress-map : (P Q : Type 0) → (Q → P) → (first writer : Option (List ℕ)) (old now : OnDisk) (all : List (List ℕ)) (end line rest : List ℕ) (count : ℕ) → Progress P first writer old now all end line rest count → Progress Q first writer old now all end line rest count
-Progress-map P Q weaker first writer old now all end line rest count p =
-    record { answered = p.answered; out = p.out; log = p.log; written = p.written; run = Runs-map P Q weaker old p.answered p.out p.log now p.run; lines = p.lines; left = p.left; counted = p.counted; clean = p.clean }
-
 -- before the first line
-pub Progress-start : (honest : Type 0) (writer : Option (List ℕ)) (old : OnDisk) (line block : List ℕ) → HasNoEnd line → Progress honest writer writer old old (ended_lines (line ++ block)) (truncated (unfinished (line ++ block))) line block 0
-Progress-start honest writer old line block clean = record {
+pub Progress-start : (old : Session) (line block : List ℕ) → HasNoEnd line → Progress old old (ended_lines (line ++ block)) (truncated (unfinished (line ++ block))) line block 0
+Progress-start old line block clean = record {
   answered = [];
-  out = [];
-  log = nothing;
-  written = Appends-none writer;
-  run = (refl, (refl, refl));
+  answers = AnswersAll-none old;
   lines = refl;
   left = refl;
   counted = refl;
@@ -76,19 +82,15 @@ after_line line part others rest clean part_clean rest_is =
     ∙ ap truncated (unfinished_first (line ++ part) others (HasNoEnd-append line part clean part_clean))
 
 -- the next line is answered
-pub Progress-more : (honest : Type 0) (first writer writer' : Option (List ℕ)) (old now new : OnDisk) (all : List (List ℕ)) (end line rest part others : List ℕ) (count : ℕ) (answer : Answer)
-    → Progress honest first writer old now all end line rest count → HasNoEnd part → rest ≡ part ++ 10 ∷ others
-    → Turn honest now (truncated (line ++ part)) answer new → Appends writer writer' (text_after (truncated (line ++ part)) answer new)
-    → Progress honest first writer' old new all end [] others (count + 1)
-Progress-more honest first writer writer' old now new all end line rest part others count answer p part_clean rest_is turn written =
+pub Progress-more : (old now new : Session) (all : List (List ℕ)) (end line rest part others : List ℕ) (count : ℕ) (answer : Answer)
+    → Progress old now all end line rest count → HasNoEnd part → rest ≡ part ++ 10 ∷ others
+    → Turn now.office (truncated (line ++ part)) answer new.office → Appends now.written new.written (text_after (truncated (line ++ part)) answer new.office)
+    → Progress old new all end [] others (count + 1)
+Progress-more old now new all end line rest part others count answer p part_clean rest_is turn written =
     let next = truncated (line ++ part) in
-    let log = logged (command_read now.office turn.reading) answer in
     record {
       answered = p.answered ++ next ∷ [];
-      out = p.out ++ text_after next answer new;
-      log = followed_by p.log log;
-      written = Appends-append first writer writer' p.out (text_after next answer new) p.written written;
-      run = Runs-append honest old now new p.answered (next ∷ []) p.out (text_after next answer new) p.log log p.run (Runs-one honest now new next answer turn);
+      answers = AnswersAll-append old now new p.answered (next ∷ []) p.answers (AnswersAll-one now new next answer turn written);
       lines = p.lines ∙ ap (λ ls. p.answered ++ ls) (next_line line part others rest p.clean part_clean rest_is) ∙ sym (append_assoc p.answered (next ∷ []) (ended_lines others));
       left = sym (after_line line part others rest p.clean part_clean rest_is) ∙ p.left;
       counted = omega (arith, p.counted, length-append p.answered (next ∷ []));
@@ -96,45 +98,45 @@ Progress-more honest first writer writer' old now new all end line rest part oth
     }
 
 -- the answer to the next line is not written whole
-pub Progress-breaks : (honest : Type 0) (first writer writer' : Option (List ℕ)) (old now new : OnDisk) (all : List (List ℕ)) (end line rest part others : List ℕ) (count : ℕ) (answer : Answer) (front : ℕ)
-    → Progress honest first writer old now all end line rest count → HasNoEnd part → rest ≡ part ++ 10 ∷ others
-    → Turn honest now (truncated (line ++ part)) answer new → front < length (text_after (truncated (line ++ part)) answer new) → Appends writer writer' (take front (text_after (truncated (line ++ part)) answer new))
-    → BreaksOff honest all first writer' old new
-Progress-breaks honest first writer writer' old now new all end line rest part others count answer front p part_clean rest_is turn short written =
+pub Progress-breaks : (old now new : Session) (all : List (List ℕ)) (end line rest part others : List ℕ) (count : ℕ) (answer : Answer) (front : ℕ)
+    → Progress old now all end line rest count → HasNoEnd part → rest ≡ part ++ 10 ∷ others
+    → Turn now.office (truncated (line ++ part)) answer new.office → front < length (text_after (truncated (line ++ part)) answer new.office)
+    → Appends now.written new.written (take front (text_after (truncated (line ++ part)) answer new.office)) → BreaksOff all old new
+Progress-breaks old now new all end line rest part others count answer front p part_clean rest_is turn short written =
     let next = truncated (line ++ part) in
     record {
       answered = p.answered;
       last = next;
       others = ended_lines others;
       lines_are = p.lines ∙ ap (λ ls. p.answered ++ ls) (next_line line part others rest p.clean part_clean rest_is);
-      out = p.out;
-      log = p.log;
-      mid = now;
-      run = p.run;
+      out = p.answers.out;
+      log = p.answers.log;
+      mid = now.office;
+      run = p.answers.run;
       answer = answer;
       turn = turn;
       front = front;
       part = short;
-      written = Appends-append first writer writer' p.out (take front (text_after next answer new)) p.written written;
+      written = Appends-append old.written now.written new.written p.answers.out (take front (text_after next answer new.office)) p.answers.written written;
     }
 
 -- the next line was answered by a call that succeeded
-pub Progress-answered : (honest : Type 0) (first writer writer' : Option (List ℕ)) (old now new : OnDisk) (all : List (List ℕ)) (end line rest part others bytes : List ℕ) (count : ℕ) (result : Result (Unit {0}) WriteFault) (done : Unit {0})
-    → Progress honest first writer old now all end line rest count → HasNoEnd part → rest ≡ part ++ 10 ∷ others → bytes ≡ truncated (line ++ part)
-    → Writes honest writer writer' now bytes result new → result ≡ Ok done → Progress honest first writer' old new all end [] others (count + 1)
-Progress-answered honest first writer writer' old now new all end line rest part others bytes count result done p part_clean rest_is bytes_are w ok =
-    let v : Writes honest writer writer' now (truncated (line ++ part)) result new = subst (λ b. Writes honest writer writer' now b result new) bytes_are w in
+pub Progress-answered : (old now new : Session) (all : List (List ℕ)) (end line rest part others bytes : List ℕ) (count : ℕ) (result : Result (Unit {0}) WriteFault) (done : Unit {0})
+    → Progress old now all end line rest count → HasNoEnd part → rest ≡ part ++ 10 ∷ others → bytes ≡ truncated (line ++ part)
+    → WritesAnswer now bytes result new → result ≡ Ok done → Progress old new all end [] others (count + 1)
+Progress-answered old now new all end line rest part others bytes count result done p part_clean rest_is bytes_are w ok =
+    let v : WritesAnswer now (truncated (line ++ part)) result new = subst (λ b. WritesAnswer now b result new) bytes_are w in
     let all_written = rw ok at v.ok in
-    Progress-more honest first writer writer' old now new all end line rest part others count v.answer p part_clean rest_is v.turn all_written
+    Progress-more old now new all end line rest part others count v.answer p part_clean rest_is v.turn all_written
 
 -- the next line was answered by a call that failed
-pub Progress-failed : (honest : Type 0) (first writer writer' : Option (List ℕ)) (old now new : OnDisk) (all : List (List ℕ)) (end line rest part others bytes : List ℕ) (count : ℕ) (result : Result (Unit {0}) WriteFault) (fault : WriteFault)
-    → Progress honest first writer old now all end line rest count → HasNoEnd part → rest ≡ part ++ 10 ∷ others → bytes ≡ truncated (line ++ part)
-    → Writes honest writer writer' now bytes result new → result ≡ Err fault → BreaksOff honest all first writer' old new
-Progress-failed honest first writer writer' old now new all end line rest part others bytes count result fault p part_clean rest_is bytes_are w err =
-    let v : Writes honest writer writer' now (truncated (line ++ part)) result new = subst (λ b. Writes honest writer writer' now b result new) bytes_are w in
+pub Progress-failed : (old now new : Session) (all : List (List ℕ)) (end line rest part others bytes : List ℕ) (count : ℕ) (result : Result (Unit {0}) WriteFault) (fault : WriteFault)
+    → Progress old now all end line rest count → HasNoEnd part → rest ≡ part ++ 10 ∷ others → bytes ≡ truncated (line ++ part)
+    → WritesAnswer now bytes result new → result ≡ Err fault → BreaksOff all old new
+Progress-failed old now new all end line rest part others bytes count result fault p part_clean rest_is bytes_are w err =
+    let v : WritesAnswer now (truncated (line ++ part)) result new = subst (λ b. WritesAnswer now b result new) bytes_are w in
     let front = rw err at v.err in
-    Progress-breaks honest first writer writer' old now new all end line rest part others count v.answer front.0 p part_clean rest_is v.turn front.1 front.2
+    Progress-breaks old now new all end line rest part others count v.answer front.0 p part_clean rest_is v.turn front.1 front.2
 
 -- a last line of bytes that fit
 pub last_line_is : (line : List ℕ) → 0 < length line → length line ≤ 121 → last_line line ≡ line ∷ []
@@ -142,16 +144,15 @@ last_line_is [] some fits = absurd (omega arith)
 last_line_is (byte ∷ line) some fits = ap (λ l. l ∷ []) (take_all 121 (byte ∷ line) fits)
 
 -- there is no last line
-pub last_none : (honest : Type 0) (writer : Option (List ℕ)) (old : OnDisk) (line : List ℕ) → length line ≡ 0
-    → (out : List ℕ) × (log : Log) × Appends writer writer out × Runs honest old (last_line line) out log old × (0 ≡ length (last_line line))
-last_none honest writer old [] none = ([], nothing, Appends-none writer, (refl, (refl, refl)), refl)
-last_none honest writer old (byte ∷ line) none = absurd (omega (arith, none))
+pub last_none : (old : Session) (line : List ℕ) → length line ≡ 0 → (0 ≡ length (last_line line)) × AnswersAll (last_line line) old old
+last_none old [] none = (refl, AnswersAll-none old)
+last_none old (byte ∷ line) none = absurd (omega (arith, none))
 
 -- the last line was answered by a call that failed
-pub last_failed : (honest : Type 0) (writer writer' : Option (List ℕ)) (old new : OnDisk) (line bytes : List ℕ) (result : Result (Unit {0}) WriteFault) (fault : WriteFault)
-    → 0 < length line → length line ≤ 121 → bytes ≡ line → Writes honest writer writer' old bytes result new → result ≡ Err fault → BreaksOff honest (last_line line) writer writer' old new
-last_failed honest writer writer' old new line bytes result fault some fits bytes_are w err =
-    let v : Writes honest writer writer' old line result new = subst (λ b. Writes honest writer writer' old b result new) bytes_are w in
+pub last_failed : (old new : Session) (line bytes : List ℕ) (result : Result (Unit {0}) WriteFault) (fault : WriteFault)
+    → 0 < length line → length line ≤ 121 → bytes ≡ line → WritesAnswer old bytes result new → result ≡ Err fault → BreaksOff (last_line line) old new
+last_failed old new line bytes result fault some fits bytes_are w err =
+    let v : WritesAnswer old line result new = subst (λ b. WritesAnswer old b result new) bytes_are w in
     let front = rw err at v.err in
     record {
       answered = [];
@@ -160,8 +161,8 @@ last_failed honest writer writer' old new line bytes result fault some fits byte
       lines_are = last_line_is line some fits;
       out = [];
       log = nothing;
-      mid = old;
-      run = (refl, (refl, refl));
+      mid = old.office;
+      run = Runs-none old.office;
       answer = v.answer;
       turn = v.turn;
       front = front.0;
@@ -170,33 +171,24 @@ last_failed honest writer writer' old new line bytes result fault some fits byte
     }
 
 -- the last line was answered by a call that succeeded
-pub last_answered : (honest : Type 0) (writer writer' : Option (List ℕ)) (old new : OnDisk) (line bytes : List ℕ) (result : Result (Unit {0}) WriteFault) (done : Unit {0})
-    → 0 < length line → length line ≤ 121 → bytes ≡ line → Writes honest writer writer' old bytes result new → result ≡ Ok done
-    → (out : List ℕ) × (log : Log) × Appends writer writer' out × Runs honest old (last_line line) out log new × (1 ≡ length (last_line line))
-last_answered honest writer writer' old new line bytes result done some fits bytes_are w ok =
-    let v : Writes honest writer writer' old line result new = subst (λ b. Writes honest writer writer' old b result new) bytes_are w in
+pub last_answered : (old new : Session) (line bytes : List ℕ) (result : Result (Unit {0}) WriteFault) (done : Unit {0})
+    → 0 < length line → length line ≤ 121 → bytes ≡ line → WritesAnswer old bytes result new → result ≡ Ok done
+    → (1 ≡ length (last_line line)) × AnswersAll (last_line line) old new
+last_answered old new line bytes result done some fits bytes_are w ok =
+    let v : WritesAnswer old line result new = subst (λ b. WritesAnswer old b result new) bytes_are w in
     let all_written = rw ok at v.ok in
     let one = last_line_is line some fits in
-    let log = logged (command_read old.office v.turn.reading) v.answer in (
-      text_after line v.answer new,
-      log,
-      all_written,
-      subst (λ ls. Runs honest old ls (text_after line v.answer new) log new) (sym one) (Runs-one honest old new line v.answer v.turn),
-      ap length (sym one),
-    )
+    (ap length (sym one), subst (λ ls. AnswersAll ls old new) (sym one) (AnswersAll-one old new line v.answer v.turn all_written))
 
 -- no line ends in what is left
-pub Progress-end : (honest : Type 0) (first writer : Option (List ℕ)) (old now : OnDisk) (line block part rest : List ℕ) (count : ℕ)
-    → Progress honest first writer old now (ended_lines (line ++ block)) (truncated (unfinished (line ++ block))) part rest count → HasNoEnd rest
-    → TakesBlock honest first writer old line block now (truncated (part ++ rest)) count
-Progress-end honest first writer old now line block part rest count p rest_clean =
+pub Progress-end : (old now : Session) (line block part rest : List ℕ) (count : ℕ)
+    → Progress old now (ended_lines (line ++ block)) (truncated (unfinished (line ++ block))) part rest count → HasNoEnd rest
+    → TakesBlock old line block now (truncated (part ++ rest)) count
+Progress-end old now line block part rest count p rest_clean =
     let clean = HasNoEnd-append part rest p.clean rest_clean in
     let all : ended_lines (line ++ block) ≡ p.answered = p.lines ∙ ap (λ ls. p.answered ++ map truncated ls) (ended_none (part ++ rest) clean) ∙ append-nil p.answered in
     record {
-      out = p.out;
-      log = p.log;
-      written = p.written;
-      run = subst (λ ls. Runs honest old ls p.out p.log now) (sym all) p.run;
+      answers = subst (λ ls. AnswersAll ls old now) (sym all) p.answers;
       left = ap truncated (sym (unfinished_all (part ++ rest) clean)) ∙ p.left;
       counted = p.counted ∙ ap length (sym all);
     }

@@ -1,15 +1,11 @@
 -- The answers of an office whose device does not fail, and which has numbers left: none is disturbed.
 use Rattle.std.proofs.Common.{◌≡◌, ℕ, Bool, true, false, refl, sym, ap, ◌∙◌, ⊎_elim, List, length, Option, Some, None, Result, Ok, Err}
-use Rattle.std.specs.Prelude.{nat_lt, if◌then◌else◌}
 use Rattle.zh_districts.specs.Misplaced.{misplaced}
 use Rattle.zh_districts.specs.declared.misplaced.Misplaced.{Misplaced}
-use Rattle.zh_districts.specs.declared.misplaced.Misplaced.TheVariants as places
 use Rattle.zh_records.specs.declared.row.Row.{Row}
-use Rattle.zh_returns.specs.Limits.{most_votes}
 use Rattle.zh_returns.specs.Tally.{Tally, held}
 use Rattle.zh_returns.specs.declared.entry.Entry.{Entry}
 use Rattle.zh_returns.specs.declared.verdict.Reason.{Reason}
-use Rattle.zh_returns.specs.declared.verdict.Reason.TheVariants as reasons
 use Rattle.zh_sheet.specs.Distribution.{Distribution}
 use Rattle.zh_sheet.specs.declared.fault.SheetFault.{SheetFault}
 use Rattle.zh_sheet.specs.declared.fault.SheetFault.TheVariants as sheet_faults
@@ -20,44 +16,36 @@ use Rattle.zh_commands.specs.declared.lines.Request.{Request}
 use Rattle.zh_commands.specs.declared.lines.Request.TheVariants as requests
 use Rattle.zh_commands.specs.declared.replies.Reply.{Reply}
 use Rattle.zh_commands.specs.declared.replies.Reply.TheVariants.{Refused}
-use Rattle.zh_commands.specs.declared.replies.Refusal.TheVariants as refusals
 use Rattle.zh_csv.specs.declared.fault.LoadFault.{LoadFault}
 use Rattle.zh_csv.specs.declared.fault.LoadFault.TheVariants as load_faults
 use Rattle.zh_desks.specs.Batches.{Held, rows_of}
-use Rattle.zh_desks.specs.RowFaults.{fault_in}
+use Rattle.zh_desks.specs.declared.desk.Desk.{Desk}
+use Rattle.zh_desks.specs.RowFaults.{unfit, fault_in}
 use Rattle.zh_desks.specs.declared.fault.RowFault.{RowFault}
-use Rattle.zh_desks.specs.declared.fault.RowFault.TheVariants as row_faults
+use Rattle.zh_ledger.specs.Faults.{fails}
 use Rattle.zh_ledger.specs.declared.outcome.Outcome.{Outcome}
 use Rattle.zh_ledger.specs.declared.outcome.Outcome.TheVariants as outcomes
-use Rattle.zh_answers.specs.Answers.{refusal_of, place_refusal, row_refusal, last_desk, shown, shown_content, unless_misplaced, answer_to_open, answer_to_drop, answer_to_commit, MayHold, MayAdd, MayAnswerRow, MayReplyTo, MayAnswerTo}
+use Rattle.zh_answers.specs.Answers.{shown_desk, shown, shown_content, reply_by_place, answer_to_open, answer_to_drop, answer_to_commit, MayHold, MayAdd, MayAnswerRow, MayReplyTo, MayAnswerTo}
 use Rattle.zh_answers.specs.Sheets.{answer_with, MayGive}
 use Rattle.zh_answers.specs.declared.answer.Answer.{Answer}
 use Rattle.zh_answers.specs.declared.answer.Answer.TheVariants as answers
-use Rattle.zh_requests.specs.Requests.{MayAnswerWhere, reply_to}
+use Rattle.zh_answers.specs.Requests.{MayAnswerWhere, reply_to}
 use Rattle.zh_office.specs.Load.{load_refusal, load_reply}
-use Rattle.zh_office.specs.Office.{State, MayAnswer}
+use Rattle.zh_office.specs.Office.{Office, MayAnswer}
 use Rattle.zh_office.specs.Undisturbed.{is_disturbed, is_memory, RequestTakesMemory, IsUndisturbed}
-use Rattle.zh_office.proofs.SteadyLemmas.{fails, spends}
+use Rattle.zh_office.proofs.SteadyLemmas.{finds_broken, spends}
 
 -- the reply that reports an outcome
-reasons_calm : (reason : Reason) → is_disturbed (answers.Reply (Refused (refusal_of reason))) ≡ false
-reasons_calm reasons.Municipality = refl
-reasons_calm reason = refl
-
-reasons_without_memory : (reason : Reason) → is_memory (answers.Reply (Refused (refusal_of reason))) ≡ false
-reasons_without_memory reasons.Municipality = refl
-reasons_without_memory reason = refl
-
-pub outcome_calm : (outcome : Outcome) → fails outcome ≡ false → spends outcome ≡ false → is_disturbed (answers.Reply (reply_to outcome)) ≡ false
-outcome_calm (outcomes.Stored accepted) calm left = refl
-outcome_calm outcomes.Same calm left = refl
-outcome_calm (outcomes.Refused reason) calm left = reasons_calm reason
-outcome_calm outcomes.Spent calm left = absurd (cc left)
-outcome_calm outcomes.Device calm left = absurd (cc calm)
-outcome_calm outcomes.Broken calm left = absurd (cc calm)
+pub outcome_calm : (outcome : Outcome) → fails outcome ≡ false → finds_broken outcome ≡ false → spends outcome ≡ false → is_disturbed (answers.Reply (reply_to outcome)) ≡ false
+outcome_calm (outcomes.Stored accepted) calm whole left = refl
+outcome_calm outcomes.Same calm whole left = refl
+outcome_calm (outcomes.Refused reason) calm whole left = refl
+outcome_calm outcomes.Spent calm whole left = absurd (cc left)
+outcome_calm outcomes.Device calm whole left = absurd (cc calm)
+outcome_calm outcomes.Broken calm whole left = absurd (cc whole)
 
 pub outcome_without_memory : (outcome : Outcome) → is_memory (answers.Reply (reply_to outcome)) ≡ false
-outcome_without_memory (outcomes.Refused reason) = reasons_without_memory reason
+outcome_without_memory (outcomes.Refused reason) = refl
 outcome_without_memory (outcomes.Stored accepted) = refl
 outcome_without_memory outcome = refl
 
@@ -79,14 +67,6 @@ sheet_calm is_final (Ok sheet) = refl
 sheet_calm is_final (Err sheet_faults.Memory) = refl
 sheet_calm is_final (Err fault) = refl
 
-places_calm : (place : Misplaced) → is_disturbed (answers.Reply (Refused (place_refusal place))) ≡ false
-places_calm places.Municipality = refl
-places_calm places.List = refl
-
-places_without_memory : (place : Misplaced) → is_memory (answers.Reply (Refused (place_refusal place))) ≡ false
-places_without_memory places.Municipality = refl
-places_without_memory places.List = refl
-
 shown_calm : (entry : Option Entry) → is_disturbed (answers.Reply (shown entry)) ≡ false
 shown_calm None = refl
 shown_calm (Some entry) = by entry.votes
@@ -104,27 +84,20 @@ shown_without_memory (Some entry) = by entry.votes
     by (Some votes) = refl
 
 -- a row is refused, held, or without memory
-votes_calm : (b : Bool) (row : Row) (rows : List Row) (reply : Reply) → MayAdd (if b then Some refusals.Votes else None) rows row reply → is_disturbed (answers.Reply reply) ≡ false
-votes_calm true row rows reply is = ap (λ (r : Reply). is_disturbed (answers.Reply r)) is
-votes_calm false row rows reply may = by (fault_in rows row) may
-  where
-    by : (fault : Option RowFault) → MayHold fault (length rows) reply → is_disturbed (answers.Reply reply) ≡ false
-    by None held = ⊎_elim (λ is. ap (λ (r : Reply). is_disturbed (answers.Reply r)) is) (λ is. ap (λ (r : Reply). is_disturbed (answers.Reply r)) is) held
-    by (Some row_faults.NoBatch) is = ap (λ (r : Reply). is_disturbed (answers.Reply r)) is
-    by (Some row_faults.Twice) is = ap (λ (r : Reply). is_disturbed (answers.Reply r)) is
-    by (Some row_faults.BatchFull) is = ap (λ (r : Reply). is_disturbed (answers.Reply r)) is
-    by (Some row_faults.Memory) is = ap (λ (r : Reply). is_disturbed (answers.Reply r)) is
+held_calm : (fault : Option RowFault) (count : ℕ) (reply : Reply) → MayHold fault count reply → is_disturbed (answers.Reply reply) ≡ false
+held_calm None count reply held = ⊎_elim (λ is. ap (λ (r : Reply). is_disturbed (answers.Reply r)) is) (λ is. ap (λ (r : Reply). is_disturbed (answers.Reply r)) is) held
+held_calm (Some fault) count reply is = ap (λ (r : Reply). is_disturbed (answers.Reply r)) is
 
-added_calm : (place : Option Misplaced) (row : Row) (rows : List Row) (reply : Reply) → MayAdd (row_refusal place row) rows row reply → is_disturbed (answers.Reply reply) ≡ false
-added_calm (Some place) row rows reply is = ap (λ (r : Reply). is_disturbed (answers.Reply r)) is ∙ places_calm place
-added_calm None row rows reply may = votes_calm (nat_lt most_votes row.votes) row rows reply may
+added_calm : (reason : Option Reason) (row : Row) (rows : List Row) (reply : Reply) → MayAdd reason rows row reply → is_disturbed (answers.Reply reply) ≡ false
+added_calm (Some reason) row rows reply is = ap (λ (r : Reply). is_disturbed (answers.Reply r)) is
+added_calm None row rows reply may = held_calm (fault_in rows row) (length rows) reply may
 
 row_calm : (tally : Tally) (rows : Option (List Row)) (row : Row) (reply : Reply) → MayAnswerRow tally rows row reply → is_disturbed (answers.Reply reply) ≡ false
 row_calm tally None row reply is = ap (λ (r : Reply). is_disturbed (answers.Reply r)) is
-row_calm tally (Some rows) row reply may = added_calm (misplaced tally.canton row.municipality row.list) row rows reply may
+row_calm tally (Some rows) row reply may = added_calm (unfit tally.canton row) row rows reply may
 
 -- by what the line asks for
-module _ (tally : Tally) (batches : Held) (desk : ℕ) where
+module _ (tally : Tally) (batches : Held) (desk : Desk) where
   abbrev asks : Request → Line
   asks request = record { desk = desk; request = request }
 
@@ -140,14 +113,14 @@ module _ (tally : Tally) (batches : Held) (desk : ℕ) where
   committed None reply is = as_this _ _ _ (ap answers.Reply is) refl refl
   committed (Some rows) reply is = as_this _ _ _ (ap answers.Reply is) refl refl
 
-  showed : (municipality list : ℕ) (place : Option Misplaced) (entry : Option Entry) (reply : Reply) → reply ≡ unless_misplaced place (shown entry) → IsUndisturbed (Ok (asks (requests.Show municipality list))) (answers.Reply reply)
-  showed municipality list (Some place) entry reply is = as_this _ _ _ (ap answers.Reply is) (places_calm place) (places_without_memory place)
+  showed : (municipality list : ℕ) (place : Option Misplaced) (entry : Option Entry) (reply : Reply) → reply ≡ reply_by_place place (shown entry) → IsUndisturbed (Ok (asks (requests.Show municipality list))) (answers.Reply reply)
+  showed municipality list (Some place) entry reply is = as_this _ _ _ (ap answers.Reply is) refl refl
   showed municipality list None entry reply is = as_this _ _ _ (ap answers.Reply is) (shown_calm entry) (shown_without_memory entry)
 
-  last_desk_said : (municipality list : ℕ) (place : Option Misplaced) (entry : Option Entry) (reply : Reply) → reply ≡ unless_misplaced place (last_desk entry) → IsUndisturbed (Ok (asks (requests.Last municipality list))) (answers.Reply reply)
-  last_desk_said municipality list (Some place) entry reply is = as_this _ _ _ (ap answers.Reply is) (places_calm place) (places_without_memory place)
-  last_desk_said municipality list None None reply is = as_this _ _ _ (ap answers.Reply is) refl refl
-  last_desk_said municipality list None (Some entry) reply is = as_this _ _ _ (ap answers.Reply is) refl refl
+  desk_shown : (municipality list : ℕ) (place : Option Misplaced) (entry : Option Entry) (reply : Reply) → reply ≡ reply_by_place place (shown_desk entry) → IsUndisturbed (Ok (asks (requests.Last municipality list))) (answers.Reply reply)
+  desk_shown municipality list (Some place) entry reply is = as_this _ _ _ (ap answers.Reply is) refl refl
+  desk_shown municipality list None None reply is = as_this _ _ _ (ap answers.Reply is) refl refl
+  desk_shown municipality list None (Some entry) reply is = as_this _ _ _ (ap answers.Reply is) refl refl
 
   replied : (request : Request) (reply : Reply) → MayReplyTo tally batches desk request reply → IsUndisturbed (Ok (asks request)) (answers.Reply reply)
   replied requests.Open reply is = opened (rows_of batches desk) reply is
@@ -155,7 +128,7 @@ module _ (tally : Tally) (batches : Held) (desk : ℕ) where
   replied requests.Commit reply is = committed (rows_of batches desk) reply is
   replied requests.Drop reply is = dropped (rows_of batches desk) reply is
   replied (requests.Show municipality list) reply is = showed municipality list (misplaced tally.canton municipality list) (held tally municipality list) reply is
-  replied (requests.Last municipality list) reply is = last_desk_said municipality list (misplaced tally.canton municipality list) (held tally municipality list) reply is
+  replied (requests.Last municipality list) reply is = desk_shown municipality list (misplaced tally.canton municipality list) (held tally municipality list) reply is
   replied request reply may = absurd may
 
   given : (is_final : Bool) (answer : Answer) → MayGive tally is_final answer → is_disturbed answer ≡ false
@@ -178,10 +151,10 @@ read_where : (broken : Bool) (tally : Tally) (batches : Held) (line : Line) (ans
 read_where true tally batches line answer whole may = absurd (cc whole)
 read_where false tally batches line answer whole may = answered tally batches line.desk line.request answer may
 
-pub read_so : (state : State) (reading : Result Line LineFault) (answer : Answer) → state.ledger.store.broken ≡ false → MayAnswer state reading answer → IsUndisturbed reading answer
-read_so state (Err line_faults.Syntax) answer whole is = as_this _ _ _ is refl refl
-read_so state (Err line_faults.Desk) answer whole is = as_this _ _ _ is refl refl
-read_so state (Ok line) answer whole may = read_where state.ledger.store.broken state.ledger.tally state.held line answer whole may
+pub read_so : (office : Office) (reading : Result Line LineFault) (answer : Answer) → office.ledger.store.broken ≡ false → MayAnswer office reading answer → IsUndisturbed reading answer
+read_so office (Err line_faults.Syntax) answer whole is = as_this _ _ _ is refl refl
+read_so office (Err line_faults.Desk) answer whole is = as_this _ _ _ is refl refl
+read_so office (Ok line) answer whole may = read_where office.ledger.store.broken office.ledger.tally office.held line answer whole may
 
 -- the reply to a text that is loaded
 refusals_calm : (fault : LoadFault) → is_disturbed (answers.Reply (Refused (load_refusal fault))) ≡ false

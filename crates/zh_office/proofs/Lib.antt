@@ -2,8 +2,8 @@ pub mod CallerLemmas
 mod BlockLemmas
 mod CalmAnswerLemmas
 mod InputLemmas
-mod LiftingLemmas
 mod LoadLemmas
+mod LoggedLemmas
 mod NightLemmas
 mod OtherDeskLemmas
 mod ReadCountLemmas

@@ -1,10 +1,11 @@
 -- What a line of one desk leaves to the others.
-use Rattle.std.proofs.Common.{◌≡◌, ◌≢◌, ◌≤◌, ◌-◌, ℕ, List, Option, None, Ok, arith, ap, ◌∙◌}
+use Rattle.std.proofs.Common.{◌≡◌, ◌≢◌, ◌-◌, ℕ, List, Option, None, Ok, arith, ap, ◌∙◌}
 use Rattle.std.proofs.lemmas.List.{get_or-set_other}
 use Rattle.zh_commands.proofs.CallerLemmas.{desk_of-read}
 use Rattle.zh_commands.specs.Lines.{ParsesAs, desk_of}
 use Rattle.zh_commands.specs.declared.lines.Line.{Line}
 use Rattle.zh_desks.specs.Batches.{Held, rows_of, with_batch}
+use Rattle.zh_desks.specs.declared.desk.Desk.{Desk}
 use Rattle.zh_records.specs.declared.row.Row.{Row}
 use Rattle.zh_answers.specs.Answers.{batch_after, held_after}
 use Rattle.zh_answers.specs.declared.answer.Answer.{Answer}
@@ -12,14 +13,15 @@ use Rattle.zh_answers.specs.declared.answer.Answer.TheVariants as answers
 
 -- a batch at the desk of a line leaves the batch of each other desk
 others_held : (bytes : List ℕ) (line : Line) (old new : Held) (batch : Option (List Row)) → ParsesAs bytes (Ok line) → new ≡ with_batch old line.desk batch
-    → (desk : ℕ) → 1 ≤ desk → desk ≢ desk_of bytes → rows_of new desk ≡ rows_of old desk
-others_held bytes line old new batch reads is desk from_one other =
-    let own : desk_of bytes ≡ line.desk = desk_of-read bytes line reads in
+    → (desk : Desk) → desk.number ≢ desk_of bytes → rows_of new desk ≡ rows_of old desk
+others_held bytes line old new batch reads is desk other =
+    let own : desk_of bytes ≡ line.desk.number = desk_of-read bytes line reads in
     ap (λ (held : Held). rows_of held desk) is
-    ∙ get_or-set_other old (line.desk - 1) (desk - 1) batch None (λ (same : desk - 1 ≡ line.desk - 1). other (omega (arith, reads.0.0.0)))
+    ∙ get_or-set_other old (line.desk.number - 1) (desk.number - 1) batch None
+    (λ (same : desk.number - 1 ≡ line.desk.number - 1). other (omega (arith, own, line.desk.from_one, desk.from_one)))
 
 -- and so does a line that is answered
 pub others_after : (bytes : List ℕ) (line : Line) (old new : Held) (answer : Answer) → ParsesAs bytes (Ok line) → new ≡ held_after old line answer
-    → (desk : ℕ) → 1 ≤ desk → desk ≢ desk_of bytes → rows_of new desk ≡ rows_of old desk
+    → (desk : Desk) → desk.number ≢ desk_of bytes → rows_of new desk ≡ rows_of old desk
 others_after bytes line old new (answers.Reply reply) reads is = others_held bytes line old new (batch_after (rows_of old line.desk) line.request reply) reads is
-others_after bytes line old new (answers.Sheet sheet is_final) reads is = λ desk from_one other. ap (λ (held : Held). rows_of held desk) is
+others_after bytes line old new (answers.Sheet sheet is_final) reads is = λ desk other. ap (λ (held : Held). rows_of held desk) is

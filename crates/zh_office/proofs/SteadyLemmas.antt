@@ -10,14 +10,15 @@ use Rattle.zh_returns.specs.Judgement.{judge}
 use Rattle.zh_returns.specs.Step.{step, changed, on_verdict}
 use Rattle.zh_returns.specs.declared.verdict.Verdict.{Verdict}
 use Rattle.zh_returns.specs.declared.verdict.Verdict.TheVariants as verdicts
-use Rattle.zh_journal.specs.Cause.{HasRisen}
+use Rattle.zh_disk.specs.History.{HasRisen}
 use Rattle.zh_ledger.specs.Ledger.{Ledger, Becomes, MayFollow, MayResultWhere, MayStoreWhere, has_room, is_one, is_spent, lacks_room, stored}
-use Rattle.zh_ledger.specs.Submissions as ledger
+use Rattle.zh_ledger.specs.Faults.{fails}
+use Rattle.zh_ledger.specs.Submissions.{OnDisk, Submission, Log}
 use Rattle.zh_ledger.specs.declared.outcome.Outcome.{Outcome}
 use Rattle.zh_ledger.specs.declared.outcome.Outcome.TheVariants as outcomes
 use Rattle.zh_ledger.proofs.CallerLemmas.{ready_already, ready_switched}
 use Rattle.zh_answers.specs.declared.answer.Answer.{Answer}
-use Rattle.zh_requests.specs.Requests.{Acts}
+use Rattle.zh_answers.specs.Requests.{Acts}
 
 -- a count of failures that stays below its end has not risen
 pub not_risen : (a b : ℕ) → b ≡ a → b < 2 ^ 64 - 1 → HasRisen a b → ⊥
@@ -74,44 +75,52 @@ stored_steady s c whole = by (has_room s c) refl
         let generation : (stored s c).store.generation ≡ s.store.generation + 1 = ap (λ (l : Ledger). l.store.generation) (ready_switched s c none) in
         record { whole = broken ∙ whole; format = refl; accepted = step_counts s.tally c; generation = omega (arith, generation) }
 
--- the outcomes of a device that failed, now or before
-abbrev pub fails : Outcome → Bool
-fails outcomes.Device = true
-fails outcomes.Broken = true
-fails outcome = false
+-- the outcome of a device that failed before
+abbrev pub finds_broken : Outcome → Bool
+finds_broken outcomes.Broken = true
+finds_broken outcome = false
 
 -- the outcome of numbers that are used up
 abbrev pub spends : Outcome → Bool
 spends outcomes.Spent = true
 spends outcome = false
 
--- a whole ledger whose disk does not fail
-module _ (l : Ledger) (c : Command) (failures failures' : ℕ) (calm : HasRisen failures failures' → ⊥) where
-  stored_fails : (spent : Bool) (outcome : Outcome) → MayStoreWhere spent l.tally.accepted failures failures' outcome → fails outcome ≡ false
-  stored_fails true outcome is = ap fails is
-  stored_fails false outcome is = ⊎_elim (λ both. ap fails both.0) (λ both. absurd (calm both.1)) is
+-- a whole ledger
+module _ (l : Ledger) (c : Command) where
+  stored_whole : (spent : Bool) (outcome : Outcome) → MayStoreWhere spent l.tally.accepted outcome → finds_broken outcome ≡ false
+  stored_whole true outcome is = ap finds_broken is
+  stored_whole false outcome is = ⊎_elim (λ is. ap finds_broken is) (λ is. ap finds_broken is) is
 
-  follows_fails : (verdict : Verdict) (outcome : Outcome) → MayFollow verdict l c failures failures' outcome → fails outcome ≡ false
-  follows_fails verdicts.Accept outcome is = stored_fails (is_spent l c) outcome is
-  follows_fails verdicts.Same outcome is = ap fails is
-  follows_fails (verdicts.Refused reason) outcome is = ap fails is
+  follows_whole : (verdict : Verdict) (outcome : Outcome) → MayFollow verdict l c outcome → finds_broken outcome ≡ false
+  follows_whole verdicts.Accept outcome is = stored_whole (is_spent l c) outcome is
+  follows_whole verdicts.Same outcome is = ap finds_broken is
+  follows_whole (verdicts.Refused reason) outcome is = ap finds_broken is
 
-  pub never_fails : (broken : Bool) (outcome : Outcome) → broken ≡ false → MayResultWhere broken l c failures failures' outcome → fails outcome ≡ false
-  never_fails true outcome whole is = absurd (cc whole)
-  never_fails false outcome whole is = follows_fails (judge l.tally c) outcome is
+  pub never_broken : (broken : Bool) (outcome : Outcome) → broken ≡ false → MayResultWhere broken l c outcome → finds_broken outcome ≡ false
+  never_broken true outcome whole is = absurd (cc whole)
+  never_broken false outcome whole is = follows_whole (judge l.tally c) outcome is
 
-  stored_spends : (spent : Bool) (outcome : Outcome) → spent ≡ false → MayStoreWhere spent l.tally.accepted failures failures' outcome → spends outcome ≡ false
+  stored_spends : (spent : Bool) (outcome : Outcome) → spent ≡ false → MayStoreWhere spent l.tally.accepted outcome → spends outcome ≡ false
   stored_spends true outcome left is = absurd (cc left)
-  stored_spends false outcome left is = ⊎_elim (λ both. ap spends both.0) (λ both. ap spends both.0) is
+  stored_spends false outcome left is = ⊎_elim (λ is. ap spends is) (λ is. ap spends is) is
 
-  follows_spends : (verdict : Verdict) (outcome : Outcome) → is_spent l c ≡ false → MayFollow verdict l c failures failures' outcome → spends outcome ≡ false
+  follows_spends : (verdict : Verdict) (outcome : Outcome) → is_spent l c ≡ false → MayFollow verdict l c outcome → spends outcome ≡ false
   follows_spends verdicts.Accept outcome left is = stored_spends (is_spent l c) outcome left is
   follows_spends verdicts.Same outcome left is = ap spends is
   follows_spends (verdicts.Refused reason) outcome left is = ap spends is
 
-  pub never_spends : (broken : Bool) (outcome : Outcome) → is_spent l c ≡ false → MayResultWhere broken l c failures failures' outcome → spends outcome ≡ false
+  pub never_spends : (broken : Bool) (outcome : Outcome) → is_spent l c ≡ false → MayResultWhere broken l c outcome → spends outcome ≡ false
   never_spends true outcome left is = ap spends is
   never_spends false outcome left is = follows_spends (judge l.tally c) outcome left is
+
+-- a disk that does not fail
+pub never_fails : (old : OnDisk Ledger) (c : Command) (outcome : Outcome) (new : OnDisk Ledger) → Submission old c outcome new
+    → (HasRisen old.history.failures new.history.failures → ⊥) → fails outcome ≡ false
+never_fails old c outcome new by calm = at (fails outcome) (λ is. calm (by.call.counts.rose is))
+  where
+    at : (b : Bool) → (b ≡ true → ⊥) → b ≡ false
+    at true never = absurd (never refl)
+    at false never = refl
 
 -- numbers below their end
 unspent : (a g n : ℕ) (room : Bool) → a < n → g < n → ((a == n) || (not room && (g == n))) ≡ false
@@ -128,11 +137,14 @@ becomes_steady old new c (outcomes.Stored accepted) calm after whole = subst (St
 becomes_steady old new c outcomes.Device calm after whole = absurd (cc calm)
 becomes_steady old new c outcome calm after whole = stays old new whole after
 
-pub acts_steady : (honest : Type 0) (old : ledger.OnDisk) (command : Option Command) (May : Answer → Type 0) (answer : Answer) (new : ledger.OnDisk) → Acts honest old command May answer new → old.ledger.store.broken ≡ false → (HasRisen old.failures new.failures → ⊥) → Steady old.ledger new.ledger
-acts_steady honest old None May answer new acts whole calm = stays old.ledger new.ledger whole (ap (λ (o : ledger.OnDisk). o.ledger) acts.1)
-acts_steady honest old (Some command) May answer new (outcome, by, is) whole calm =
-    becomes_steady old.ledger new.ledger command outcome (never_fails old.ledger command old.failures new.failures calm old.ledger.store.broken outcome whole by.results) by.after whole
+pub acts_steady : (old : OnDisk Ledger) (command : Option Command) (May : Answer → Type 0) (answer : Answer) (log : Log) (new : OnDisk Ledger)
+    → Acts old command May answer log new → old.holder.store.broken ≡ false → (HasRisen old.history.failures new.history.failures → ⊥) → Steady old.holder new.holder
+acts_steady old None May answer log new acts whole calm = stays old.holder new.holder whole (ap (λ (o : OnDisk Ledger). o.holder) acts.2)
+acts_steady old (Some command) May answer log new (by, logs) whole calm =
+    becomes_steady old.holder new.holder command by.outcome (never_fails old command by.outcome new by.submission calm) by.submission.after whole
 
-pub acts_later : (honest : Type 0) (old : ledger.OnDisk) (command : Option Command) (May : Answer → Type 0) (answer : Answer) (new : ledger.OnDisk) → Acts honest old command May answer new → old.failures ≤ new.failures
-acts_later honest old None May answer new acts = let same : new.failures ≡ old.failures = ap (λ (o : ledger.OnDisk). o.failures) acts.1 in omega arith
-acts_later honest old (Some command) May answer new (outcome, by, is) = by.later
+pub acts_later : (old : OnDisk Ledger) (command : Option Command) (May : Answer → Type 0) (answer : Answer) (log : Log) (new : OnDisk Ledger)
+    → Acts old command May answer log new → old.history.failures ≤ new.history.failures
+acts_later old None May answer log new acts =
+    let same : new.history.failures ≡ old.history.failures = ap (λ (o : OnDisk Ledger). o.history.failures) acts.2 in omega arith
+acts_later old (Some command) May answer log new (by, logs) = by.submission.call.counts.later

@@ -1,14 +1,14 @@
--- The code of what an office holds, by which a proof tells states apart.
+-- The code of what an office holds, by which a proof tells offices apart.
 use Rattle.std.specs.Prelude.{refl}
 use Rattle.std.specs.Coded.{Coded, code_by, coded×, coded_list, coded_option}
 use Rattle.zh_records.specs.contracts.row.Row as row
 use Rattle.zh_desks.specs.Batches as desks
 use Rattle.zh_ledger.specs.Code.{ledger_code}
 use Rattle.zh_ledger.specs.Ledger.{Ledger}
-use Rattle.zh_office.specs.Office.{State}
+use Rattle.zh_office.specs.Office.{Office}
 
--- a state is stored as its fields, in a pair
-abbrev pub state_code : Coded State
-state_code =
+-- an office is stored as its fields, in a pair
+abbrev pub office_code : Coded Office
+office_code =
     code_by (Ledger × desks.Held) (coded× ledger_code (coded_list (coded_option (coded_list row.the_row.coded))))
-    (λ s. (s.ledger, s.held)) (λ p. record { ledger = p.0; held = p.1 }) (λ _. refl)
+    (λ o. (o.ledger, o.held)) (λ p. record { ledger = p.0; held = p.1 }) (λ _. refl)

@@ -2,9 +2,9 @@
 use Rattle.std.specs.Prelude.{Result, Ok, Err}
 use Rattle.zh_ledger.specs.Ledger.{Ledger}
 use Rattle.zh_ledger.specs.declared.fault.OpenFault.{OpenFault}
-use Rattle.zh_office.specs.Office.{State}
+use Rattle.zh_office.specs.Office.{Office}
 
 -- the same of its ledger alone
-abbrev pub ledger_of_opened : Result State OpenFault → Result Ledger OpenFault
+abbrev pub ledger_of_opened : Result Office OpenFault → Result Ledger OpenFault
 ledger_of_opened (Ok office) = Ok office.ledger
 ledger_of_opened (Err fault) = Err fault

@@ -1,48 +1,28 @@
 -- A run of an office over lines.
-use Rattle.std.specs.Prelude.{◌≡◌, ℕ, List, [], ◌∷◌, ◌++◌, Option, Some, Result}
-use Rattle.zh_disk.specs.Disk.{Trail}
-use Rattle.zh_records.specs.declared.command.Command.{Command}
+use Rattle.std.specs.Prelude.{◌≡◌, ℕ, List, [], ◌∷◌, ◌++◌, Result}
 use Rattle.zh_commands.specs.Lines.{ParsesAs, desk_of}
 use Rattle.zh_commands.specs.Replies.{reply_text}
 use Rattle.zh_commands.specs.declared.lines.Line.{Line}
 use Rattle.zh_commands.specs.declared.lines.LineFault.{LineFault}
-use Rattle.zh_commands.specs.declared.replies.Reply.TheVariants.{Stored, Refused}
-use Rattle.zh_commands.specs.declared.replies.Refusal.TheVariants as refusals
-use Rattle.zh_ledger.specs.Submissions as ledger
-use Rattle.zh_ledger.specs.Submissions.{Submission, Log, nothing, followed_by}
+use Rattle.zh_ledger.specs.Ledger.{Ledger}
+use Rattle.zh_ledger.specs.Submissions.{OnDisk, of_ledger, Log, nothing, followed_by}
 use Rattle.zh_sheet_text.specs.SheetText.{sheet_text}
-use Rattle.zh_requests.specs.Requests.{Acts}
-use Rattle.zh_office.specs.Office.{State, MayAnswer, command_read, batches_after}
+use Rattle.zh_answers.specs.Requests.{Acts}
 use Rattle.zh_answers.specs.declared.answer.Answer.{Answer}
 use Rattle.zh_answers.specs.declared.answer.Answer.TheVariants as answers
+use Rattle.zh_office.specs.Office.{Office, MayAnswer, command_read, batches_after}
 
--- an office and its disk: what the office holds, how often the disk has failed, what it holds and has held
-pub record OnDisk : Type 0 where
-  pub office : State
-  pub failures : ℕ
-  pub trail : Trail
+-- the ledger of an office, on the same disk
+abbrev pub its_ledger : OnDisk Office → OnDisk Ledger
+its_ledger = of_ledger (λ o. o.ledger)
 
-abbrev pub on_disk : State → ℕ → Trail → OnDisk
-on_disk office failures trail = record { office = office; failures = failures; trail = trail }
-
--- the same of its ledger alone
-abbrev pub ledger_of : OnDisk → ledger.OnDisk
-ledger_of o = ledger.on_disk o.office.ledger o.failures o.trail
-
--- the office may answer these bytes of a line so, and then it and its disk hold this; of the trail of a disk that is not
--- honest nothing is said
-pub record Turn (honest : Type 0) (old : OnDisk) (bytes : List ℕ) (answer : Answer) (new : OnDisk) : Type 0 where
+-- the office may answer these bytes of a line so, and then it and its disk hold this
+pub record Turn (old : OnDisk Office) (bytes : List ℕ) (answer : Answer) (new : OnDisk Office) : Type 0 where
   pub reading : Result Line LineFault
   pub reads : ParsesAs bytes reading
-  pub acts : Acts honest (ledger_of old) (command_read old.office reading) (MayAnswer old.office reading) answer (ledger_of new)
-  pub held : new.office.held ≡ batches_after old.office.held reading answer
-
--- what a line adds that gave this command, or none, and was answered so: `stored` acknowledges the command, and after
--- `device` the disk may hold it or not
-abbrev pub logged : Option Command → Answer → Log
-logged (Some command) (answers.Reply (Stored accepted)) = record { accepted = command ∷ []; acknowledged = 1 }
-logged (Some command) (answers.Reply (Refused refusals.Device)) = record { accepted = command ∷ []; acknowledged = 0 }
-logged command answer = nothing
+  pub log : Log
+  pub acts : Acts (its_ledger old) (command_read old.holder reading) (MayAnswer old.holder reading) answer log (its_ledger new)
+  pub held : new.holder.held ≡ batches_after old.holder.held reading answer
 
 -- the text of an answer under a desk, where so many commands are accepted
 abbrev pub answer_text : ℕ → ℕ → Answer → List ℕ
@@ -50,13 +30,28 @@ answer_text desk accepted (answers.Reply reply) = reply_text desk reply
 answer_text desk accepted (answers.Sheet sheet is_final) = sheet_text sheet desk is_final accepted
 
 -- the text of the answer to a line by an office that holds this after it
-abbrev pub text_after : List ℕ → Answer → OnDisk → List ℕ
-text_after line answer new = answer_text (desk_of line) new.office.ledger.tally.accepted answer
+abbrev pub text_after : List ℕ → Answer → OnDisk Office → List ℕ
+text_after line answer new = answer_text (desk_of line) new.holder.ledger.tally.accepted answer
+
+-- no line is left to be answered
+pub record IsIdle (old : OnDisk Office) (out : List ℕ) (log : Log) (new : OnDisk Office) : Type 0 where
+  pub wrote : out ≡ []
+  pub logs : log ≡ nothing
+  pub same : new ≡ old
+
+-- a line takes its turn, and what follows goes on from there
+pub record GoesOnWith (old : OnDisk Office) (line : List ℕ) (out : List ℕ) (log : Log)
+    (Follows : OnDisk Office → List ℕ → Log → Type 0) : Type 0 where
+  pub answer : Answer
+  pub mid : OnDisk Office
+  pub turn : Turn old line answer mid
+  pub rest : List ℕ
+  pub others : Log
+  pub follows : Follows mid rest others
+  pub wrote : out ≡ text_after line answer mid ++ rest
+  pub logs : log ≡ followed_by turn.log others
 
 -- line after line is answered under its desk, and these are all the bytes of the answers, and what they log
-abbrev pub Runs : Type 0 → OnDisk → List (List ℕ) → List ℕ → Log → OnDisk → Type 0
-Runs honest old [] out log new = (out ≡ []) × ((log ≡ nothing) × (new ≡ old))
-Runs honest old (line ∷ lines) out log new =
-    (answer : Answer) × (mid : OnDisk) × (rest : List ℕ) × (others : Log) × (turn : Turn honest old line answer mid)
-    × (out ≡ text_after line answer mid ++ rest) × (log ≡ followed_by (logged (command_read old.office turn.reading) answer) others)
-    × Runs honest mid lines rest others new
+abbrev pub Runs : OnDisk Office → List (List ℕ) → List ℕ → Log → OnDisk Office → Type 0
+Runs old [] out log new = IsIdle old out log new
+Runs old (line ∷ lines) out log new = GoesOnWith old line out log (λ mid rest others. Runs mid lines rest others new)

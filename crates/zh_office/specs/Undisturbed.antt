@@ -7,10 +7,11 @@ use Rattle.zh_commands.specs.declared.lines.Request.TheVariants as requests
 use Rattle.zh_commands.specs.declared.replies.Reply.TheVariants.{Refused}
 use Rattle.zh_commands.specs.declared.replies.Refusal.TheVariants as refusals
 use Rattle.zh_records.specs.declared.format.Format.TheVariants.{Two}
-use Rattle.zh_ledger.specs.Submissions.{Log}
+use Rattle.zh_ledger.specs.Submissions.{OnDisk, Log}
 use Rattle.zh_answers.specs.declared.answer.Answer.{Answer}
 use Rattle.zh_answers.specs.declared.answer.Answer.TheVariants as answers
-use Rattle.zh_office.specs.Runs.{OnDisk, Runs}
+use Rattle.zh_office.specs.Office.{Office}
+use Rattle.zh_office.specs.Runs.{Runs}
 
 -- the replies that come of the device, now or before, or of numbers that are used up
 abbrev pub is_disturbed : Answer → Bool
@@ -42,15 +43,17 @@ pub record IsUndisturbed (reading : Result Line LineFault) (answer : Answer) : T
 
 -- The office had met no fault of the device and has a slot of format Two, and no call of its disk failed since; in the end
 -- a number is left for the failures, for a command and for a switch.
-pub record MeetsNoFault (old new : OnDisk) : Type 0 where
-  pub whole : old.office.ledger.store.broken ≡ false
-  pub format : old.office.ledger.format ≡ Two
-  pub failures : new.failures ≡ old.failures
-  pub counted : new.failures < 2 ^ 64 - 1
-  pub accepted : new.office.ledger.tally.accepted < 2 ^ 64 - 1
-  pub generation : new.office.ledger.store.generation < 2 ^ 64 - 1
+pub record MeetsNoFault (old new : OnDisk Office) : Type 0 where
+  pub whole : old.holder.ledger.store.broken ≡ false
+  pub format : old.holder.ledger.format ≡ Two
+  pub failures : new.history.failures ≡ old.history.failures
+  pub counted : new.history.failures < 2 ^ 64 - 1
+  pub accepted : new.holder.ledger.tally.accepted < 2 ^ 64 - 1
+  pub generation : new.holder.ledger.store.generation < 2 ^ 64 - 1
 
 -- each line of a run is answered so
-abbrev pub AreUndisturbed : (honest : Type 0) (old : OnDisk) (lines : List (List ℕ)) (out : List ℕ) (log : Log) (new : OnDisk) → Runs honest old lines out log new → Type 0
-AreUndisturbed honest old [] out log new run = Unit {0}
-AreUndisturbed honest old (line ∷ lines) out log new run = IsUndisturbed run.4.reading run.0 × AreUndisturbed honest run.1 lines run.2 run.3 new run.7
+abbrev pub AreUndisturbed : (old : OnDisk Office) (lines : List (List ℕ)) (out : List ℕ) (log : Log) (new : OnDisk Office)
+    → Runs old lines out log new → Type 0
+AreUndisturbed old [] out log new run = Unit {0}
+AreUndisturbed old (line ∷ lines) out log new run =
+    IsUndisturbed run.turn.reading run.answer × AreUndisturbed run.mid lines run.rest run.others new run.follows

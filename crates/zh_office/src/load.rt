@@ -2,19 +2,19 @@
 
 ghost use Rattle.std.specs.Prelude.{◌≡◌, ℕ, true, false, Bool, List, Option, Ok};
 ghost use Rattle.zh_csv.specs.Load.{LoadsFrom};
-ghost use Rattle.zh_csv.specs.Noted.{has_failed, inside};
+ghost use Rattle.zh_csv.specs.Noted.{has_failed, inner_reader};
 ghost use Rattle.zh_office.specs.Load.{LoadTurn, load_refusal};
-ghost use Rattle.zh_requests.specs.Requests.{UnlessStored};
-ghost use Rattle.zh_office.specs.Runs.{on_disk};
+ghost use Rattle.zh_ledger.specs.Submissions.{on_disk};
+ghost use Rattle.zh_answers.specs.Requests.{answer_may_write};
 ghost use Rattle.zh_answers.specs.declared.answer.Answer.TheVariants as answers;
 
 use crate::office::Office;
 use std::io::Read;
+use zh_answers::submit_batch;
 use zh_commands::{Refusal, Reply};
 use zh_csv::{LoadFault, NotedReader, read_batch};
 use zh_desks::Batch;
 use zh_disk::Disk;
-use zh_requests::submit_batch;
 
 /// The desk of what no desk sent.
 const NO_DESK: u8 = 0;
@@ -26,11 +26,8 @@ fn load_refusal(fault: LoadFault) -> Refusal
     match fault {
         LoadFault::Csv | LoadFault::Read => Refusal::Csv,
         LoadFault::Syntax => Refusal::Syntax,
-        LoadFault::Municipality => Refusal::Municipality,
-        LoadFault::List => Refusal::List,
-        LoadFault::Votes => Refusal::Votes,
-        LoadFault::Twice => Refusal::Twice,
-        LoadFault::BatchFull => Refusal::BatchFull,
+        LoadFault::Judged(reason) => Refusal::Judged(reason),
+        LoadFault::Row(fault) => Refusal::Row(fault),
         LoadFault::Memory => Refusal::Memory,
     }
 }
@@ -41,12 +38,12 @@ impl<'s> Office<'s> {
     /// The text is read record by record, and no further than up to the record that decides, but for what the crate `csv`
     /// reads ahead. After a fault of the device nothing is read.
     pub fn load<R: Read, D: Disk>(&mut self, disk: &mut D, reader: &mut NotedReader<R>) -> Reply
-        ensures kept { D.honest disk.new → D.honest disk.old }
-
         // While the disk is honest the turn also says what each image holds at each moment since the call began.
-        ensures turn { LoadTurn (D.honest disk.new) (on_disk self.old (D.failures disk.old) (D.trail disk.old)) (R.remaining (inside reader.old)) (has_failed reader.new) result (on_disk self.new (D.failures disk.new) (D.trail disk.new)) }
+        ensures turn { LoadTurn (on_disk self.old (D.history disk.old))
+            (R.remaining (inner_reader reader.old)) (has_failed reader.new) result
+            (on_disk self.new (D.history disk.new)) }
 
-        ensures untouched { UnlessStored (answers.Reply result) disk.old disk.new }
+        ensures untouched { answer_may_write (answers.Reply result) ≡ false → disk.new ≡ disk.old }
         ensures unread { self.old.ledger.store.broken ≡ true → reader.new ≡ reader.old }
     {
         if self.faulted() {
@@ -61,10 +58,9 @@ impl<'s> Office<'s> {
     /// Stores the rows of a text, if it has any.
     fn store<D: Disk>(&mut self, disk: &mut D, batch: &Batch) -> Reply
         requires whole { self.old.ledger.store.broken ≡ false }
-        ensures kept { D.honest disk.new → D.honest disk.old }
         ensures turn { (text : Option (List ℕ)) (failed : Bool) → LoadsFrom self.old.ledger.tally.canton text failed (Ok batch.now)
-            → LoadTurn (D.honest disk.new) (on_disk self.old (D.failures disk.old) (D.trail disk.old)) text failed result (on_disk self.new (D.failures disk.new) (D.trail disk.new)) }
-        ensures untouched { UnlessStored (answers.Reply result) disk.old disk.new }
+            → LoadTurn (on_disk self.old (D.history disk.old)) text failed result (on_disk self.new (D.history disk.new)) }
+        ensures untouched { answer_may_write (answers.Reply result) ≡ false → disk.new ≡ disk.old }
     {
         if batch.len() == 0 {
             return Reply::Same;

@@ -1,19 +1,20 @@
 //! The office.
 
-ghost use Rattle.std.specs.Prelude.{◌≡◌, ◌≢◌, ◌≤◌, ℕ};
+ghost use Rattle.std.specs.Prelude.{◌≡◌, ◌≢◌, false};
 ghost use Rattle.zh_commands.specs.Lines.{desk_of};
 ghost use Rattle.zh_desks.specs.Batches.{rows_of};
-ghost use Rattle.zh_requests.specs.Requests.{UnlessStored};
-ghost use Rattle.zh_office.specs.Runs.{Turn, on_disk};
+ghost use Rattle.zh_desks.specs.declared.desk.Desk.{Desk};
+ghost use Rattle.zh_ledger.specs.Submissions.{on_disk};
+ghost use Rattle.zh_answers.specs.Requests.{answer_may_write};
+ghost use Rattle.zh_office.specs.Runs.{Turn};
 
 use std::alloc::Global;
 use std::marker::Model;
-use zh_answers::Answer;
+use zh_answers::{Answer, answer_to};
 use zh_commands::{LineFault, Refusal, Reply, parse_line};
 use zh_desks::Desks;
 use zh_disk::Disk;
 use zh_ledger::Ledger;
-use zh_requests::answer_to;
 use zh_returns::Count;
 
 /// The count of an election, kept on a disk, and the desks that change it.
@@ -31,13 +32,13 @@ pub struct Office<'s> {
 
 impl<'s> Model for Office<'s> {
     ghost use Rattle.std.specs.Prelude.{◌≡◌, length};
-    ghost use Rattle.zh_office.specs.Office.{State};
+    ghost use Rattle.zh_office.specs.Office as office;
 
-    ghost Value = { State };
+    ghost Value = { office.Office };
 
-    ghost use Rattle.zh_office.specs.Code.{state_code};
+    ghost use Rattle.zh_office.specs.Code.{office_code};
 
-    ghost coded = { state_code };
+    ghost coded = { office_code };
 
     ghost view = { λ office. record { ledger = office.ledger; held = office.desks } };
 
@@ -64,13 +65,11 @@ impl<'s> Office<'s> {
     /// An accepted command is on the disk before it is answered `stored`. After `device` the disk may hold it or not,
     /// and the count is without it.
     pub fn line<D: Disk>(&mut self, disk: &mut D, bytes: &[u8]) -> Answer<'s>
-        ensures kept { D.honest disk.new → D.honest disk.old }
-
         // While the disk is honest the turn also says what each image holds at each moment since the call began.
-        ensures turn { Turn (D.honest disk.new) (on_disk self.old (D.failures disk.old) (D.trail disk.old)) bytes.now result (on_disk self.new (D.failures disk.new) (D.trail disk.new)) }
+        ensures turn { Turn (on_disk self.old (D.history disk.old)) bytes.now result (on_disk self.new (D.history disk.new)) }
 
-        ensures others { (desk : ℕ) → 1 ≤ desk → desk ≢ desk_of bytes.now → rows_of self.new.held desk ≡ rows_of self.old.held desk }
-        ensures untouched { UnlessStored result disk.old disk.new }
+        ensures others { (desk : Desk) → desk.number ≢ desk_of bytes.now → rows_of self.new.held desk ≡ rows_of self.old.held desk }
+        ensures untouched { answer_may_write result ≡ false → disk.new ≡ disk.old }
     {
         match parse_line(bytes) {
             Err(LineFault::Syntax) => Answer::Reply(Reply::Refused(Refusal::Syntax)),

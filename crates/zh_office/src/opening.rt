@@ -2,7 +2,9 @@
 
 ghost use Rattle.std.specs.Prelude.{◌≡◌, length, IfOk, IsErrOf};
 ghost use Rattle.zh_desks.specs.Batches.{no_batches};
-ghost use Rattle.zh_ledger.specs.Opening.{Formatting, Opening, disk_state};
+ghost use Rattle.zh_disk.specs.History.{Call};
+ghost use Rattle.zh_ledger.specs.Opening.{MakesNew, Opening};
+ghost use Rattle.zh_snapshot.specs.Faults.{store_format_fails};
 ghost use Rattle.zh_office.specs.Opened.{ledger_of_opened};
 
 use crate::office::Office;
@@ -25,8 +27,7 @@ fn row_bytes(alloc: Global) -> Result<Vec<u8>, AllocError>
 impl<'s> Office<'s> {
     /// Makes a disk one on which nothing has been returned yet, whatever stands there, as `Ledger::format` does.
     pub fn format<D: Disk>(alloc: Global, setup: &Setup, disk: &mut D) -> Result<(), FormatFault>
-        ensures kept { D.honest disk.new → D.honest disk.old }
-        ensures formatting { Formatting (D.honest disk.new) setup.now (disk_state (D.failures disk.old) (D.trail disk.old)) (disk_state (D.failures disk.new) (D.trail disk.new)) result }
+        ensures call { Call store_format_fails (MakesNew setup.now) (D.history disk.old) (D.history disk.new) result }
         ensures untouched { IsErrOf result FormatFault.Memory → disk.new ≡ disk.old }
     {
         Ledger::format(alloc, setup, disk)
@@ -39,10 +40,8 @@ impl<'s> Office<'s> {
         setup: &'s Setup,
         disk: &mut D,
     ) -> Result<Office<'s>, OpenFault>
-        ensures kept { D.honest disk.new → D.honest disk.old }
-
         // While the disk is honest this also says what each image is at each moment since the call began.
-        ensures opening { Opening (D.honest disk.new) setup.now (disk_state (D.failures disk.old) (D.trail disk.old)) (disk_state (D.failures disk.new) (D.trail disk.new)) (ledger_of_opened result) }
+        ensures opening { Opening setup.now (D.history disk.old) (D.history disk.new) (ledger_of_opened result) }
 
         // No desk has a batch yet.
         ensures held { IfOk result (λ office. office.held ≡ no_batches) }

@@ -1,11 +1,9 @@
 //! Serving the lines of a reader.
 
-ghost use Rattle.std.specs.Prelude.{◌≡◌, ◌++◌, ℕ, List, length, MatchResult, IfOk, IsErrOf, OnOk};
-ghost use Rattle.std.specs.Io.KnownBytes.{Appends};
+ghost use Rattle.std.specs.Prelude.{◌≡◌, ◌++◌, length, MatchResult, IfOk, IsErrOf, OnOk};
 ghost use Rattle.zh_office.specs.Text.{HasNoEnd, ended_lines, last_line};
-ghost use Rattle.zh_ledger.specs.Submissions.{Log};
-ghost use Rattle.zh_office.specs.Runs.{Runs, on_disk};
-ghost use Rattle.zh_office.specs.Served.{TakesBlock, BreaksOff, ServesAll, ServesEnded, ServesFront, TakesFewerReads, TakesReads, TakesReadsUpTo, Writes};
+ghost use Rattle.zh_office.specs.Served.{session, WritesAnswer, AnswersAll, BreaksOff, TakesBlock};
+ghost use Rattle.zh_office.specs.Served.{ServesAll, ServesEnded, ServesFront, TakesFewerReads, TakesReads, TakesReadsUpTo};
 
 use crate::office::Office;
 use crate::partial_line::{PartialLine, extend_line, split_line};
@@ -51,8 +49,8 @@ impl<'s> Office<'s> {
         writer: &mut W,
         disk: &mut D,
     ) -> Result<(), WriteFault>
-        ensures kept { D.honest disk.new → D.honest disk.old }
-        ensures written { Writes (D.honest disk.new) (W.contents writer.old) (W.contents writer.new) (on_disk self.old (D.failures disk.old) (D.trail disk.old)) bytes.now result (on_disk self.new (D.failures disk.new) (D.trail disk.new)) }
+        ensures { WritesAnswer (session (W.contents writer.old) self.old (D.history disk.old)) bytes.now result
+            (session (W.contents writer.new) self.new (D.history disk.new)) }
     {
         let desk = desk_of(bytes);
         match self.line(disk, bytes) {
@@ -76,10 +74,11 @@ impl<'s> Office<'s> {
         disk: &mut D,
     ) -> Result<usize, WriteFault>
         requires { HasNoEnd line.old.items }
-        ensures kept { D.honest disk.new → D.honest disk.old }
-        ensures taken { MatchResult result
-            (λ count. TakesBlock (D.honest disk.new) (W.contents writer.old) (W.contents writer.new) (on_disk self.old (D.failures disk.old) (D.trail disk.old)) line.old.items block.now (on_disk self.new (D.failures disk.new) (D.trail disk.new)) line.new.items count)
-            (λ _. BreaksOff (D.honest disk.new) (ended_lines (line.old.items ++ block.now)) (W.contents writer.old) (W.contents writer.new) (on_disk self.old (D.failures disk.old) (D.trail disk.old)) (on_disk self.new (D.failures disk.new) (D.trail disk.new))) }
+        ensures { MatchResult result
+            (TakesBlock (session (W.contents writer.old) self.old (D.history disk.old)) line.old.items block.now
+            (session (W.contents writer.new) self.new (D.history disk.new)) line.new.items)
+            (λ _. BreaksOff (ended_lines (line.old.items ++ block.now)) (session (W.contents writer.old) self.old (D.history disk.old))
+            (session (W.contents writer.new) self.new (D.history disk.new))) }
     {
         let mut rest = block;
         let mut count = 0;
@@ -101,11 +100,12 @@ impl<'s> Office<'s> {
         writer: &mut W,
         disk: &mut D,
     ) -> Result<u64, WriteFault>
-        ensures kept { D.honest disk.new → D.honest disk.old }
-        ensures finished { MatchResult result
-            (λ count. (out : List ℕ) × (log : Log) × Appends (W.contents writer.old) (W.contents writer.new) out
-            × Runs (D.honest disk.new) (on_disk self.old (D.failures disk.old) (D.trail disk.old)) (last_line line.now.items) out log (on_disk self.new (D.failures disk.new) (D.trail disk.new)) × (count ≡ length (last_line line.now.items)))
-            (λ _. BreaksOff (D.honest disk.new) (last_line line.now.items) (W.contents writer.old) (W.contents writer.new) (on_disk self.old (D.failures disk.old) (D.trail disk.old)) (on_disk self.new (D.failures disk.new) (D.trail disk.new))) }
+        ensures { MatchResult result
+            (λ count. (count ≡ length (last_line line.now.items)) × AnswersAll (last_line line.now.items)
+            (session (W.contents writer.old) self.old (D.history disk.old))
+            (session (W.contents writer.new) self.new (D.history disk.new)))
+            (λ _. BreaksOff (last_line line.now.items) (session (W.contents writer.old) self.old (D.history disk.old))
+            (session (W.contents writer.new) self.new (D.history disk.new))) }
     {
         if line.is_empty() {
             return Ok(0);
@@ -127,15 +127,18 @@ impl<'s> Office<'s> {
         disk: &mut D,
         turns: u64,
     ) -> Result<u64, ServeFault>
-        ensures kept { D.honest disk.new → D.honest disk.old }
-        ensures ok { IfOk result (λ count. ServesAll (D.honest disk.new) (R.remaining reader.old) (R.remaining reader.new)
-            (W.contents writer.old) (W.contents writer.new) (on_disk self.old (D.failures disk.old) (D.trail disk.old)) (on_disk self.new (D.failures disk.new) (D.trail disk.new)) count) }
-        ensures read { IsErrOf result ServeFault.Read → ServesEnded (D.honest disk.new) (R.remaining reader.old) (R.remaining reader.new)
-            (W.contents writer.old) (W.contents writer.new) (on_disk self.old (D.failures disk.old) (D.trail disk.old)) (on_disk self.new (D.failures disk.new) (D.trail disk.new)) }
-        ensures write { IsErrOf result ServeFault.Write → ServesFront (D.honest disk.new) (R.remaining reader.old) (R.remaining reader.new)
-            (W.contents writer.old) (W.contents writer.new) (on_disk self.old (D.failures disk.old) (D.trail disk.old)) (on_disk self.new (D.failures disk.new) (D.trail disk.new)) }
-        ensures turns { IsErrOf result ServeFault.Turns → ServesEnded (D.honest disk.new) (R.remaining reader.old) (R.remaining reader.new)
-            (W.contents writer.old) (W.contents writer.new) (on_disk self.old (D.failures disk.old) (D.trail disk.old)) (on_disk self.new (D.failures disk.new) (D.trail disk.new)) }
+        ensures ok { IfOk result (ServesAll (R.remaining reader.old) (R.remaining reader.new)
+            (session (W.contents writer.old) self.old (D.history disk.old))
+            (session (W.contents writer.new) self.new (D.history disk.new))) }
+        ensures read { IsErrOf result ServeFault.Read → ServesEnded (R.remaining reader.old) (R.remaining reader.new)
+            (session (W.contents writer.old) self.old (D.history disk.old))
+            (session (W.contents writer.new) self.new (D.history disk.new)) }
+        ensures write { IsErrOf result ServeFault.Write → ServesFront (R.remaining reader.old) (R.remaining reader.new)
+            (session (W.contents writer.old) self.old (D.history disk.old))
+            (session (W.contents writer.new) self.new (D.history disk.new)) }
+        ensures turns { IsErrOf result ServeFault.Turns → ServesEnded (R.remaining reader.old) (R.remaining reader.new)
+            (session (W.contents writer.old) self.old (D.history disk.old))
+            (session (W.contents writer.new) self.new (D.history disk.new)) }
         // Each read but the last took a byte at least. So as many bytes as turns were there, where the turns are used up.
         ensures enough { IsErrOf result ServeFault.Turns → TakesReads (R.remaining reader.old) (R.remaining reader.new) turns }
         ensures most { OnOk result (TakesFewerReads (R.remaining reader.old) (R.remaining reader.new) turns) }

@@ -1,35 +1,41 @@
 use Rattle.std.proofs.Common.{◌+◌, arith}
+use Rattle.zh_office.specs.Served.{session}
 use Rattle.zh_office.proofs.BlockLemmas.{Consumes-none}
-use Rattle.zh_office.proofs.InputLemmas.{Serving-map, Serving-start, Serving-clean, Serving-more, Serving-breaks, Serving-last_breaks, Serving-stops, Serving-ends, Consumes-kept}
+use Rattle.zh_office.proofs.InputLemmas.{Serving-start, Serving-clean, Serving-more, Serving-breaks, Serving-last_breaks, Serving-stops, Serving-ends, Consumes-kept}
 use Rattle.zh_office.proofs.ReadCountLemmas.{TakesReads-start, TakesReads-more, TakesReads-same, TakesReads-stops}
 use Rattle.zh_office.proofs.office.Office.serve.Goals as goal
 
 pub loop-init : goal.loop-init
-loop-init g c = record { kept = λ h. h; serving = Serving-start _ _ _ _ _ c.new-line.ensures; reads = TakesReads-start _ }
+loop-init g c = record {
+  serving = Serving-start _ (session (g.W.Write.contents c.args.writer.now) c.args.self.now (g.D.Disk.history c.args.disk.now)) _ c.new-line.ensures;
+  reads = TakesReads-start _;
+}
 
 pub returns-in_default-clause-read : goal.returns-in_default-clause-read
-returns-in_default-clause-read g c = λ _. Serving-stops _ _ _ _ _ _ _ _ _ _ c.loop.invariant.serving (Consumes-kept _ _ c.in_default.ensures.bytes)
+returns-in_default-clause-read g c = λ _. Serving-stops _ _ _ _ _ _ _ c.loop.invariant.serving (Consumes-kept _ _ c.in_default.ensures.bytes)
 
 pub returns-in_err-last-clause-write : goal.returns-in_err-last-clause-write
 returns-in_err-last-clause-write g c =
-    λ _. Serving-last_breaks _ _ _ _ _ _ _ _ _ _ _ _ (Serving-map _ _ c.finish.ensures.kept _ _ _ _ _ _ _ _ c.loop.invariant.serving) (rw c.if-len-eq0.true at c.in-Ok.ensures.bytes.0) (c.in-Ok.ensures.bytes.1 c.if-len-eq0.true (omega (arith, c.read.auto.buf))) (rw c.in_err-last.was at c.finish.ensures.finished)
+    λ _. Serving-last_breaks _ _ _ _ _ _ _ _ c.loop.invariant.serving (rw c.if-len-eq0.true at c.in-Ok.ensures.bytes.0) (c.in-Ok.ensures.bytes.1 c.if-len-eq0.true (omega (arith, c.read.auto.buf))) (rw c.in_err-last.was at c.finish.ensures)
 
 pub returns-then-len-eq0-clause-ok : goal.returns-then-len-eq0-clause-ok
 returns-then-len-eq0-clause-ok g c =
-    let last = rw c.in_ok-last.was at c.finish.ensures.finished in
-    Serving-ends _ _ _ _ _ _ _ _ _ _ _ _ _ _ _ _ (Serving-map _ _ c.finish.ensures.kept _ _ _ _ _ _ _ _ c.loop.invariant.serving) (rw c.if-len-eq0.true at c.in-Ok.ensures.bytes.0) (c.in-Ok.ensures.bytes.1 c.if-len-eq0.true (omega (arith, c.read.auto.buf))) last.2 last.3 last.4 c.saturating_add.ensures
+    Serving-ends _ _ _ _ _ _ _ _ _ _ c.loop.invariant.serving (rw c.if-len-eq0.true at c.in-Ok.ensures.bytes.0) (c.in-Ok.ensures.bytes.1 c.if-len-eq0.true (omega (arith, c.read.auto.buf))) (rw c.in_ok-last.was at c.finish.ensures) c.saturating_add.ensures
 
 pub take_block-requires : goal.take_block-requires
-take_block-requires g c = Serving-clean _ _ _ _ _ _ _ _ _ c.loop.invariant.serving
+take_block-requires g c = Serving-clean _ _ _ _ _ _ c.loop.invariant.serving
 
 pub returns-in_err-lines-clause-write : goal.returns-in_err-lines-clause-write
-returns-in_err-lines-clause-write g c = λ _. Serving-breaks _ _ _ _ _ _ _ _ _ _ _ _ _ (Serving-map _ _ c.take_block.ensures.kept _ _ _ _ _ _ _ _ c.loop.invariant.serving) c.in-Ok.ensures.bytes.0 (rw c.in_err-lines.was at c.take_block.ensures.taken)
+returns-in_err-lines-clause-write g c = λ _. Serving-breaks _ _ _ _ _ _ _ _ _ c.loop.invariant.serving c.in-Ok.ensures.bytes.0 (rw c.in_err-lines.was at c.take_block.ensures)
 
 pub loop-preserved : goal.loop-preserved
-loop-preserved g c = record { kept = λ h. c.loop.invariant.kept (c.take_block.ensures.kept h); serving = Serving-more _ _ _ _ _ _ _ _ _ _ _ _ _ _ _ _ (Serving-map _ _ c.take_block.ensures.kept _ _ _ _ _ _ _ _ c.loop.invariant.serving) c.in-Ok.ensures.bytes.0 (rw c.in_ok-lines.was at c.take_block.ensures.taken) c.saturating_add-count.ensures; reads = TakesReads-more _ _ _ _ _ _ c.loop.invariant.reads c.in-Ok.ensures.bytes.0 (omega arith) c.in-Ok.ensures.bound.0 (omega (arith, c.read.auto.buf)) }
+loop-preserved g c = record {
+  serving = Serving-more _ _ _ _ _ _ _ _ _ _ _ _ c.loop.invariant.serving c.in-Ok.ensures.bytes.0 (rw c.in_ok-lines.was at c.take_block.ensures) c.saturating_add-count.ensures;
+  reads = TakesReads-more _ _ _ _ _ _ c.loop.invariant.reads c.in-Ok.ensures.bytes.0 (omega arith) c.in-Ok.ensures.bound.0 (omega (arith, c.read.auto.buf));
+}
 
 pub returns-clause-turns : goal.returns-clause-turns
-returns-clause-turns g c = λ _. Serving-stops _ _ _ _ _ _ _ _ _ _ c.loop.invariant.serving (Consumes-none _)
+returns-clause-turns g c = λ _. Serving-stops _ _ _ _ _ _ _ c.loop.invariant.serving (Consumes-none _)
 
 pub returns-clause-ok : goal.returns-clause-ok
 returns-clause-ok g c = tt

@@ -1,5 +1,4 @@
-use Rattle.zh_office.specs.Runs.{on_disk}
-use Rattle.zh_office.specs.Served.{TakesReads}
+use Rattle.zh_office.specs.Served.{session, TakesReads}
 use Rattle.zh_office.proofs.InputLemmas.{Serving}
 use Rattle.zh_office.proofs.office.Office.serve.Given as goal
 
@@ -7,10 +6,8 @@ abbrev pub invariant-loop : goal.invariant-loop
 invariant-loop g l =
     let remaining = g.R.Read.remaining in
     let contents = g.W.Write.contents in
-    let failures = g.D.Disk.failures in
-    let trail = g.D.Disk.trail in
+    let history = g.D.Disk.history in
     record {
-      kept : g.D.Disk.honest l.disk → g.D.Disk.honest l.fn.disk;
-      serving : Serving (g.D.Disk.honest l.disk) (remaining l.fn.reader) (remaining l.reader) (contents l.fn.writer) (contents l.writer) (on_disk l.fn.self (failures l.fn.disk) (trail l.fn.disk)) (on_disk l.self (failures l.disk) (trail l.disk)) l.line.items l.count;
+      serving : Serving (remaining l.fn.reader) (remaining l.reader) (session (contents l.fn.writer) l.fn.self (history l.fn.disk)) (session (contents l.writer) l.self (history l.disk)) l.line.items l.count;
       reads : TakesReads (remaining l.fn.reader) (remaining l.reader) l.counter;
     }

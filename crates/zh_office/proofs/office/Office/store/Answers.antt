@@ -4,19 +4,16 @@ use Rattle.zh_office.proofs.LoadLemmas.{empty_turn, submitted_turn}
 use Rattle.zh_office.proofs.office.Office.store.Goals as goal
 
 pub returns-then-len-eq0-clause-turn : goal.returns-then-len-eq0-clause-turn
-returns-then-len-eq0-clause-turn g c = λ text failed loads. empty_turn _ _ text failed c.args.batch.now c.requires.whole (search rules) loads
+returns-then-len-eq0-clause-turn g c = λ text failed loads. empty_turn _ text failed c.args.batch.now c.requires.whole (search rules) loads
 
 pub returns-clause-turn : goal.returns-clause-turn
 returns-clause-turn g c = λ text failed loads.
     let whole = rw (← c.self.view_is) at c.requires.whole in
     let read = rw (← c.self.view_is) at loads in
-    rw (← c.self.view_is) (submitted_turn _ _ _ text failed _ _ whole (search rules) refl read c.submit_batch.ensures.reported)
+    rw (← c.self.view_is) (submitted_turn _ _ text failed _ _ whole (search rules) refl read c.submit_batch.ensures.reported)
 
 pub returns-clause-untouched : goal.returns-clause-untouched
 returns-clause-untouched g c = c.submit_batch.ensures.untouched
-
-pub returns-clause-kept : goal.returns-clause-kept
-returns-clause-kept g c = c.submit_batch.ensures.kept
 
 pub submit_batch-requires-clause-room : goal.submit_batch-requires-clause-room
 submit_batch-requires-clause-room g c = omega (arith, c.deref_mut.ensures.len, c.self.inside.rows.ok.0, c.self.invariant)
