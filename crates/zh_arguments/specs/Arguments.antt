@@ -63,9 +63,9 @@ Names (Some given) (Load paths csv) = (given.0 ≡ codes "load") × ArePaths giv
 Names (Some given) (Export paths) = (given.0 ≡ codes "export") × ArePaths given.1 paths
 
 -- clap takes the arguments, and they ask for this task
-abbrev pub Asks : List Text → Task → Type 0
-Asks arguments task = (refusals arguments ≡ []) × Names (command_in arguments) task
+abbrev pub AsksFor : List Text → Task → Type 0
+AsksFor arguments task = (refusals arguments ≡ []) × Names (command_in arguments) task
 
 -- the task for which clap takes the arguments; an error is refused memory, or what clap refuses them for
 abbrev pub ReadsArguments : List Text → Result Task Error → Type 0
-ReadsArguments arguments result = MatchResult result (Asks arguments) (HasKind (refusals arguments))
+ReadsArguments arguments result = MatchResult result (AsksFor arguments) (HasKind (refusals arguments))

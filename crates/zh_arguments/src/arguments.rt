@@ -3,7 +3,8 @@
 ghost use Rattle.std.specs.Prelude.{◌≡◌, IfOk, codes, false, map, option_map};
 ghost use Rattle.std.specs.String.{string_bytes};
 ghost use Rattle.clap.specs.Words.{App, app_of, found_of, rows_of, rule_of, with_subcommand};
-ghost use Rattle.zh_arguments.specs.Arguments.{ArePaths, IsCommand, Names, ReadsArguments, bare, command_for, load_command, path_in, path_rule, zhcount};
+ghost use Rattle.zh_arguments.specs.Arguments.{ArePaths, IsCommand, Names, ReadsArguments, bare, command_for};
+ghost use Rattle.zh_arguments.specs.Arguments.{load_command, path_in, path_rule, zhcount};
 
 use clap::{Arg, ArgMatches, Command, Error};
 use std::alloc::{AllocError, Global};

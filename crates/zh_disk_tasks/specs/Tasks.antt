@@ -1,5 +1,5 @@
 -- What a task on a disk leaves of the streams and of the disk.
-use Rattle.std.specs.Prelude.{◌≡◌, ◌≤◌, ◌+◌, ◌⊎◌, ℕ, Bool, true, false, List, length, Option, Result, Ok, Err}
+use Rattle.std.specs.Prelude.{◌≡◌, ◌≤◌, ◌+◌, ◌⊎◌, ℕ, Bool, true, false, List, [], length, Option, Result, Ok, Err, IsTrue, IsErrOf, OnOk}
 use Rattle.zh_districts.specs.Canton.{Canton}
 use Rattle.zh_districts.specs.Spelling.{setup_spelling}
 use Rattle.zh_records.specs.declared.format.Format.TheVariants.{Two}
@@ -7,63 +7,75 @@ use Rattle.zh_returns.specs.Tally.{Tally, empty}
 use Rattle.zh_returns.specs.Payload.{payload_spelling}
 use Rattle.zh_desks.specs.Batches.{no_batches}
 use Rattle.zh_disk.specs.Disk.{Trail, IsImage, Leaves}
+use Rattle.zh_disk.specs.History.{History}
 use Rattle.zh_snapshot.specs.Image.{Content, IsBlank, IsClean}
 use Rattle.zh_snapshot.specs.Store.{Settles}
 use Rattle.zh_snapshot.specs.Format.{Formats}
-use Rattle.zh_ledger.specs.Opening.{Opening, Opens, disk_state}
+use Rattle.zh_ledger.specs.Opened.{IsNew}
+use Rattle.zh_ledger.specs.Opening.{Opening}
 use Rattle.zh_ledger.specs.Images.{HasSome}
 use Rattle.zh_ledger.specs.Stands.{IsKept}
-use Rattle.zh_ledger.specs.Submissions.{Log}
+use Rattle.zh_ledger.specs.Submissions.{Log, OnDisk}
 use Rattle.zh_ledger.specs.declared.fault.OpenFault.{OpenFault}
 use Rattle.zh_ledger.specs.declared.fault.OpenFault.TheVariants as opening
-use Rattle.zh_office.specs.Runs.{OnDisk}
-use Rattle.zh_office.specs.Served.{ServesAll, ServesEnded, ServesFront, TakesFewerReads, TakesReads, TakesReadsUpTo}
+use Rattle.zh_office.specs.Office.{Office}
+use Rattle.zh_office.specs.Served.{Session, ServesAll, ServesEnded, ServesFront, TakesFewerReads, TakesReads, TakesReadsUpTo}
 use Rattle.zh_office.specs.declared.service.ServeFault.TheVariants as serving
+use Rattle.zh_disk_tasks.specs.declared.fault.FormatFault.{FormatFault}
+use Rattle.zh_disk_tasks.specs.declared.fault.FormatFault.TheVariants as formatting
 use Rattle.zh_disk_tasks.specs.declared.fault.RunFault.{RunFault}
 use Rattle.zh_disk_tasks.specs.declared.fault.RunFault.TheVariants as runs
 
--- the office that stood on the disk of this trail, once it is opened there; before that the disk had failed so often
-pub record IsStart (honest : Type 0) (canton : Canton) (failures : ℕ) (trail : Trail) (start : OnDisk) : Type 0 where
-  pub opening : Opening honest canton (disk_state failures trail) (disk_state start.failures start.trail) (Ok start.office.ledger)
-  pub held : start.office.held ≡ no_batches
+-- the office that stood on the disk of this history, once it is opened there
+pub record IsStart (canton : Canton) (first : History) (start : OnDisk Office) : Type 0 where
+  pub opening : Opening canton first start.history (Ok start.holder.ledger)
+  pub held : start.holder.held ≡ no_batches
   -- where those bytes were clean, as a formatting and each run leave them, it knows each image of its disk
-  pub kept : honest → (x : Content) (j : ℕ) → IsClean x j trail.now.bytes → (c : List ℕ) → IsImage start.trail.now c → IsKept start.office.ledger c
+  pub kept : IsTrue start.history.honest → (x : Content) (j : ℕ) → IsClean x j first.trail.now.bytes
+      → (c : List ℕ) → IsImage start.history.trail.now c → IsKept start.holder.ledger c
 
--- it began there, and at the end its disk has failed so often and has this trail
-abbrev pub IsFrom : Type 0 → Canton → ℕ → Trail → ℕ → Trail → OnDisk → OnDisk → Type 0
-IsFrom honest canton failures first failures' last start end = IsStart honest canton failures first start × (end.trail ≡ last) × (end.failures ≡ failures')
+-- it began there, and at the end its disk has this history, which is honest only if it was so at the start
+pub record IsFrom (canton : Canton) (first last : History) (start end : OnDisk Office) : Type 0 where
+  pub begun : IsStart canton first start
+  pub ended : end.history ≡ last
+  pub honest : IsTrue last.honest → IsTrue start.history.honest
+
+-- an office, and what is written of its answers, if that is known
+abbrev pub beside : Option (List ℕ) → OnDisk Office → Session
+beside written office = record { written = written; office = office }
 
 -- all lines of the input were answered by an office that began so, and the device failed under it or not
-pub record Served (honest : Type 0) (reader reader' writer writer' : Option (List ℕ)) (Spans : OnDisk → OnDisk → Type 0) (faulted : Bool) : Type 0 where
-  pub start : OnDisk
-  pub end : OnDisk
+pub record Served (reader reader' writer writer' : Option (List ℕ)) (Spans : OnDisk Office → OnDisk Office → Type 0) (faulted : Bool) : Type 0 where
+  pub start : OnDisk Office
+  pub end : OnDisk Office
   pub count : ℕ
   pub spans : Spans start end
-  pub all : ServesAll honest reader reader' writer writer' start end count
-  pub device : end.office.ledger.store.broken ≡ faulted
+  pub all : ServesAll reader reader' (beside writer start) (beside writer' end) count
+  pub device : end.holder.ledger.store.broken ≡ faulted
 
 -- the input was not read to its end, and the lines that were ended are answered
-pub record ServedEnded (honest : Type 0) (reader reader' writer writer' : Option (List ℕ)) (Spans : OnDisk → OnDisk → Type 0) : Type 0 where
-  pub start : OnDisk
-  pub end : OnDisk
+pub record ServedEnded (reader reader' writer writer' : Option (List ℕ)) (Spans : OnDisk Office → OnDisk Office → Type 0) : Type 0 where
+  pub start : OnDisk Office
+  pub end : OnDisk Office
   pub spans : Spans start end
-  pub ended : ServesEnded honest reader reader' writer writer' start end
+  pub ended : ServesEnded reader reader' (beside writer start) (beside writer' end)
 
 -- the writer failed, and a front of the answers is written
-pub record ServedFront (honest : Type 0) (reader reader' writer writer' : Option (List ℕ)) (Spans : OnDisk → OnDisk → Type 0) : Type 0 where
-  pub start : OnDisk
-  pub end : OnDisk
+pub record ServedFront (reader reader' writer writer' : Option (List ℕ)) (Spans : OnDisk Office → OnDisk Office → Type 0) : Type 0 where
+  pub start : OnDisk Office
+  pub end : OnDisk Office
   pub spans : Spans start end
-  pub front : ServesFront honest reader reader' writer writer' start end
+  pub front : ServesFront reader reader' (beside writer start) (beside writer' end)
 
 -- What serving with this result has done. Where no office was opened nothing is served.
-abbrev pub Serves : Type 0 → (OpenFault → Type 0) → Option (List ℕ) → Option (List ℕ) → Option (List ℕ) → Option (List ℕ) → (OnDisk → OnDisk → Type 0) → Result (Unit {0}) RunFault → Type 0
-Serves honest Refused reader reader' writer writer' Spans (Ok done) = Served honest reader reader' writer writer' Spans false
-Serves honest Refused reader reader' writer writer' Spans (Err runs.Faulted) = Served honest reader reader' writer writer' Spans true
-Serves honest Refused reader reader' writer writer' Spans (Err (runs.Serve serving.Read)) = ServedEnded honest reader reader' writer writer' Spans
-Serves honest Refused reader reader' writer writer' Spans (Err (runs.Serve serving.Turns)) = ServedEnded honest reader reader' writer writer' Spans
-Serves honest Refused reader reader' writer writer' Spans (Err (runs.Serve serving.Write)) = ServedFront honest reader reader' writer writer' Spans
-Serves honest Refused reader reader' writer writer' Spans (Err (runs.Open fault)) = Refused fault
+abbrev pub Serves : (OpenFault → Type 0) → Option (List ℕ) → Option (List ℕ) → Option (List ℕ) → Option (List ℕ)
+    → (OnDisk Office → OnDisk Office → Type 0) → Result (Unit {0}) RunFault → Type 0
+Serves Refused reader reader' writer writer' Spans (Ok done) = Served reader reader' writer writer' Spans false
+Serves Refused reader reader' writer writer' Spans (Err runs.Faulted) = Served reader reader' writer writer' Spans true
+Serves Refused reader reader' writer writer' Spans (Err (runs.Serve serving.Read)) = ServedEnded reader reader' writer writer' Spans
+Serves Refused reader reader' writer writer' Spans (Err (runs.Serve serving.Turns)) = ServedEnded reader reader' writer writer' Spans
+Serves Refused reader reader' writer writer' Spans (Err (runs.Serve serving.Write)) = ServedFront reader reader' writer writer' Spans
+Serves Refused reader reader' writer writer' Spans (Err (runs.Open fault)) = Refused fault
 
 -- What commands with this log leave of a disk that was opened, from its one trail to the other: at each moment each image
 -- stands for this count with the first of those accepted, in order; in the end with all that were acknowledged, which are
@@ -89,11 +101,22 @@ IsOfDevice runs.Faulted = Unit {0}
 IsOfDevice fault = ⊥
 
 -- no office was opened on this disk
-abbrev pub IsRefused : Canton → Trail → Trail → OpenFault → Type 0
-IsRefused canton first last fault = Opens canton first last (Err fault)
+abbrev pub IsRefused : Canton → History → History → OpenFault → Type 0
+IsRefused canton first last fault = Opening canton first last (Err fault)
+
+-- a formatting reports one
+abbrev pub format_fails : Result (Unit {0}) FormatFault → Bool
+format_fails (Ok done) = false
+format_fails (Err formatting.Memory) = false
+format_fails (Err formatting.Device) = true
+format_fails (Err formatting.InUse) = false
 
 -- What a formatting leaves of a disk, moment by moment: it is opened, and formatted only where it is blank.
-pub record FormatsBlank (canton : Canton) (old new : Trail) : Type 0 where
+pub record FormatsBlank (canton : Canton) (result : Result (Unit {0}) FormatFault) (old new : Trail) : Type 0 where
   pub opened : Trail
   pub opening : Leaves (Settles old.now.bytes) old opened
   pub after : (new ≡ opened) ⊎ (IsBlank old.now.bytes × Formats (setup_spelling canton) (payload_spelling Two (empty canton)) opened new)
+  pub blank : OnOk result (IsBlank old.now.bytes)
+  pub formatted : OnOk result ((c : List ℕ) → IsImage new.now c → IsNew canton c)
+  pub settled : OnOk result (new.now.pending ≡ [])
+  pub in_use : IsErrOf result formatting.InUse → IsBlank old.now.bytes → ⊥

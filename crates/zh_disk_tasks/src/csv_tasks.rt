@@ -1,9 +1,10 @@
 //! Loading a CSV file into the office on a disk, and writing what it holds as CSV.
 
-ghost use Rattle.std.specs.Prelude.{◌≡◌, ◌≤◌, IfErr, OnErr, OnOk};
+ghost use Rattle.std.specs.Prelude.{◌≡◌, ◌≤◌, IsTrue, IfErr, OnErr, OnOk};
 ghost use Rattle.std.specs.Io.KnownBytes.{Appends};
-ghost use Rattle.zh_journal.specs.Cause.{HasRisen};
-ghost use Rattle.zh_office.specs.Runs.{OnDisk, on_disk};
+ghost use Rattle.zh_disk.specs.History.{HasRisen};
+ghost use Rattle.zh_ledger.specs.Submissions.{OnDisk, on_disk};
+ghost use Rattle.zh_office.specs.Office as offices;
 ghost use Rattle.zh_disk_tasks.specs.Csv.{Exports, IsExportOfDevice, IsLoadOfDevice, IsThis, IsUnreadable, Loads, WritesFront, printed};
 ghost use Rattle.zh_disk_tasks.specs.Tasks.{IsFrom, IsRefused};
 
@@ -49,8 +50,9 @@ fn load_text<R: Read + Drop, O: Write, D: Disk>(
     text: R,
     out: &mut O,
 ) -> Result<(), LoadFault>
-    ensures kept { D.honest disk.new → D.honest disk.old }
-    ensures loaded { Loads (D.honest disk.new) (λ fault. ⊥) (out.new ≡ out.old) (O.contents out.old) (O.contents out.new) (IsThis (on_disk office.old (D.failures disk.old) (D.trail disk.old)) (D.failures disk.new) (D.trail disk.new)) result }
+    ensures kept { IsTrue (D.history disk.new).honest → IsTrue (D.history disk.old).honest }
+    ensures loaded { Loads (λ fault. ⊥) (out.new ≡ out.old) (O.contents out.old) (O.contents out.new)
+        (IsThis (on_disk office.old (D.history disk.old)) (D.history disk.new)) result }
 {
     let mut reader = NotedReader::new(text);
     let reply = office.load(disk, &mut reader);
@@ -73,10 +75,11 @@ pub fn load_on<O: Write, D: Disk>(
     csv: &str,
     out: &mut O,
 ) -> Result<(), LoadFault>
-    ensures kept { D.honest disk.new → D.honest disk.old }
-    ensures loaded { Loads (D.honest disk.new) (λ fault. (out.new ≡ out.old) × (D.honest disk.new → IsRefused setup.now (D.trail disk.old) (D.trail disk.new) fault)) (out.new ≡ out.old) (O.contents out.old) (O.contents out.new) (IsFrom (D.honest disk.new) setup.now (D.failures disk.old) (D.trail disk.old) (D.failures disk.new) (D.trail disk.new)) result }
-    ensures later { D.failures disk.old ≤ D.failures disk.new }
-    ensures cause { IfErr result (λ fault. IsLoadOfDevice fault → HasRisen (D.failures disk.old) (D.failures disk.new)) }
+    ensures kept { IsTrue (D.history disk.new).honest → IsTrue (D.history disk.old).honest }
+    ensures loaded { Loads (λ fault. (out.new ≡ out.old) × IsRefused setup.now (D.history disk.old) (D.history disk.new) fault)
+        (out.new ≡ out.old) (O.contents out.old) (O.contents out.new) (IsFrom setup.now (D.history disk.old) (D.history disk.new)) result }
+    ensures later { (D.history disk.old).failures ≤ (D.history disk.new).failures }
+    ensures cause { IfErr result (λ fault. IsLoadOfDevice fault → HasRisen (D.history disk.old).failures (D.history disk.new).failures) }
 {
     let mut office = Office::open(alloc, setup, disk)?;
     let text = file_at(rt, alloc, csv)?;
@@ -85,7 +88,8 @@ pub fn load_on<O: Write, D: Disk>(
 
 /// Writes what an office holds.
 fn write_held<O: Write>(alloc: Global, office: &Office<'_>, out: &mut O) -> Result<(), ExportFault>
-    ensures { (start : OnDisk) → start.office ≡ office.now → Exports (λ fault. ⊥) (out.new ≡ out.old) (O.contents out.old) (O.contents out.new) (λ first last. (first ≡ start) × (last ≡ start)) result }
+    ensures { (start : OnDisk offices.Office) → start.holder ≡ office.now → Exports (λ fault. ⊥) (out.new ≡ out.old)
+        (O.contents out.old) (O.contents out.new) (λ first last. (first ≡ start) × (last ≡ start)) result }
 {
     let text = office.export(Vec::new(alloc))?;
     put(out, &text)?;
@@ -99,10 +103,11 @@ pub fn export_from<O: Write, D: Disk>(
     disk: &mut D,
     out: &mut O,
 ) -> Result<(), ExportFault>
-    ensures kept { D.honest disk.new → D.honest disk.old }
-    ensures written { Exports (λ fault. (out.new ≡ out.old) × (D.honest disk.new → IsRefused setup.now (D.trail disk.old) (D.trail disk.new) fault)) (out.new ≡ out.old) (O.contents out.old) (O.contents out.new) (IsFrom (D.honest disk.new) setup.now (D.failures disk.old) (D.trail disk.old) (D.failures disk.new) (D.trail disk.new)) result }
-    ensures later { D.failures disk.old ≤ D.failures disk.new }
-    ensures cause { IfErr result (λ fault. IsExportOfDevice fault → HasRisen (D.failures disk.old) (D.failures disk.new)) }
+    ensures kept { IsTrue (D.history disk.new).honest → IsTrue (D.history disk.old).honest }
+    ensures written { Exports (λ fault. (out.new ≡ out.old) × IsRefused setup.now (D.history disk.old) (D.history disk.new) fault)
+        (out.new ≡ out.old) (O.contents out.old) (O.contents out.new) (IsFrom setup.now (D.history disk.old) (D.history disk.new)) result }
+    ensures later { (D.history disk.old).failures ≤ (D.history disk.new).failures }
+    ensures cause { IfErr result (λ fault. IsExportOfDevice fault → HasRisen (D.history disk.old).failures (D.history disk.new).failures) }
 {
     let office = Office::open(alloc, setup, disk)?;
     write_held(alloc, &office, out)

@@ -1,12 +1,13 @@
 //! Laws of the tasks on a disk.
 
-ghost use Rattle.std.specs.Prelude.{ℕ};
+ghost use Rattle.std.specs.Prelude.{IsTrue};
 ghost use Rattle.zh_districts.specs.Canton.{Canton, IsCanton};
-ghost use Rattle.zh_disk.specs.Disk.{Trail};
+ghost use Rattle.zh_disk.specs.History.{History};
 ghost use Rattle.zh_returns.specs.Tally.{Tally};
 ghost use Rattle.zh_ledger.specs.Stands.{Holds};
-ghost use Rattle.zh_ledger.specs.Submissions.{IsLogged, Log};
-ghost use Rattle.zh_office.specs.Runs.{OnDisk, ledger_of};
+ghost use Rattle.zh_ledger.specs.Submissions.{IsLogged, Log, OnDisk};
+ghost use Rattle.zh_office.specs.Office.{Office};
+ghost use Rattle.zh_office.specs.Runs.{its_ledger};
 ghost use Rattle.zh_disk_tasks.specs.Tasks.{IsFrom, KeepsAll};
 
 /// What a run, or a load, leaves of an honest disk that was clean and stood for a count: at each moment each image stands
@@ -14,6 +15,7 @@ ghost use Rattle.zh_disk_tasks.specs.Tasks.{IsFrom, KeepsAll};
 ///
 /// Each of these images is clean again, so this holds from one opening to the next.
 pub fn kept_commands()
-    ensures { (canton : Canton) (failures : ℕ) (first : Trail) (failures' : ℕ) (last : Trail) (start end : OnDisk) (log : Log) (tally : Tally) → IsFrom (Unit {0}) canton failures first failures' last start end →
-        IsLogged (ledger_of start) log (ledger_of end) → IsCanton canton → IsCanton tally.canton → Holds tally first.now.bytes → KeepsAll tally log first last }
+    ensures { (canton : Canton) (first last : History) (start end : OnDisk Office) (log : Log) (tally : Tally)
+        → IsTrue last.honest → IsFrom canton first last start end → IsLogged (its_ledger start) log (its_ledger end)
+        → IsCanton canton → IsCanton tally.canton → Holds tally first.trail.now.bytes → KeepsAll tally log first.trail last.trail }
 {}

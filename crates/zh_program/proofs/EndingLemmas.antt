@@ -2,7 +2,7 @@
 use Rattle.std.proofs.Common.{◌≡◌, ◌∙◌, ℕ, List, Option, Result, Ok, Err, MatchResult, ap}
 use Rattle.zh_arguments.specs.declared.arguments.Task.{Task}
 use Rattle.zh_arguments.specs.declared.arguments.Task.TheVariants.{Rehearse, Format, Run, Load, Export}
-use Rattle.zh_disk.specs.Disk.{Trail}
+use Rattle.zh_disk.specs.History.{History}
 use Rattle.zh_tasks.specs.Tasks.{Does}
 use Rattle.zh_disk_tasks.specs.declared.csv_fault.LoadFault.TheVariants as loading
 use Rattle.zh_tasks.specs.declared.fault.ProgramFault.{ProgramFault}
@@ -20,16 +20,16 @@ unless_rehearsal (Export paths) follows p = follows p
 module _ {D F : Type 0} where
   -- A task that ended with status 0 was done, and nothing is reported of it; `announced` are the faults after it was
   -- announced.
-  pub was_done : (honest : D → Type 0) (trail : D → Trail) (failures : D → ℕ) (bytes : List ℕ) (old new : Option D) (unread unwritten : Type 0) (r r' w w' : Option (List ℕ)) (first announced last : F) (task : Task) (result : Result (Unit {0}) ProgramFault) (status : ℕ)
-      → Does honest trail failures bytes old new unread unwritten r r' w w' task result → UnlessRehearsal task (announced ≡ first) → MatchResult result (λ _. (status ≡ 0) × (last ≡ announced)) (λ _. status ≡ 1) → status ≡ 0
-      → Does honest trail failures bytes old new unread unwritten r r' w w' task (Ok tt) × UnlessRehearsal task (last ≡ first)
-  was_done honest trail failures bytes old new unread unwritten r r' w w' first announced last task (Ok done) status does same ended zero = (does, unless_rehearsal task (λ is. ended.1 ∙ is) same)
-  was_done honest trail failures bytes old new unread unwritten r r' w w' first announced last task (Err fault) status does same ended zero = absurd (cc)
+  pub was_done : (history : D → History) (bytes : List ℕ) (old new : Option D) (unread unwritten : Type 0) (r r' w w' : Option (List ℕ)) (first announced last : F) (task : Task) (result : Result (Unit {0}) ProgramFault) (status : ℕ)
+      → Does history bytes old new unread unwritten r r' w w' task result → UnlessRehearsal task (announced ≡ first) → MatchResult result (λ _. (status ≡ 0) × (last ≡ announced)) (λ _. status ≡ 1) → status ≡ 0
+      → Does history bytes old new unread unwritten r r' w w' task (Ok tt) × UnlessRehearsal task (last ≡ first)
+  was_done history bytes old new unread unwritten r r' w w' first announced last task (Ok done) status does same ended zero = (does, unless_rehearsal task (λ is. ended.1 ∙ is) same)
+  was_done history bytes old new unread unwritten r r' w w' first announced last task (Err fault) status does same ended zero = absurd (cc)
 
   -- a task that ended with status 1 met a fault; of a load that was refused nothing is reported
-  pub met_fault : (honest : D → Type 0) (trail : D → Trail) (failures : D → ℕ) (bytes : List ℕ) (old new : Option D) (unread unwritten : Type 0) (r r' w w' : Option (List ℕ)) (first announced last : F) (task : Task) (result : Result (Unit {0}) ProgramFault) (status : ℕ)
-      → Does honest trail failures bytes old new unread unwritten r r' w w' task result → UnlessRehearsal task (announced ≡ first) → MatchResult result (λ _. (status ≡ 0) × (last ≡ announced)) (λ _. status ≡ 1) → (result ≡ Err (faults.Load loading.Refused) → last ≡ announced) → status ≡ 1
-      → (fault : ProgramFault) × Does honest trail failures bytes old new unread unwritten r r' w w' task (Err fault) × UnlessRehearsal task (fault ≡ faults.Load loading.Refused → last ≡ first)
-  met_fault honest trail failures bytes old new unread unwritten r r' w w' first announced last task (Ok done) status does same ended refused one = absurd (cc)
-  met_fault honest trail failures bytes old new unread unwritten r r' w w' first announced last task (Err fault) status does same ended refused one =
+  pub met_fault : (history : D → History) (bytes : List ℕ) (old new : Option D) (unread unwritten : Type 0) (r r' w w' : Option (List ℕ)) (first announced last : F) (task : Task) (result : Result (Unit {0}) ProgramFault) (status : ℕ)
+      → Does history bytes old new unread unwritten r r' w w' task result → UnlessRehearsal task (announced ≡ first) → MatchResult result (λ _. (status ≡ 0) × (last ≡ announced)) (λ _. status ≡ 1) → (result ≡ Err (faults.Load loading.Refused) → last ≡ announced) → status ≡ 1
+      → (fault : ProgramFault) × Does history bytes old new unread unwritten r r' w w' task (Err fault) × UnlessRehearsal task (fault ≡ faults.Load loading.Refused → last ≡ first)
+  met_fault history bytes old new unread unwritten r r' w w' first announced last task (Ok done) status does same ended refused one = absurd (cc)
+  met_fault history bytes old new unread unwritten r r' w w' first announced last task (Err fault) status does same ended refused one =
       (fault, does, unless_rehearsal task (λ is refusal. refused (ap Err refusal) ∙ is) same)

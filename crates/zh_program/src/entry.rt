@@ -3,7 +3,7 @@
 ghost use Rattle.std.specs.Prelude.{◌≡◌, ◌≢◌, ◌≤◌, ◌⊎◌, [], Err, MatchResult, Ok, map};
 ghost use Rattle.std.specs.String.{string_bytes};
 ghost use Rattle.clap.specs.Words.{kind_of};
-ghost use Rattle.zh_arguments.specs.Arguments.{Asks, refusals};
+ghost use Rattle.zh_arguments.specs.Arguments.{AsksFor, refusals};
 ghost use Rattle.zh_tasks.specs.Tasks.{Does};
 ghost use Rattle.zh_program.specs.Program.{UnlessRehearsal};
 ghost use Rattle.zh_tasks.specs.declared.fault.ProgramFault.{ProgramFault as Fault};
@@ -73,12 +73,12 @@ pub fn program<I: Read, O: Write, F: Write, S: Start>(
     used: &mut Option<FileDisk<S>>,
 ) -> u8
     ensures status { result ≤ 2 }
-    ensures done { result ≡ 0 → (task : Task) × Asks (map string_bytes arguments.now) task
-        × Does ⟦<FileDisk<S> as Disk>⟧.honest ⟦<FileDisk<S> as Disk>⟧.trail ⟦<FileDisk<S> as Disk>⟧.failures S.Start.db used.old used.new (input.new ≡ input.old) (out.new ≡ out.old) (I.remaining input.old) (I.remaining input.new) (O.contents out.old) (O.contents out.new) task (Ok tt)
+    ensures done { result ≡ 0 → (task : Task) × AsksFor (map string_bytes arguments.now) task
+        × Does ⟦<FileDisk<S> as Disk>⟧.history S.Start.db used.old used.new (input.new ≡ input.old) (out.new ≡ out.old) (I.remaining input.old) (I.remaining input.new) (O.contents out.old) (O.contents out.new) task (Ok tt)
         × UnlessRehearsal task (faults.new ≡ faults.old) }
     // Memory may be refused before the arguments are read, and then nothing is done.
-    ensures fault { result ≡ 1 → ((input.new ≡ input.old) × (out.new ≡ out.old) × (used.new ≡ used.old)) ⊎ ((task : Task) × (fault : Fault) × Asks (map string_bytes arguments.now) task
-        × Does ⟦<FileDisk<S> as Disk>⟧.honest ⟦<FileDisk<S> as Disk>⟧.trail ⟦<FileDisk<S> as Disk>⟧.failures S.Start.db used.old used.new (input.new ≡ input.old) (out.new ≡ out.old) (I.remaining input.old) (I.remaining input.new) (O.contents out.old) (O.contents out.new) task (Err fault)
+    ensures fault { result ≡ 1 → ((input.new ≡ input.old) × (out.new ≡ out.old) × (used.new ≡ used.old)) ⊎ ((task : Task) × (fault : Fault) × AsksFor (map string_bytes arguments.now) task
+        × Does ⟦<FileDisk<S> as Disk>⟧.history S.Start.db used.old used.new (input.new ≡ input.old) (out.new ≡ out.old) (I.remaining input.old) (I.remaining input.new) (O.contents out.old) (O.contents out.new) task (Err fault)
         × UnlessRehearsal task (fault ≡ ProgramFault.Load LoadFault.Refused → faults.new ≡ faults.old)) }
     ensures refused { result ≡ 2 → (refusals (map string_bytes arguments.now) ≢ []) × ((input.new ≡ input.old) × (out.new ≡ out.old) × (used.new ≡ used.old)) }
 {

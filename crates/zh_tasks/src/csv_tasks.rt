@@ -22,7 +22,7 @@ pub(crate) fn load<O: Write, S: Start>(
     start: S,
     used: &mut Option<FileDisk<S>>,
 ) -> Result<(), ProgramFault>
-    ensures { HasLoaded ((out.new ≡ out.old) × (used.new ≡ used.old)) used.new (LoadsOnFile ⟦<FileDisk<S> as Disk>⟧.honest ⟦<FileDisk<S> as Disk>⟧.trail ⟦<FileDisk<S> as Disk>⟧.failures S.Start.db (out.new ≡ out.old) (O.contents out.old) (O.contents out.new)) result }
+    ensures { HasLoaded ((out.new ≡ out.old) × (used.new ≡ used.old)) used.new (LoadsOnFile ⟦<FileDisk<S> as Disk>⟧.history S.Start.db (out.new ≡ out.old) (O.contents out.old) (O.contents out.new)) result }
 {
     let setup = setup_at(rt, alloc, paths.setup)?;
     let mut disk = open(rt, paths.disk, start)?;
@@ -40,7 +40,7 @@ pub(crate) fn export<O: Write, S: Start>(
     start: S,
     used: &mut Option<FileDisk<S>>,
 ) -> Result<(), ProgramFault>
-    ensures { HasExported ((out.new ≡ out.old) × (used.new ≡ used.old)) used.new (ExportsFromFile ⟦<FileDisk<S> as Disk>⟧.honest ⟦<FileDisk<S> as Disk>⟧.trail ⟦<FileDisk<S> as Disk>⟧.failures S.Start.db (out.new ≡ out.old) (O.contents out.old) (O.contents out.new)) result }
+    ensures { HasExported ((out.new ≡ out.old) × (used.new ≡ used.old)) used.new (ExportsFromFile ⟦<FileDisk<S> as Disk>⟧.history S.Start.db (out.new ≡ out.old) (O.contents out.old) (O.contents out.new)) result }
 {
     let setup = setup_at(rt, alloc, paths.setup)?;
     let mut disk = open(rt, paths.disk, start)?;

@@ -72,7 +72,7 @@ fn format<S: Start>(
     start: S,
     used: &mut Option<FileDisk<S>>,
 ) -> Result<(), ProgramFault>
-    ensures { Formatted (used.new ≡ used.old) used.new (FormatsOnFile ⟦<FileDisk<S> as Disk>⟧.honest ⟦<FileDisk<S> as Disk>⟧.trail ⟦<FileDisk<S> as Disk>⟧.failures S.Start.db) result }
+    ensures { Formatted (used.new ≡ used.old) used.new (FormatsOnFile ⟦<FileDisk<S> as Disk>⟧.history S.Start.db) result }
 {
     let setup = setup_at(rt, alloc, paths.setup)?;
     let mut disk = open_or_make(rt, paths.disk, start)?;
@@ -91,7 +91,7 @@ fn run<I: Read, O: Write, S: Start>(
     start: S,
     used: &mut Option<FileDisk<S>>,
 ) -> Result<(), ProgramFault>
-    ensures { Ran (((input.new ≡ input.old) × (out.new ≡ out.old)) × (used.new ≡ used.old)) used.new (RunsOnFile ⟦<FileDisk<S> as Disk>⟧.honest ⟦<FileDisk<S> as Disk>⟧.trail ⟦<FileDisk<S> as Disk>⟧.failures S.Start.db ((input.new ≡ input.old) × (out.new ≡ out.old)) (I.remaining input.old) (I.remaining input.new) (O.contents out.old) (O.contents out.new)) result }
+    ensures { Ran (((input.new ≡ input.old) × (out.new ≡ out.old)) × (used.new ≡ used.old)) used.new (RunsOnFile ⟦<FileDisk<S> as Disk>⟧.history S.Start.db ((input.new ≡ input.old) × (out.new ≡ out.old)) (I.remaining input.old) (I.remaining input.new) (O.contents out.old) (O.contents out.new)) result }
 {
     let setup = setup_at(rt, alloc, paths.setup)?;
     let mut disk = open(rt, paths.disk, start)?;
@@ -113,7 +113,7 @@ pub fn carry_out<I: Read, O: Write, S: Start>(
     start: S,
     used: &mut Option<FileDisk<S>>,
 ) -> Result<(), ProgramFault>
-    ensures { Does ⟦<FileDisk<S> as Disk>⟧.honest ⟦<FileDisk<S> as Disk>⟧.trail ⟦<FileDisk<S> as Disk>⟧.failures S.Start.db used.old used.new (input.new ≡ input.old) (out.new ≡ out.old) (I.remaining input.old) (I.remaining input.new) (O.contents out.old) (O.contents out.new) task.entry result }
+    ensures { Does ⟦<FileDisk<S> as Disk>⟧.history S.Start.db used.old used.new (input.new ≡ input.old) (out.new ≡ out.old) (I.remaining input.old) (I.remaining input.new) (O.contents out.old) (O.contents out.new) task.entry result }
 {
     match task {
         Task::Rehearse => rehearse(alloc, input, out),

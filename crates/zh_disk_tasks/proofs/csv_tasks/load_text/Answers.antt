@@ -1,28 +1,38 @@
 use Rattle.std.proofs.Common.{rules, ◌≡◌, Err, false, subst}
 use Rattle.zh_commands.specs.declared.replies.Reply.{Reply}
 use Rattle.zh_commands.specs.declared.replies.Reply.TheVariants as replies
-use Rattle.zh_office.specs.Runs.{on_disk}
+use Rattle.zh_ledger.specs.Submissions.{on_disk}
 use Rattle.zh_disk_tasks.specs.Csv.{IsThis, Loaded}
 use Rattle.zh_disk_tasks.specs.declared.csv_fault.LoadFault.TheVariants as loading
 use Rattle.zh_disk_tasks.proofs.CsvLemmas.{loaded_to, replied_to}
+use Rattle.zh_disk_tasks.proofs.DeviceLemmas.{load_fares}
 use Rattle.zh_disk_tasks.proofs.csv_tasks.load_text.Goals as goal
+
+pub returns-in_err-print_reply-clause-kept : goal.returns-in_err-print_reply-clause-kept
+returns-in_err-print_reply-clause-kept g c = (load_fares _ _ _ _ _ c.load-reply.ensures.turn).honest
 
 pub returns-in_err-print_reply-clause-loaded : goal.returns-in_err-print_reply-clause-loaded
 returns-in_err-print_reply-clause-loaded g c =
     let is : c.from_residual.result ≡ Err loading.Write = search rules in
-    rw is ((c.load-reply.result, replied_to _ _ _ _ _ _ c.load-reply.ensures.turn, c.in_err-print_reply.ensures.front))
+    rw is ((c.load-reply.result, replied_to _ _ _ _ _ c.load-reply.ensures.turn, c.in_err-print_reply.ensures.front))
+
+pub returns-then-faulted-clause-kept : goal.returns-then-faulted-clause-kept
+returns-then-faulted-clause-kept g c = (load_fares _ _ _ _ _ c.load-reply.ensures.turn).honest
 
 pub returns-then-faulted-clause-loaded : goal.returns-then-faulted-clause-loaded
-returns-then-faulted-clause-loaded g c = (c.load-reply.result, loaded_to _ _ _ _ _ _ _ _ _ c.load-reply.ensures.turn c.in_ok-print_reply.ensures.all (search rules))
+returns-then-faulted-clause-loaded g c = (c.load-reply.result, loaded_to _ _ _ _ _ _ _ _ c.load-reply.ensures.turn c.in_ok-print_reply.ensures.all (search rules))
+
+pub returns-in-Refused-clause-kept : goal.returns-in-Refused-clause-kept
+returns-in-Refused-clause-kept g c = (load_fares _ _ _ _ _ c.load-reply.ensures.turn).honest
 
 pub returns-in-Refused-clause-loaded : goal.returns-in-Refused-clause-loaded
 returns-in-Refused-clause-loaded g c =
     let is : c.load-reply.result ≡ replies.Refused c.in-Refused.field-0 = search rules in
-    let spans = IsThis (on_disk c.args.office.now (g.D.Disk.failures c.args.disk.now) (g.D.Disk.trail c.args.disk.now)) (g.D.Disk.failures c.load-reply.new.disk) (g.D.Disk.trail c.load-reply.new.disk) in
-    (c.in-Refused.field-0, subst (λ (r : Reply). Loaded (g.D.Disk.honest c.load-reply.new.disk) (g.O.Write.contents c.args.out.now) (g.O.Write.contents c.print_reply.new.out) spans r false) is (loaded_to _ _ _ _ _ _ _ _ _ c.load-reply.ensures.turn c.in_ok-print_reply.ensures.all (search rules)))
+    let spans = IsThis (on_disk c.args.office.now (g.D.Disk.history c.args.disk.now)) (g.D.Disk.history c.load-reply.new.disk) in
+    (c.in-Refused.field-0, subst (λ (r : Reply). Loaded (g.O.Write.contents c.args.out.now) (g.O.Write.contents c.print_reply.new.out) spans r false) is (loaded_to _ _ _ _ _ _ _ _ c.load-reply.ensures.turn c.in_ok-print_reply.ensures.all (search rules)))
 
 pub returns : goal.returns
 returns g c = record {
-  kept = c.load-reply.ensures.kept;
-  loaded = (c.load-reply.result, c.in_default.not-Refused, loaded_to _ _ _ _ _ _ _ _ _ c.load-reply.ensures.turn c.in_ok-print_reply.ensures.all (search rules));
+  kept = (load_fares _ _ _ _ _ c.load-reply.ensures.turn).honest;
+  loaded = (c.load-reply.result, c.in_default.not-Refused, loaded_to _ _ _ _ _ _ _ _ c.load-reply.ensures.turn c.in_ok-print_reply.ensures.all (search rules));
 }

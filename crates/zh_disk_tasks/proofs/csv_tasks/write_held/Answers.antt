@@ -13,10 +13,10 @@ returns-in_err-text g c = λ start is.
 pub returns-in_err-put : goal.returns-in_err-put
 returns-in_err-put g c = λ start is.
     let fault : c.from_residual-in_err-put.result ≡ Err exporting.Write = search rules in
-    let text : c.deref.result.now ≡ export_text start.office.ledger.tally = c.deref.ensures.value ∙ c.in_ok-text.ensures ∙ ap (λ (l : List ℕ). l ++ export_text c.args.office.now.ledger.tally) c.new.ensures.items ∙ ap (λ o. export_text o.ledger.tally) (sym is) in
+    let text : c.deref.result.now ≡ export_text start.holder.ledger.tally = c.deref.ensures.value ∙ c.in_ok-text.ensures ∙ ap (λ (l : List ℕ). l ++ export_text c.args.office.now.ledger.tally) c.new.ensures.items ∙ ap (λ o. export_text o.ledger.tally) (sym is) in
     rw fault ((start, (refl, refl), writes_front _ _ _ _ text c.in_err-put.ensures.front))
 
 pub returns : goal.returns
 returns g c = λ start is.
-    let text : c.deref.result.now ≡ export_text start.office.ledger.tally = c.deref.ensures.value ∙ c.in_ok-text.ensures ∙ ap (λ (l : List ℕ). l ++ export_text c.args.office.now.ledger.tally) c.new.ensures.items ∙ ap (λ o. export_text o.ledger.tally) (sym is) in
+    let text : c.deref.result.now ≡ export_text start.holder.ledger.tally = c.deref.ensures.value ∙ c.in_ok-text.ensures ∙ ap (λ (l : List ℕ). l ++ export_text c.args.office.now.ledger.tally) c.new.ensures.items ∙ ap (λ o. export_text o.ledger.tally) (sym is) in
     (start, (refl, refl), subst (λ (t : List ℕ). Appends (g.O.Write.contents c.args.out.now) (g.O.Write.contents c.put.new.out) t) text c.in_ok-put.ensures.all)

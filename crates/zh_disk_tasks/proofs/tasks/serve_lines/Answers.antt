@@ -1,34 +1,54 @@
 use Rattle.std.proofs.Common.{rules, refl, ◌≡◌, Err}
-use Rattle.zh_office.specs.Runs.{on_disk}
+use Rattle.zh_ledger.specs.Submissions.{on_disk}
+use Rattle.zh_office.specs.Served.{session}
 use Rattle.zh_disk_tasks.specs.Csv.{IsThis}
 use Rattle.zh_disk_tasks.specs.declared.fault.RunFault.TheVariants as runs
+use Rattle.zh_disk_tasks.proofs.DeviceLemmas.{serve_fares}
 use Rattle.zh_disk_tasks.proofs.EndingLemmas.{broke_off, read_off}
 use Rattle.zh_disk_tasks.proofs.tasks.serve_lines.Goals as goal
+
+pub returns-in_err-serve-clause-kept : goal.returns-in_err-serve-clause-kept
+returns-in_err-serve-clause-kept g c =
+    let old = session (g.O.Write.contents c.args.out.now) c.args.office.now (g.D.Disk.history c.args.disk.now) in
+    let new = session (g.O.Write.contents c.serve.new.writer) c.serve.new.self (g.D.Disk.history c.serve.new.disk) in
+    (serve_fares _ _ old new c.serve.result c.serve.ensures.ok c.serve.ensures.read c.serve.ensures.write c.serve.ensures.turns).honest
+
+pub returns-then-faulted-clause-kept : goal.returns-then-faulted-clause-kept
+returns-then-faulted-clause-kept g c =
+    let old = session (g.O.Write.contents c.args.out.now) c.args.office.now (g.D.Disk.history c.args.disk.now) in
+    let new = session (g.O.Write.contents c.serve.new.writer) c.serve.new.self (g.D.Disk.history c.serve.new.disk) in
+    (serve_fares _ _ old new c.serve.result c.serve.ensures.ok c.serve.ensures.read c.serve.ensures.write c.serve.ensures.turns).honest
+
+pub returns-clause-kept : goal.returns-clause-kept
+returns-clause-kept g c =
+    let old = session (g.O.Write.contents c.args.out.now) c.args.office.now (g.D.Disk.history c.args.disk.now) in
+    let new = session (g.O.Write.contents c.serve.new.writer) c.serve.new.self (g.D.Disk.history c.serve.new.disk) in
+    (serve_fares _ _ old new c.serve.result c.serve.ensures.ok c.serve.ensures.read c.serve.ensures.write c.serve.ensures.turns).honest
 
 pub returns-in_err-serve-clause-served : goal.returns-in_err-serve-clause-served
 returns-in_err-serve-clause-served g c =
     let is : c.from_residual.result ≡ Err (runs.Serve c.in_err-serve.field-0.0) = search rules in
-    let start = on_disk c.args.office.now (g.D.Disk.failures c.args.disk.now) (g.D.Disk.trail c.args.disk.now) in
-    let end = on_disk c.serve.new.self (g.D.Disk.failures c.serve.new.disk) (g.D.Disk.trail c.serve.new.disk) in
-    let this : IsThis start (g.D.Disk.failures c.serve.new.disk) (g.D.Disk.trail c.serve.new.disk) start end = (refl, refl, refl) in
-    rw is (broke_off (g.D.Disk.honest c.serve.new.disk) (λ fault. ⊥) _ _ _ _ (IsThis start (g.D.Disk.failures c.serve.new.disk) (g.D.Disk.trail c.serve.new.disk)) start end c.serve.result c.in_err-serve.field-0.0 this (search rules) c.serve.ensures.read c.serve.ensures.write c.serve.ensures.turns)
+    let start = on_disk c.args.office.now (g.D.Disk.history c.args.disk.now) in
+    let end = on_disk c.serve.new.self (g.D.Disk.history c.serve.new.disk) in
+    let this : IsThis start (g.D.Disk.history c.serve.new.disk) start end = (refl, refl) in
+    rw is (broke_off (λ fault. ⊥) _ _ _ _ (IsThis start (g.D.Disk.history c.serve.new.disk)) start end c.serve.result c.in_err-serve.field-0.0 this (search rules) c.serve.ensures.read c.serve.ensures.write c.serve.ensures.turns)
 
 pub returns-then-faulted-clause-served : goal.returns-then-faulted-clause-served
 returns-then-faulted-clause-served g c = record {
-  start = on_disk c.args.office.now (g.D.Disk.failures c.args.disk.now) (g.D.Disk.trail c.args.disk.now);
-  end = on_disk c.serve.new.self (g.D.Disk.failures c.serve.new.disk) (g.D.Disk.trail c.serve.new.disk);
+  start = on_disk c.args.office.now (g.D.Disk.history c.args.disk.now);
+  end = on_disk c.serve.new.self (g.D.Disk.history c.serve.new.disk);
   count = c.in_ok-serve.field-0;
-  spans = (refl, refl, refl);
+  spans = (refl, refl);
   all = c.in_ok-serve.ensures.ok;
   device = search rules;
 }
 
 pub returns-clause-served : goal.returns-clause-served
 returns-clause-served g c = record {
-  start = on_disk c.args.office.now (g.D.Disk.failures c.args.disk.now) (g.D.Disk.trail c.args.disk.now);
-  end = on_disk c.serve.new.self (g.D.Disk.failures c.serve.new.disk) (g.D.Disk.trail c.serve.new.disk);
+  start = on_disk c.args.office.now (g.D.Disk.history c.args.disk.now);
+  end = on_disk c.serve.new.self (g.D.Disk.history c.serve.new.disk);
   count = c.in_ok-serve.field-0;
-  spans = (refl, refl, refl);
+  spans = (refl, refl);
   all = c.in_ok-serve.ensures.ok;
   device = search rules;
 }

@@ -1,4 +1,5 @@
 use Rattle.std.proofs.Common.{rules, ◌≡◌, Ok, Err}
+use Rattle.zh_file.specs.Stored.{stored_history}
 use Rattle.zh_disk_tasks.specs.Csv.{IsExportOfDevice}
 use Rattle.zh_tasks.specs.declared.fault.ProgramFault.TheVariants as faults
 use Rattle.zh_tasks.proofs.CsvLemmas.{exports_from_file}
@@ -13,8 +14,8 @@ returns-in_err-done g c =
       c.export_from-done.new.disk,
       c.hand_over.ensures,
       (
-        exports_from_file _ _ _ _ c.in_ok-setup.setup _ _ _ _ _ _ _ c.in_ok-setup.ensures.limits c.in_ok-disk.ensures.begins c.in_ok-disk.ensures.failures ended c.export_from-done.ensures.written,
-        device_on_file IsExportOfDevice _ _ _ _ c.in_ok-disk.ensures.failures ended c.export_from-done.ensures.cause,
+        exports_from_file _ _ _ c.in_ok-setup.setup _ (stored_history c.in_ok-disk.disk) (stored_history c.export_from-done.new.disk) _ _ c.in_ok-setup.ensures.limits c.in_ok-disk.ensures.begins c.in_ok-disk.ensures.whole.failures ended c.export_from-done.ensures.written,
+        device_on_file IsExportOfDevice _ _ _ _ c.in_ok-disk.ensures.whole.failures ended c.export_from-done.ensures.cause,
       ),
     )
 
@@ -24,7 +25,7 @@ returns g c =
       c.export_from-done.new.disk,
       c.hand_over.ensures,
       (
-        exports_from_file _ _ _ _ c.in_ok-setup.setup _ _ _ _ _ _ _ c.in_ok-setup.ensures.limits c.in_ok-disk.ensures.begins c.in_ok-disk.ensures.failures ended c.export_from-done.ensures.written,
-        device_on_file IsExportOfDevice _ _ _ _ c.in_ok-disk.ensures.failures ended c.export_from-done.ensures.cause,
+        exports_from_file _ _ _ c.in_ok-setup.setup _ (stored_history c.in_ok-disk.disk) (stored_history c.export_from-done.new.disk) _ _ c.in_ok-setup.ensures.limits c.in_ok-disk.ensures.begins c.in_ok-disk.ensures.whole.failures ended c.export_from-done.ensures.written,
+        device_on_file IsExportOfDevice _ _ _ _ c.in_ok-disk.ensures.whole.failures ended c.export_from-done.ensures.cause,
       ),
     )

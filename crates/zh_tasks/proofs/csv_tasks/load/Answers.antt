@@ -1,4 +1,5 @@
 use Rattle.std.proofs.Common.{rules, ◌≡◌, Ok, Err}
+use Rattle.zh_file.specs.Stored.{stored_history}
 use Rattle.zh_disk_tasks.specs.Csv.{IsLoadOfDevice}
 use Rattle.zh_tasks.specs.declared.fault.ProgramFault.TheVariants as faults
 use Rattle.zh_tasks.proofs.CsvLemmas.{loads_on_file}
@@ -13,8 +14,8 @@ returns-in_err-done g c =
       c.load_on-done.new.disk,
       c.hand_over.ensures,
       (
-        loads_on_file _ _ _ _ c.in_ok-setup.setup _ _ _ _ _ _ _ c.in_ok-setup.ensures.limits c.in_ok-disk.ensures.begins c.in_ok-disk.ensures.failures ended c.load_on-done.ensures.loaded,
-        device_on_file IsLoadOfDevice _ _ _ _ c.in_ok-disk.ensures.failures ended c.load_on-done.ensures.cause,
+        loads_on_file _ _ _ c.in_ok-setup.setup _ (stored_history c.in_ok-disk.disk) (stored_history c.load_on-done.new.disk) _ _ c.in_ok-setup.ensures.limits c.in_ok-disk.ensures.begins c.in_ok-disk.ensures.whole.failures ended c.load_on-done.ensures.loaded,
+        device_on_file IsLoadOfDevice _ _ _ _ c.in_ok-disk.ensures.whole.failures ended c.load_on-done.ensures.cause,
       ),
     )
 
@@ -24,7 +25,7 @@ returns g c =
       c.load_on-done.new.disk,
       c.hand_over.ensures,
       (
-        loads_on_file _ _ _ _ c.in_ok-setup.setup _ _ _ _ _ _ _ c.in_ok-setup.ensures.limits c.in_ok-disk.ensures.begins c.in_ok-disk.ensures.failures ended c.load_on-done.ensures.loaded,
-        device_on_file IsLoadOfDevice _ _ _ _ c.in_ok-disk.ensures.failures ended c.load_on-done.ensures.cause,
+        loads_on_file _ _ _ c.in_ok-setup.setup _ (stored_history c.in_ok-disk.disk) (stored_history c.load_on-done.new.disk) _ _ c.in_ok-setup.ensures.limits c.in_ok-disk.ensures.begins c.in_ok-disk.ensures.whole.failures ended c.load_on-done.ensures.loaded,
+        device_on_file IsLoadOfDevice _ _ _ _ c.in_ok-disk.ensures.whole.failures ended c.load_on-done.ensures.cause,
       ),
     )

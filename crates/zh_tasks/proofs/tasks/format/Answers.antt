@@ -12,9 +12,8 @@ returns-in_err-done g c =
       c.format_blank-done.new.disk,
       c.hand_over.ensures,
       (
-        λ h. formats_file c.in_ok-setup.setup _ _ _ _ _ c.in_ok-setup.ensures.limits (c.in_ok-disk.ensures.begins (done.kept h)) ended
-            (done.any_moment h) (done.blank h) (done.formatted h) (done.settled h) (done.in_use h),
-        format_device _ _ _ _ c.in_ok-disk.ensures.failures ended done.cause,
+        λ h. formats_file c.in_ok-setup.setup _ _ _ _ _ c.in_ok-setup.ensures.limits (c.in_ok-disk.ensures.begins (done.call.kept h)) ended (done.call.did h),
+        format_device _ _ _ _ c.in_ok-disk.ensures.whole.failures ended done.call.counts.rose,
       ),
     )
 
@@ -25,8 +24,7 @@ returns g c =
       c.format_blank-done.new.disk,
       c.hand_over.ensures,
       (
-        λ h. formats_file c.in_ok-setup.setup _ _ _ _ _ c.in_ok-setup.ensures.limits (c.in_ok-disk.ensures.begins (done.kept h)) ended
-            (done.any_moment h) (done.blank h) (done.formatted h) (done.settled h) (done.in_use h),
-        format_device _ _ _ _ c.in_ok-disk.ensures.failures ended done.cause,
+        λ h. formats_file c.in_ok-setup.setup _ _ _ _ _ c.in_ok-setup.ensures.limits (c.in_ok-disk.ensures.begins (done.call.kept h)) ended (done.call.did h),
+        format_device _ _ _ _ c.in_ok-disk.ensures.whole.failures ended done.call.counts.rose,
       ),
     )

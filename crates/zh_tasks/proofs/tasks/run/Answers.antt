@@ -1,4 +1,5 @@
 use Rattle.std.proofs.Common.{rules, ◌≡◌, Ok, Err}
+use Rattle.zh_file.specs.Stored.{stored_history}
 use Rattle.zh_disk_tasks.specs.Tasks.{IsOfDevice}
 use Rattle.zh_tasks.specs.declared.fault.ProgramFault.TheVariants as faults
 use Rattle.zh_tasks.proofs.EndingLemmas.{device_on_file, runs_on_file}
@@ -12,8 +13,8 @@ returns-in_err-done g c =
       c.serve_on-done.new.disk,
       c.hand_over.ensures,
       (
-        runs_on_file _ _ _ _ _ _ c.in_ok-setup.setup _ _ _ _ _ _ _ c.in_ok-setup.ensures.limits c.in_ok-disk.ensures.begins c.in_ok-disk.ensures.failures ended c.serve_on-done.ensures.served,
-        device_on_file IsOfDevice _ _ _ _ c.in_ok-disk.ensures.failures ended c.serve_on-done.ensures.cause,
+        runs_on_file _ _ _ _ _ c.in_ok-setup.setup _ (stored_history c.in_ok-disk.disk) (stored_history c.serve_on-done.new.disk) _ _ c.in_ok-setup.ensures.limits c.in_ok-disk.ensures.begins c.in_ok-disk.ensures.whole.failures ended c.serve_on-done.ensures.served,
+        device_on_file IsOfDevice _ _ _ _ c.in_ok-disk.ensures.whole.failures ended c.serve_on-done.ensures.cause,
       ),
     )
 
@@ -23,7 +24,7 @@ returns g c =
       c.serve_on-done.new.disk,
       c.hand_over.ensures,
       (
-        runs_on_file _ _ _ _ _ _ c.in_ok-setup.setup _ _ _ _ _ _ _ c.in_ok-setup.ensures.limits c.in_ok-disk.ensures.begins c.in_ok-disk.ensures.failures ended c.serve_on-done.ensures.served,
-        device_on_file IsOfDevice _ _ _ _ c.in_ok-disk.ensures.failures ended c.serve_on-done.ensures.cause,
+        runs_on_file _ _ _ _ _ c.in_ok-setup.setup _ (stored_history c.in_ok-disk.disk) (stored_history c.serve_on-done.new.disk) _ _ c.in_ok-setup.ensures.limits c.in_ok-disk.ensures.begins c.in_ok-disk.ensures.whole.failures ended c.serve_on-done.ensures.served,
+        device_on_file IsOfDevice _ _ _ _ c.in_ok-disk.ensures.whole.failures ended c.serve_on-done.ensures.cause,
       ),
     )
