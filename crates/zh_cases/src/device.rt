@@ -43,11 +43,7 @@ pub(crate) fn failing_once(disk: MemoryDisk, calls: u64) -> Device {
 }
 
 impl<D: Disk + Drop> Disk for CountingDisk<D> {
-    ghost honest = { λ disk. D.honest disk.inner };
-
-    ghost trail = { λ disk. D.trail disk.inner };
-
-    ghost failures = { λ disk. D.failures disk.inner };
+    ghost history = { λ disk. D.history disk.inner };
 
     ghost leaves = { λ disk. D.leaves disk.inner };
 

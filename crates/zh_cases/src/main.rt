@@ -21,7 +21,7 @@ use setups::{Named, setups_of};
 use std::process::ExitCode;
 use std::{env, fs};
 use turn::run_turn;
-use zh_transcripts::{Line, lines_of};
+use zh_transcripts::{NumberedLine, lines_of};
 
 /// How far the cases of a file went.
 #[derive(Clone, Copy, Default)]
@@ -36,7 +36,7 @@ struct Progress {
 fn run_line(
     rt: &HostRuntime,
     fixture: &mut Fixture<'_>,
-    line: &Line,
+    line: &NumberedLine,
     progress: &mut Progress,
 ) -> Result<(), Fault> {
     progress.line = line.number;
@@ -52,7 +52,7 @@ fn run_line(
 fn run_lines(
     rt: &HostRuntime,
     fixture: &mut Fixture<'_>,
-    lines: &[Line],
+    lines: &[NumberedLine],
     progress: &mut Progress,
 ) -> Result<(), Fault> {
     for line in lines {
@@ -65,7 +65,7 @@ fn run_lines(
 fn run_with(
     rt: &HostRuntime,
     setups: &[Named],
-    lines: &[Line],
+    lines: &[NumberedLine],
     progress: &mut Progress,
 ) -> Result<(), Fault> {
     let mut fixture = Fixture::new(rt.alloc(), setups)?;

@@ -4,7 +4,7 @@ use crate::fault::Fault;
 use std::fs;
 use zh_districts::Setup;
 use zh_setups::{read_setup, rehearsal};
-use zh_transcripts::{Line, lines_of};
+use zh_transcripts::{NumberedLine, lines_of};
 
 /// A set-up, and the name by which a file asks for it.
 #[derive(Drop)]
@@ -34,7 +34,7 @@ fn setup_of(rt: &HostRuntime, name: &str) -> Result<Setup, Fault> {
 /// The set-ups that these lines ask for. `number` is that of the line that was looked at last.
 pub(crate) fn setups_of(
     rt: &HostRuntime,
-    lines: &[Line],
+    lines: &[NumberedLine],
     number: &mut usize,
 ) -> Result<Vec<Named>, Fault> {
     let mut setups = Vec::new(rt.alloc());

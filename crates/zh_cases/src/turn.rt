@@ -7,7 +7,7 @@ use crate::program::run_program;
 use crate::serving::read_limits;
 use crate::words::read_stop;
 use std::fs;
-use zh_transcripts::{Line, read_bytes, read_number};
+use zh_transcripts::{NumberedLine, read_bytes, read_number};
 
 /// A line of a desk: it begins with a digit, or stands in quotes.
 fn line_in<'t>(text: &'t str) -> Option<&'t str> {
@@ -87,7 +87,7 @@ fn is_expected(expected: &str, found: &str) -> bool {
 pub(crate) fn run_turn(
     rt: &HostRuntime,
     fixture: &mut Fixture<'_>,
-    line: &Line,
+    line: &NumberedLine,
 ) -> Result<(), Fault> {
     let text = line.text.as_str();
     let (turn, expected) = match text.rsplit_once("->") {

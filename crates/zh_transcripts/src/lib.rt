@@ -2,7 +2,7 @@
 #![tactic(auto)]
 
 pub use fault::TranscriptFault;
-pub use lines::{Line, lines_of};
+pub use lines::{NumberedLine, lines_of};
 pub use words::{read_bytes, read_number};
 
 mod fault;

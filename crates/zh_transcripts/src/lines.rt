@@ -7,7 +7,7 @@ use std::alloc::Global;
 
 /// A line without its comment, and its number in the file.
 #[derive(Drop)]
-pub struct Line {
+pub struct NumberedLine {
     pub number: usize,
     pub text: String,
 }
@@ -27,9 +27,9 @@ fn without_comment(line: &str) -> &str {
 /// Appends the text of a file as one line: `file NAME`, and below it what the file is to hold.
 fn file(
     alloc: Global,
-    lines: &mut Vec<Line>,
-    head: &Line,
-    body: &[Line],
+    lines: &mut Vec<NumberedLine>,
+    head: &NumberedLine,
+    body: &[NumberedLine],
 ) -> Result<(), TranscriptFault> {
     let mut text = String::from_str(alloc, head.text.as_str())?;
     for line in body {
@@ -37,7 +37,7 @@ fn file(
         text.push_str(line.text.as_str())?;
     }
     text.push('\n')?;
-    lines.push(Line {
+    lines.push(NumberedLine {
         number: head.number,
         text,
     })?;
@@ -47,8 +47,8 @@ fn file(
 /// Appends what a block stands for. Its first line says which kind it is.
 fn write_out(
     alloc: Global,
-    lines: &mut Vec<Line>,
-    block: &[Line],
+    lines: &mut Vec<NumberedLine>,
+    block: &[NumberedLine],
     kind: &str,
 ) -> Result<(), TranscriptFault> {
     let [head, body @ ..] = block else {
@@ -67,7 +67,7 @@ fn write_out(
 /// Lines, and where the blocks begin that have not ended.
 #[derive(Drop)]
 struct Open {
-    lines: Vec<Line>,
+    lines: Vec<NumberedLine>,
     begun: Vec<usize>,
 }
 
@@ -86,7 +86,7 @@ impl Open {
         }
         if !text.is_empty() {
             let text = String::from_str(alloc, text)?;
-            self.lines.push(Line { number, text })?;
+            self.lines.push(NumberedLine { number, text })?;
         }
         Ok(())
     }
@@ -97,7 +97,7 @@ pub fn lines_of(
     alloc: Global,
     text: &str,
     number: &mut usize,
-) -> Result<Vec<Line>, TranscriptFault> {
+) -> Result<Vec<NumberedLine>, TranscriptFault> {
     let mut open = Open {
         lines: Vec::new(alloc),
         begun: Vec::new(alloc),

@@ -1,7 +1,7 @@
 //! Repetitions: lines that come once for each of several values.
 
 use crate::fault::TranscriptFault;
-use crate::lines::Line;
+use crate::lines::NumberedLine;
 use std::alloc::{AllocError, Global};
 
 const NO_VALUES: TranscriptFault = TranscriptFault::Text("a repetition has a name and values");
@@ -82,9 +82,9 @@ pub(crate) fn with_value(
 /// Appends the lines of a repetition, once for each value of `NAME = VALUES`.
 pub(crate) fn repeat(
     alloc: Global,
-    lines: &mut Vec<Line>,
+    lines: &mut Vec<NumberedLine>,
     head: &str,
-    body: &[Line],
+    body: &[NumberedLine],
 ) -> Result<(), TranscriptFault> {
     let Some((name, list)) = head.split_once('=') else {
         return Err(NO_VALUES);
@@ -92,7 +92,7 @@ pub(crate) fn repeat(
     for value in values_of(alloc, list)? {
         for line in body {
             let text = with_value(alloc, line.text.as_str(), name.trim(), value.as_str())?;
-            lines.push(Line {
+            lines.push(NumberedLine {
                 number: line.number,
                 text,
             })?;

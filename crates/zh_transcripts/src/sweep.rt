@@ -1,7 +1,7 @@
 //! Sweeps: turns that are made once for each place of a table, which says what they are answered there.
 
 use crate::fault::TranscriptFault;
-use crate::lines::Line;
+use crate::lines::NumberedLine;
 use crate::repeat::with_value;
 use crate::words::read_number;
 use std::alloc::Global;
@@ -16,7 +16,7 @@ struct Place<'t> {
 /// The answers to which the lines `answers NAME: ANSWER; ..` give this name.
 fn answers_of<'t>(
     alloc: Global,
-    turns: &'t [Line],
+    turns: &'t [NumberedLine],
     name: &str,
 ) -> Result<Vec<&'t str>, TranscriptFault> {
     let mut answers = Vec::new(alloc);
@@ -55,8 +55,8 @@ fn turn_at(
 /// Appends the turns at a place of the table, where the answers are those of a name.
 fn push_turns(
     alloc: Global,
-    lines: &mut Vec<Line>,
-    turns: &[Line],
+    lines: &mut Vec<NumberedLine>,
+    turns: &[NumberedLine],
     place: Place<'_>,
     name: &str,
 ) -> Result<(), TranscriptFault> {
@@ -65,7 +65,7 @@ fn push_turns(
     for line in turns {
         if !line.text.as_str().starts_with("answers ") {
             let text = turn_at(alloc, line.text.as_str(), place, &mut answers)?;
-            lines.push(Line {
+            lines.push(NumberedLine {
                 number: line.number,
                 text,
             })?;
@@ -81,10 +81,10 @@ fn push_turns(
 /// Appends the turns of one row at one number of calls, each time on the disk of the beginning.
 fn push_row(
     alloc: Global,
-    lines: &mut Vec<Line>,
-    turns: &[Line],
+    lines: &mut Vec<NumberedLine>,
+    turns: &[NumberedLine],
     stops: &str,
-    row: &Line,
+    row: &NumberedLine,
     calls: u64,
 ) -> Result<(), TranscriptFault> {
     let calls = format!(in alloc; "{calls}")?;
@@ -94,7 +94,7 @@ fn push_row(
             calls: calls.as_str(),
             stop,
         };
-        lines.push(Line {
+        lines.push(NumberedLine {
             number: row.number,
             text: format!(in alloc; "back {calls} {stop}")?,
         })?;
@@ -106,8 +106,8 @@ fn push_row(
 /// Appends the turns of a sweep, for each place of its table.
 pub(crate) fn sweep(
     alloc: Global,
-    lines: &mut Vec<Line>,
-    body: &[Line],
+    lines: &mut Vec<NumberedLine>,
+    body: &[NumberedLine],
 ) -> Result<(), TranscriptFault> {
     let table = body
         .iter()
@@ -117,7 +117,7 @@ pub(crate) fn sweep(
     let [head, rows @ ..] = table else {
         return Err(TranscriptFault::Text("a sweep has a table"));
     };
-    lines.push(Line {
+    lines.push(NumberedLine {
         number: head.number,
         text: String::from_str(alloc, "mark")?,
     })?;
@@ -137,7 +137,7 @@ pub(crate) fn sweep(
 }
 
 /// The first and the last number of calls that a row stands for.
-fn numbers_in(stops: &str, row: &Line) -> Result<(u64, u64), TranscriptFault> {
+fn numbers_in(stops: &str, row: &NumberedLine) -> Result<(u64, u64), TranscriptFault> {
     let text = row.text.as_str();
     if text.split_whitespace().count() != stops.split_whitespace().count() {
         return Err(TranscriptFault::Text("a row has a name for each stop"));

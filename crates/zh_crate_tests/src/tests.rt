@@ -1,5 +1,6 @@
 mod counts;
 mod elections;
+mod halves;
 mod matrices;
 mod records;
 mod refused_memory;

@@ -5,7 +5,7 @@ use super::offices::on_office;
 use std::io::{self, ErrorKind, Read};
 use std::process::Abort;
 use std::test::Fail;
-use zh_commands::{Refusal, Reply};
+use zh_commands::{Refusal, Reply, RowFault};
 use zh_disk::MemoryDisk;
 use zh_office::{NotedReader, Office};
 
@@ -32,7 +32,7 @@ fn see_what_is_left(rt: &impl Abort, office: &mut Office<'_>, disk: &mut MemoryD
         ),
         (
             b"municipality,list,number,votes\n1,1,1,5\n1,1,1,5\n2,1,1,7\n",
-            Refusal::Twice,
+            Refusal::Row(RowFault::Twice),
             b"2,1,1,7\n",
         ),
     ];

@@ -1,7 +1,7 @@
 //! The largest weights, and lines. Worked seats with their keys are cases of `zh_cases`: they stand on each sheet.
 
 ghost use Rattle.std.specs.Prelude.{◌≤◌, ◌<◌, ◌^◌, All, Any, IsTrue, length};
-ghost use Rattle.zh_divisors.specs.Line.{IsLine};
+ghost use Rattle.zh_divisors.specs.Line.{IsMatrixLine};
 
 use std::alloc::Global;
 use std::process::Abort;
@@ -56,7 +56,7 @@ const LARGEST: u64 = 1_000_000_000_000_000_000;
 
 /// Whether these cells are a line, of which the first has votes.
 fn is_line(votes: &[u64], others: &[u64]) -> bool
-    ensures { IsTrue result → IsLine votes.now others.now }
+    ensures { IsTrue result → IsMatrixLine votes.now others.now }
 {
     (1..=32).contains(&votes.len())
         && others.len() == votes.len()

@@ -1,13 +1,13 @@
 //! Apportionments that no election has, by more votes than there may be or by groups of equal votes, and refused memory.
 //! The others are cases of `zh_cases`.
 ghost use Rattle.std.specs.Prelude.{◌≡◌, ◌≤◌, ◌*◌, ◌^◌, ℕ, List, All, IfOk, IsTrue, length};
-ghost use Rattle.zh_lower.specs.Divisors.{AreWithin};
-ghost use Rattle.zh_lower.specs.Question.{AreTotals, EachColumnHasVotes, question};
+ghost use Rattle.zh_matrices.specs.Divisors.{AreWithin};
+ghost use Rattle.zh_matrices.specs.Question.{AreSeatTotals, EachColumnHasVotes, question};
 
 use std::alloc::{AllocError, Global};
 use std::process::Abort;
 use std::test::Fail;
-use zh_lower::{Lower, LowerFault, Matrix, find, is_strict, is_weak};
+use zh_lower::{Lower, LowerFault, Matrix, find};
 
 const ONE: u64 = 1_000_000;
 
@@ -16,7 +16,7 @@ const MOST_VOTES: u64 = 100_000_000_000_000;
 const MOST_OF_ROW: u64 = 1_000_000_000_000_000_000;
 
 fn are_totals(lines: usize, totals: &[u32]) -> bool
-    ensures { IsTrue result → AreTotals lines totals.now }
+    ensures { IsTrue result → AreSeatTotals lines totals.now }
 {
     totals.len() == lines && totals.iter().all(|t| (1..=400).contains(t))
 }
@@ -136,7 +136,7 @@ fn has_all(
 #[test]
 fn gives_seats_with_their_divisors(rt: HostRuntime) -> Result<(), Fail> {
     // votes, totals of rows and of columns, seats, and the divisors of rows and of columns in millionths
-    let rows: [(&[u64], &[u32], &[u32], &[u32], &[u64], &[u64]); 2] = [
+    let rows: [(&[u64], &[u32], &[u32], &[u32], &[u64], &[u64]); 5] = [
         // a row's divisor is held at the most, and its quotient at the start is 100
         (
             &[MOST_VOTES],
@@ -153,6 +153,46 @@ fn gives_seats_with_their_divisors(rt: HostRuntime) -> Result<(), Fail> {
             &[1, 1],
             &[MOST_OF_ROW, 25_000],
             &[73_333_333],
+        ),
+        // no state of the first search has seats: these are those of the second
+        (
+            &[
+                46_256_330_768_925,
+                8_961_205_195_233,
+                93_379_881_404_202,
+                4_237_961_643_866,
+            ],
+            &[1, 1, 1, 1],
+            &[4],
+            &[1, 1, 1, 1],
+            &[
+                502_389_321_906_501_710,
+                97_327_516_615_792_183,
+                MOST_OF_ROW,
+                46_028_438_510_690_017,
+            ],
+            &[123_199_306],
+        ),
+        (
+            &[MOST_VOTES, MOST_VOTES, MOST_VOTES, MOST_VOTES],
+            &[1, 2, 2, 1],
+            &[6],
+            &[1, 2, 2, 1],
+            &[
+                MOST_OF_ROW,
+                600_208_241_499_127_820,
+                600_208_241_499_127_820,
+                MOST_OF_ROW,
+            ],
+            &[88_869_614],
+        ),
+        (
+            &[MOST_VOTES, MOST_VOTES, MOST_VOTES, MOST_VOTES],
+            &[40, 38],
+            &[51, 27],
+            &[26, 14, 25, 13],
+            &[962_265_626_170_621_579, MOST_OF_ROW],
+            &[3_998_459, 7_552_645],
         ),
     ];
     for (votes, row_totals, column_totals, seats, row_divisors, column_divisors) in rows {
@@ -183,37 +223,6 @@ fn gives_no_seats(rt: HostRuntime) {
         let found = answer(&rt, rt.alloc(), votes, row_totals, column_totals).err();
         assert!(rt; found == Some(fault), "of {votes:?}");
     }
-}
-
-/// Whether seats follow from these divisors, though not strictly.
-fn is_weak_alone(
-    matrix: &Matrix,
-    totals: &[u32],
-    seats: &[u32],
-    of_rows: &[u64],
-    of_columns: &[u64],
-) -> bool
-    requires rows { length totals.now ≡ matrix.now.rows }
-    requires columns { length totals.now ≡ matrix.now.columns }
-    requires each_cell { length seats.now ≡ matrix.now.rows * matrix.now.columns }
-    requires few_seats { All (λ s. s ≤ 400) seats.now }
-    requires row_divisors { AreWithin matrix.now.rows (10 ^ 18) of_rows.now }
-    requires column_divisors { AreWithin matrix.now.columns (10 ^ 12) of_columns.now }
-{
-    is_weak(matrix, totals, totals, seats, of_rows, of_columns)
-        && !is_strict(matrix, totals, totals, seats, of_rows, of_columns)
-}
-
-#[test]
-fn halves_stand_in_weak_matrices_alone(rt: HostRuntime) -> Result<(), Fail> {
-    let matrix = Matrix::new(rt.alloc(), 2, 2, &[100, 100, 100, 100])?;
-    let totals = [1, 1];
-    let of_rows = [200 * ONE, 200 * ONE];
-    let of_columns = [ONE, ONE];
-    for seats in [[1, 0, 0, 1], [0, 1, 1, 0]] {
-        assert!(rt; is_weak_alone(&matrix, &totals, &seats, &of_rows, &of_columns));
-    }
-    Ok(())
 }
 
 /// Whether the one cell gets its three seats.

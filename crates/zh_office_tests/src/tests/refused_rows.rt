@@ -5,11 +5,11 @@ use super::offices::{DEVICE, MEMORY, begin_batch, had_batch, on_office, reply};
 use std::alloc::Global;
 use std::process::Abort;
 use std::test::Fail;
-use zh_commands::{Refusal, Reply};
+use zh_commands::{Refusal, Reply, RowFault};
 use zh_disk::MemoryDisk;
 use zh_office::Office;
 
-const TWICE: Option<Reply> = Some(Reply::Refused(Refusal::Twice));
+const TWICE: Option<Reply> = Some(Reply::Refused(Refusal::Row(RowFault::Twice)));
 
 /// Whether a row is held as the batch's row of this number, after a refusal that left all as it was or at once; and
 /// refused when it is sent again.

@@ -2,7 +2,7 @@
 
 use std::alloc::Global;
 use std::test::Fail;
-use zh_commands::{Refusal, Reply};
+use zh_commands::{Refusal, Reply, RowFault};
 use zh_disk::MemoryDisk;
 use zh_districts::Setup;
 use zh_office::{Answer, FormatFault, Office, OpenFault};
@@ -12,7 +12,7 @@ pub(crate) const MEMORY: Option<Reply> = Some(Reply::Refused(Refusal::Memory));
 
 pub(crate) const DEVICE: Option<Reply> = Some(Reply::Refused(Refusal::Device));
 
-const TWICE: Option<Reply> = Some(Reply::Refused(Refusal::Twice));
+const TWICE: Option<Reply> = Some(Reply::Refused(Refusal::Row(RowFault::Twice)));
 
 /// The set-up of the rehearsal.
 pub(crate) fn set_up(alloc: Global) -> Result<Setup, Fail> {

@@ -3,8 +3,8 @@ use Rattle.std.specs.Prelude.{All, slice_index}
 use Rattle.std.proofs.lemmas.List.Elements.{All-get_or}
 use Rattle.std.proofs.lemmas.Result.{IfOk-weaker}
 use Rattle.zh_divisors.proofs.CallerLemmas.{term-le-sum_to}
-use Rattle.zh_lower.specs.Question.{VoteMatrix, EachColumnHasVotes, column_votes, question}
-use Rattle.zh_limits.proofs.tests.matrices.matrix_of.Goals as goal
+use Rattle.zh_matrices.specs.Question.{VoteMatrix, EachColumnHasVotes, column_votes, question}
+use Rattle.zh_crate_tests.proofs.tests.matrices.matrix_of.Goals as goal
 
 abbrev matrix : ℕ → ℕ → List ℕ → VoteMatrix
 matrix rows columns votes = record { rows = rows; columns = columns; votes = votes }
