@@ -1,5 +1,5 @@
 # Short names for the repository's commands. `make` lists them.
-.PHONY: help run build example test check quick cases refused wrong-bodies documents bench fmt
+.PHONY: help run build example test check quick cases refused wrong-bodies documents shape bench fmt
 
 help:
 	@cat scripts/help
@@ -35,6 +35,9 @@ wrong-bodies:
 
 documents:
 	@tests/documents
+
+shape:
+	@tests/shape.sh && tests/definitions --check
 
 bench:
 	@bench/run

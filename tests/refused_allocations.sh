@@ -8,21 +8,21 @@ set -u
 cd "$(dirname "$0")/.." || exit 2
 
 tests="
-zh_limits tests::refused_memory::a_disk_is_written
-zh_limits tests::refused_memory::a_set_up_is_read
-zh_limits tests::refused_memory::totals_are_made
-zh_limits tests::refused_memory::groups_take_part
-zh_limits tests::refused_memory::voters_are_counted
-zh_limits tests::refused_memory::groups_get_seats
-zh_limits tests::matrices::a_refused_allocation_leaves_the_next_call
-zh_rows tests::refused_openings::a_disk_is_formatted
-zh_rows tests::refused_openings::an_opening_without_memory_leaves_the_disk_as_it_was
-zh_rows tests::refused_returns::a_return_is_stored_once
-zh_rows tests::refused_returns::a_return_that_needs_a_switch_is_stored_once
-zh_rows tests::refused_rows::a_row_without_memory_leaves_the_batch_as_it_was
-zh_rows tests::refused_sheets::a_sheet_without_memory_changes_nothing
-zh_rows tests::refused_texts::a_text_is_loaded_once_and_exported
-zh_rows tests::refused_rehearsals::a_rehearsal_without_memory_says_so
+zh_crate_tests tests::refused_memory::a_disk_is_written
+zh_crate_tests tests::refused_memory::a_set_up_is_read
+zh_crate_tests tests::refused_memory::totals_are_made
+zh_crate_tests tests::refused_memory::groups_take_part
+zh_crate_tests tests::refused_memory::voters_are_counted
+zh_crate_tests tests::refused_memory::groups_get_seats
+zh_crate_tests tests::matrices::a_refused_allocation_leaves_the_next_call
+zh_office_tests tests::refused_openings::a_disk_is_formatted
+zh_office_tests tests::refused_openings::an_opening_without_memory_leaves_the_disk_as_it_was
+zh_office_tests tests::refused_returns::a_return_is_stored_once
+zh_office_tests tests::refused_returns::a_return_that_needs_a_switch_is_stored_once
+zh_office_tests tests::refused_rows::a_row_without_memory_leaves_the_batch_as_it_was
+zh_office_tests tests::refused_sheets::a_sheet_without_memory_changes_nothing
+zh_office_tests tests::refused_texts::a_text_is_loaded_once_and_exported
+zh_office_tests tests::refused_rehearsals::a_rehearsal_without_memory_says_so
 "
 
 folder=$(mktemp -d) || exit 2

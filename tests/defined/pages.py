@@ -1,0 +1,158 @@
+"""What the pages of docs/ cite: the functions and clauses of PROVED, the definitions of DEFINITIONS, files and edits."""
+import re
+from dataclasses import dataclass
+
+CELL = re.compile(r"(?<!\\)\|")
+FUNCTION = re.compile(r"`([^`]+)`(,? and |, )?")
+CLAUSES = re.compile(r"(\w+)(?: \(([^)]*)\))?(, | and |$)")
+
+
+@dataclass
+class Citation:
+    """A function, and the clauses of it that carry a promise; none where it has a single one without a name."""
+    page: str
+    line: int
+    crates: list
+    functions: list
+    clauses: list
+    is_inside: bool
+
+
+class Unread(Exception):
+    """A cell that can't be read."""
+
+
+def rows_of(path):
+    """Each row of the page's tables, with its line, the crates in the heading above it, and the table's head."""
+    crates, head = [], None
+    for number, line in enumerate(path.read_text().splitlines(), 1):
+        if line.startswith("#"):
+            crates, head = re.findall(r"`(zh\w*)`", line), None
+        elif not line.startswith("|"):
+            head = None
+        elif head is None:
+            head = [it.strip() for it in CELL.split(line)[1:-1]]
+        elif not set(line) <= set("|- :"):
+            yield number, crates, head, [it.strip() for it in CELL.split(line)[1:-1]]
+
+
+def entries_of(cell):
+    """The functions and clauses of a cell of the column that says what carries a promise: entries parted by ';', each of
+    them functions in backticks and then clauses, a clause perhaps with fields in brackets."""
+    for entry in cell.split(";"):
+        entry = entry.strip()
+        is_inside = entry.endswith("(inside)")
+        rest = entry.removesuffix("(inside)").rstrip(" *")
+        functions = []
+        while found := FUNCTION.match(rest):
+            functions.append(found.group(1))
+            rest = rest[found.end():]
+            if not found.group(2):
+                break
+        rest, clauses = rest.strip(), []
+        while rest:
+            found = CLAUSES.match(rest)
+            if not found:
+                raise Unread(entry)
+            clauses.append(found.group(1))
+            rest = rest[found.end():]
+        if not functions:
+            raise Unread(entry)
+        yield functions, clauses, is_inside
+
+
+def citations(path, faults):
+    for line, crates, head, cells in rows_of(path):
+        if not head or "Carried by" not in head:
+            continue
+        try:
+            for functions, clauses, is_inside in entries_of(cells[head.index("Carried by")]):
+                yield Citation(path.name, line, crates, functions, clauses, is_inside)
+        except Unread as entry:
+            faults.append(f"{path.name}:{line}: can't be read: {entry}")
+
+
+class Contracts:
+    """The clauses of a tree, by function."""
+
+    def __init__(self, tree):
+        self.by_crate = {}
+        for it in tree.clauses:
+            self.by_crate.setdefault(it.crate, {}).setdefault(it.function, []).append(it)
+
+    def find(self, crates, name, owner):
+        """All functions of these crates that go by this name: `f`, `Type::f`, or `Trait for Type` for all of an impl.
+        A name alone is one of the type named last, or a function without a type."""
+        found = {}
+        for crate in crates:
+            for function, clauses in self.by_crate.get(crate, {}).items():
+                parts = function.split("::")
+                if function == name or parts[0] == name and len(parts) > 1:
+                    found[function] = clauses
+                elif "::" in name and " for " in function and f"{function.split(' for ')[1]}" == name:
+                    found[function] = clauses
+                elif owner and parts[-1] == name and (parts[0] == owner or parts[0].endswith(f"for {owner}")):
+                    found[function] = clauses
+        return found
+
+    def resolve(self, citation, faults, owner=None):
+        """The clauses that a citation means, and the type that it named last."""
+        meant = []
+        for name in citation.functions:
+            if "::" in name and " for " not in name:
+                owner = name.split("::")[0]
+            found = self.find(citation.crates, name, owner) or "::" in name and self.find(self.by_crate, name, owner)
+            if not found:
+                faults.append(f"{citation.page}:{citation.line}: there is no {name}")
+                continue
+            for function, clauses in found.items():
+                names = {it.name for it in clauses}
+                meant += [it for it in clauses if not citation.clauses or it.name in citation.clauses]
+                if not citation.clauses and names != {""}:
+                    faults.append(f"{citation.page}:{citation.line}: {function} has clauses with names")
+            known = {it.name for clauses in found.values() for it in clauses}
+            faults += [f"{citation.page}:{citation.line}: {name} has no clause {it}"
+                       for it in citation.clauses if found and it not in known]
+        return meant, owner
+
+
+def names_listed(path):
+    """The definitions that the tables of a page name, each with its line: the first word of each in backticks."""
+    for line, _, head, cells in rows_of(path):
+        if head and "Name" in head:
+            for name in re.findall(r"`([^`]+)`", cells[head.index("Name")]):
+                if not name.endswith((".antt", ".rt")):
+                    yield line, name.split()[0]
+
+
+def cited_things(path, tree):
+    """Each file, edit, case, crate and method that a page names in backticks or as a link, with its line and whether it
+    is there."""
+    methods = {part for it in tree.clauses for part in [it.function.split("for ")[-1]]}
+    in_block = False
+    for number, line in enumerate(path.read_text().splitlines(), 1):
+        if line.startswith("```"):
+            in_block = not in_block
+        if in_block or line.startswith("    "):
+            continue
+        for link in re.findall(r"\]\(([^)#:]+)(?:#[^)]*)?\)", line):
+            yield number, link, (path.parent / link).exists()
+        for word in re.findall(r"`([^`\s]+)`", line):
+            known = is_known(word, path, tree, methods)
+            if known is not None:
+                yield number, word, known
+
+
+def is_known(word, path, tree, methods):
+    """Whether the thing is there; None if the word names nothing of the repository."""
+    if re.fullmatch(r"zh_\w+|zhcount", word):
+        return word == "zhcount" or word in tree.crates
+    if re.fullmatch(r"[\w*]+\.(edit|case|antt|rt)", word):
+        return any(tree.top.glob(f"crates/*/**/{word}")) or any(tree.top.glob(f"tests/**/{word}"))
+    if "/out/" in word:
+        return None
+    if re.fullmatch(r"(crates|docs|tests|scripts|bench|examples)(/[\w.*-]+)+", word):
+        return any(tree.top.glob(word))
+    if re.fullmatch(r"[A-Z]\w+::[a-z]\w+", word):
+        return word in methods
+    return None
