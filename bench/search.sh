@@ -1,5 +1,6 @@
 #!/usr/bin/env bash
-# Measures the searches for divisors: the proved program and the one in C, on the same elections, in one run.
+# Measures the searches for divisors: the proved program and the one in C, on the same elections, in one run. ZH_BENCH is
+# the proved program's path; if it is not set, crates/zh_bench is proved and built first, where it is not yet.
 set -eu
 cd "$(dirname "$0")/.."
 out=$(mktemp -d)
@@ -9,26 +10,56 @@ cc=${CC:-cc}
 "$cc" -O2 -std=gnu11 bench/search.c bench/second.c bench/worked.c -o "$out/worked"
 "$out/worked"
 "$cc" -O2 -std=gnu11 bench/search.c bench/second.c bench/search_bench.c -o "$out/plain"
-(cd crates/zh_bench && rt run -- 1 1 1 1) > /dev/null 2> "$out/log" || { cat "$out/log"; exit 1; }
-proved=crates/zh_bench/out/zh_bench
+proved=${ZH_BENCH:-}
+if [ -z "$proved" ]; then
+    echo "proving zh_bench and what it stands on; minutes, where that is not yet done:" >&2
+    scripts/build zh_bench both 1 1 1 1 >&2
+    proved=crates/zh_bench/out/zh_bench
+fi
 
 # Processor time in seconds of a command, whose output goes to a file.
 TIMEFORMAT=%U
 measure() { { time "${@:2}" > "$1" 2> "$1.steps"; } 2>&1; }
 
-printf '%-28s %8s %8s %22s %22s %6s\n' 'rows x columns, seats' rounds second 'proved, us a round' 'C, us a round' ratio
-while read -r rows columns house elections; do
-    shape=("$rows" "$columns" "$house" "$elections")
-    in_c=$(measure "$out/c" "$out/plain" "${shape[@]}")
-    in_rattle=$(measure "$out/rattle" "$proved" "${shape[@]}")
-    cmp -s "$out/c" "$out/rattle" || { echo "the answers differ for ${shape[*]}"; exit 1; }
+# A row of the table: search, rows, columns, house, elections. Both programs have to print the same.
+row() {
+    local in_c in_rattle half_steps second what=$1 count=$5
+    in_c=$(measure "$out/c" "$out/plain" "$@")
+    in_rattle=$(measure "$out/rattle" "$proved" "$@")
+    cmp -s "$out/c" "$out/rattle" || { echo "the answers differ for $*"; exit 1; }
     read -r half_steps second < "$out/c.steps"
-    awk -v what="$rows x $columns, $house" -v rounds=$((half_steps / 2)) -v second="$second" -v c="$in_c" -v rattle="$in_rattle" 'BEGIN {
-        printf "%-28s %8d %8d %22.1f %22.1f %6.2f\n", what, rounds, second, 1e6 * rattle / rounds, 1e6 * c / rounds, rattle / c
+    if [ "$what" = both ]; then
+        what="a round ($second of $5 by the second)" count=$((half_steps / 2))
+    else
+        what="a second search"
+    fi
+    awk -v shape="$2 x $3, $4" -v what="$what" -v count="$count" -v c="$in_c" -v rattle="$in_rattle" 'BEGIN {
+        printf "%-14s  %-32s %8d %10.1f us %10.1f us %6.2f\n", shape, what, count, 1e6 * rattle / count, 1e6 * c / count, rattle / c
     }'
-done << 'SHAPES'
-18 10 180 500
-26 12 200 200
-32 32 400 40
+}
+
+# The longest of so many elections in the proved program, each in a run of its own.
+longest() {
+    local most=0 taken election
+    for election in $(seq "$5"); do
+        taken=$(measure "$out/rattle" "$proved" "$1" "$2" "$3" "$4" 1 "$election")
+        most=$(awk -v one="$most" -v other="$taken" 'BEGIN { print (one > other ? one : other) }')
+    done
+    awk -v count="$5" -v shape="$2 x $3, $4" -v most="$most" 'BEGIN {
+        printf "%-14s  %-32s %8d %10.1f ms\n", shape, "the longest election", count, 1000 * most
+    }'
+}
+
+printf '%-14s  %-32s %8s %13s %13s %6s\n' 'shape, seats' 'what' 'how many' proved C ratio
+while read -r shape; do
+    # shellcheck disable=SC2086
+    row both $shape
+    # shellcheck disable=SC2086
+    row second $shape
+done << SHAPES
+18 10 180 ${ELECTIONS:-300}
+26 12 200 ${ELECTIONS:-300}
+32 32 400 ${ELECTIONS:-300}
 SHAPES
+longest both 32 32 400 "${ELECTIONS:-300}"
 echo "both answered the same on all of these elections"

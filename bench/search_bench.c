@@ -1,11 +1,13 @@
-/* Runs the searches on so many made-up elections of a shape: ROWS COLUMNS HOUSE ELECTIONS.
+/* Runs the searches on made-up elections of a shape: SEARCH ROWS COLUMNS HOUSE ELECTIONS [FIRST].
  *
- * It prints the answers, a number that the divisors and seats lead to, and, as errors, the half-steps and how many of the
- * elections have their seats by the second search. The proved program prints the first two. */
+ * SEARCH is `both`, the first and the second where that is exhausted, or `second`, that one alone. FIRST is the number of
+ * the first election, or 1. It prints the answers, a number that the divisors and seats lead to, and, as errors, the
+ * half-steps and how many of the elections have their seats by the second search. The proved program prints the first two. */
 #include "search.h"
 
 #include <stdio.h>
 #include <stdlib.h>
+#include <string.h>
 
 static uint64_t state;
 
@@ -43,11 +45,33 @@ static uint64_t mixed(uint64_t sum, uint64_t number) {
     return (sum ^ number) * 1099511628211u;
 }
 
+/* Both searches, or the second alone: how many seats come by the second. */
+static int run(const struct question *q, struct outcome *o, int both) {
+    if (both) {
+        find(q, o);
+        return o->answer == EXHAUSTED && second_search(q, o);
+    }
+    memset(o, 0, sizeof *o);
+    o->answer = EXHAUSTED;
+    return second_search(q, o);
+}
+
+static uint64_t mixed_in(uint64_t sum, const struct question *q, const struct outcome *o) {
+    for (int d = 0; d < q->rows; d++)
+        sum = mixed(sum, o->of_rows[d]);
+    for (int g = 0; g < q->columns; g++)
+        sum = mixed(sum, o->of_columns[g]);
+    for (int k = 0; k < q->rows * q->columns; k++)
+        sum = mixed(sum, o->seats[k]);
+    return sum;
+}
+
 int main(int argc, char **argv) {
-    if (argc != 5)
+    if (argc < 6 || argc > 7)
         return 2;
-    int rows = atoi(argv[1]), columns = atoi(argv[2]), elections = atoi(argv[4]);
-    uint32_t house = (uint32_t)atoi(argv[3]);
+    int both = strcmp(argv[1], "both") == 0, rows = atoi(argv[2]), columns = atoi(argv[3]), elections = atoi(argv[5]);
+    uint32_t house = (uint32_t)atoi(argv[4]);
+    uint64_t first = argc > 6 ? (uint64_t)atoll(argv[6]) : 1;
     if (rows < 1 || rows > LINES || columns < 1 || columns > LINES)
         return 2;
     static struct question q;
@@ -55,22 +79,14 @@ int main(int argc, char **argv) {
     int answers[4] = {0};
     long half_steps = 0, second = 0;
     uint64_t sum = 0;
-    for (int election = 1; election <= elections; election++) {
-        if (!make(&q, rows, columns, house, (uint64_t)election))
+    for (int election = 0; election < elections; election++) {
+        if (!make(&q, rows, columns, house, first + (uint64_t)election))
             continue;
-        find(&q, &o);
+        second += run(&q, &o, both);
         half_steps += o.half_steps;
-        if (o.answer == EXHAUSTED)
-            second += second_search(&q, &o);
         answers[o.answer]++;
-        if (o.answer != FOUND)
-            continue;
-        for (int d = 0; d < rows; d++)
-            sum = mixed(sum, o.of_rows[d]);
-        for (int g = 0; g < columns; g++)
-            sum = mixed(sum, o.of_columns[g]);
-        for (int k = 0; k < rows * columns; k++)
-            sum = mixed(sum, o.seats[k]);
+        if (o.answer == FOUND)
+            sum = mixed_in(sum, &q, &o);
     }
     printf("%d found, %d tied, %d exhausted, %llu\n", answers[FOUND], answers[TIED], answers[EXHAUSTED], (unsigned long long)sum);
     fprintf(stderr, "%ld %ld\n", half_steps, second);

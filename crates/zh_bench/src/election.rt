@@ -1,8 +1,10 @@
 //! Made-up elections.
 ghost use Rattle.std.specs.Prelude.{◌≡◌, ◌*◌, ◌^◌, ◌≤◌, All, IfOk, IfSome, IsTrue, length, vec_len};
-ghost use Rattle.zh_matrices.specs.Question.{AreSeatTotals};
+ghost use Rattle.zh_matrices.specs.Question.{AreSeatTotals, EachColumnHasVotes, question};
 
 use crate::numbers::Numbers;
+use crate::search::Search;
+use crate::second::run_second;
 use crate::shape::Shape;
 use crate::tally::Tally;
 use std::alloc::{AllocError, Global};
@@ -84,9 +86,34 @@ fn totals_of(alloc: Global, sums: &[u64], house: u32) -> Result<Option<Shares>, 
     }
 }
 
+/// Makes both searches, and notes what becomes of them.
+fn run_both(
+    alloc: Global,
+    shape: &Shape,
+    matrix: &Matrix,
+    row_totals: &[u32],
+    column_totals: &[u32],
+    tally: &mut Tally,
+) -> Result<(), AllocError>
+    requires rows { matrix.now.rows ≡ shape.now.rows }
+    requires columns { matrix.now.columns ≡ shape.now.columns }
+    requires row_totals { AreSeatTotals matrix.now.rows row_totals.now }
+    requires column_totals { AreSeatTotals matrix.now.columns column_totals.now }
+    requires votes { EachColumnHasVotes (question matrix.now row_totals.now column_totals.now) }
+{
+    match find(alloc, matrix, row_totals, column_totals) {
+        Ok(lower) => tally.note_found(shape, &lower),
+        Err(LowerFault::Memory) => return Err(AllocError),
+        Err(LowerFault::Tied(..)) => tally.note_tied(),
+        Err(_) => tally.note_exhausted(),
+    }
+    Ok(())
+}
+
 /// Makes an election, and notes what becomes of it.
 pub(crate) fn run_election(
     alloc: Global,
+    search: Search,
     shape: &Shape,
     numbers: &mut Numbers,
     tally: &mut Tally,
@@ -101,11 +128,9 @@ pub(crate) fn run_election(
     let (Some(row_totals), Some(column_totals)) = (row_totals, column_totals) else {
         return Ok(());
     };
-    match find(alloc, &matrix, row_totals.seats(), column_totals.seats()) {
-        Ok(lower) => tally.note_found(shape, &lower),
-        Err(LowerFault::Memory) => return Err(AllocError),
-        Err(LowerFault::Tied(..)) => tally.note_tied(),
-        Err(_) => tally.note_exhausted(),
+    let (row_totals, column_totals) = (row_totals.seats(), column_totals.seats());
+    match search {
+        Search::Both => run_both(alloc, shape, &matrix, row_totals, column_totals, tally),
+        Search::Second => run_second(alloc, &matrix.question(row_totals, column_totals), tally),
     }
-    Ok(())
 }

@@ -1,17 +1,21 @@
 //! Lower apportionments of made-up elections, to be measured by `make bench`.
 //!
-//! It takes four arguments: the rows, the columns, the seats of the house, and the number of elections. It
-//! prints how many had seats, were tied and were exhausted, and a number that all divisors and seats go
-//! into; `bench/search_bench.c` prints the same, of a search that was written apart from this one.
+//! Its arguments are `both` searches or the `second` alone, the rows, the columns, the seats of the house, the number of
+//! elections, and the number of the first one, if it is not 1. It prints how many had seats, were tied and were exhausted,
+//! and a number that all divisors and seats go into; `bench/search_bench.c` prints the same, of searches that were written
+//! apart from these.
 #![tactic(auto)]
 
 mod election;
 mod numbers;
+mod search;
+mod second;
 mod shape;
 mod tally;
 
 use election::run_election;
 use numbers::Numbers;
+use search::Search;
 use shape::Shape;
 use std::alloc::{AllocError, Global};
 use std::process::ExitCode;
@@ -23,10 +27,10 @@ fn main(rt: HostRuntime) -> ExitCode {
     let Ok(arguments) = arguments(&rt) else {
         return ExitCode::FAILURE;
     };
-    let Some(shape) = Shape::of(&arguments) else {
+    let Some((search, shape)) = asked_for(&arguments) else {
         return ExitCode::from(2);
     };
-    match tally_of(rt.alloc(), &shape) {
+    match tally_of(rt.alloc(), search, &shape) {
         Ok(tally) => match println!(rt; "{tally}") {
             Ok(()) => ExitCode::SUCCESS,
             Err(_) => ExitCode::FAILURE,
@@ -39,12 +43,18 @@ fn arguments(rt: &HostRuntime) -> io::Result<Vec<String>> {
     Ok(env::args(rt)?.skip(1).collect(rt.alloc())?)
 }
 
+/// The search and the shape that arguments ask for.
+fn asked_for(arguments: &[String]) -> Option<(Search, Shape)> {
+    let (search, rest) = arguments.split_first()?;
+    Some((Search::of(search.as_str())?, Shape::of(rest)?))
+}
+
 /// What becomes of elections of this shape.
-fn tally_of(alloc: Global, shape: &Shape) -> Result<Tally, AllocError> {
+fn tally_of(alloc: Global, search: Search, shape: &Shape) -> Result<Tally, AllocError> {
     let mut tally = Tally::default();
     for election in 0..shape.elections {
-        let mut numbers = Numbers::new(election.wrapping_add(1));
-        run_election(alloc, shape, &mut numbers, &mut tally)?;
+        let mut numbers = Numbers::new(shape.first.wrapping_add(election));
+        run_election(alloc, search, shape, &mut numbers, &mut tally)?;
     }
     Ok(tally)
 }

@@ -1,4 +1,4 @@
-//! How large the made-up elections are, and how many.
+//! How large the made-up elections are, how many, and which is the first.
 ghost use Rattle.std.specs.Prelude.{◌≤◌};
 
 #[derive(Clone, Copy)]
@@ -7,6 +7,8 @@ pub(crate) struct Shape {
     pub(crate) columns: usize,
     pub(crate) house: u32,
     pub(crate) elections: u64,
+    /// The number of the first election.
+    pub(crate) first: u64,
     ghost some_row: { 1 ≤ rows },
     ghost few_rows: { rows ≤ 32 },
     ghost some_column: { 1 ≤ columns },
@@ -16,12 +18,17 @@ pub(crate) struct Shape {
 }
 
 impl Shape {
-    /// The shape that four arguments ask for: rows, columns, seats of the house, elections.
+    /// The shape that arguments ask for: rows, columns, seats of the house, elections, and the number of the first, which
+    /// is 1 where it is left out.
     pub(crate) fn of(arguments: &[String]) -> Option<Self> {
         let rows = arguments.first()?.parse().ok()?;
         let columns = arguments.get(1)?.parse().ok()?;
         let house = arguments.get(2)?.parse().ok()?;
         let elections = arguments.get(3)?.parse().ok()?;
+        let first = match arguments.get(4) {
+            Some(first) => first.parse().ok()?,
+            None => 1,
+        };
         if !(1..=32).contains(&rows)
             || !(1..=32).contains(&columns)
             || !(1..=400).contains(&house)
@@ -33,6 +40,7 @@ impl Shape {
             columns,
             house,
             elections,
+            first,
         })
     }
 }

@@ -47,6 +47,22 @@ impl Tally {
         }
     }
 
+    fn mix_all(&mut self, numbers: &[u64]) {
+        for number in numbers {
+            self.mix(*number);
+        }
+    }
+
+    /// The second search alone found seats, and they go into the sum after their divisors.
+    pub(crate) fn note_seats(&mut self, of_rows: &[u64], of_columns: &[u64], seats: &[u32]) {
+        self.found = self.found.saturating_add(1);
+        self.mix_all(of_rows);
+        self.mix_all(of_columns);
+        for cell in seats {
+            self.mix(u64::from(*cell));
+        }
+    }
+
     pub(crate) fn note_tied(&mut self) {
         self.tied = self.tied.saturating_add(1);
     }

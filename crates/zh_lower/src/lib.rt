@@ -9,14 +9,12 @@ pub use fault::LowerFault;
 pub use laws::one_answer;
 pub use lower::Lower;
 pub use outcome::find;
+pub use second::second_search;
 pub use zh_matrices::{Matrix, is_strict, is_weak};
 
-mod cheapest_paths;
 mod extremes;
 mod fault;
-mod first_seats;
 mod laws;
-mod logarithms;
 mod lower;
 mod middle;
 mod outcome;

@@ -7,11 +7,10 @@ ghost use Rattle.zh_lower.specs.Second.{IsMiddle, IsSecond, middle_from};
 ghost use Rattle.zh_lower.specs.SecondEnds.{EndsWithin};
 ghost use Rattle.zh_matrices.specs.SeatMatrix.{IsStrict};
 
-use crate::cheapest_paths::seats_by_paths;
 use crate::extremes::{Move, settle};
-use crate::logarithms::{Logarithms, take_logarithms};
 use crate::middle::{middle, scale_down};
 use zh_matrices::{Question, Rounding, follows};
+use zh_seat_paths::{Logarithms, seats_by_paths};
 
 const NARROW: u64 = 1_000_000_000;
 
@@ -158,7 +157,7 @@ fn are_few(seats: &[u32]) -> bool
 }
 
 /// Whether there are seats, which are looked for along cheapest paths, with divisors that give them.
-pub(crate) fn second_search(
+pub fn second_search(
     question: &Question<'_>,
     logarithms: &mut Logarithms,
     seats: &mut [u32],
@@ -177,7 +176,6 @@ pub(crate) fn second_search(
     ensures strict { IsTrue result → IsStrict (asked question.now) (millionths of_rows.new of_columns.new) seats.new }
     ensures limits { IsTrue result → AreWithinLimits (asked question.now) of_rows.new of_columns.new }
 {
-    take_logarithms(question, logarithms);
     seats_by_paths(question, logarithms, seats)
         && are_few(seats)
         && find_divisors(question, seats, of_rows, of_columns, greatest, votes)

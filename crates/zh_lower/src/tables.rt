@@ -1,9 +1,9 @@
 //! The tables of both searches.
 
-use crate::logarithms::{Logarithms, ODDS};
 use std::alloc::{AllocError, Global};
 use zh_matrices::Question;
 use zh_search::Quotient;
+use zh_seat_paths::Logarithms;
 
 /// The divisors of a search, with the seats that they give. The memory of both is taken before the first begins.
 #[derive(Drop)]
@@ -40,10 +40,7 @@ impl Tables {
             seats: vec![in alloc; 0; cells]?,
             others: vec![in alloc; 0; cells]?,
             greatest: vec![in alloc; 0; question.columns]?,
-            logarithms: Logarithms {
-                of_votes: vec![in alloc; 0; cells]?,
-                of_odds: vec![in alloc; 0; ODDS]?,
-            },
+            logarithms: Logarithms::new(alloc, cells)?,
         })
     }
 }

@@ -7,3 +7,4 @@ mod PathLemmas
 mod StepLemmas
 mod TurnLemmas
 mod WayLemmas
+mod WithinLemmas

@@ -1,17 +1,18 @@
 -- What an explanation says.
-use Rattle.std.specs.Prelude.{ℕ, List}
-use Rattle.zh_reasons.specs.Candidates.{IsNearTie}
+use Rattle.std.specs.Prelude.{ℕ}
 use Rattle.zh_reasons.specs.Impossible.{FitsVotes, HasTooFewSeats}
+use Rattle.zh_reasons.specs.Pairs.{IsNearTie}
 use Rattle.zh_matrices.specs.Question.{Question}
-use Rattle.zh_reasons.specs.declared.candidates.Candidate.{Candidate}
 use Rattle.zh_reasons.specs.declared.explanation.Explanation.{Explanation}
 use Rattle.zh_reasons.specs.declared.explanation.Explanation.TheVariants.{Impossible, NearlyTied, Undecided}
+use Rattle.zh_reasons.specs.declared.room.Room.{Room}
 
--- with this candidate for a near tie; where it is not impossible, these seats are a matrix on the votes with the totals
-abbrev pub Explains : Question → Candidate → List ℕ → Explanation → Type 0
-Explains q candidate seats (Impossible rows) = HasTooFewSeats q rows
-Explains q candidate seats (NearlyTied d g) = FitsVotes q seats × IsNearTie q candidate d g
-Explains q candidate seats Undecided = FitsVotes q seats × ((d g : ℕ) → ¬ IsNearTie q candidate d g)
+-- what it says of the matrix and the pair that are left in the room: where it is not impossible, the matrix is one on the
+-- votes with the totals, and the pair decides whether there is a near tie
+abbrev pub Explains : Question → Room → Explanation → Type 0
+Explains q room (Impossible rows) = HasTooFewSeats q rows
+Explains q room (NearlyTied d g) = FitsVotes q room.placed.items × IsNearTie q room.pair d g
+Explains q room Undecided = FitsVotes q room.placed.items × ((d g : ℕ) → ¬ IsNearTie q room.pair d g)
 
 -- that there is no such matrix
 abbrev pub SaysImpossible : Explanation → Type 0

@@ -1,4 +1,5 @@
-pub mod Candidates
 pub mod Explained
 pub mod Impossible
+pub mod Pairs
+pub mod Rooms
 pub mod Ways

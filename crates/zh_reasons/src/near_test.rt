@@ -2,13 +2,13 @@
 ghost use Rattle.std.specs.Prelude.{◌≡◌, ℕ, ◌*◌, ◌^◌, ◌<◌, ◌≤◌, ◌↔◌};
 ghost use Rattle.std.specs.Prelude.{All, IfNone, IfSome, IsTrue, length, slice_index};
 ghost use Rattle.zh_matrices.specs.Asked.{asked};
-ghost use Rattle.zh_reasons.specs.Candidates as words;
 ghost use Rattle.zh_matrices.specs.Divisors.{AreWithin, AreWithinLimits, millionths};
 ghost use Rattle.zh_matrices.specs.NearlyTied.{DifferFirstAt, IsNear};
-ghost use Rattle.zh_reasons.specs.Candidates.{IsFirstDifference};
+ghost use Rattle.zh_reasons.specs.Pairs as words;
+ghost use Rattle.zh_reasons.specs.Pairs.{IsFirstDifference};
 ghost use Rattle.zh_matrices.specs.Question.{AreSeatTotals};
 
-use crate::candidates::Candidate;
+use crate::pair::Pair;
 use zh_matrices::{Question, Rounding, follows};
 
 /// Whether there is one divisor for each line, from 1 to the most.
@@ -76,26 +76,26 @@ fn first_difference(question: &Question<'_>, seats: &[u32], others: &[u32]) -> O
 }
 
 /// Whether both matrices follow nearly from the divisors.
-fn both_are_near(question: &Question<'_>, candidate: &Candidate<'_>) -> bool
+fn both_are_near(question: &Question<'_>, pair: &Pair) -> bool
     requires { AreSeatTotals question.now.rows question.now.row_totals.now }
-    ensures { IsTrue result ↔ words.BothAreNear (asked question.now) candidate.now }
+    ensures { IsTrue result ↔ words.BothAreNear (asked question.now) pair.now }
 {
-    let of_rows = candidate.row_divisors;
-    let of_columns = candidate.column_divisors;
+    let of_rows = pair.row_divisors.as_slice();
+    let of_columns = pair.column_divisors.as_slice();
     are_within(question.rows, 1_000_000_000_000_000_000, of_rows)
         && are_within(question.columns, 1_000_000_000_000, of_columns)
-        && follow_nearly(question, of_rows, of_columns, candidate.seats)
-        && follow_nearly(question, of_rows, of_columns, candidate.others)
+        && follow_nearly(question, of_rows, of_columns, &pair.seats)
+        && follow_nearly(question, of_rows, of_columns, &pair.others)
 }
 
 /// The first cell in which the two matrices differ, if they are nearly tied.
-pub(crate) fn near_tie(question: &Question<'_>, candidate: &Candidate<'_>) -> Option<(u32, u32)>
+pub(crate) fn near_tie(question: &Question<'_>, pair: &Pair) -> Option<(u32, u32)>
     requires { AreSeatTotals question.now.rows question.now.row_totals.now }
-    ensures tied { IfSome result (λ cell. words.IsNearTie (asked question.now) candidate.now cell.0 cell.1) }
-    ensures none { IfNone result ((d g : ℕ) → ¬ words.IsNearTie (asked question.now) candidate.now d g) }
+    ensures tied { IfSome result (λ cell. words.IsNearTie (asked question.now) pair.now cell.0 cell.1) }
+    ensures none { IfNone result ((d g : ℕ) → ¬ words.IsNearTie (asked question.now) pair.now d g) }
 {
-    if both_are_near(question, candidate) {
-        first_difference(question, candidate.seats, candidate.others)
+    if both_are_near(question, pair) {
+        first_difference(question, &pair.seats, &pair.others)
     } else {
         None
     }

@@ -1,47 +1,68 @@
 -- Why an exhausted search found no seats, in the numbers of the set-up.
-use Rattle.std.proofs.Common.{◌≡◌, ℕ, ◌-◌, Bool, List, Err, Ok, refl, sym, slice_index}
-use Rattle.zh_reasons.specs.Candidates.{IsNearTie}
+use Rattle.std.proofs.Common.{◌≡◌, ℕ, ◌-◌, ◌≤◌, Bool, List, Err, Ok, inl, inr, refl, sym, slice_index, arith}
+use Rattle.std.proofs.lemmas.Bool.{cases_lt}
 use Rattle.zh_reasons.specs.Impossible.{FitsVotes, HasTooFewSeats}
-use Rattle.zh_reasons.specs.declared.candidates.Candidate.{Candidate}
+use Rattle.zh_reasons.specs.Pairs.{IsNearTie}
+use Rattle.zh_reasons.specs.declared.pair.Pair.{Pair}
 use Rattle.zh_totals.specs.Totals.{VoteTotals}
 use Rattle.zh_sheet.specs.Distribution.{Distribution, Targets, lower_question, seated_groups}
-use Rattle.zh_sheet.specs.Reasons.{IsExplained}
-use Rattle.zh_sheet.specs.Refusals.{IsAnswer}
+use Rattle.zh_sheet.specs.Reasons.{IsExplained, IsReason}
+use Rattle.zh_sheet.specs.Refusals.{IsAnswer, IsFirstCase, place_in_order}
 use Rattle.zh_sheet.specs.declared.fault.SheetFault.{SheetFault}
 use Rattle.zh_sheet.specs.declared.fault.SheetFault.TheVariants as faults
+use Rattle.zh_sheet.specs.declared.reason.ExhaustedReason.{ExhaustedReason}
 use Rattle.zh_sheet.specs.declared.reason.ExhaustedReason.TheVariants as reasons
 use Rattle.zh_sheet.proofs.RefusalLemmas.{memory_answer}
 
--- an answer above
-pub not_explained : (t : VoteTotals) (candidate : Candidate) (fault : SheetFault) → IsAnswer {Sheet = Distribution} t (Err fault) →
-    IsExplained t candidate (Err fault)
-not_explained t candidate fault is = record { reason = tt; refused = is.refused fault refl }
+-- only memory has no place
+placeless : (fault : SheetFault) → place_in_order fault ≡ 0 → fault ≡ faults.Memory
+placeless faults.Memory none = refl
+placeless _ none = absurd (omega (arith, none))
 
-pub no_memory : (t : VoteTotals) (candidate : Candidate) → IsExplained t candidate (Err faults.Memory)
-no_memory t candidate = not_explained t candidate faults.Memory (memory_answer t)
+-- where the search is exhausted, no case before it holds
+memory_alone : (t : VoteTotals) (fault : SheetFault) → IsFirstCase t fault → place_in_order fault ≤ 5 → IsFirstCase t faults.Exhausted →
+    fault ≡ faults.Memory
+memory_alone t fault first above exhausted =
+    elim (cases_lt 0 (place_in_order fault)) [
+      | inl some ↦ absurd (exhausted.first fault (omega (arith, some)) (omega (arith, above)) first.holds)
+      | inr none ↦ placeless fault (omega (arith, none))
+    ]
 
--- each explanation
-pub impossible : (t : VoteTotals) (a : Targets t) (candidate : Candidate) (rows : List Bool) →
-    HasTooFewSeats (lower_question t a.seats a.upper) rows → IsExplained t candidate (Ok (reasons.Impossible rows))
-impossible t a candidate rows few = record { reason = record { targets = a; too_few = few }; refused = tt }
+-- a refusal above
+pub refused_above : (t : VoteTotals) (fault : SheetFault) → IsAnswer {Sheet = Distribution} t (Err fault) → place_in_order fault ≤ 5 →
+    IsExplained t (Err fault)
+refused_above t fault is above =
+    let first : IsFirstCase t fault = is.refused fault refl in
+    record {
+      reason = tt;
+      refused = record { first = first; above = above };
+      exhausted = memory_alone t fault first above;
+    }
 
-pub nearly_tied : (t : VoteTotals) (a : Targets t) (candidate : Candidate) (seats : List ℕ) (d column g : ℕ) →
-    FitsVotes (lower_question t a.seats a.upper) seats → IsNearTie (lower_question t a.seats a.upper) candidate d column →
-    g ≡ slice_index (seated_groups a.upper) (column - 1) → IsExplained t candidate (Ok (reasons.NearlyTied d g))
-nearly_tied t a candidate seats d column g fits tie is = record {
-  reason = record {
-    targets = a;
-    possible = (seats, fits);
-    column = column;
-    column_from_one = tie.tied.first.column_from_1;
-    column_there = tie.tied.first.column;
-    of_group = sym is;
-    tied = tie;
-  };
-  refused = tt;
+pub no_memory : (t : VoteTotals) → IsExplained t (Err faults.Memory)
+no_memory t = refused_above t faults.Memory (memory_answer t) (omega arith)
+
+-- a reason
+pub explained : (t : VoteTotals) (reason : ExhaustedReason) → IsReason t reason → IsExplained t (Ok reason)
+explained t reason is = record { reason = is; refused = tt; exhausted = λ exhausted. tt }
+
+pub impossible : (t : VoteTotals) (a : Targets t) (rows : List Bool) → HasTooFewSeats (lower_question t a.seats a.upper) rows →
+    IsReason t (reasons.Impossible rows)
+impossible t a rows few = record { targets = a; too_few = few }
+
+pub nearly_tied : (t : VoteTotals) (a : Targets t) (pair : Pair) (seats : List ℕ) (d column g : ℕ) →
+    FitsVotes (lower_question t a.seats a.upper) seats → IsNearTie (lower_question t a.seats a.upper) pair d column →
+    g ≡ slice_index (seated_groups a.upper) (column - 1) → IsReason t (reasons.NearlyTied d g)
+nearly_tied t a pair seats d column g fits tie is = record {
+  targets = a;
+  possible = (seats, fits);
+  column = column;
+  column_from_one = tie.tied.first.column_from_1;
+  column_there = tie.tied.first.column;
+  of_group = sym is;
+  pair = pair;
+  tied = tie;
 }
 
-pub undecided : (t : VoteTotals) (a : Targets t) (candidate : Candidate) (seats : List ℕ) →
-    FitsVotes (lower_question t a.seats a.upper) seats →
-    ((d column : ℕ) → ¬ IsNearTie (lower_question t a.seats a.upper) candidate d column) → IsExplained t candidate (Ok reasons.Undecided)
-undecided t a candidate seats fits untied = record { reason = record { targets = a; possible = (seats, fits); untied = untied }; refused = tt }
+pub undecided : (t : VoteTotals) (a : Targets t) (seats : List ℕ) → FitsVotes (lower_question t a.seats a.upper) seats → IsReason t reasons.Undecided
+undecided t a seats fits = record { targets = a; possible = (seats, fits) }

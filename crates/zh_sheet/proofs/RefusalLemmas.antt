@@ -4,7 +4,11 @@ use Rattle.std.proofs.lemmas.Bool.{cases_order}
 use Rattle.zh_totals.specs.Totals.{VoteTotals}
 use Rattle.zh_sheet.specs.Distribution.{Distribution, Targets}
 use Rattle.zh_sheet.specs.Made.{IsMade}
-use Rattle.zh_sheet.specs.Stages.{IsAboveLists}
+use Rattle.zh_districts.specs.declared.shares.SeatFault.{SeatFault}
+use Rattle.zh_districts.specs.declared.shares.SeatFault.TheVariants as seat_faults
+use Rattle.zh_upper.specs.declared.fault.UpperFault.{UpperFault}
+use Rattle.zh_upper.specs.declared.fault.UpperFault.TheVariants as upper_faults
+use Rattle.zh_sheet.specs.Stages.{IsAboveLists, of_seats, of_upper}
 use Rattle.zh_sheet.specs.Refusals.{GetsNoSeat, HasNoMatrix, HasNoVotes, HaveNoVoters, IsCaseOf, IsAnswer, IsFirstCase, IsTiedAbove, NoneOf, NoneTakesPart, place_in_order}
 use Rattle.zh_sheet.specs.declared.fault.SheetFault.{SheetFault}
 use Rattle.zh_sheet.specs.declared.fault.SheetFault.TheVariants as faults
@@ -52,8 +56,21 @@ refused_answer {Sheet} totals fault there because none = record {
 }
 
 -- nor are there the seats above
-pub not_above : (totals : VoteTotals) (fault : SheetFault) → IsAnswer {Sheet = Distribution} totals (Err fault) → IsAboveLists totals (Err fault)
-not_above totals fault is = record { given = tt; refused = is }
+pub not_above : (totals : VoteTotals) (fault : SheetFault) → place_in_order fault ≤ 5 → IsAnswer {Sheet = Distribution} totals (Err fault) →
+    IsAboveLists totals (Err fault)
+not_above totals fault early is = record { given = tt; refused = is; early = early }
+
+-- the refusals of the parts above come before those of the lists
+pub seats_early : (fault : SeatFault) → place_in_order (of_seats fault) ≤ 5
+seats_early seat_faults.Memory = omega arith
+seats_early seat_faults.Tied = omega arith
+seats_early (seat_faults.NoSeat d) = omega arith
+
+pub upper_early : (fault : UpperFault) → place_in_order (of_upper fault) ≤ 5
+upper_early upper_faults.Memory = omega arith
+upper_early upper_faults.NoGroup = omega arith
+upper_early upper_faults.NoVoters = omega arith
+upper_early upper_faults.Tied = omega arith
 
 -- no sheet is made
 pub not_made : (totals : VoteTotals) (fault : SheetFault) → IsAnswer {Sheet = Distribution} totals (Err fault) → IsMade totals (Err fault)

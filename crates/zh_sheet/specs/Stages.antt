@@ -14,7 +14,7 @@ use Rattle.zh_upper.specs.VoterNumbers.{AreVoterSums}
 use Rattle.zh_upper.specs.declared.fault.UpperFault.{UpperFault}
 use Rattle.zh_upper.specs.declared.fault.UpperFault.TheVariants as upper_faults
 use Rattle.zh_sheet.specs.Distribution.{Distribution, HaveSeats}
-use Rattle.zh_sheet.specs.Refusals.{IsAnswer, NoneOf}
+use Rattle.zh_sheet.specs.Refusals.{IsAnswer, NoneOf, place_in_order}
 use Rattle.zh_sheet.specs.declared.above.Above.{Above}
 use Rattle.zh_sheet.specs.declared.fault.SheetFault.{SheetFault}
 use Rattle.zh_sheet.specs.declared.fault.SheetFault.TheVariants as faults
@@ -42,10 +42,11 @@ pub record StandAbove (totals : VoteTotals) (seats : Apportionment) (taking : Li
   pub upper_key : HasDivisor (of_participants voters taking) (shares_of_participants upper taking)
   pub none : NoneOf 4 totals
 
--- they stand, or this is why there is no sheet
+-- they stand, or this is why there is no sheet: a case before those of the lists
 pub record IsAboveLists (totals : VoteTotals) (result : Result Above SheetFault) : Type 0 where
   pub given : IfOk result (λ above. StandAbove totals above.seats above.taking.items above.voters.items above.upper)
   pub refused : IfErr result (λ fault. IsAnswer {Sheet = Distribution} totals (Err fault))
+  pub early : IfErr result (λ fault. place_in_order fault ≤ 5)
 
 -- what a lower apportionment may be asked: 1 to 32 lines, each with a total of 1 to 400 seats, and votes in each column
 pub record CanBeAsked (q : Question) : Type 0 where

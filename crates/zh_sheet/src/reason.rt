@@ -1,13 +1,14 @@
 //! Why the search for the seats of the lists found none.
-ghost use Rattle.zh_sheet.specs.Reasons.{IsExplained};
+ghost use Rattle.std.specs.Prelude.{IfOk};
+ghost use Rattle.zh_sheet.specs.Reasons.{IsExplained, IsReason};
 ghost use Rattle.zh_sheet.specs.Stages.{StandAbove};
 
 use crate::above::{Above, seats_above};
 use crate::fault::SheetFault;
 use crate::seated::{seated_groups, seats_of, votes_of};
-use std::alloc::Global;
+use std::alloc::{AllocError, Global};
 use zh_lower::Matrix;
-use zh_reasons::{Candidate, Explanation, MarkedRows, explain_exhausted};
+use zh_reasons::{Explanation, MarkedRows, Room, explain_exhausted};
 use zh_totals::Totals;
 
 /// Why the search for the seats of the lists found none, in the numbers of the set-up.
@@ -28,10 +29,9 @@ fn reason_below(
     alloc: Global,
     totals: &Totals<'_>,
     above: &Above,
-    candidate: &Candidate<'_>,
-) -> Result<ExhaustedReason, SheetFault>
+) -> Result<ExhaustedReason, AllocError>
     requires { StandAbove totals.now above.now.seats above.now.taking.items above.now.voters.items above.now.upper }
-    ensures { IsExplained totals.now candidate.now result }
+    ensures { IfOk result (IsReason totals.now) }
 {
     let setup = totals.setup();
     let rows = setup.constituencies() as usize;
@@ -39,9 +39,9 @@ fn reason_below(
     let column_totals = seats_of(alloc, &above.upper, &seated)?;
     let votes = votes_of(alloc, totals, &seated)?;
     let matrix = Matrix::new(alloc, rows, seated.len(), &votes)?;
-    let mut room = vec![in alloc; 0; rows * seated.len()]?;
+    let mut room = Room::new(alloc, rows, seated.len())?;
     let row_totals = above.seats.seats();
-    match explain_exhausted(&matrix, row_totals, &column_totals, candidate, &mut room) {
+    match explain_exhausted(&matrix, row_totals, &column_totals, &mut room) {
         Explanation::Impossible(constituencies) => Ok(ExhaustedReason::Impossible(constituencies)),
         Explanation::NearlyTied(constituency, column) => Ok(ExhaustedReason::NearlyTied(
             constituency,
@@ -51,16 +51,12 @@ fn reason_below(
     }
 }
 
-/// Why the sheet of these totals, which was refused as exhausted, has no seats, with a candidate for a near tie, whose
-/// columns are the groups with seats, in order. Whether it was refused so is not asked again; but what is refused before the
-/// lists get their seats, and refused memory, are returned as for a sheet.
-pub fn explain(
-    alloc: Global,
-    totals: &Totals<'_>,
-    candidate: &Candidate<'_>,
-) -> Result<ExhaustedReason, SheetFault>
-    ensures { IsExplained totals.now candidate.now result }
+/// Why the sheet of these totals, which was refused as exhausted, has no seats. Whether it was refused so is not asked
+/// again; but what is refused before the lists get their seats, and refused memory, are returned as for a sheet.
+pub fn explain(alloc: Global, totals: &Totals<'_>) -> Result<ExhaustedReason, SheetFault>
+    ensures { IsExplained totals.now result }
 {
     let above = seats_above(alloc, totals)?;
-    reason_below(alloc, totals, &above, candidate)
+    let reason = reason_below(alloc, totals, &above)?;
+    Ok(reason)
 }

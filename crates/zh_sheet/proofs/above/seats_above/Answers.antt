@@ -1,10 +1,10 @@
-use Rattle.std.proofs.Common.{◌∙◌, sym}
+use Rattle.std.proofs.Common.{◌∙◌, sym, arith}
 use Rattle.std.proofs.lemmas.List.{length-map}
 use Rattle.std.proofs.lemmas.Result.{err_from_is_err_and}
 use Rattle.zh_sheet.specs.Distribution.{HaveSeats}
 use Rattle.zh_sheet.proofs.AskedLemmas.{each_seated}
 use Rattle.zh_sheet.proofs.DistributionLemmas.{IsBasis, seats_refused, upper_given, upper_refused}
-use Rattle.zh_sheet.proofs.RefusalLemmas.{memory_answer, not_above}
+use Rattle.zh_sheet.proofs.RefusalLemmas.{memory_answer, not_above, seats_early, upper_early}
 use Rattle.zh_sheet.proofs.above.seats_above.Goals as goal
 
 pub returns-in_err-seats : goal.returns-in_err-seats
@@ -12,7 +12,7 @@ returns-in_err-seats c =
     let p = err_from_is_err_and c.from_residual.result c.from_residual.ensures.1 in
     let tied = rw c.setup-setup.ensures.setup at c.in_err-seats.ensures.tied in
     let without = rw c.setup-setup.ensures.setup at c.in_err-seats.ensures.no_seat in
-    rw (p.1, p.2) (not_above c.args.totals.now _ (seats_refused c.args.totals.now _ tied without))
+    rw (p.1, p.2) (not_above c.args.totals.now _ (seats_early _) (seats_refused c.args.totals.now _ tied without))
 
 pub voters-requires-clause-each_seated : goal.voters-requires-clause-each_seated
 voters-requires-clause-each_seated c =
@@ -32,7 +32,7 @@ returns-in_err-upper c =
     let tied = rw (c.deref.ensures.value, c.deref-2.ensures.value, c.house.ensures.house, c.setup-setup.ensures.setup) at c.in_err-upper.ensures.tied in
     let p = err_from_is_err_and c.from_residual-in_err-upper.result c.from_residual-in_err-upper.ensures.1 in
     rw (p.1, p.2)
-    (not_above c.args.totals.now _
+    (not_above c.args.totals.now _ (upper_early _)
     (upper_refused c.args.totals.now c.in_ok-seats.seats.seats c.in_ok-taking.taking.items c.in_ok-voters.voters.items basis _ no_group no_voters tied))
 
 pub returns : goal.returns
@@ -55,17 +55,18 @@ returns c =
         none = upper_given c.args.totals.now c.in_ok-seats.seats.seats c.in_ok-taking.taking.items c.in_ok-voters.voters.items basis c.in_ok-upper.upper no_group no_voters;
       };
       refused = tt;
+      early = tt;
     }
 
 pub returns-in_err-taking : goal.returns-in_err-taking
 returns-in_err-taking c =
     let p = err_from_is_err_and c.from_residual-in_err-taking.result c.from_residual-in_err-taking.ensures.1 in
-    rw (p.1, p.2) (not_above c.args.totals.now _ (memory_answer c.args.totals.now))
+    rw (p.1, p.2) (not_above c.args.totals.now _ (omega arith) (memory_answer c.args.totals.now))
 
 pub returns-in_err-voters : goal.returns-in_err-voters
 returns-in_err-voters c =
     let p = err_from_is_err_and c.from_residual-in_err-voters.result c.from_residual-in_err-voters.ensures.1 in
-    rw (p.1, p.2) (not_above c.args.totals.now _ (memory_answer c.args.totals.now))
+    rw (p.1, p.2) (not_above c.args.totals.now _ (omega arith) (memory_answer c.args.totals.now))
 
 pub voters-requires-clause-one_each : goal.voters-requires-clause-one_each
 voters-requires-clause-one_each c =

@@ -1,42 +1,16 @@
 use Rattle.std.proofs.Common.{◌≡◌, ap, arith, length, refl, rules, subst, sym, ◌∙◌}
 use Rattle.std.proofs.lemmas.Grind.{common_steps}
-use Rattle.std.proofs.lemmas.Result.{err_from_is_err_and}
 use Rattle.zh_matrices.specs.Question.{Question, question}
-use Rattle.zh_reasons.specs.Candidates.{IsNearTie}
 use Rattle.zh_reasons.specs.Impossible.{FitsVotes, HasTooFewSeats}
+use Rattle.zh_reasons.specs.Pairs.{IsNearTie}
 use Rattle.zh_reasons.specs.Ways.{AreBalanced}
 use Rattle.zh_sheet.specs.Distribution.{lower_question, seated_groups}
 use Rattle.zh_sheet.proofs.AskedLemmas.{can_be_asked, length-upper}
 use Rattle.zh_sheet.proofs.BalanceLemmas.{balanced}
 use Rattle.zh_sheet.proofs.DistributionLemmas.{targets_above}
-use Rattle.zh_sheet.proofs.ReasonLemmas.{impossible, nearly_tied, no_memory, undecided}
+use Rattle.zh_sheet.proofs.ReasonLemmas.{impossible, nearly_tied, undecided}
 use Rattle.zh_sheet.proofs.SeatedLemmas.{length-seated_votes, seated_within}
 use Rattle.zh_sheet.proofs.reason.reason_below.Goals as goal
-
-pub returns-in_err-seated : goal.returns-in_err-seated
-returns-in_err-seated c =
-    let p = err_from_is_err_and c.from_residual.result c.from_residual.ensures.1 in
-    rw (p.1, p.2) (no_memory c.args.totals.now c.args.candidate.now)
-
-pub returns-in_err-column_totals : goal.returns-in_err-column_totals
-returns-in_err-column_totals c =
-    let p = err_from_is_err_and c.from_residual-in_err-column_totals.result c.from_residual-in_err-column_totals.ensures.1 in
-    rw (p.1, p.2) (no_memory c.args.totals.now c.args.candidate.now)
-
-pub returns-in_err-votes : goal.returns-in_err-votes
-returns-in_err-votes c =
-    let p = err_from_is_err_and c.from_residual-in_err-votes.result c.from_residual-in_err-votes.ensures.1 in
-    rw (p.1, p.2) (no_memory c.args.totals.now c.args.candidate.now)
-
-pub returns-in_err-matrix : goal.returns-in_err-matrix
-returns-in_err-matrix c =
-    let p = err_from_is_err_and c.from_residual-in_err-matrix.result c.from_residual-in_err-matrix.ensures.1 in
-    rw (p.1, p.2) (no_memory c.args.totals.now c.args.candidate.now)
-
-pub returns-in_err-room : goal.returns-in_err-room
-returns-in_err-room c =
-    let p = err_from_is_err_and c.from_residual-in_err-room.result c.from_residual-in_err-room.ensures.1 in
-    rw (p.1, p.2) (no_memory c.args.totals.now c.args.candidate.now)
 
 pub seats_of-requires : goal.seats_of-requires
 seats_of-requires c =
@@ -132,7 +106,7 @@ returns-in-Impossible c =
       c.deref-2.ensures.value,
       c.in_ok-seated.ensures,
     ) refl in
-    impossible c.args.totals.now targets c.args.candidate.now c.in-Impossible.constituencies
+    impossible c.args.totals.now targets c.in-Impossible.constituencies
     (subst (λ (q : Question). HasTooFewSeats q c.in-Impossible.constituencies) same c.in-Impossible.ensures.explains)
 
 pub returns-in-NearlyTied : goal.returns-in-NearlyTied
@@ -155,10 +129,10 @@ returns-in-NearlyTied c =
       c.deref-2.ensures.value,
       c.in_ok-seated.ensures,
     ) refl in
-    nearly_tied c.args.totals.now targets c.args.candidate.now c.explain_exhausted.new.room c.in-NearlyTied.constituency c.in-NearlyTied.column
-    c.index.result.now
-    (subst (λ (q : Question). FitsVotes q c.explain_exhausted.new.room) same c.in-NearlyTied.ensures.explains.0)
-    (subst (λ (q : Question). IsNearTie q c.args.candidate.now c.in-NearlyTied.constituency c.in-NearlyTied.column) same c.in-NearlyTied.ensures.explains.1)
+    nearly_tied c.args.totals.now targets c.explain_exhausted.new.room.pair c.explain_exhausted.new.room.placed.items
+    c.in-NearlyTied.constituency c.in-NearlyTied.column c.index.result.now
+    (subst (λ (q : Question). FitsVotes q c.explain_exhausted.new.room.placed.items) same c.in-NearlyTied.ensures.explains.0)
+    (subst (λ (q : Question). IsNearTie q c.explain_exhausted.new.room.pair c.in-NearlyTied.constituency c.in-NearlyTied.column) same c.in-NearlyTied.ensures.explains.1)
     (first_of (search rules, grind (arith, common_steps), cc))
 
 pub returns : goal.returns
@@ -181,6 +155,5 @@ returns c =
       c.deref-2.ensures.value,
       c.in_ok-seated.ensures,
     ) refl in
-    undecided c.args.totals.now targets c.args.candidate.now c.explain_exhausted.new.room
-    (subst (λ (q : Question). FitsVotes q c.explain_exhausted.new.room) same c.in-Undecided.ensures.explains.0)
-    (λ d column. subst (λ (q : Question). ¬ IsNearTie q c.args.candidate.now d column) same (c.in-Undecided.ensures.explains.1 d column))
+    undecided c.args.totals.now targets c.explain_exhausted.new.room.placed.items
+    (subst (λ (q : Question). FitsVotes q c.explain_exhausted.new.room.placed.items) same c.in-Undecided.ensures.explains.0)

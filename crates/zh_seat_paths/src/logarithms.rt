@@ -1,23 +1,36 @@
 //! Logarithms to base 2, in units of 2^-50, as prices of seats.
 //!
 //! Nothing is claimed of them: what is found by them is tested afterwards. A sum of some, around 2^63, may wrap.
-ghost use Rattle.std.specs.Prelude.{◌<◌};
+ghost use Rattle.std.specs.Prelude.{◌≡◌, ◌<◌, IfOk, length};
 
+use std::alloc::{AllocError, Global};
 use zh_matrices::Question;
 
 /// Where prices begin, so that sums of them are not below 0.
 pub(crate) const BASE: u64 = 1 << 63;
 
 /// The numbers 1, 3, 5 .. whose logarithms are kept: a cell has at most 400 seats.
-pub(crate) const ODDS: usize = 402;
+const ODDS: usize = 402;
 
 const BITS: u32 = 50;
 
 /// Of each cell's votes, and of the odd numbers.
 #[derive(Drop)]
-pub(crate) struct Logarithms {
-    pub of_votes: Vec<u64>,
-    pub of_odds: Vec<u64>,
+pub struct Logarithms {
+    of_votes: Vec<u64>,
+    of_odds: Vec<u64>,
+}
+
+impl Logarithms {
+    /// Room for the logarithms of a question of so many cells.
+    pub fn new(alloc: Global, cells: usize) -> Result<Self, AllocError>
+        ensures { IfOk result (λ logarithms. length logarithms.of_votes.items ≡ cells) }
+    {
+        Ok(Logarithms {
+            of_votes: vec![in alloc; 0; cells]?,
+            of_odds: vec![in alloc; 0; ODDS]?,
+        })
+    }
 }
 
 /// The 64 bits from bit `from` on.

@@ -1,6 +1,6 @@
 use Rattle.std.proofs.Common.{◌*◌, ◌≤◌, ◌^◌, ◌-◌, arith}
 use Rattle.std.proofs.Math.Nat.{mul-le-mul}
-use Rattle.zh_lower.proofs.logarithms.squared.Goals as goal
+use Rattle.zh_seat_paths.proofs.logarithms.squared.Goals as goal
 
 pub overflow_mul-result : goal.overflow_mul-result
 overflow_mul-result c =

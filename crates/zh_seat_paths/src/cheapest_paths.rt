@@ -1,11 +1,13 @@
 //! Seats for the columns that lack some, along the cheapest paths from columns that have too many.
 //!
 //! A seat taken from a cell leads from its column to its row, at the negative of its last price; a seat given leads
-//! from its row to its column, at its next price. Nothing is claimed of what is found: it is tested afterwards.
-ghost use Rattle.std.specs.Prelude.{◌≡◌, ◌*◌, ◌<◌, length};
+//! from its row to its column, at its next price.
+ghost use Rattle.std.specs.Prelude.{◌≡◌, ◌*◌, ◌<◌, IsTrue, length};
+ghost use Rattle.zh_matrices.specs.Asked.{asked};
+ghost use Rattle.zh_seat_paths.specs.Full.{HaveNoMore, IfDone};
 
 use crate::first_seats::fill_rows;
-use crate::logarithms::{BASE, Logarithms, last_price, next_price};
+use crate::logarithms::{BASE, Logarithms, last_price, next_price, take_logarithms};
 use zh_matrices::{Question, column_sum};
 
 /// The most lines of one kind.
@@ -38,7 +40,7 @@ impl Way {
 
 /// What becomes of the search for one path.
 #[derive(Clone, Copy)]
-enum Step {
+pub(crate) enum Step {
     Done,
     Turned,
     Stuck,
@@ -59,6 +61,7 @@ fn price_of(ways: &[Way], line: usize) -> u64 {
 fn mark_full(question: &Question<'_>, seats: &[u32], columns: &mut [Way]) -> bool
     requires seats { length seats.now ≡ question.now.rows * question.now.columns }
     requires columns { length columns.old ≡ 32 }
+    ensures { ¬ IsTrue result → HaveNoMore (asked question.now) seats.now }
 {
     let mut some = false;
     for column in 0..question.columns {
@@ -206,6 +209,7 @@ fn turn_path(question: &Question<'_>, seats: &mut [u32], rows: &[Way], columns: 
 /// Finds one path and turns it.
 fn add_path(question: &Question<'_>, logarithms: &Logarithms, seats: &mut [u32]) -> Step
     requires { length seats.old ≡ question.now.rows * question.now.columns }
+    ensures { IfDone result (HaveNoMore (asked question.now) seats.new) }
 {
     let mut rows = [Way::NONE; LINES];
     let mut columns = [Way::NONE; LINES];
@@ -222,14 +226,16 @@ fn add_path(question: &Question<'_>, logarithms: &Logarithms, seats: &mut [u32])
     }
 }
 
-/// Seats that may be the ones: whether each column has its total.
-pub(crate) fn seats_by_paths(
+/// Seats that may follow from some divisors: whether no column has more than its total. The logarithms are taken anew.
+pub fn seats_by_paths(
     question: &Question<'_>,
-    logarithms: &Logarithms,
+    logarithms: &mut Logarithms,
     seats: &mut [u32],
 ) -> bool
     requires { length seats.old ≡ question.now.rows * question.now.columns }
+    ensures { IsTrue result → HaveNoMore (asked question.now) seats.new }
 {
+    take_logarithms(question, logarithms);
     fill_rows(question, logarithms, seats);
     for _path in 0..MOST_PATHS {
         match add_path(question, logarithms, seats) {

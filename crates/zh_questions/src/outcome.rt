@@ -1,0 +1,107 @@
+//! What becomes of a question, as text.
+ghost use Rattle.std.specs.Prelude.{◌≡◌, ◌≤◌, length};
+
+use std::alloc::{AllocError, Global};
+use zh_lower::Lower;
+use zh_reasons::MarkedRows;
+
+/// Appends a blank and a number.
+fn push_number(alloc: Global, text: &mut String, number: u64) -> Result<(), AllocError> {
+    text.push_str(format!(in alloc; " {number}")?.as_str())
+}
+
+/// Appends the seats of a row.
+fn push_row(
+    alloc: Global,
+    text: &mut String,
+    lower: &Lower,
+    row: u32,
+    columns: u32,
+) -> Result<(), AllocError>
+    requires row_from_1 { 1 ≤ row }
+    requires row { row ≤ length lower.now.divisors.of_rows }
+    requires columns { length lower.now.divisors.of_columns ≡ columns }
+{
+    text.push(';')?;
+    for column in 1..=columns {
+        push_number(alloc, text, u64::from(lower.seats(row, column)))?;
+    }
+    Ok(())
+}
+
+/// Appends the seats, row by row.
+fn push_seats(
+    alloc: Global,
+    text: &mut String,
+    lower: &Lower,
+    rows: u32,
+    columns: u32,
+) -> Result<(), AllocError>
+    requires rows { length lower.now.divisors.of_rows ≡ rows }
+    requires columns { length lower.now.divisors.of_columns ≡ columns }
+{
+    for row in 1..=rows {
+        push_row(alloc, text, lower, row, columns)?;
+    }
+    Ok(())
+}
+
+fn push_row_divisors(
+    alloc: Global,
+    text: &mut String,
+    lower: &Lower,
+    rows: u32,
+) -> Result<(), AllocError>
+    requires { length lower.now.divisors.of_rows ≡ rows }
+{
+    for row in 1..=rows {
+        push_number(alloc, text, lower.row_divisor(row))?;
+    }
+    Ok(())
+}
+
+fn push_column_divisors(
+    alloc: Global,
+    text: &mut String,
+    lower: &Lower,
+    columns: u32,
+) -> Result<(), AllocError>
+    requires { length lower.now.divisors.of_columns ≡ columns }
+{
+    for column in 1..=columns {
+        push_number(alloc, text, lower.column_divisor(column))?;
+    }
+    Ok(())
+}
+
+/// The seats, row by row, and the divisors of rows and of columns in millionths.
+pub(crate) fn found(
+    alloc: Global,
+    lower: &Lower,
+    rows: u32,
+    columns: u32,
+) -> Result<String, AllocError>
+    requires rows { length lower.now.divisors.of_rows ≡ rows }
+    requires columns { length lower.now.divisors.of_columns ≡ columns }
+{
+    let mut text = String::from_str(alloc, "seats")?;
+    push_seats(alloc, &mut text, lower, rows, columns)?;
+    text.push_str("; rows")?;
+    push_row_divisors(alloc, &mut text, lower, rows)?;
+    text.push_str("; columns")?;
+    push_column_divisors(alloc, &mut text, lower, columns)?;
+    Ok(text)
+}
+
+/// `impossible`, with those of so many rows that are marked.
+pub fn impossible(alloc: Global, marked: &MarkedRows, rows: u32) -> Result<String, AllocError>
+    requires { rows ≤ 32 }
+{
+    let mut text = String::from_str(alloc, "impossible")?;
+    for row in 1..=rows {
+        if marked.contains(row) {
+            push_number(alloc, &mut text, u64::from(row))?;
+        }
+    }
+    Ok(text)
+}
