@@ -1,2 +1,11 @@
-mod CsvLemmas
-mod EndingLemmas
+mod DeviceLemmas
+mod ExportLemmas
+mod FormatLemmas
+mod KeptLemmas
+mod ListLemmas
+mod LoadLemmas
+mod RehearseLemmas
+mod RunLemmas
+mod SetupLemmas
+mod StartLemmas
+mod WorldLemmas

@@ -1,2 +1,10 @@
-pub mod Faults
+pub mod World
+pub mod OnDisk
+pub mod Opened
+pub mod Format
+pub mod Run
+pub mod Load
+pub mod Export
+pub mod Rehearse
 pub mod Tasks
+pub mod List

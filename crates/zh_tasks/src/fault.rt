@@ -1,116 +1,163 @@
-//! Why the program did not do its task.
+//! Why a task was not done.
 
 use std::alloc::AllocError;
 use thiserror::Error;
-use zh_disk_tasks::{ExportFault, FormatFault, LoadFault, RunFault};
+use zh_commands::WriteFault;
+use zh_districts::SeatFault;
+use zh_office::{OpenFault, ServeFault};
 use zh_setups::SetupFault;
+use zh_tables::ListFault;
+use zh_world::FileFault;
 
-/// The fault of a task. Its text is what the program reports after its name.
+/// The fault of a task, in the order of the manual. Its text is what the program reports after its name.
 #[derive(Clone, Copy, Debug, PartialEq, Eq, Error)]
-pub enum ProgramFault {
-    #[error("memory")]
-    Memory,
-    /// The set-up's file could not be read.
+pub enum TaskFault {
+    /// The file of the set-up could not be read.
     #[error("setup file")]
-    File,
+    SetupFile,
     #[error("{0}")]
     Setup(SetupFault),
-    /// The disk's file could not be opened or made.
+    /// The disk could not be opened, made or formatted.
     #[error("disk device")]
     Device,
-    /// The disk's file does not have the length of a disk.
-    #[error("disk size")]
-    Size,
-    /// Another program has the disk's file open.
+    /// Another program has the disk open.
     #[error("disk busy")]
     Busy,
+    /// The file of the disk does not have the length of a disk.
+    #[error("disk size")]
+    Size,
+    /// The disk that is to be formatted is not blank.
+    #[error("disk inuse")]
+    InUse,
+    /// No office could be opened on the disk.
     #[error("{0}")]
-    Format(FormatFault),
+    Open(OpenFault),
+    /// The CSV file could not be opened, or its first bytes could not be read.
+    #[error("csv file")]
+    CsvFile,
+    /// The constituencies get no seats.
     #[error("{0}")]
-    Run(RunFault),
+    Seats(SeatFault),
+    #[error("memory")]
+    Memory,
     #[error("{0}")]
-    Load(LoadFault),
-    #[error("{0}")]
-    Export(ExportFault),
+    Serve(ServeFault),
+    /// A reply, or what is held, could not be written to its end.
+    #[error("write")]
+    Write,
+    /// All is answered, and the device failed under it.
+    #[error("disk device")]
+    Faulted,
+    /// The reply, which is written, says why. Nothing else is reported.
+    #[error("refused")]
+    Refused,
 }
 
-impl From<AllocError> for ProgramFault {
+impl From<AllocError> for TaskFault {
     ghost use Rattle.std.specs.Prelude.{◌≡◌};
-    ghost use Rattle.zh_tasks.specs.declared.fault.ProgramFault.TheVariants as faults;
+    ghost use Rattle.zh_tasks.specs.declared.fault.TaskFault.TheVariants as faults;
 
     ghost from_gives = { λ _ e. e ≡ faults.Memory };
 
     fn from(_: AllocError) -> Self {
-        ProgramFault::Memory
+        TaskFault::Memory
     }
 }
 
-impl From<SetupFault> for ProgramFault {
+impl From<SetupFault> for TaskFault {
     ghost use Rattle.std.specs.Prelude.{◌≡◌};
-    ghost use Rattle.zh_tasks.specs.declared.fault.ProgramFault.TheVariants as faults;
+    ghost use Rattle.zh_tasks.specs.declared.fault.TaskFault.TheVariants as faults;
 
     ghost from_gives = { λ fault e. e ≡ faults.Setup fault };
 
     fn from(fault: SetupFault) -> Self {
-        ProgramFault::Setup(fault)
+        TaskFault::Setup(fault)
     }
 }
 
-impl From<zh_file::OpenFault> for ProgramFault {
-    ghost use Rattle.zh_tasks.specs.Faults.{FoundAs};
+impl From<FileFault> for TaskFault {
+    ghost use Rattle.zh_tasks.specs.OnDisk.{FoundAs};
 
     ghost from_gives = { FoundAs };
 
-    fn from(fault: zh_file::OpenFault) -> Self {
+    fn from(fault: FileFault) -> Self {
         match fault {
-            zh_file::OpenFault::Memory => ProgramFault::Memory,
-            zh_file::OpenFault::Device => ProgramFault::Device,
-            zh_file::OpenFault::Size => ProgramFault::Size,
-            zh_file::OpenFault::Busy => ProgramFault::Busy,
+            FileFault::Memory => TaskFault::Memory,
+            FileFault::Device => TaskFault::Device,
+            FileFault::Size => TaskFault::Size,
+            FileFault::Busy => TaskFault::Busy,
         }
     }
 }
 
-impl From<FormatFault> for ProgramFault {
-    ghost use Rattle.std.specs.Prelude.{◌≡◌};
-    ghost use Rattle.zh_tasks.specs.declared.fault.ProgramFault.TheVariants as faults;
+impl From<zh_snapshot::FormatFault> for TaskFault {
+    ghost use Rattle.zh_tasks.specs.Format.{FormattedAs};
 
-    ghost from_gives = { λ fault e. e ≡ faults.Format fault };
+    ghost from_gives = { FormattedAs };
 
-    fn from(fault: FormatFault) -> Self {
-        ProgramFault::Format(fault)
+    fn from(fault: zh_snapshot::FormatFault) -> Self {
+        match fault {
+            zh_snapshot::FormatFault::Memory => TaskFault::Memory,
+            zh_snapshot::FormatFault::Device => TaskFault::Device,
+        }
     }
 }
 
-impl From<RunFault> for ProgramFault {
+impl From<OpenFault> for TaskFault {
     ghost use Rattle.std.specs.Prelude.{◌≡◌};
-    ghost use Rattle.zh_tasks.specs.declared.fault.ProgramFault.TheVariants as faults;
+    ghost use Rattle.zh_tasks.specs.declared.fault.TaskFault.TheVariants as faults;
 
-    ghost from_gives = { λ fault e. e ≡ faults.Run fault };
+    ghost from_gives = { λ fault e. e ≡ faults.Open fault };
 
-    fn from(fault: RunFault) -> Self {
-        ProgramFault::Run(fault)
+    fn from(fault: OpenFault) -> Self {
+        TaskFault::Open(fault)
     }
 }
 
-impl From<LoadFault> for ProgramFault {
+impl From<ServeFault> for TaskFault {
     ghost use Rattle.std.specs.Prelude.{◌≡◌};
-    ghost use Rattle.zh_tasks.specs.declared.fault.ProgramFault.TheVariants as faults;
+    ghost use Rattle.zh_tasks.specs.declared.fault.TaskFault.TheVariants as faults;
 
-    ghost from_gives = { λ fault e. e ≡ faults.Load fault };
+    ghost from_gives = { λ fault e. e ≡ faults.Serve fault };
 
-    fn from(fault: LoadFault) -> Self {
-        ProgramFault::Load(fault)
+    fn from(fault: ServeFault) -> Self {
+        TaskFault::Serve(fault)
     }
 }
 
-impl From<ExportFault> for ProgramFault {
+impl From<zh_csv::ExportFault> for TaskFault {
     ghost use Rattle.std.specs.Prelude.{◌≡◌};
-    ghost use Rattle.zh_tasks.specs.declared.fault.ProgramFault.TheVariants as faults;
+    ghost use Rattle.zh_tasks.specs.declared.fault.TaskFault.TheVariants as faults;
 
-    ghost from_gives = { λ fault e. e ≡ faults.Export fault };
+    // The text is made in memory, where nothing else can fail.
+    ghost from_gives = { λ _ e. e ≡ faults.Memory };
 
-    fn from(fault: ExportFault) -> Self {
-        ProgramFault::Export(fault)
+    fn from(_: zh_csv::ExportFault) -> Self {
+        TaskFault::Memory
+    }
+}
+
+impl From<WriteFault> for TaskFault {
+    ghost use Rattle.std.specs.Prelude.{◌≡◌};
+    ghost use Rattle.zh_tasks.specs.declared.fault.TaskFault.TheVariants as faults;
+
+    ghost from_gives = { λ _ e. e ≡ faults.Write };
+
+    fn from(_: WriteFault) -> Self {
+        TaskFault::Write
+    }
+}
+
+impl From<ListFault> for TaskFault {
+    ghost use Rattle.zh_tasks.specs.List.{RefusedAs};
+
+    ghost from_gives = { RefusedAs };
+
+    fn from(fault: ListFault) -> Self {
+        match fault {
+            ListFault::Seats(refusal) => TaskFault::Seats(refusal),
+            // The text is made in memory, where nothing else can fail.
+            ListFault::Memory | ListFault::Write => TaskFault::Memory,
+        }
     }
 }

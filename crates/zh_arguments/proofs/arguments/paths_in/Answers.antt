@@ -5,6 +5,6 @@ use Rattle.zh_arguments.proofs.arguments.paths_in.Goals as goal
 
 pub returns : goal.returns
 returns c = (
-  path_found c.get_str.result _ c.unwrap_or.result (found_of c.args.given.now) (codes "setup") c.get_str.ensures refl c.unwrap_or.ensures,
-  path_found c.get_str-2.result _ c.unwrap_or-2.result (found_of c.args.given.now) (codes "disk") c.get_str-2.ensures refl c.unwrap_or-2.ensures,
+  c.setup_in.ensures,
+  path_found c.get_str.result _ c.unwrap_or.result (found_of c.args.given.now) (codes "disk") c.get_str.ensures refl c.unwrap_or.ensures,
 )

@@ -1,3 +1,0 @@
-pub mod Csv
-pub mod Faults
-pub mod Tasks

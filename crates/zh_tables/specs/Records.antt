@@ -1,0 +1,24 @@
+-- Records of comma-separated text, as the crate `csv` writes them with its defaults: a comma between fields, quotes around a
+-- field that needs them, a line feed after each record.
+use Rattle.std.specs.Prelude.{◌≡◌, ℕ, List, Option, false}
+use Rattle.std.specs.Io.KnownBytes.{Appends}
+use Rattle.csv.specs.Writing.{default_writer, row_text, text_written, writer_setup, fields_written, has_written}
+use Rattle.csv.specs.declared.writer.Writer.{Writer}
+
+-- a record: its fields, each of bytes
+abbrev pub TableRecord : Type 0
+TableRecord = List (List ℕ)
+
+-- the line of a record
+abbrev pub record_text : TableRecord → List ℕ
+record_text fields = row_text default_writer fields
+
+-- a writer with the defaults, between two records
+pub record IsBetweenRecords {W : Type 0} (writer : Writer W) : Type 0 where
+  pub setup : writer_setup writer ≡ default_writer
+  pub fields : fields_written writer ≡ 0
+  pub wrote : has_written writer ≡ false
+
+-- this text was written, as far as the bytes of the writer underneath are known
+abbrev pub WritesText : {W : Type 0} → (W → Option (List ℕ)) → Writer W → Writer W → List ℕ → Type 0
+WritesText contents old new text = Appends (text_written contents old) (text_written contents new) text

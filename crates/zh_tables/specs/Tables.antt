@@ -1,0 +1,99 @@
+-- The tables of a set-up. Constituencies, municipalities and groups are numbered from 1, and a list has the number of its group.
+use Rattle.std.specs.Prelude.{◌≡◌, ◌<◌, ◌≤◌, ℕ, ◌-◌, List, [], ◌∷◌, ◌++◌, length, slice_get, slice_index}
+use Rattle.std.specs.Prelude.{if◌then◌else◌, codes, decimal}
+use Rattle.std.specs.List.{flat_map, range_with_len}
+use Rattle.std.specs.Option.{option_map_or}
+use Rattle.zh_divisors.specs.Fit.{IsTied}
+use Rattle.zh_districts.specs.Canton.{Canton, persons_of, constituency_of, stands}
+use Rattle.zh_districts.specs.Seats.{persons, AreSeats, IsFirstWithout}
+use Rattle.zh_districts.specs.declared.shares.SeatFault.TheVariants as refusals
+use Rattle.zh_tables.specs.Records.{TableRecord, record_text}
+use Rattle.zh_tables.specs.declared.fault.ListFault.{ListFault}
+use Rattle.zh_tables.specs.declared.fault.ListFault.TheVariants as faults
+use Rattle.zh_tables.specs.declared.table.Table.{Table}
+use Rattle.zh_tables.specs.declared.table.Table.TheVariants.{Constituencies, Municipalities, Groups, Lists}
+
+abbrev pub name_of_constituency : Canton → ℕ → List ℕ
+name_of_constituency canton d = option_map_or (λ x. x.name) (slice_get canton.constituencies (d - 1)) []
+
+abbrev pub name_of_municipality : Canton → ℕ → List ℕ
+name_of_municipality canton m = option_map_or (λ x. x.name) (slice_get canton.municipalities (m - 1)) []
+
+abbrev pub name_of_group : Canton → ℕ → List ℕ
+name_of_group canton g = option_map_or (λ x. x.name) (slice_get canton.groups (g - 1)) []
+
+-- the names of the columns
+abbrev pub header : Table → TableRecord
+header Constituencies = codes "number" ∷ codes "name" ∷ codes "persons" ∷ codes "seats" ∷ []
+header Municipalities = codes "number" ∷ codes "name" ∷ codes "constituency" ∷ []
+header Groups = codes "number" ∷ codes "name" ∷ []
+header Lists = codes "constituency" ∷ codes "list" ∷ codes "constituency_name" ∷ codes "list_name" ∷ []
+
+-- the line of a constituency that has these seats
+abbrev pub constituency_row : Canton → ℕ → ℕ → List ℕ
+constituency_row canton d seats =
+    record_text (decimal d ∷ name_of_constituency canton d ∷ decimal (persons_of canton d) ∷ decimal seats ∷ [])
+
+abbrev pub municipality_row : Canton → ℕ → List ℕ
+municipality_row canton m = record_text (decimal m ∷ name_of_municipality canton m ∷ decimal (constituency_of canton m) ∷ [])
+
+abbrev pub group_row : Canton → ℕ → List ℕ
+group_row canton g = record_text (decimal g ∷ name_of_group canton g ∷ [])
+
+-- the line of a group's list in a constituency, if it stands there
+abbrev pub list_row : Canton → ℕ → ℕ → List ℕ
+list_row canton d g =
+    if stands canton d g then record_text (decimal d ∷ decimal g ∷ name_of_constituency canton d ∷ name_of_group canton g ∷ []) else []
+
+-- what stands for each number from 1 to n, in order
+abbrev pub each_to : ℕ → (ℕ → List ℕ) → List ℕ
+each_to n text = flat_map text (range_with_len 1 n)
+
+abbrev pub constituency_rows : Canton → List ℕ → List ℕ
+constituency_rows canton seats =
+    each_to (length canton.constituencies) (λ d. constituency_row canton d (slice_index seats (d - 1)))
+
+abbrev pub municipality_rows : Canton → List ℕ
+municipality_rows canton = each_to (length canton.municipalities) (municipality_row canton)
+
+abbrev pub group_rows : Canton → List ℕ
+group_rows canton = each_to (length canton.groups) (group_row canton)
+
+-- the lists that stand in a constituency
+abbrev pub lists_in : Canton → ℕ → List ℕ
+lists_in canton d = each_to (length canton.groups) (list_row canton d)
+
+-- the lists that stand, constituency by constituency
+abbrev pub list_rows : Canton → List ℕ
+list_rows canton = each_to (length canton.constituencies) (lists_in canton)
+
+-- the seats of the constituencies, of which each has one at least
+pub record HasSeats (canton : Canton) (seats : List ℕ) : Type 0 where
+  pub are : AreSeats canton seats
+  pub each : (k : ℕ) → k < length seats → 1 ≤ slice_index seats k
+
+-- the lines of a table after the names of its columns
+abbrev pub AreLines : Canton → Table → List ℕ → Type 0
+AreLines canton Constituencies lines = (seats : List ℕ) × HasSeats canton seats × (lines ≡ constituency_rows canton seats)
+AreLines canton Municipalities lines = lines ≡ municipality_rows canton
+AreLines canton Groups lines = lines ≡ group_rows canton
+AreLines canton Lists lines = lines ≡ list_rows canton
+
+-- the text of a table
+abbrev pub IsTableText : Canton → Table → List ℕ → Type 0
+IsTableText canton table text = (lines : List ℕ) × AreLines canton table lines × (text ≡ record_text (header table) ++ lines)
+
+-- the fault is one of the writer or of memory
+abbrev pub IsOfWriter : ListFault → Type 0
+IsOfWriter (faults.Seats refusal) = ⊥
+IsOfWriter fault = Unit {0}
+
+-- Why a table is not written: that of the constituencies where a seat is worth as much to two of them, or where the first
+-- without a seat is this one. A fault of memory or of the writer is no matter of the table.
+abbrev pub RefusesTable : Canton → Table → ListFault → Type 0
+RefusesTable canton Constituencies (faults.Seats refusals.Tied) = IsTied (persons canton) canton.house
+RefusesTable canton Constituencies (faults.Seats (refusals.NoSeat d)) =
+    (seats : List ℕ) × AreSeats canton seats × IsFirstWithout seats d
+RefusesTable canton table (faults.Seats refusals.Memory) = Unit {0}
+RefusesTable canton table (faults.Seats refusal) = ⊥
+RefusesTable canton table fault = Unit {0}

@@ -1,0 +1,30 @@
+//! Why a table is not written.
+
+ghost use Rattle.std.specs.Prelude.{◌≡◌};
+ghost use Rattle.zh_districts.specs.declared.shares.SeatFault.{SeatFault as Refusal};
+ghost use Rattle.zh_tables.specs.declared.fault.ListFault.TheVariants as faults;
+
+use thiserror::Error;
+use zh_districts::SeatFault;
+
+/// Why a table is not written to its end.
+#[derive(Clone, Copy, Debug, PartialEq, Eq, Error)]
+pub enum ListFault {
+    /// The constituencies get no seats, or memory ran out while these were computed.
+    #[error("{0}")]
+    Seats(SeatFault),
+    /// Memory ran out.
+    #[error("memory")]
+    Memory,
+    /// The writer failed, or took no byte.
+    #[error("write")]
+    Write,
+}
+
+impl From<SeatFault> for ListFault {
+    ghost from_gives = { λ refusal fault. fault ≡ faults.Seats refusal };
+
+    fn from(refusal: SeatFault) -> Self {
+        ListFault::Seats(refusal)
+    }
+}

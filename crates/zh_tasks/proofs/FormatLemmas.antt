@@ -1,0 +1,38 @@
+-- What a formatting leaves that looks at the disk first, by what it finds there.
+use Rattle.std.proofs.Common.{inl, inr, refl, Ok, Err}
+use Rattle.zh_districts.specs.Canton.{Canton}
+use Rattle.zh_disk.specs.History.{History, Call}
+use Rattle.zh_disk.proofs.CallerLemmas.{followed, handed}
+use Rattle.zh_journal.specs.Place.{Rest}
+use Rattle.zh_snapshot.specs.Calls.{OpensStore}
+use Rattle.zh_snapshot.specs.Faults.{store_format_fails, store_open_fails}
+use Rattle.zh_snapshot.specs.Store.{State}
+use Rattle.zh_snapshot.specs.declared.fault.OpenFault.TheVariants as opening
+use Rattle.zh_ledger.specs.Opening.{MakesNew}
+use Rattle.zh_tasks.specs.Format.{FormatsBlank, format_fails}
+use Rattle.zh_tasks.specs.declared.fault.TaskFault.TheVariants as formatting
+
+module _ (canton : Canton) {a b : History} where
+  pub device_reported : Call store_open_fails OpensStore a b (Err opening.Device) → Call format_fails (FormatsBlank canton) a b (Err formatting.Device)
+  device_reported = handed refl (λ h opens. record { opened = b.trail; opening = opens.moments; after = inl refl; blank = tt; formatted = tt; settled = tt; in_use = λ is. absurd cc })
+
+  pub memory_reported : Call store_open_fails OpensStore a b (Err opening.Memory) → Call format_fails (FormatsBlank canton) a b (Err formatting.Memory)
+  memory_reported = handed refl (λ h opens. record { opened = b.trail; opening = opens.moments; after = inl refl; blank = tt; formatted = tt; settled = tt; in_use = λ is. absurd cc })
+
+  pub damaged_in_use : Call store_open_fails OpensStore a b (Err opening.Damaged) → Call format_fails (FormatsBlank canton) a b (Err formatting.InUse)
+  damaged_in_use = handed refl (λ h opens. record { opened = b.trail; opening = opens.moments; after = inl refl; blank = tt; formatted = tt; settled = tt; in_use = λ is. (opens.found.read.damaged refl).0 })
+
+  pub store_in_use : {found : State × Rest} → Call store_open_fails OpensStore a b (Ok found) → Call format_fails (FormatsBlank canton) a b (Err formatting.InUse)
+  store_in_use = handed refl (λ h opens. record { opened = b.trail; opening = opens.moments; after = inl refl; blank = tt; formatted = tt; settled = tt; in_use = λ is blank. blank opens.found.read.framed.2.gate })
+
+module _ (canton : Canton) {a b c : History} (opened : Call store_open_fails OpensStore a b (Err opening.Blank)) where
+  pub blank_formatted : Call store_format_fails (MakesNew canton) b c (Ok tt) → Call format_fails (FormatsBlank canton) a c (Ok tt)
+  blank_formatted made = handed refl (λ h by. record {
+    opened = b.trail;
+    opening = by.1.moments;
+    after = inr (by.1.found.read.blank refl, by.2.moments);
+    blank = by.1.found.read.blank refl;
+    formatted = by.2.formatted;
+    settled = by.2.settled;
+    in_use = λ is. absurd cc;
+  }) (followed refl opened made)

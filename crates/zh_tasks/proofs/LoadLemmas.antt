@@ -1,0 +1,98 @@
+-- What the loading of a CSV file has done, by how it ended.
+use Rattle.std.proofs.Common.{◌≡◌, ◌≤◌, ◌<◌, ◌+◌, ◌-◌, ◌∙◌, ℕ, List, [], ◌∷◌, ◌++◌, length, take, drop, Option, Some, None, Result, Ok, Err, OnErr, refl, sym, ap, append_assoc, arith, decimal, subst, Bool, ◌==◌, if◌then◌else◌}
+use Rattle.std.specs.Io.Buffered.{reader_buffer, reader_capacity, reader_inner, reader_remaining}
+use Rattle.std.specs.Io.KnownBytes.{Appends, Keeps, prepend_known}
+use Rattle.std.specs.declared.io.buffered.BufReader.{BufReader}
+use Rattle.std.proofs.lemmas.Fmt.{decimal_digit}
+use Rattle.std.proofs.lemmas.List.{drop-take, length-take}
+use Rattle.zh_commands.specs.Replies.{answer, reply_text}
+use Rattle.zh_commands.specs.declared.replies.Reply.{Reply}
+use Rattle.zh_office.specs.Load.{LoadTurn}
+use Rattle.zh_ledger.specs.Submissions.{OnDisk}
+use Rattle.zh_office.specs.Office.{Office}
+use Rattle.zh_tasks.specs.Opened.{IsThis}
+use Rattle.zh_tasks.specs.Load.{IsUnreadable, Loaded, LoadsText, LoadsFile, Replied, WritesPart, printed}
+use Rattle.zh_tasks.specs.declared.fault.TaskFault.{TaskFault}
+use Rattle.zh_tasks.specs.declared.fault.TaskFault.TheVariants as faults
+use Rattle.zh_tasks.proofs.KeptLemmas.{load_is_logged}
+
+-- a reply is its desk, a space, and then as it is printed
+text_at : (desk : ℕ) (reply : Reply) (numeral : List ℕ) → decimal desk ≡ numeral → reply_text desk reply ≡ numeral ++ 32 ∷ printed reply
+text_at desk reply numeral is = append_assoc (decimal desk) (32 ∷ answer reply) (10 ∷ []) ∙ ap (λ (l : List ℕ). l ++ 32 ∷ printed reply) is
+
+text_of : (reply : Reply) → reply_text 0 reply ≡ 48 ∷ 32 ∷ printed reply
+text_of reply = text_at 0 reply (48 ∷ []) (decimal_digit 0 (omega arith))
+
+reply_long : (out : List ℕ) (len : ℕ) (reply : Reply) → take len out ≡ reply_text 0 reply → 2 ≤ len
+reply_long out len reply is = omega (arith, length-take len out, ap length (is ∙ text_of reply))
+
+-- what is left of it without them
+pub printed_part : (out : List ℕ) (len : ℕ) (reply : Reply) → take len out ≡ reply_text 0 reply → take (len - 2) (drop 2 out) ≡ printed reply
+printed_part out len reply is =
+    let all : 2 + (len - 2) ≡ len = omega (arith, reply_long out len reply is) in
+    sym (drop-take 2 (len - 2) out) ∙ ap (λ (n : ℕ). drop 2 (take n out)) all ∙ ap (drop 2) (is ∙ text_of reply)
+
+pub writes_front : (w w' : Option (List ℕ)) (text text' : List ℕ) → text ≡ text' → (n : ℕ) × (n < length text) × Appends w w' (take n text) → WritesPart w w' text'
+writes_front w w' text text' is (n, part, written) = subst (λ (t : List ℕ). WritesPart w w' t) is (record { front = n; part = part; written = written })
+
+pub put_front : {T E : Type 0} (result : Result T E) (w w' : Option (List ℕ)) (text text' : List ℕ) → text ≡ text' → OnErr result ((n : ℕ) × (n < length text) × Appends w w' (take n text)) → OnErr result (WritesPart w w' text')
+put_front (Ok done) w w' text text' is front = tt
+put_front (Err fault) w w' text text' is front = writes_front w w' text text' is front
+
+-- what an office replied to the text that it was given
+pub replied_to : (start end : OnDisk Office) (text : Option (List ℕ)) (failed : Bool) (reply : Reply) → LoadTurn start text failed reply end → Replied text (IsThis start end.history) reply
+replied_to start end text failed reply turn = record { start = start; end = end; failed = failed; spans = (refl, refl); turn = turn; kept = load_is_logged start text failed reply end turn }
+
+-- a reply that it wrote
+pub loaded_to : (w w' : Option (List ℕ)) (start end : OnDisk Office) (text : Option (List ℕ)) (failed : Bool) (reply : Reply) (faulted : Bool) → LoadTurn start text failed reply end → Appends w w' (printed reply) → end.holder.ledger.store.broken ≡ faulted → Loaded text w w' (IsThis start end.history) reply faulted
+unfolding replied_to
+loaded_to w w' start end text failed reply faulted turn written device = record { replied = replied_to start end text failed reply turn; written = written; device = device }
+
+-- the file gives no text, and an office was opened
+pub unread : (unwritten : Type 0) (Gives : (OnDisk Office → OnDisk Office → Type 0) → Result (Unit {0}) TaskFault → Type 0) (Spans : OnDisk Office → OnDisk Office → Type 0) (start : OnDisk Office) (fault : TaskFault)
+    → IsUnreadable fault → unwritten → Spans start start → LoadsFile unwritten Gives Spans (Err fault)
+unread unwritten Gives Spans start faults.CsvFile is same spans = (same, (start, spans))
+unread unwritten Gives Spans start faults.Memory is same spans = (same, (start, spans))
+unread unwritten Gives Spans start fault is same spans = absurd is
+
+-- the same of an office that began in another way too
+replied_as : (text : Option (List ℕ)) (Spans Spans' : OnDisk Office → OnDisk Office → Type 0) (reply : Reply) → ((start end : OnDisk Office) → Spans start end → Spans' start end) → Replied text Spans reply → Replied text Spans' reply
+replied_as text Spans Spans' reply turn by = record { start = by.start; end = by.end; failed = by.failed; spans = turn by.start by.end by.spans; turn = by.turn; kept = by.kept }
+
+loaded_as : (text w w' : Option (List ℕ)) (Spans Spans' : OnDisk Office → OnDisk Office → Type 0) (reply : Reply) (faulted : Bool) → ((start end : OnDisk Office) → Spans start end → Spans' start end) → Loaded text w w' Spans reply faulted → Loaded text w w' Spans' reply faulted
+unfolding replied_as
+loaded_as text w w' Spans Spans' reply faulted turn by = record { replied = replied_as text Spans Spans' reply turn by.replied; written = by.written; device = by.device }
+
+pub loads_as : (text w w' : Option (List ℕ)) (Spans Spans' : OnDisk Office → OnDisk Office → Type 0) (result : Result (Unit {0}) TaskFault)
+    → ((start end : OnDisk Office) → Spans start end → Spans' start end) → LoadsText text w w' Spans result → LoadsText text w w' Spans' result
+loads_as text w w' Spans Spans' (Ok done) turn (reply, taken, loaded) = (reply, taken, loaded_as text w w' Spans Spans' reply _ turn loaded)
+loads_as text w w' Spans Spans' (Err faults.Refused) turn (refusal, loaded) = (refusal, loaded_as text w w' Spans Spans' _ _ turn loaded)
+loads_as text w w' Spans Spans' (Err faults.Faulted) turn (reply, loaded) = (reply, loaded_as text w w' Spans Spans' reply _ turn loaded)
+loads_as text w w' Spans Spans' (Err faults.Write) turn (reply, replied, front) = (reply, replied_as text Spans Spans' reply turn replied, front)
+loads_as text w w' Spans Spans' (Err fault) turn by = absurd by
+
+-- a text that the file gave was loaded
+pub file_loads : (unwritten : Type 0) (text w w' : Option (List ℕ)) (Spans : OnDisk Office → OnDisk Office → Type 0) (result : Result (Unit {0}) TaskFault)
+    → LoadsText text w w' Spans result → LoadsFile unwritten (LoadsText text w w') Spans result
+file_loads unwritten text w w' Spans (Ok done) by = by
+file_loads unwritten text w w' Spans (Err faults.CsvFile) by = absurd by
+file_loads unwritten text w w' Spans (Err faults.Memory) by = absurd by
+file_loads unwritten text w w' Spans (Err fault) by = by
+
+-- what is known of a text is kept where it is not read
+pub kept_itself : (text : Option (List ℕ)) → Keeps text text
+kept_itself None = tt
+kept_itself (Some text) = refl
+
+-- what a fresh buffer has left is what its reader has
+pub fresh_buffer : {T A : Type 0} (remaining : T → Option (List ℕ)) (reader : BufReader T A) (inner : T) → reader_capacity reader ≡ 8192 → reader_buffer reader ≡ [] → reader_inner reader ≡ inner
+    → reader_remaining remaining reader ≡ remaining inner
+fresh_buffer remaining reader inner capacity empty is =
+    ap (λ (n : ℕ). if n == 0 then None else prepend_known (reader_buffer reader) (remaining reader.inner)) capacity
+    ∙ ap (λ (l : List ℕ). prepend_known l (remaining reader.inner)) empty
+    ∙ nothing_before (remaining reader.inner)
+    ∙ ap remaining is
+  where
+    nothing_before : (known : Option (List ℕ)) → prepend_known [] known ≡ known
+    nothing_before None = refl
+    nothing_before (Some text) = refl

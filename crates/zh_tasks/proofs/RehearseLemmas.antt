@@ -1,0 +1,73 @@
+-- The office of a rehearsal.
+use Rattle.std.proofs.Common.{◌≡◌, ◌∙◌, ◌<◌, ◌≤◌, ℕ, List, length, take, Option, Result, Ok, Err, OnErr, OnOk, refl, sym, ap, subst, arith, IsTrue}
+use Rattle.std.proofs.lemmas.List.{take_all}
+use Rattle.std.specs.Io.KnownBytes.{Appends}
+use Rattle.zh_districts.specs.Canton.{Canton}
+use Rattle.zh_setups.specs.Rehearsal.{rehearsal}
+use Rattle.zh_disk.specs.Disk.{Moment, IsImage}
+use Rattle.zh_disk.specs.History.{History}
+use Rattle.zh_returns.specs.Tally.{empty}
+use Rattle.zh_ledger.specs.Ledger.{Ledger}
+use Rattle.zh_ledger.specs.Opened.{IsNew, IsReady}
+use Rattle.zh_ledger.specs.Stands.{Stands}
+use Rattle.zh_ledger.specs.Submissions.{OnDisk}
+use Rattle.zh_ledger.proofs.CallerLemmas.{one_count}
+use Rattle.zh_office.specs.Office.{Office}
+use Rattle.zh_office.specs.declared.service.ServeFault.TheVariants as serving
+use Rattle.zh_tasks.specs.Format.{IsOfFormat}
+use Rattle.zh_tasks.specs.Opened.{IsFrom, WithOffice}
+use Rattle.zh_tasks.specs.Rehearse.{IsRehearsal, Rehearsed, WritesSome}
+use Rattle.zh_tasks.specs.Run.{Serves, Streams}
+use Rattle.zh_tasks.specs.declared.fault.TaskFault.{TaskFault}
+use Rattle.zh_tasks.specs.declared.fault.TaskFault.TheVariants as faults
+use Rattle.zh_tasks.proofs.RunLemmas.{serves_as}
+
+-- an office that is opened on a new disk has an empty count
+pub opened_empty : (canton : Canton) (m : Moment) (s : Ledger) → ((c : List ℕ) → IsImage m c → IsNew canton c) → IsReady canton s → Stands s.tally m.bytes → s.tally ≡ empty canton
+opened_empty canton m s formatted ready stood =
+    let new = formatted m.bytes (record { size = refl; same = λ k settled. refl }) in
+    (one_count m.bytes stood.content new.content stood.end new.end stood.format new.format s.tally (empty canton) stood.framed new.clean.framed stood.stands new.stands ready.set_up).1
+
+-- the office of the rehearsal
+pub rehearses : (canton : Canton) (first last : History) (start end : OnDisk Office) → canton ≡ rehearsal → IsTrue last.honest → ((c : List ℕ) → IsImage first.trail.now c → IsNew canton c)
+    → IsFrom canton first last start end → IsRehearsal start end
+rehearses canton first last start end is sure formatted from =
+    let opens = from.begun.opening.call.did (from.honest sure) in
+    record {
+      count = opened_empty canton first.trail.now start.holder.ledger formatted from.begun.opening.ready opens.opened.stood ∙ ap empty is;
+      held = from.begun.held;
+      whole = from.begun.opening.ready.whole;
+      honest = subst (λ (h : History). IsTrue h.honest) (sym from.ended) sure;
+    }
+
+-- a fault of formatting its disk
+pub unformatted : (nothing : Type 0) (old new : Streams) (fault : TaskFault) → IsOfFormat fault → nothing → Rehearsed nothing old new (Err fault)
+unformatted nothing old new faults.Memory is same = same
+unformatted nothing old new faults.Device is same = same
+unformatted nothing old new faults.InUse is same = same
+unformatted nothing old new fault is same = absurd is
+
+-- lines that were served on its disk
+pub rehearsed : (nothing : Type 0) (old new : Streams) (canton : Canton) (first last : History) (result : Result (Unit {0}) TaskFault) → canton ≡ rehearsal
+    → IsTrue last.honest → ((c : List ℕ) → IsImage first.trail.now c → IsNew canton c)
+    → WithOffice canton first last nothing (Serves old new) result → Rehearsed nothing old new result
+rehearsed nothing old new canton first last result is sure formatted by = at result by
+  where
+    turn : (start end : OnDisk Office) → IsFrom canton first last start end → IsRehearsal start end
+    turn start end from = rehearses canton first last start end is sure formatted from
+
+    at : (result : Result (Unit {0}) TaskFault) → WithOffice canton first last nothing (Serves old new) result → Rehearsed nothing old new result
+    at (Ok done) by = serves_as old new (IsFrom canton first last) IsRehearsal (Ok done) turn by
+    at (Err (faults.Open fault)) by = by.0
+    at (Err faults.Faulted) by = serves_as old new (IsFrom canton first last) IsRehearsal (Err faults.Faulted) turn by
+    at (Err (faults.Serve serving.Read)) by = serves_as old new (IsFrom canton first last) IsRehearsal (Err (faults.Serve serving.Read)) turn by
+    at (Err (faults.Serve serving.Turns)) by = serves_as old new (IsFrom canton first last) IsRehearsal (Err (faults.Serve serving.Turns)) turn by
+    at (Err (faults.Serve serving.Write)) by = serves_as old new (IsFrom canton first last) IsRehearsal (Err (faults.Serve serving.Write)) turn by
+    at (Err fault) by = absurd by
+
+-- a text was written, or a front of it
+pub wrote_some : {T E : Type 0} (result : Result T E) (w w' : Option (List ℕ)) (text said : List ℕ) → text ≡ said → OnOk result (Appends w w' text)
+    → OnErr result ((n : ℕ) × (n < length text) × Appends w w' (take n text)) → WritesSome w w' said
+wrote_some (Ok done) w w' text said is all front =
+    subst (WritesSome w w') is (length text, omega arith, subst (λ (l : List ℕ). Appends w w' l) (sym (take_all (length text) text (omega arith))) all)
+wrote_some (Err fault) w w' text said is all (n, part, written) = subst (WritesSome w w') is (n, omega (arith, part), written)

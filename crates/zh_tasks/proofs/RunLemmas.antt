@@ -1,0 +1,60 @@
+-- What serving has done, by how it ended.
+use Rattle.std.proofs.Common.{◌≡◌, ℕ, List, Option, Result, Ok, Err, IsErrOf, IsTrue, subst}
+use Rattle.zh_districts.specs.Canton.{Canton}
+use Rattle.zh_disk.specs.History.{History}
+use Rattle.zh_ledger.specs.declared.fault.OpenFault.{OpenFault}
+use Rattle.zh_ledger.specs.Submissions.{OnDisk}
+use Rattle.zh_office.specs.Office.{Office}
+use Rattle.zh_office.specs.Served.{ServesEnded, ServesFront, TakesFewerReads, TakesReads, TakesReadsUpTo}
+use Rattle.zh_office.specs.declared.service.ServeFault.{ServeFault}
+use Rattle.zh_office.specs.declared.service.ServeFault.TheVariants as serving
+use Rattle.zh_tasks.specs.Opened.{IsFrom, WithOffice}
+use Rattle.zh_tasks.specs.Run.{IsReadWithin, Serves, Streams, beside}
+use Rattle.zh_tasks.specs.declared.fault.TaskFault.{TaskFault}
+use Rattle.zh_tasks.specs.declared.fault.TaskFault.TheVariants as faults
+
+-- a fault of serving
+pub broke_off : (old new : Streams) (Spans : OnDisk Office → OnDisk Office → Type 0) (start end : OnDisk Office) (result : Result ℕ ServeFault) (fault : ServeFault) → Spans start end → result ≡ Err fault
+    → (IsErrOf result serving.Read → ServesEnded old.left new.left (beside old.written start) (beside new.written end))
+    → (IsErrOf result serving.Write → ServesFront old.left new.left (beside old.written start) (beside new.written end))
+    → (IsErrOf result serving.Turns → ServesEnded old.left new.left (beside old.written start) (beside new.written end))
+    → Serves old new Spans (Err (faults.Serve fault))
+broke_off old new Spans start end result serving.Read begins is read write turns = record { start = start; end = end; spans = begins; ended = read is }
+broke_off old new Spans start end result serving.Write begins is read write turns = record { start = start; end = end; spans = begins; front = write is }
+broke_off old new Spans start end result serving.Turns begins is read write turns = record { start = start; end = end; spans = begins; ended = turns is }
+
+-- and how many reads were made before it
+read_before : (r r' : Option (List ℕ)) (limit : ℕ) (result : Result ℕ ServeFault) (fault : ServeFault) → result ≡ Err fault
+    → (IsErrOf result serving.Read → TakesFewerReads r r' limit)
+    → (IsErrOf result serving.Write → TakesReadsUpTo r r' limit)
+    → (IsErrOf result serving.Turns → TakesReads r r' limit)
+    → IsReadWithin r r' limit (Err (faults.Serve fault))
+read_before r r' limit result serving.Read is read write turns = read is
+read_before r r' limit result serving.Write is read write turns = write is
+read_before r r' limit result serving.Turns is read write turns = turns is
+
+pub read_off : (r r' : Option (List ℕ)) (limit allowed : ℕ) (result : Result ℕ ServeFault) (fault : ServeFault) → result ≡ Err fault → allowed ≡ limit
+    → (IsErrOf result serving.Read → TakesFewerReads r r' allowed)
+    → (IsErrOf result serving.Write → TakesReadsUpTo r r' allowed)
+    → (IsErrOf result serving.Turns → TakesReads r r' allowed)
+    → IsReadWithin r r' limit (Err (faults.Serve fault))
+read_off r r' limit allowed result fault is same read write turns =
+    subst (λ n. IsReadWithin r r' n (Err (faults.Serve fault))) same (read_before r r' allowed result fault is read write turns)
+
+-- the same of an office that began in another way too
+pub serves_as : (old new : Streams) (Spans Spans' : OnDisk Office → OnDisk Office → Type 0) (result : Result (Unit {0}) TaskFault) → ((start end : OnDisk Office) → Spans start end → Spans' start end)
+    → Serves old new Spans result → Serves old new Spans' result
+serves_as old new Spans Spans' (Ok done) turn by = record { start = by.start; end = by.end; count = by.count; spans = turn by.start by.end by.spans; all = by.all; device = by.device }
+serves_as old new Spans Spans' (Err faults.Faulted) turn by = record { start = by.start; end = by.end; count = by.count; spans = turn by.start by.end by.spans; all = by.all; device = by.device }
+serves_as old new Spans Spans' (Err (faults.Serve serving.Read)) turn by = record { start = by.start; end = by.end; spans = turn by.start by.end by.spans; ended = by.ended }
+serves_as old new Spans Spans' (Err (faults.Serve serving.Turns)) turn by = record { start = by.start; end = by.end; spans = turn by.start by.end by.spans; ended = by.ended }
+serves_as old new Spans Spans' (Err (faults.Serve serving.Write)) turn by = record { start = by.start; end = by.end; spans = turn by.start by.end by.spans; front = by.front }
+serves_as old new Spans Spans' (Err fault) turn by = absurd by
+
+-- what was done with an office, where its fault is not one of opening it
+pub with_office : (canton : Canton) (first last : History) (nothing : Type 0) (Does : (OnDisk Office → OnDisk Office → Type 0) → Result (Unit {0}) TaskFault → Type 0) (result : Result (Unit {0}) TaskFault)
+    → ((fault : OpenFault) → Does (IsFrom canton first last) (Err (faults.Open fault)) → ⊥)
+    → Does (IsFrom canton first last) result → WithOffice canton first last nothing Does result
+with_office canton first last nothing Does (Ok done) never by = by
+with_office canton first last nothing Does (Err (faults.Open fault)) never by = absurd (never fault by)
+with_office canton first last nothing Does (Err fault) never by = by

@@ -1,0 +1,40 @@
+-- How an office begins on the disk that it was opened from.
+use Rattle.std.proofs.Common.{◌≡◌, ℕ, List, Ok, IsTrue, sym, subst}
+use Rattle.zh_districts.specs.Canton.{Canton}
+use Rattle.zh_desks.specs.Batches.{no_batches}
+use Rattle.zh_disk.specs.History.{History}
+use Rattle.zh_returns.specs.Tally.{Tally}
+use Rattle.zh_snapshot.specs.Image.{Content, IsClean}
+use Rattle.zh_snapshot.proofs.CallerLemmas.{framed_alike}
+use Rattle.zh_ledger.specs.Opening.{Opening}
+use Rattle.zh_ledger.specs.Stands.{Holds, Stands, StandsFor}
+use Rattle.zh_ledger.proofs.CallerLemmas.{knows_images}
+use Rattle.zh_ledger.specs.Submissions.{OnDisk}
+use Rattle.zh_office.specs.Office.{Office}
+use Rattle.zh_tasks.specs.Opened.{IsFrom, IsStart, IsThis}
+
+-- clean bytes that stand for a count hold it
+held_by : (bytes : List ℕ) (tally : Tally) → Stands tally bytes → (x : Content) (j : ℕ) → IsClean x j bytes → Holds tally bytes
+held_by bytes tally stood x j clean =
+    let alike = framed_alike stood.content x stood.end j bytes stood.framed clean.framed in
+    record { content = x; end = j; format = stood.format; clean = clean; stands = subst (λ (y : Content). StandsFor stood.format y tally) alike.0 stood.stands }
+
+-- an office that was opened has begun
+pub starts : (canton : Canton) (first : History) (start : OnDisk Office) → Opening canton first start.history (Ok start.holder.ledger) → start.holder.held ≡ no_batches → IsStart canton first start
+starts canton first start opening held = record {
+  opening = opening;
+  held = held;
+  kept = λ h x j clean.
+      let opens = opening.call.did h in
+      let ledger = start.holder.ledger in
+      knows_images canton first.trail start.history.trail ledger opens ledger.tally opening.ready.set_up (held_by first.trail.now.bytes ledger.tally opens.opened.stood x j clean);
+}
+
+-- what begins with it has begun so, where a disk that is honest in the end was so then
+pub begun_at : (canton : Canton) (first last : History) (start : OnDisk Office) → IsStart canton first start → (IsTrue last.honest → IsTrue start.history.honest)
+    → (s e : OnDisk Office) → IsThis start last s e → IsFrom canton first last s e
+begun_at canton first last start begun honest s e this = record {
+  begun = subst (IsStart canton first) (sym this.0) begun;
+  ended = this.1;
+  honest = λ h. subst (λ (o : OnDisk Office). IsTrue o.history.honest) (sym this.0) (honest h);
+}

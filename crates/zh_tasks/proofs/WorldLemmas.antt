@@ -1,0 +1,31 @@
+-- The calls that were made of files before a task has its disk.
+use Rattle.std.proofs.Common.{◌≡◌, ◌≤◌, ◌+◌, ◌∙◌, ℕ, List, Option, ap, subst, sym, arith}
+use Rattle.zh_world.specs.Files.{IsCallOfFiles}
+use Rattle.zh_world.specs.declared.files.Files.{Ghosts as Files}
+use Rattle.zh_world.specs.declared.files.FileFault.{FileFault}
+use Rattle.zh_world.specs.declared.files.FileFault.TheVariants as of_files
+use Rattle.zh_tasks.specs.OnDisk.{FoundAs, IsEarly}
+use Rattle.zh_tasks.specs.World.{AreCalls}
+use Rattle.zh_tasks.specs.declared.fault.TaskFault.{TaskFault}
+
+pub one_call : {F T D R : Type 0} (files : Files F T D R) (old new : F) → IsCallOfFiles files.text_at files.disk_at files.calls old new → AreCalls files 1 old new
+one_call files old new one = record { counted = one.counted; texts = one.texts; disks = one.disks }
+
+-- two calls, one after the other
+pub two_calls : {F T D R : Type 0} (files : Files F T D R) (old mid new : F) → IsCallOfFiles files.text_at files.disk_at files.calls old mid → IsCallOfFiles files.text_at files.disk_at files.calls mid new → AreCalls files 2 old new
+two_calls files old mid new one other = record {
+  counted = omega (arith, one.counted, other.counted);
+  texts = other.texts ∙ one.texts;
+  disks = other.disks ∙ one.disks;
+}
+
+-- what is known of a disk stays so with a call before it
+pub known_before : {F : Type 0} (at : F → List ℕ → Option (List ℕ)) (old mid : F) (path : List ℕ) (P : Option (List ℕ) → Type 0) → at mid ≡ at old → P (at mid path) → P (at old path)
+known_before at old mid path P same by = subst (λ (f : List ℕ → Option (List ℕ)). P (f path)) same by
+
+-- a fault of opening the disk is early
+pub found_early : (fault : FileFault) (e : TaskFault) → FoundAs fault e → IsEarly e
+found_early of_files.Memory e is = subst IsEarly (sym is) tt
+found_early of_files.Device e is = subst IsEarly (sym is) tt
+found_early of_files.Size e is = subst IsEarly (sym is) tt
+found_early of_files.Busy e is = subst IsEarly (sym is) tt

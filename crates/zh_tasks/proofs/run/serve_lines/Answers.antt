@@ -1,0 +1,66 @@
+use Rattle.std.proofs.Common.{rules, refl, ◌≡◌, Err}
+use Rattle.zh_ledger.specs.Submissions.{on_disk}
+use Rattle.zh_office.specs.Served.{session}
+use Rattle.zh_tasks.specs.Opened.{IsThis}
+use Rattle.zh_tasks.specs.Run.{streams}
+use Rattle.zh_tasks.specs.declared.fault.TaskFault.TheVariants as faults
+use Rattle.zh_tasks.proofs.DeviceLemmas.{serve_fares}
+use Rattle.zh_tasks.proofs.RunLemmas.{broke_off, read_off}
+use Rattle.zh_tasks.proofs.run.serve_lines.Goals as goal
+
+pub returns-in_err-serve-clause-kept : goal.returns-in_err-serve-clause-kept
+returns-in_err-serve-clause-kept g c =
+    let old = session (g.O.Write.contents c.args.out.now) c.args.office.now (g.D.Disk.history c.args.disk.now) in
+    let new = session (g.O.Write.contents c.serve.new.writer) c.serve.new.self (g.D.Disk.history c.serve.new.disk) in
+    (serve_fares _ _ old new c.serve.result c.serve.ensures.ok c.serve.ensures.read c.serve.ensures.write c.serve.ensures.turns).honest
+
+pub returns-then-faulted-clause-kept : goal.returns-then-faulted-clause-kept
+returns-then-faulted-clause-kept g c =
+    let old = session (g.O.Write.contents c.args.out.now) c.args.office.now (g.D.Disk.history c.args.disk.now) in
+    let new = session (g.O.Write.contents c.serve.new.writer) c.serve.new.self (g.D.Disk.history c.serve.new.disk) in
+    (serve_fares _ _ old new c.serve.result c.serve.ensures.ok c.serve.ensures.read c.serve.ensures.write c.serve.ensures.turns).honest
+
+pub returns-clause-kept : goal.returns-clause-kept
+returns-clause-kept g c =
+    let old = session (g.O.Write.contents c.args.out.now) c.args.office.now (g.D.Disk.history c.args.disk.now) in
+    let new = session (g.O.Write.contents c.serve.new.writer) c.serve.new.self (g.D.Disk.history c.serve.new.disk) in
+    (serve_fares _ _ old new c.serve.result c.serve.ensures.ok c.serve.ensures.read c.serve.ensures.write c.serve.ensures.turns).honest
+
+pub returns-in_err-serve-clause-served : goal.returns-in_err-serve-clause-served
+returns-in_err-serve-clause-served g c =
+    let is : c.from_residual.result ≡ Err (faults.Serve c.in_err-serve.field-0.0) = search rules in
+    let start = on_disk c.args.office.now (g.D.Disk.history c.args.disk.now) in
+    let end = on_disk c.serve.new.self (g.D.Disk.history c.serve.new.disk) in
+    let this : IsThis start (g.D.Disk.history c.serve.new.disk) start end = (refl, refl) in
+    rw is (broke_off (streams (g.I.Read.remaining c.args.input.now) (g.O.Write.contents c.args.out.now)) (streams (g.I.Read.remaining c.serve.new.reader) (g.O.Write.contents c.serve.new.writer)) (IsThis start (g.D.Disk.history c.serve.new.disk)) start end c.serve.result c.in_err-serve.field-0.0 this (search rules) c.serve.ensures.read c.serve.ensures.write c.serve.ensures.turns)
+
+pub returns-then-faulted-clause-served : goal.returns-then-faulted-clause-served
+returns-then-faulted-clause-served g c = record {
+  start = on_disk c.args.office.now (g.D.Disk.history c.args.disk.now);
+  end = on_disk c.serve.new.self (g.D.Disk.history c.serve.new.disk);
+  count = c.in_ok-serve.field-0;
+  spans = (refl, refl);
+  all = c.in_ok-serve.ensures.ok;
+  device = search rules;
+}
+
+pub returns-clause-served : goal.returns-clause-served
+returns-clause-served g c = record {
+  start = on_disk c.args.office.now (g.D.Disk.history c.args.disk.now);
+  end = on_disk c.serve.new.self (g.D.Disk.history c.serve.new.disk);
+  count = c.in_ok-serve.field-0;
+  spans = (refl, refl);
+  all = c.in_ok-serve.ensures.ok;
+  device = search rules;
+}
+
+pub returns-in_err-serve-clause-reads : goal.returns-in_err-serve-clause-reads
+returns-in_err-serve-clause-reads g c =
+    let is : c.from_residual.result ≡ Err (faults.Serve c.in_err-serve.field-0.0) = search rules in
+    rw is (read_off _ _ _ _ c.serve.result c.in_err-serve.field-0.0 (search rules) c.most_reads.ensures c.serve.ensures.most_at_read c.serve.ensures.most_at_write c.serve.ensures.enough)
+
+pub returns-then-faulted-clause-reads : goal.returns-then-faulted-clause-reads
+returns-then-faulted-clause-reads g c = rw (← c.most_reads.ensures) c.in_ok-serve.ensures.most
+
+pub returns-clause-reads : goal.returns-clause-reads
+returns-clause-reads g c = rw (← c.most_reads.ensures) c.in_ok-serve.ensures.most

@@ -1,0 +1,34 @@
+use Rattle.std.proofs.Common.{rules, refl, ◌≡◌, Err}
+use Rattle.zh_ledger.specs.Submissions.{on_disk}
+use Rattle.zh_tasks.specs.Opened.{IsFrom, IsThis}
+use Rattle.zh_tasks.specs.Run.{Serves, streams}
+use Rattle.zh_tasks.specs.declared.fault.TaskFault.TheVariants as faults
+use Rattle.zh_tasks.proofs.DeviceLemmas.{refused_leaves, serves_leaves}
+use Rattle.zh_tasks.proofs.RunLemmas.{serves_as, with_office}
+use Rattle.zh_tasks.proofs.StartLemmas.{begun_at, starts}
+use Rattle.zh_tasks.proofs.run.serve_on.Goals as goal
+
+pub returns-in_err-office : goal.returns-in_err-office
+returns-in_err-office g c =
+    let is : c.from_residual.result ≡ Err (faults.Open c.in_err-office.field-0.0) = search rules in
+    rw is (record {
+      served = ((refl, refl), c.in_err-office.ensures.opening);
+      reads = tt;
+      disk = refused_leaves _ _ _ c.in_err-office.field-0.0 c.in_err-office.ensures.opening;
+    })
+
+pub returns : goal.returns
+returns g c =
+    let canton = c.args.setup.now in
+    let first = g.D.Disk.history c.args.disk.now in
+    let last = g.D.Disk.history c.serve_lines.new.disk in
+    let start = on_disk c.in_ok-office.office (g.D.Disk.history c.open.new.disk) in
+    let old = streams (g.I.Read.remaining c.args.input.now) (g.O.Write.contents c.args.out.now) in
+    let new = streams (g.I.Read.remaining c.serve_lines.new.input) (g.O.Write.contents c.serve_lines.new.out) in
+    let begins = begun_at canton first last start (starts canton first start c.in_ok-office.ensures.opening c.in_ok-office.ensures.held) c.serve_lines.ensures.kept in
+    let serves = serves_as old new (IsThis start last) (IsFrom canton first last) c.serve_lines.result begins c.serve_lines.ensures.served in
+    record {
+      served = with_office canton first last _ (Serves old new) c.serve_lines.result (λ fault none. none) serves;
+      reads = c.serve_lines.ensures.reads;
+      disk = serves_leaves canton first last old new c.serve_lines.result serves;
+    }

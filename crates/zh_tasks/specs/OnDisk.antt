@@ -1,0 +1,72 @@
+-- What a task on a disk leaves of a world.
+use Rattle.std.specs.Prelude.{◌≡◌, ◌≤◌, ◌+◌, ◌⊎◌, ℕ, List, Option, Some, None, Result, IsErrAnd}
+use Rattle.zh_arguments.specs.declared.arguments.Paths.{Paths}
+use Rattle.zh_districts.specs.Canton.{Canton}
+use Rattle.zh_world.specs.declared.files.FileFault.{FileFault}
+use Rattle.zh_world.specs.declared.files.FileFault.TheVariants as of_files
+use Rattle.zh_world.specs.declared.world.World.{World}
+use Rattle.zh_tasks.specs.World.{AreCalls, IsSetupAt, Sight}
+use Rattle.zh_world.specs.declared.world.Ended.{Ended}
+use Rattle.zh_tasks.specs.declared.fault.TaskFault.{TaskFault}
+use Rattle.zh_tasks.specs.declared.fault.TaskFault.TheVariants as faults
+
+-- the fault is one of memory or of the set-up, which come before all else
+abbrev pub IsOfSetup : TaskFault → Type 0
+IsOfSetup faults.SetupFile = Unit {0}
+IsOfSetup (faults.Setup fault) = Unit {0}
+IsOfSetup faults.Memory = Unit {0}
+IsOfSetup fault = ⊥
+
+-- the fault is one of memory, of the set-up or of opening the disk, which come before a task has a disk
+abbrev pub IsEarly : TaskFault → Type 0
+IsEarly faults.SetupFile = Unit {0}
+IsEarly (faults.Setup fault) = Unit {0}
+IsEarly faults.Device = Unit {0}
+IsEarly faults.Busy = Unit {0}
+IsEarly faults.Size = Unit {0}
+IsEarly faults.Memory = Unit {0}
+IsEarly fault = ⊥
+
+-- the fault of files that give no disk, as the task's
+abbrev pub FoundAs : FileFault → TaskFault → Type 0
+FoundAs of_files.Memory e = e ≡ faults.Memory
+FoundAs of_files.Device e = e ≡ faults.Device
+FoundAs of_files.Size e = e ≡ faults.Size
+FoundAs of_files.Busy e = e ≡ faults.Busy
+
+module _ {F T D R : Type 0} where
+  -- two calls were made of the files: one for the text at the path of the set-up, which is that of this canton, and one for
+  -- the disk at the path of the disk
+  pub record Began (sight : Sight F T D R) (paths : Paths) (old new : F) (begun : Canton × D) : Type 0 where
+    pub setup : IsSetupAt (sight.files.text_at old paths.setup.now) begun.0
+    pub calls : AreCalls sight.files 2 old new
+    pub begins : sight.Begins (sight.files.disk_at old paths.disk.now) (sight.disks.history begun.1)
+
+module _ {I O E F T D R : Type 0} where
+  -- no disk was opened, and nothing was read from the input or written
+  pub record EndsEarly (sight : Sight F T D R) (old new : World I O E F)
+      (ended : Ended (Result (Unit {0}) TaskFault) D) : Type 0 where
+    pub early : IsErrAnd ended.result IsEarly
+    pub none : ended.used ≡ None
+    pub rest : new ≡ record old { files = new.files }
+    pub counted : sight.files.calls new.files ≤ sight.files.calls old.files + 2
+
+  -- with this set-up and this disk, which were all that was opened before, this was done, and the disk was handed over
+  pub record HasUsed (sight : Sight F T D R) (paths : Paths) (old new : World I O E F)
+      (Does : Canton → World I O E F × D → World I O E F × D → Type 0) (handed : Option D) : Type 0 where
+    pub canton : Canton
+    pub files : F
+    pub first : D
+    pub last : D
+    pub began : Began sight paths old.files files (canton, first)
+    pub does : Does canton (record old { files = files }, first) (new, last)
+    pub used : handed ≡ Some last
+
+  -- A task on a disk, from a world to a world, where this is what it does with its disk: it ends before it has one, or
+  -- hands over the one that it used, whatever came of it.
+  abbrev pub UsesDisk : Sight F T D R → Paths → World I O E F → World I O E F
+      → (Canton → World I O E F × D → World I O E F × D → Result (Unit {0}) TaskFault → Type 0)
+      → Ended (Result (Unit {0}) TaskFault) D → Type 0
+  UsesDisk sight paths old new Does ended =
+      EndsEarly sight old new ended
+      ⊎ HasUsed sight paths old new (λ canton before after. Does canton before after ended.result) ended.used

@@ -1,0 +1,45 @@
+-- What a rehearsal does.
+use Rattle.std.specs.Prelude.{◌≡◌, ◌≤◌, ℕ, false, List, length, take, Option, None, Result, Ok, Err, IsTrue, codes, ◌++◌, ◌∷◌, []}
+use Rattle.std.specs.Io.KnownBytes.{Appends}
+use Rattle.zh_setups.specs.Rehearsal.{rehearsal}
+use Rattle.zh_returns.specs.Tally.{empty}
+use Rattle.zh_desks.specs.Batches.{no_batches}
+use Rattle.zh_ledger.specs.Submissions.{OnDisk}
+use Rattle.zh_office.specs.Office.{Office}
+use Rattle.zh_world.specs.declared.world.World.{World}
+use Rattle.zh_tasks.specs.World.{Known}
+use Rattle.zh_tasks.specs.Run.{Serves, Streams, streams_of}
+use Rattle.zh_world.specs.declared.world.Ended.{Ended}
+use Rattle.zh_tasks.specs.declared.fault.TaskFault.{TaskFault}
+use Rattle.zh_tasks.specs.declared.fault.TaskFault.TheVariants as faults
+
+-- the line that says of a rehearsal that nothing is kept, with its LF, which is 10
+abbrev pub announcement : List ℕ
+announcement = codes "zhcount: rehearsal, nothing is kept" ++ 10 ∷ []
+
+-- the office of a rehearsal: as it begins nothing was returned yet, and its disk is honest to the end
+pub record IsRehearsal (start end : OnDisk Office) : Type 0 where
+  pub count : start.holder.ledger.tally ≡ empty rehearsal
+  pub held : start.holder.held ≡ no_batches
+  pub whole : start.holder.ledger.store.broken ≡ false
+  pub honest : IsTrue end.history.honest
+
+-- a rehearsal served; or its fault is one of making its set-up, its disk or its office, and nothing was served
+abbrev pub Rehearsed : Type 0 → Streams → Streams → Result (Unit {0}) TaskFault → Type 0
+Rehearsed nothing old new (Err faults.Memory) = nothing
+Rehearsed nothing old new (Err faults.Device) = nothing
+Rehearsed nothing old new (Err faults.InUse) = nothing
+Rehearsed nothing old new (Err (faults.Open fault)) = nothing
+Rehearsed nothing old new result = Serves old new IsRehearsal result
+
+-- a text, or a front of it, is written
+abbrev pub WritesSome : Option (List ℕ) → Option (List ℕ) → List ℕ → Type 0
+WritesSome writer writer' text = (front : ℕ) × (front ≤ length text) × Appends writer writer' (take front text)
+
+module _ {I O E F T D R : Type 0} where
+  -- a rehearsal, which says so first; its disk is in memory, and no file is touched
+  pub record Rehearses (of : Known I O E F T D R) (old new : World I O E F) (ended : Ended (Result (Unit {0}) TaskFault) D) : Type 0 where
+    pub none : ended.used ≡ None
+    pub rest : new ≡ record old { input = new.input; output = new.output; faults = new.faults }
+    pub said : WritesSome (of.errors.contents old.faults) (of.errors.contents new.faults) announcement
+    pub served : Rehearsed ((new.input ≡ old.input) × (new.output ≡ old.output)) (streams_of of old) (streams_of of new) ended.result

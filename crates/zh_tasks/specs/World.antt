@@ -1,0 +1,54 @@
+-- What is known of a world, and of the files in it.
+use Rattle.std.specs.Prelude.{◌≡◌, ◌≤◌, ◌+◌, ℕ, List, take, Option, Some, None, Result, Ok}
+use Rattle.std.specs.declared.io.traits.Read.{Ghosts as Readers}
+use Rattle.std.specs.declared.io.traits.Write.{Ghosts as Writers}
+use Rattle.zh_disk.specs.History.{History}
+use Rattle.zh_disk.specs.declared.disk.Disk.{Ghosts as Disks}
+use Rattle.zh_districts.specs.Canton.{Canton, IsCanton}
+use Rattle.zh_setups.specs.SetupText.{reading_of}
+use Rattle.zh_world.specs.Files as opened
+use Rattle.zh_world.specs.declared.files.Files.{Ghosts as Files}
+
+module _ (I O E F T D R : Type 0) where
+  -- what is known of the parts of a world
+  pub record Known : Type 1 where
+    pub readers : Readers I
+    pub writers : Writers O
+    pub errors : Writers E
+    pub files : Files F T D R
+    pub disks : Disks D
+
+module _ {I O E F T D R : Type 0} where
+  abbrev pub known : Readers I → Writers O → Writers E → Files F T D R → Disks D → Known I O E F T D R
+  known readers writers errors files disks = record { readers = readers; writers = writers; errors = errors; files = files; disks = disks }
+
+-- what is known of files, of a disk, and of how a disk begins that is opened where these bytes are
+pub record Sight (F T D R : Type 0) : Type 1 where
+  pub files : Files F T D R
+  pub disks : Disks D
+  pub Begins : Option (List ℕ) → History → Type 0
+
+module _ {F T D R : Type 0} where
+  -- the sight of a disk that there is
+  abbrev pub finding : Files F T D R → Disks D → Sight F T D R
+  finding files disks = record { files = files; disks = disks; Begins = opened.Begins }
+
+  -- the sight of one that is made where there is none
+  abbrev pub making : Files F T D R → Disks D → Sight F T D R
+  making files disks = record { files = files; disks = disks; Begins = opened.BeginsOrIsMade }
+
+  -- so many calls were made of the files, of which the same is known
+  pub record AreCalls (files : Files F T D R) (count : ℕ) (old new : F) : Type 0 where
+    pub counted : files.calls new ≡ files.calls old + count
+    pub texts : files.text_at new ≡ files.text_at old
+    pub disks : files.disk_at new ≡ files.disk_at old
+
+-- these are the first bytes of a text, where that is known
+abbrev pub IsFrontAt : Option (List ℕ) → List ℕ → Type 0
+IsFrontAt None front = Unit {0}
+IsFrontAt (Some text) front = front ≡ take 1048577 text
+
+-- this set-up is within its limits, and the reading of the text where that is known
+abbrev pub IsSetupAt : Option (List ℕ) → Canton → Type 0
+IsSetupAt None canton = IsCanton canton
+IsSetupAt (Some text) canton = IsCanton canton × (reading_of text ≡ Ok canton)

@@ -1,0 +1,106 @@
+//! What each task on a disk does before it and after it.
+
+ghost use Rattle.std.specs.Prelude.{◌≤◌, ◌+◌, IfErr, IfOk, Result};
+ghost use Rattle.zh_districts.specs.Canton.{Canton};
+ghost use Rattle.zh_tasks.specs.OnDisk.{Began, IsEarly, UsesDisk};
+ghost use Rattle.zh_tasks.specs.World.{finding, making};
+ghost use Rattle.zh_tasks.specs.declared.fault.TaskFault.{TaskFault};
+
+use crate::fault::TaskFault;
+use crate::setup::setup_at;
+use std::alloc::Global;
+use zh_arguments::Paths;
+use zh_districts::Setup;
+use zh_world::{Ended, Files, World};
+
+/// What a task does with its disk.
+pub trait Middle<W, D> {
+    /// It takes a world and a disk to these on this set-up, and ends so.
+    ghost does: { Self → Canton → W × D → W × D → Result (Unit {0}) TaskFault → Type 0 };
+
+    /// Does it.
+    fn on(&self, alloc: Global, setup: &Setup, world: &mut W, disk: &mut D) -> Result<(), TaskFault>
+        ensures { does self.now setup.now (world.old, disk.old) (world.new, disk.new) result };
+}
+
+/// Reads the set-up, and opens the disk.
+fn begin<F: Files>(
+    alloc: Global,
+    paths: Paths<'_>,
+    right: F::Right,
+    files: &mut F,
+) -> Result<(Setup, F::Disk), TaskFault>
+    ensures began { IfOk result (Began (finding F.Files F.Disk.Disk) paths.entry files.old files.new) }
+    ensures counted { F.calls files.new ≤ F.calls files.old + 2 }
+    ensures early { IfErr result IsEarly }
+{
+    let setup = setup_at(alloc, files, paths.setup)?;
+    let disk = files.disk(right, paths.disk)?;
+    Ok((setup, disk))
+}
+
+/// The same of a disk that is made where there is none.
+fn begin_made<F: Files>(
+    alloc: Global,
+    paths: Paths<'_>,
+    right: F::Right,
+    files: &mut F,
+) -> Result<(Setup, F::Disk), TaskFault>
+    ensures began { IfOk result (Began (making F.Files F.Disk.Disk) paths.entry files.old files.new) }
+    ensures counted { F.calls files.new ≤ F.calls files.old + 2 }
+    ensures early { IfErr result IsEarly }
+{
+    let setup = setup_at(alloc, files, paths.setup)?;
+    let disk = files.disk_or_make(right, paths.disk)?;
+    Ok((setup, disk))
+}
+
+/// Reads the set-up, opens the disk, does what the task does, and hands the disk over whatever came of it.
+pub(crate) fn on_disk<I, O, E, F: Files, M: Middle<World<I, O, E, F>, F::Disk>>(
+    alloc: Global,
+    paths: Paths<'_>,
+    right: F::Right,
+    world: &mut World<I, O, E, F>,
+    middle: &M,
+) -> Ended<Result<(), TaskFault>, F::Disk>
+    ensures { UsesDisk (finding F.Files F.Disk.Disk) paths.entry world.old world.new (M.does middle.now) result }
+{
+    match begin(alloc, paths, right, &mut world.files) {
+        Ok((setup, mut disk)) => {
+            let result = middle.on(alloc, &setup, world, &mut disk);
+            Ended {
+                result,
+                used: Some(disk),
+            }
+        }
+        Err(fault) => Ended {
+            result: Err(fault),
+            used: None,
+        },
+    }
+}
+
+/// The same on a disk that is made where there is none.
+pub(crate) fn on_made_disk<I, O, E, F: Files, M: Middle<World<I, O, E, F>, F::Disk>>(
+    alloc: Global,
+    paths: Paths<'_>,
+    right: F::Right,
+    world: &mut World<I, O, E, F>,
+    middle: &M,
+) -> Ended<Result<(), TaskFault>, F::Disk>
+    ensures { UsesDisk (making F.Files F.Disk.Disk) paths.entry world.old world.new (M.does middle.now) result }
+{
+    match begin_made(alloc, paths, right, &mut world.files) {
+        Ok((setup, mut made)) => {
+            let result = middle.on(alloc, &setup, world, &mut made);
+            Ended {
+                result,
+                used: Some(made),
+            }
+        }
+        Err(fault) => Ended {
+            result: Err(fault),
+            used: None,
+        },
+    }
+}

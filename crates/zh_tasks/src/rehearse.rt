@@ -1,0 +1,52 @@
+//! A rehearsal.
+
+ghost use Rattle.std.specs.Prelude.{◌≡◌};
+ghost use Rattle.zh_tasks.specs.Rehearse.{Rehearsed, Rehearses, WritesSome, announcement};
+ghost use Rattle.zh_tasks.specs.Run.{streams};
+ghost use Rattle.zh_tasks.specs.World.{known};
+
+use crate::fault::TaskFault;
+use crate::format::format_blank;
+use crate::run::serve_on;
+use std::alloc::Global;
+use std::io::{Read, Write};
+use zh_commands::put;
+use zh_disk::MemoryDisk;
+use zh_setups::rehearsal;
+use zh_world::{Ended, Files, World};
+
+/// Says of a rehearsal that nothing is kept. Where that can't be written it is one all the same.
+fn announce<E: Write>(faults: &mut E)
+    ensures { WritesSome (E.contents faults.old) (E.contents faults.new) announcement }
+{
+    let _ = put(faults, b"zhcount: rehearsal, nothing is kept\n");
+}
+
+/// Serves the lines of the input on the set-up of the rehearsal, on a disk in memory.
+fn serve_rehearsal<I: Read, O: Write>(
+    alloc: Global,
+    input: &mut I,
+    out: &mut O,
+) -> Result<(), TaskFault>
+    ensures { Rehearsed ((input.new ≡ input.old) × (out.new ≡ out.old))
+        (streams (I.remaining input.old) (O.contents out.old)) (streams (I.remaining input.new) (O.contents out.new)) result }
+{
+    let setup = rehearsal(alloc)?;
+    let mut disk = MemoryDisk::blank(alloc)?;
+    format_blank(alloc, &setup, &mut disk)?;
+    serve_on(alloc, &setup, &mut disk, input, out)
+}
+
+/// Rehearses, and keeps nothing.
+pub(crate) fn rehearse<I: Read, O: Write, E: Write, F: Files>(
+    alloc: Global,
+    world: &mut World<I, O, E, F>,
+) -> Ended<Result<(), TaskFault>, F::Disk>
+    ensures { Rehearses (known I.Read O.Write E.Write F.Files F.Disk.Disk) world.old world.new result }
+{
+    announce(&mut world.faults);
+    Ended {
+        result: serve_rehearsal(alloc, &mut world.input, &mut world.output),
+        used: None,
+    }
+}

@@ -1,0 +1,76 @@
+//! Serving on a disk.
+
+ghost use Rattle.std.specs.Prelude.{◌≡◌, ◌^◌, IsTrue};
+ghost use Rattle.zh_ledger.specs.Submissions.{on_disk};
+ghost use Rattle.zh_tasks.specs.Opened.{IsThis, LeavesDisk, WithOffice};
+ghost use Rattle.zh_tasks.specs.Run.{IsReadWithin, Ran, Serves, streams};
+ghost use Rattle.zh_tasks.specs.World.{known};
+
+use crate::fault::TaskFault;
+use crate::on_disk::Middle;
+use std::alloc::Global;
+use std::io::{Read, Write};
+use zh_disk::Disk;
+use zh_districts::Setup;
+use zh_office::Office;
+use zh_world::{Files, World};
+
+/// How many reads of the input a run makes at most.
+fn most_reads() -> u64
+    ensures { result ≡ 2 ^ 32 }
+{
+    1 << 32
+}
+
+/// Opens the office that a disk holds, and serves the lines of the input.
+pub fn serve_on<I: Read, O: Write, D: Disk>(
+    alloc: Global,
+    setup: &Setup,
+    disk: &mut D,
+    input: &mut I,
+    out: &mut O,
+) -> Result<(), TaskFault>
+    ensures served { WithOffice setup.now (D.history disk.old) (D.history disk.new) ((input.new ≡ input.old) × (out.new ≡ out.old))
+        (Serves (streams (I.remaining input.old) (O.contents out.old)) (streams (I.remaining input.new) (O.contents out.new))) result }
+    ensures reads { IsReadWithin (I.remaining input.old) (I.remaining input.new) (2 ^ 32) result }
+    ensures disk { LeavesDisk (D.history disk.old) (D.history disk.new) result }
+{
+    let mut office = Office::open(alloc, setup, disk)?;
+    serve_lines(&mut office, disk, input, out)
+}
+
+/// Serves the lines of the input on an office.
+fn serve_lines<I: Read, O: Write, D: Disk>(
+    office: &mut Office<'_>,
+    disk: &mut D,
+    input: &mut I,
+    out: &mut O,
+) -> Result<(), TaskFault>
+    ensures kept { IsTrue (D.history disk.new).honest → IsTrue (D.history disk.old).honest }
+    ensures served { Serves (streams (I.remaining input.old) (O.contents out.old)) (streams (I.remaining input.new) (O.contents out.new))
+        (IsThis (on_disk office.old (D.history disk.old)) (D.history disk.new)) result }
+    ensures reads { IsReadWithin (I.remaining input.old) (I.remaining input.new) (2 ^ 32) result }
+{
+    office.serve(input, out, disk, most_reads())?;
+    if office.faulted() {
+        return Err(TaskFault::Faulted);
+    }
+    Ok(())
+}
+
+/// Serves the lines of the input on the office on the disk.
+pub struct Run;
+
+impl<I: Read, O: Write, E: Write, F: Files> Middle<World<I, O, E, F>, F::Disk> for Run {
+    ghost does = { λ task. Ran (known I.Read O.Write E.Write F.Files F.Disk.Disk) };
+
+    fn on(
+        &self,
+        alloc: Global,
+        setup: &Setup,
+        world: &mut World<I, O, E, F>,
+        disk: &mut F::Disk,
+    ) -> Result<(), TaskFault> {
+        serve_on(alloc, setup, disk, &mut world.input, &mut world.output)
+    }
+}

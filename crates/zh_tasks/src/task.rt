@@ -1,0 +1,38 @@
+//! Any task.
+
+ghost use Rattle.zh_tasks.specs.Tasks.{Does};
+ghost use Rattle.zh_tasks.specs.World.{known};
+
+use crate::export::Export;
+use crate::fault::TaskFault;
+use crate::format::FormatDisk;
+use crate::list::list;
+use crate::load::Load;
+use crate::on_disk::{on_disk, on_made_disk};
+use crate::rehearse::rehearse;
+use crate::run::Run;
+use std::alloc::Global;
+use std::io::{Read, Write};
+use zh_arguments::Task;
+use zh_world::{Ended, Files, World};
+
+/// Carries out a task. The disk that it worked on is handed over, whatever the result.
+///
+/// An error says why the task was not done. Its text is what the program reports after its name (docs/MANUAL.md).
+pub fn carry_out<I: Read, O: Write, E: Write, F: Files>(
+    alloc: Global,
+    task: Task<'_>,
+    right: F::Right,
+    world: &mut World<I, O, E, F>,
+) -> Ended<Result<(), TaskFault>, F::Disk>
+    ensures { Does (known I.Read O.Write E.Write F.Files F.Disk.Disk) task.entry world.old world.new result }
+{
+    match task {
+        Task::Rehearse => rehearse(alloc, world),
+        Task::Format(paths) => on_made_disk(alloc, paths, right, world, &FormatDisk),
+        Task::Run(paths) => on_disk(alloc, paths, right, world, &Run),
+        Task::Load { paths, csv } => on_disk(alloc, paths, right, world, &Load { csv }),
+        Task::Export(paths) => on_disk(alloc, paths, right, world, &Export),
+        Task::List { setup, table } => list(alloc, setup, table, world),
+    }
+}

@@ -1,0 +1,4 @@
+pub mod Count
+pub mod Files
+pub mod Memory
+pub mod MemoryFiles

@@ -1,0 +1,56 @@
+//! The files that the program is given by name.
+ghost use Rattle.std.specs.Prelude.{◌≡◌, ℕ, List, Option, IfOk};
+ghost use Rattle.zh_world.specs.Files.{Begins, BeginsOrIsMade, IsCallOfFiles};
+
+use std::io::Read;
+use thiserror::Error;
+use zh_disk::Disk;
+
+/// Why there is no text, or no disk.
+#[derive(Clone, Copy, Debug, PartialEq, Eq, Error)]
+pub enum FileFault {
+    #[error("memory was refused")]
+    Memory,
+    #[error("the file could not be opened")]
+    Device,
+    /// The file has not [`DISK_LENGTH`](zh_disk::DISK_LENGTH) bytes.
+    #[error("the file does not have the length of a disk")]
+    Size,
+    /// Another program, or another disk of this one, has the file open.
+    #[error("the file is in use")]
+    Busy,
+}
+
+/// Texts and disks, by their paths.
+pub trait Files {
+    /// What reads a text.
+    type Text: Read + Drop;
+    /// A disk. Code over any files cannot drop one: what it has opened it must hand over.
+    type Disk: Disk;
+    /// The right to one disk. Code over any files can make none and copy none, so it opens one disk at most.
+    type Right: Drop;
+
+    /// The bytes of the text at this path, where they are known.
+    ghost text_at: { Self → List ℕ → Option (List ℕ) };
+
+    /// The bytes that the disk at this path begins with, where they are known; none of them where there is no disk.
+    ghost disk_at: { Self → List ℕ → Option (List ℕ) };
+
+    /// How many calls were made.
+    ghost calls: { Self → ℕ };
+
+    /// The text at this path, from its first byte.
+    fn text(&mut self, path: &str) -> Result<Self::Text, FileFault>
+        ensures call { IsCallOfFiles text_at disk_at calls self.old self.new }
+        ensures bytes { IfOk result (λ text. Self.Text.remaining text ≡ text_at self.old path.now) };
+
+    /// The disk at this path.
+    fn disk(&mut self, right: Self::Right, path: &str) -> Result<Self::Disk, FileFault>
+        ensures call { IsCallOfFiles text_at disk_at calls self.old self.new }
+        ensures begins { IfOk result (λ disk. Begins (disk_at self.old path.now) (Self.Disk.history disk)) };
+
+    /// The disk at this path. Where there is none, it is made, of zeros.
+    fn disk_or_make(&mut self, right: Self::Right, path: &str) -> Result<Self::Disk, FileFault>
+        ensures call { IsCallOfFiles text_at disk_at calls self.old self.new }
+        ensures begins { IfOk result (λ disk. BeginsOrIsMade (disk_at self.old path.now) (Self.Disk.history disk)) };
+}

@@ -1,0 +1,16 @@
+//! The world of a task: its streams, and the texts and disks that its arguments name.
+//!
+//! [`Files`] are theirs. The files of the operating system are in a crate of their own, those of [`MemoryFiles`] in memory.
+#![tactic(auto)]
+
+mod count;
+mod files;
+mod memory;
+mod text;
+mod world;
+
+pub use count::CallCount;
+pub use files::{FileFault, Files};
+pub use memory::{MemoryFiles, Named};
+pub use text::MemoryText;
+pub use world::{Ended, World};

@@ -1,0 +1,179 @@
+//! Files in memory.
+ghost use Rattle.std.specs.Prelude.{◌≡◌, ◌+◌, ◌-◌, ◌^◌, ◌≢◌, false, Some, Ok, Err, IfOk, IfErr, MatchOption, MatchResult, length};
+ghost use Rattle.zh_disk.specs.Disk.{disk_length, fresh_trail};
+ghost use Rattle.zh_disk.specs.Fuse.{IsFuse, calls_left, fuse_history, inside};
+ghost use Rattle.zh_disk.specs.Memory.{IsNewDisk, memory_history, memory_trail};
+ghost use Rattle.zh_world.specs.Count.{number};
+ghost use Rattle.zh_world.specs.Files.{Begins, BeginsOrIsMade, IsCallOfFiles};
+ghost use Rattle.zh_world.specs.Memory.{bytes_at, IsDiskFault, IsMakingFault, IsOutOfReach};
+
+use crate::count::CallCount;
+use crate::files::{FileFault, Files};
+use crate::text::MemoryText;
+use std::alloc::{AllocError, Global};
+use std::marker::PhantomData;
+use zh_disk::{DISK_LENGTH, FuseDisk, MemoryDisk};
+
+/// Bytes, and the path that they stand at.
+#[derive(Clone, Copy)]
+pub struct Named<'a> {
+    pub path: &'a str,
+    pub bytes: &'a [u8],
+}
+
+/// The bytes at this path.
+fn bytes_at<'a>(all: &[Named<'a>], path: &str) -> Option<&'a [u8]>
+    ensures { MatchOption result (bytes_at all.now path.now ≡ None) (λ bytes. bytes_at all.now path.now ≡ Some bytes.now) }
+{
+    let (first, others) = all.split_first()?;
+    if first.path == path {
+        return Some(first.bytes);
+    }
+    bytes_at(others, path)
+}
+
+/// Texts and images of disks in memory. So many calls pass, and then each one fails.
+#[derive(Drop)]
+pub struct MemoryFiles<'a, R> {
+    pub alloc: Global,
+    pub texts: &'a [Named<'a>],
+    pub disks: &'a [Named<'a>],
+    /// How many calls pass.
+    pub calls: u64,
+    /// How many reads of a text pass.
+    pub reads: u64,
+    /// How many calls of a disk pass.
+    pub disk_calls: u64,
+    // how many calls were made
+    made: CallCount,
+    // what the right to a disk is
+    right: PhantomData<R>,
+}
+
+impl<'a, R> MemoryFiles<'a, R> {
+    /// These texts and disks. So many calls pass that none of a test fails.
+    pub fn new(alloc: Global, texts: &'a [Named<'a>], disks: &'a [Named<'a>]) -> MemoryFiles<'a, R>
+        ensures texts { result.texts.now ≡ texts.now }
+        ensures disks { result.disks.now ≡ disks.now }
+        ensures unmade { number result.made ≡ 0 }
+        ensures passing { (result.calls ≡ 2 ^ 64 - 1) × (result.reads ≡ 2 ^ 64 - 1) × (result.disk_calls ≡ 2 ^ 64 - 1) }
+    {
+        MemoryFiles {
+            alloc,
+            texts,
+            disks,
+            calls: u64::MAX,
+            reads: u64::MAX,
+            disk_calls: u64::MAX,
+            made: CallCount::new(),
+            right: PhantomData,
+        }
+    }
+
+    /// Counts a call, which passes or not.
+    fn pass(&mut self) -> Result<(), FileFault>
+        ensures same { self.new ≡ record self.old { calls = self.new.calls; made = self.new.made } }
+        ensures counted { number self.new.made ≡ number self.old.made + 1 }
+        ensures passes { MatchResult result (λ _. self.old.calls ≡ self.new.calls + 1)
+            (λ fault. (self.old.calls ≡ 0) × (fault ≡ FileFault.Device)) }
+    {
+        self.made.add();
+        match self.calls.checked_sub(1) {
+            Some(left) => {
+                self.calls = left;
+                Ok(())
+            }
+            None => Err(FileFault::Device),
+        }
+    }
+
+    /// The disk that was made, which passes so many calls.
+    fn fused(&self, made: Result<MemoryDisk, AllocError>) -> Result<FuseDisk<MemoryDisk>, FileFault>
+        ensures { MatchResult result (λ disk. (made ≡ Ok (inside disk)) × IsFuse (inside disk) self.now.disk_calls false disk)
+            (λ fault. fault ≡ FileFault.Memory) }
+    {
+        match made {
+            Ok(disk) => Ok(FuseDisk::new(disk, self.disk_calls)),
+            Err(_) => Err(FileFault::Memory),
+        }
+    }
+
+    /// The disk that this is the image of.
+    fn disk_of(&self, image: &[u8]) -> Result<FuseDisk<MemoryDisk>, FileFault>
+        ensures begins { IfOk result (λ disk. memory_trail (inside disk) ≡ fresh_trail image.now) }
+        ensures fuse { IfOk result (λ disk. IsFuse (inside disk) self.now.disk_calls false disk) }
+        ensures size { result ≡ Err FileFault.Size → length image.now ≢ disk_length }
+        ensures other { IfErr result (λ fault. fault ≢ FileFault.Size → fault ≡ FileFault.Memory) }
+    {
+        if image.len() as u64 != DISK_LENGTH {
+            return Err(FileFault::Size);
+        }
+        self.fused(MemoryDisk::new(self.alloc, image))
+    }
+
+    /// A disk of zeros.
+    fn blank(&self) -> Result<FuseDisk<MemoryDisk>, FileFault>
+        ensures blank { IfOk result (λ disk. IsNewDisk (memory_trail (inside disk))) }
+        ensures fuse { IfOk result (λ disk. IsFuse (inside disk) self.now.disk_calls false disk) }
+        ensures memory { IfErr result (λ fault. fault ≡ FileFault.Memory) }
+    {
+        self.fused(MemoryDisk::blank(self.alloc))
+    }
+}
+
+impl<'a, R: Drop> Files for MemoryFiles<'a, R> {
+    type Text = MemoryText<'a>;
+
+    type Disk = FuseDisk<MemoryDisk>;
+
+    type Right = R;
+
+    ghost use Rattle.zh_world.specs.MemoryFiles.{text_at, disk_at, calls_made};
+
+    ghost text_at = { text_at };
+
+    ghost disk_at = { disk_at };
+
+    ghost calls = { calls_made };
+
+    fn text(&mut self, path: &str) -> Result<MemoryText<'a>, FileFault>
+        ensures call { IsCallOfFiles text_at disk_at calls_made self.old self.new }
+        ensures bytes { IfOk result (λ text. Some text.bytes.now ≡ bytes_at self.old.texts.now path.now) }
+        ensures reads { IfOk result (λ text. text.reads ≡ self.old.reads) }
+        ensures fails { IfErr result (λ fault. (fault ≡ FileFault.Device)
+            × IsOutOfReach self.old.calls (bytes_at self.old.texts.now path.now)) }
+    {
+        self.pass()?;
+        match bytes_at(self.texts, path) {
+            Some(bytes) => Ok(MemoryText {
+                bytes,
+                reads: self.reads,
+            }),
+            None => Err(FileFault::Device),
+        }
+    }
+
+    fn disk(&mut self, _right: R, path: &str) -> Result<FuseDisk<MemoryDisk>, FileFault>
+        ensures call { IsCallOfFiles text_at disk_at calls_made self.old self.new }
+        ensures begins { IfOk result (λ disk. Begins (disk_at self.old path.now) (fuse_history memory_history disk)) }
+        ensures left { IfOk result (λ disk. calls_left disk ≡ Some self.old.disk_calls) }
+        ensures fails { IfErr result (IsDiskFault self.old.calls (bytes_at self.old.disks.now path.now)) }
+    {
+        self.pass()?;
+        let image = bytes_at(self.disks, path).ok_or(FileFault::Device)?;
+        self.disk_of(image)
+    }
+
+    fn disk_or_make(&mut self, _right: R, path: &str) -> Result<FuseDisk<MemoryDisk>, FileFault>
+        ensures call { IsCallOfFiles text_at disk_at calls_made self.old self.new }
+        ensures begins { IfOk result (λ disk. BeginsOrIsMade (disk_at self.old path.now) (fuse_history memory_history disk)) }
+        ensures left { IfOk result (λ disk. calls_left disk ≡ Some self.old.disk_calls) }
+        ensures fails { IfErr result (IsMakingFault self.old.calls (bytes_at self.old.disks.now path.now)) }
+    {
+        self.pass()?;
+        match bytes_at(self.disks, path) {
+            Some(image) => self.disk_of(image),
+            None => self.blank(),
+        }
+    }
+}
