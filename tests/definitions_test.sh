@@ -19,12 +19,15 @@ whole_tree() {
     printf '%s\n' 'use Rattle.zh_low.specs.Low as low' 'pub record IsHigh (n : ℕ) : Type 0 where' \
         '  pub same : low.total n ≡ n' > crates/zh_high/specs/High.antt
     printf '%s\n' 'ghost use Rattle.zh_high.specs.High.{IsHigh};' 'pub fn high() -> u8' '    ensures { IsHigh result }' '{' \
-        '    1' '}' > crates/zh_high/src/lib.rt
+        '    1' '}' 'pub fn program() -> u8' '    ensures headline { IsHigh result }' '{' '    1' '}' > crates/zh_high/src/lib.rt
     printf 'file: src/lib.rt\n' > crates/zh_low/must-fail/wrong.edit
     printf '%s\n' '## `zh_low`' '' '| What | Carried by |' '|---|---|' '| a | `Low::get` got |' '' '## `zh_high`' '' \
         '| What | Carried by |' '|---|---|' '| b | `high` |' > docs/PROVED.md
     printf '%s\n' '| Name | Sentence |' '|---|---|' '| `total n`, `half` | a |' '| `IsHigh` | b |' '' \
-        'See `wrong.edit`, `zh_low`, `crates/zh_low/src/lib.rt`, [this](PROVED.md).' > docs/DEFINITIONS.md
+        '## The headline' '' '`crates/zh_high/specs/High.antt`' '' '| Name | Sentence |' '|---|---|' '| `IsHigh` | a |' '' \
+        '`crates/zh_low/specs/Low.antt`' '' '| Name | Sentence |' '|---|---|' '| `total n`, `half` | a |' '' \
+        'See `wrong.edit`, `zh_low`, `crates/zh_low/src/lib.rt`, [this](PROVED.md).' '' \
+        '## The other files' '' '`crates/zh_low/specs`' '' '- `Low.antt`: a number' > docs/DEFINITIONS.md
     : > README.md
     cd - > /dev/null || exit 2
 }
@@ -56,6 +59,8 @@ whole_tree
 expect "a tree without a fault" 0 "0 wrong" --check
 expect "what the promises rest on" 0 "2 clauses, 3 of 4 definitions, 6 lines"
 expect "one function alone" 0 "1 clauses, 2 of 4 definitions, 4 lines" Low::get
+expect "one clause alone" 0 "1 clauses, 2 of 4 definitions, 4 lines" Low::get.got
+expect "a clause that is not there" 1 "no such function" Low::get.given
 expect "a function that is not there" 1 "no such function" Low::put
 sed -i 's/= half n/= n/' "$folder/tree/crates/zh_low/specs/Low.antt"
 expect "a use taken away" 0 "2 clauses, 2 of 4 definitions"
@@ -66,9 +71,30 @@ wrong "a clause that is gone" docs/PROVED.md 's/get` got/get` given/' "PROVED.md
 wrong "a clause without its name" docs/PROVED.md 's/get` got/get`/' "PROVED.md:5: Low::get has clauses with names"
 wrong "a cell that can't be read" docs/PROVED.md 's/`high` |/as above |/' "PROVED.md:11: can't be read: as above"
 wrong "a definition that is gone" docs/DEFINITIONS.md 's/`half`/`third`/' "DEFINITIONS.md:3: there is no definition third"
-wrong "an edit that is gone" docs/DEFINITIONS.md 's/wrong.edit/right.edit/' "DEFINITIONS.md:6: there is no right.edit"
+wrong "an edit that is gone" docs/DEFINITIONS.md 's/wrong.edit/right.edit/' "DEFINITIONS.md:20: there is no right.edit"
+wrong "one that the headline's part leaves out" docs/DEFINITIONS.md '18s/, `half`//' "reaches zh_low.specs.Low.half, which"
+wrong "one that the headline does not reach" docs/DEFINITIONS.md '18s/`half`/`half`, `lonely`/' "DEFINITIONS.md:18: the headline does not"
+wrong "one that it reaches no more" crates/zh_low/specs/Low.antt 's/= half n/= n/' "the headline does not reach zh_low.specs.Low.half"
 wrong "a file that is gone" docs/DEFINITIONS.md 's/src.lib.rt/src\/main.rt/' "there is no crates/zh_low/src/main.rt"
 wrong "a link that leads nowhere" docs/DEFINITIONS.md 's/(PROVED.md)/(OTHER.md)/' "there is no OTHER.md"
+wrong "a file that the other part leaves out" docs/DEFINITIONS.md 's/^- `Low.antt`: /- /' "nothing is said of crates/zh_low/specs/Low.antt"
+wrong "a file of which nothing is left" docs/DEFINITIONS.md 's/^- `Low.antt`/- `Low.antt`, `High.antt`/;s/zh_low.specs`$/zh_high\/specs`/' \
+    "nothing of crates/zh_high/specs/High.antt is left to be said"
+
+# in_items: a tree whose part of the headline has sections, and in them items of a list in place of rows.
+in_items() {
+    whole_tree
+    sed -i -e '8,18s/^| \(`.*`\) | a |$/- \1: a/' -e 's/^`crates.zh_low/### Low\n\n&/' "$folder/tree/docs/DEFINITIONS.md"
+}
+in_items
+expect "items in sections" 0 "0 wrong" --check
+sed -i 's/`total n`, `half`:/`total n`,\n  `half`:/' "$folder/tree/docs/DEFINITIONS.md"
+expect "an item of two lines" 0 "0 wrong" --check
+sed -i 's/^  `half`:/  `third`:/' "$folder/tree/docs/DEFINITIONS.md"
+expect "an item that names what is gone" 1 "DEFINITIONS.md:20: there is no definition third" --check
+in_items
+sed -i 's/^### Low/## Low/' "$folder/tree/docs/DEFINITIONS.md"
+expect "an item after the headline's part" 1 "reaches zh_low.specs.Low.half, which its part leaves out" --check
 
 echo "$passed passed, $failed failed"
 [ "$failed" = 0 ]

@@ -3,6 +3,7 @@ import re
 from dataclasses import dataclass
 
 CELL = re.compile(r"(?<!\\)\|")
+ITEM = re.compile(r"- (`[^`]+`(?:, `[^`]+`)*): ")
 FUNCTION = re.compile(r"`([^`]+)`(,? and |, )?")
 CLAUSES = re.compile(r"(\w+)(?: \(([^)]*)\))?(, | and |$)")
 
@@ -116,13 +117,72 @@ class Contracts:
         return meant, owner
 
 
+def lines_joined(path):
+    """Each line of the page with its number, an item of a list together with its further lines."""
+    joined = []
+    for number, line in enumerate(path.read_text().splitlines(), 1):
+        if joined and line.startswith("  ") and joined[-1][1].startswith("- "):
+            joined[-1] = joined[-1][0], f"{joined[-1][1]} {line.strip()}"
+        else:
+            joined.append((number, line))
+    return joined
+
+
+def names_in(text):
+    """The definitions that a cell names: the first word of each thing in backticks. Files are none."""
+    return [it.split()[0] for it in re.findall(r"`([^`]+)`", text) if not it.endswith((".antt", ".rt"))]
+
+
+def names_in_item(line):
+    """What an item of a list names before its colon."""
+    item = ITEM.match(line)
+    return names_in(item.group(1)) if item else []
+
+
 def names_listed(path):
-    """The definitions that the tables of a page name, each with its line: the first word of each in backticks."""
+    """The definitions that the tables and the items of a page name, each with its line."""
     for line, _, head, cells in rows_of(path):
         if head and "Name" in head:
-            for name in re.findall(r"`([^`]+)`", cells[head.index("Name")]):
-                if not name.endswith((".antt", ".rt")):
-                    yield line, name.split()[0]
+            yield from ((line, it) for it in names_in(cells[head.index("Name")]))
+    for number, line in lines_joined(path):
+        yield from ((number, it) for it in names_in_item(line))
+
+
+def lines_in_part(path, title):
+    """The lines of a part of a page, up to the next heading of its level, each with its number."""
+    level = 0
+    for number, line in lines_joined(path):
+        if line.startswith("#"):
+            depth = len(line) - len(line.lstrip("#"))
+            level = depth if line.lstrip("# ") == title else level if depth > level else 0
+        if level:
+            yield number, line
+
+
+def names_in_part(path, title):
+    """The full names of the definitions that a part lists, in rows or in items, each with its line and under its file's
+    name. A heading ends a file."""
+    found, module = {}, None
+    for number, line in lines_in_part(path, title):
+        if line.startswith("#"):
+            module = None
+        elif file := re.match(r"`crates/(\w+)/specs/(\w+)\.antt`", line):
+            module = f"{file.group(1)}.specs.{file.group(2)}"
+        elif module:
+            names = names_in(CELL.split(line)[1]) if line.startswith("|") else names_in_item(line)
+            found |= {f"{module}.{it}": number for it in names}
+    return found
+
+
+def files_in_part(path, title):
+    """The files of specs that the items of a part name before their colon, each with its line and under its crate's."""
+    found, folder = {}, None
+    for number, line in lines_in_part(path, title):
+        if crate := re.match(r"`(crates/\w+/specs)`", line):
+            folder = crate.group(1)
+        elif folder and line.startswith("- "):
+            found |= {f"{folder}/{it}": number for it in re.findall(r"`(\w+\.antt)`", line.split(": ")[0])}
+    return found
 
 
 def cited_things(path, tree):

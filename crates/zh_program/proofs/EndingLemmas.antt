@@ -1,35 +1,35 @@
 -- What the program says of a task, by how it ended.
-use Rattle.std.proofs.Common.{◌≡◌, ◌∙◌, ℕ, List, Option, Result, Ok, Err, MatchResult, ap}
+use Rattle.std.proofs.Common.{◌≡◌, ◌≢◌, ◌∙◌, ℕ, Option, Result, Ok, Err, MatchResult, refl, sym, ap, subst}
 use Rattle.zh_arguments.specs.declared.arguments.Task.{Task}
-use Rattle.zh_arguments.specs.declared.arguments.Task.TheVariants.{Rehearse, Format, Run, Load, Export}
-use Rattle.zh_disk.specs.History.{History}
+use Rattle.zh_world.specs.declared.world.World.{World}
 use Rattle.zh_tasks.specs.Tasks.{Does}
-use Rattle.zh_disk_tasks.specs.declared.csv_fault.LoadFault.TheVariants as loading
-use Rattle.zh_tasks.specs.declared.fault.ProgramFault.{ProgramFault}
-use Rattle.zh_tasks.specs.declared.fault.ProgramFault.TheVariants as faults
-use Rattle.zh_program.specs.Program.{UnlessRehearsal}
+use Rattle.zh_tasks.specs.World.{Known}
+use Rattle.zh_tasks.specs.declared.fault.TaskFault.{TaskFault}
+use Rattle.zh_tasks.specs.declared.fault.TaskFault.TheVariants as faults
+use Rattle.zh_program.specs.Program.{MetFault, ends}
 
--- what follows unless the task is a rehearsal
-pub unless_rehearsal : {P Q : Type 0} (task : Task) → (P → Q) → UnlessRehearsal task P → UnlessRehearsal task Q
-unless_rehearsal Rehearse follows p = tt
-unless_rehearsal (Format paths) follows p = follows p
-unless_rehearsal (Run paths) follows p = follows p
-unless_rehearsal (Load paths csv) follows p = follows p
-unless_rehearsal (Export paths) follows p = follows p
+module _ {I O E F T D R : Type 0} (of : Known I O E F T D R) where
+  -- a task that ended with status 0 was done, and nothing more is said of it
+  pub was_done : (task : Task) (old after : World I O E F) (said : E) (result : Result (Unit {0}) TaskFault) (used : Option D) (status : ℕ)
+      → Does of task old after (ends result used) → MatchResult result (λ _. (status ≡ 0) × (said ≡ after.faults)) (λ _. status ≡ 1) → status ≡ 0
+      → Does of task old (record after { faults = said }) (ends (Ok tt) used)
+  was_done task old after said (Ok done) used status does by zero = subst (λ (e : E). Does of task old (record after { faults = e }) (ends (Ok tt) used)) (sym by.1) does
+  was_done task old after said (Err fault) used status does by zero = absurd cc
 
-module _ {D F : Type 0} where
-  -- A task that ended with status 0 was done, and nothing is reported of it; `announced` are the faults after it was
-  -- announced.
-  pub was_done : (history : D → History) (bytes : List ℕ) (old new : Option D) (unread unwritten : Type 0) (r r' w w' : Option (List ℕ)) (first announced last : F) (task : Task) (result : Result (Unit {0}) ProgramFault) (status : ℕ)
-      → Does history bytes old new unread unwritten r r' w w' task result → UnlessRehearsal task (announced ≡ first) → MatchResult result (λ _. (status ≡ 0) × (last ≡ announced)) (λ _. status ≡ 1) → status ≡ 0
-      → Does history bytes old new unread unwritten r r' w w' task (Ok tt) × UnlessRehearsal task (last ≡ first)
-  was_done history bytes old new unread unwritten r r' w w' first announced last task (Ok done) status does same ended zero = (does, unless_rehearsal task (λ is. ended.1 ∙ is) same)
-  was_done history bytes old new unread unwritten r r' w w' first announced last task (Err fault) status does same ended zero = absurd (cc)
+  -- one that ended with status 1 met a fault; of a load that was refused nothing is reported
+  pub met_fault : (task : Task) (old after : World I O E F) (said : E) (result : Result (Unit {0}) TaskFault) (used : Option D) (status : ℕ)
+      → Does of task old after (ends result used) → MatchResult result (λ _. (status ≡ 0) × (said ≡ after.faults)) (λ _. status ≡ 1) → (result ≡ Err faults.Refused → said ≡ after.faults) → status ≡ 1
+      → MetFault of task old (record after { faults = said }) used
+  met_fault task old after said (Ok done) used status does by refused one = absurd cc
+  met_fault task old after said (Err fault) used status does by refused one = record {
+    fault = fault;
+    after = after;
+    does = does;
+    reported = refl;
+    refused = λ is. ap (λ (e : E). record after { faults = e }) (refused (ap Err is));
+  }
 
-  -- a task that ended with status 1 met a fault; of a load that was refused nothing is reported
-  pub met_fault : (history : D → History) (bytes : List ℕ) (old new : Option D) (unread unwritten : Type 0) (r r' w w' : Option (List ℕ)) (first announced last : F) (task : Task) (result : Result (Unit {0}) ProgramFault) (status : ℕ)
-      → Does history bytes old new unread unwritten r r' w w' task result → UnlessRehearsal task (announced ≡ first) → MatchResult result (λ _. (status ≡ 0) × (last ≡ announced)) (λ _. status ≡ 1) → (result ≡ Err (faults.Load loading.Refused) → last ≡ announced) → status ≡ 1
-      → (fault : ProgramFault) × Does history bytes old new unread unwritten r r' w w' task (Err fault) × UnlessRehearsal task (fault ≡ faults.Load loading.Refused → last ≡ first)
-  met_fault history bytes old new unread unwritten r r' w w' first announced last task (Ok done) status does same ended refused one = absurd (cc)
-  met_fault history bytes old new unread unwritten r r' w w' first announced last task (Err fault) status does same ended refused one =
-      (fault, does, unless_rehearsal task (λ is refusal. refused (ap Err refusal) ∙ is) same)
+-- a fault leaves another status than 0
+pub fails : (result : Result (Unit {0}) TaskFault) (status : ℕ) (same : Type 0) → MatchResult result (λ _. (status ≡ 0) × same) (λ _. status ≡ 1) → (fault : TaskFault) → result ≡ Err fault → status ≢ 0
+fails (Ok done) status same by fault is = absurd cc
+fails (Err other) status same by fault is = λ zero. let wrong : ◌≡◌ {A = ℕ} 0 1 = sym zero ∙ by in absurd cc

@@ -1,1 +1,16 @@
 mod EndingLemmas
+mod AlwaysLemmas
+mod SoundLemmas
+mod TieLemmas
+mod AnsweredLemmas
+mod ExchangeLemmas
+mod TurnLemmas
+mod RunLemmas
+mod OpensLemmas
+mod HeadlineLemmas
+mod EmptyLemmas
+mod ConductLemmas
+mod ServedLemmas
+mod LoadedLemmas
+mod PromiseLemmas
+mod ExcludeLemmas

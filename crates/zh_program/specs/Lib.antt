@@ -1,1 +1,6 @@
 pub mod Program
+pub mod Exchanges
+pub mod Due
+pub mod Sheets
+pub mod Stopped
+pub mod Headline

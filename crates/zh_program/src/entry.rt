@@ -1,31 +1,31 @@
 //! The program.
 
-ghost use Rattle.std.specs.Prelude.{◌≡◌, ◌≢◌, ◌≤◌, ◌⊎◌, [], Err, MatchResult, Ok, map};
+ghost use Rattle.std.specs.Prelude.{◌≡◌, ◌≢◌, ◌≤◌, ◌⊎◌, [], Err, MatchResult, Ok, Some, map};
 ghost use Rattle.std.specs.String.{string_bytes};
 ghost use Rattle.clap.specs.Words.{kind_of};
 ghost use Rattle.zh_arguments.specs.Arguments.{AsksFor, refusals};
-ghost use Rattle.zh_tasks.specs.Tasks.{Does};
-ghost use Rattle.zh_program.specs.Program.{UnlessRehearsal};
-ghost use Rattle.zh_tasks.specs.declared.fault.ProgramFault.{ProgramFault as Fault};
 ghost use Rattle.zh_arguments.specs.declared.arguments.Task.{Task};
+ghost use Rattle.zh_tasks.specs.Tasks.{Does};
+ghost use Rattle.zh_tasks.specs.World.{known};
+ghost use Rattle.zh_program.specs.Headline.{Promise};
+ghost use Rattle.zh_program.specs.Program.{MetFault, NothingDone, ends};
 
 use clap::Error;
 use clap::error::ErrorKind;
 use std::alloc::Global;
 use std::io::{Read, Write};
-use zh_arguments::{Task, read_arguments};
-use zh_disk::Disk;
-use zh_file::{FileDisk, Start};
-use zh_tasks::{LoadFault, ProgramFault, carry_out};
+use zh_arguments::read_arguments;
+use zh_tasks::{TaskFault, carry_out};
+use zh_world::{Ended, Files, World};
 
 /// The status of a task that ended so. A fault is reported, but of a file that was refused the reply says enough.
-fn end<F: Write>(ended: Result<(), ProgramFault>, faults: &mut F) -> u8
+fn end<E: Write>(ended: Result<(), TaskFault>, faults: &mut E) -> u8
     ensures status { MatchResult ended (λ _. (result ≡ 0) × (faults.new ≡ faults.old)) (λ _. result ≡ 1) }
-    ensures refused { ended ≡ Err (ProgramFault.Load LoadFault.Refused) → faults.new ≡ faults.old }
+    ensures refused { ended ≡ Err TaskFault.Refused → faults.new ≡ faults.old }
 {
     match ended {
         Ok(()) => 0,
-        Err(ProgramFault::Load(LoadFault::Refused)) => 1,
+        Err(TaskFault::Refused) => 1,
         Err(fault) => {
             let _ = writeln!(faults, "zhcount: {fault}");
             1
@@ -34,59 +34,53 @@ fn end<F: Write>(ended: Result<(), ProgramFault>, faults: &mut F) -> u8
 }
 
 /// The status of arguments that are refused. The reason is reported.
-fn refuse<F: Write>(refusal: &Error, faults: &mut F) -> u8
+fn refuse<E: Write>(refusal: &Error, faults: &mut E) -> u8
     ensures memory { kind_of refusal.now ≡ ErrorKind.OutOfMemory → result ≡ 1 }
     ensures refused { kind_of refusal.now ≢ ErrorKind.OutOfMemory → result ≡ 2 }
 {
     if refusal.kind() == ErrorKind::OutOfMemory {
-        return end(Err(ProgramFault::Memory), faults);
+        return end(Err(TaskFault::Memory), faults);
     }
     let _ = write!(faults, "{refusal}");
     2
 }
 
-/// Says of a rehearsal that nothing is kept.
-fn announce<F: Write>(task: Task<'_>, faults: &mut F)
-    ensures { UnlessRehearsal task.entry (faults.new ≡ faults.old) }
-{
-    if let Task::Rehearse = task {
-        let _ = writeln!(faults, "zhcount: rehearsal, nothing is kept");
-    }
-}
-
-/// The program on its arguments, without its name, and its standard streams. It returns the status: 0 if the task was
-/// done; 1 after a fault, whose name is written to `faults`; 2 if the arguments ask for no task, `--help` among them,
-/// with the reason on `faults`.
+/// The program on its arguments, without its name, in a world. It returns the status: 0 if the task was done; 1 after a
+/// fault, whose name is written to `faults`; 2 if the arguments ask for no task, `--help` among them, with the reason on
+/// `faults`.
 ///
-/// The disk of a file that it worked on is handed over to `used`, with the record of its calls, whatever the status;
-/// `S` stands for what the file held when it was opened.
+/// The disk that it worked on is handed over, with the record of its calls, whatever the status.
 ///
 /// Without arguments it is a rehearsal. docs/MANUAL.md has the others.
-pub fn program<I: Read, O: Write, F: Write, S: Start>(
-    rt: &HostRuntime,
+pub fn program<I: Read, O: Write, E: Write, F: Files>(
     alloc: Global,
     arguments: &[String],
-    input: &mut I,
-    out: &mut O,
-    faults: &mut F,
-    start: S,
-    used: &mut Option<FileDisk<S>>,
-) -> u8
-    ensures status { result ≤ 2 }
-    ensures done { result ≡ 0 → (task : Task) × AsksFor (map string_bytes arguments.now) task
-        × Does ⟦<FileDisk<S> as Disk>⟧.history S.Start.db used.old used.new (input.new ≡ input.old) (out.new ≡ out.old) (I.remaining input.old) (I.remaining input.new) (O.contents out.old) (O.contents out.new) task (Ok tt)
-        × UnlessRehearsal task (faults.new ≡ faults.old) }
+    right: F::Right,
+    world: &mut World<I, O, E, F>,
+) -> Ended<u8, F::Disk>
+    ensures status { result.result ≤ 2 }
+    ensures done { result.result ≡ 0 → (task : Task) × AsksFor (map string_bytes arguments.now) task
+        × Does (known I.Read O.Write E.Write F.Files F.Disk.Disk) task world.old world.new (ends (Ok tt) result.used) }
     // Memory may be refused before the arguments are read, and then nothing is done.
-    ensures fault { result ≡ 1 → ((input.new ≡ input.old) × (out.new ≡ out.old) × (used.new ≡ used.old)) ⊎ ((task : Task) × (fault : Fault) × AsksFor (map string_bytes arguments.now) task
-        × Does ⟦<FileDisk<S> as Disk>⟧.history S.Start.db used.old used.new (input.new ≡ input.old) (out.new ≡ out.old) (I.remaining input.old) (I.remaining input.new) (O.contents out.old) (O.contents out.new) task (Err fault)
-        × UnlessRehearsal task (fault ≡ ProgramFault.Load LoadFault.Refused → faults.new ≡ faults.old)) }
-    ensures refused { result ≡ 2 → (refusals (map string_bytes arguments.now) ≢ []) × ((input.new ≡ input.old) × (out.new ≡ out.old) × (used.new ≡ used.old)) }
+    ensures fault { result.result ≡ 1 → NothingDone world.old world.new result.used
+        ⊎ ((task : Task) × AsksFor (map string_bytes arguments.now) task
+        × MetFault (known I.Read O.Write E.Write F.Files F.Disk.Disk) task world.old world.new result.used) }
+    ensures headline { (disk : F.Disk) → result.used ≡ Some disk
+        → Promise (known I.Read O.Write E.Write F.Files F.Disk.Disk) (map string_bytes arguments.now)
+        world.old world.new result.result disk }
+    ensures refused { result.result ≡ 2 → (refusals (map string_bytes arguments.now) ≢ []) × NothingDone world.old world.new result.used }
 {
     match read_arguments(alloc, arguments) {
         Ok(task) => {
-            announce(task, faults);
-            end(carry_out(rt, alloc, task, input, out, start, used), faults)
+            let Ended { result, used } = carry_out(alloc, task, right, world);
+            Ended {
+                result: end(result, &mut world.faults),
+                used,
+            }
         }
-        Err(refusal) => refuse(&refusal, faults),
+        Err(refusal) => Ended {
+            result: refuse(&refusal, &mut world.faults),
+            used: None,
+        },
     }
 }

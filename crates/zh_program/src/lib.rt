@@ -1,6 +1,8 @@
-//! The program `zhcount`: it reads its arguments, carries out its task, and says how it ended.
+//! The program `zhcount`: it reads its arguments, carries out its task in a world, and says how it ended.
 #![tactic(auto)]
 
 mod entry;
+mod laws;
 
 pub use entry::program;
+pub use laws::{headline_excludes, reopenings};

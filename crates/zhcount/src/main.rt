@@ -7,21 +7,29 @@ use std::io::ErrorKind;
 use std::process::ExitCode;
 use std::{env, io};
 use unknown::UnknownContent;
+use zh_file::Start;
+use zh_host::HostFiles;
 use zh_program::program;
+use zh_world::World;
 
-/// Hands the files, the arguments and the standard streams to the program, and returns its status.
+/// Hands the arguments, the streams and the files of the operating system to the program, and returns its status.
 fn main(rt: HostRuntime) -> ExitCode {
+    run(rt, UnknownContent)
+}
+
+/// The same with a disk that holds what `S` says.
+fn run<S: Start>(rt: HostRuntime, start: S) -> ExitCode {
     match arguments(&rt) {
-        Ok(arguments) => ExitCode::from(program(
-            &rt,
-            rt.alloc(),
-            &arguments,
-            &mut rt.stdin(),
-            &mut rt.stdout(),
-            &mut rt.stderr(),
-            UnknownContent,
-            &mut None,
-        )),
+        Ok(arguments) => {
+            let alloc = rt.alloc();
+            let mut world = World {
+                input: rt.stdin(),
+                output: rt.stdout(),
+                faults: rt.stderr(),
+                files: HostFiles::<S>::new(&rt),
+            };
+            ExitCode::from(program(alloc, &arguments, start, &mut world).result)
+        }
         Err(error) if error.kind() == ErrorKind::InvalidData => {
             let _ = eprintln!(rt; "error: an argument is not UTF-8");
             ExitCode::from(2)

@@ -1,0 +1,51 @@
+-- Exchanges, one after the other.
+use Rattle.std.proofs.Common.{◌≡◌, List, [], ◌∷◌, ◌++◌, refl, sym, ◌∙◌, ap, append_assoc, add_assoc, zero-add, Option, Some, None}
+use Rattle.zh_disk.specs.Disk.{Trail}
+use Rattle.zh_records.specs.declared.command.Command.{Command}
+use Rattle.zh_desks.specs.Batches.{Held}
+use Rattle.zh_ledger.specs.Ledger.{Ledger}
+use Rattle.zh_ledger.specs.Submissions.{Log, OnDisk, followed_by, logged, nothing}
+use Rattle.zh_ledger.specs.declared.outcome.Outcome.{Outcome}
+use Rattle.zh_ledger.specs.declared.outcome.Outcome.TheVariants as outcomes
+use Rattle.zh_ledger.proofs.CallerLemmas.{log_none}
+use Rattle.zh_answers.specs.Requests.{Acts, reply_to}
+use Rattle.zh_answers.specs.declared.answer.Answer.{Answer}
+use Rattle.zh_answers.specs.declared.answer.Answer.TheVariants as answers
+use Rattle.zh_program.specs.Exchanges.{Exchange, disk_by, held_by, held_then, log_by, log_of}
+
+nothing-followed_by : (log : Log) → followed_by nothing log ≡ log
+nothing-followed_by log = λ i. record { accepted = log.accepted; acknowledged = zero-add log.acknowledged i }
+
+followed_by-assoc : (a b c : Log) → followed_by (followed_by a b) c ≡ followed_by a (followed_by b c)
+followed_by-assoc a b c = λ i. record {
+  accepted = append_assoc a.accepted b.accepted c.accepted i;
+  acknowledged = add_assoc a.acknowledged b.acknowledged c.acknowledged i;
+}
+
+-- one exchange more
+pub log_more : (xs : List Exchange) (x : Exchange) → log_of (xs ++ x ∷ []) ≡ followed_by (log_of xs) (log_by x.command x.answer)
+log_more [] x = log_none (log_by x.command x.answer) ∙ sym (nothing-followed_by (log_by x.command x.answer))
+log_more (y ∷ ys) x =
+    ap (followed_by (log_by y.command y.answer)) (log_more ys x) ∙ sym (followed_by-assoc (log_by y.command y.answer) (log_of ys) (log_by x.command x.answer))
+
+pub disk_more : (t : Trail) (xs : List Exchange) (x : Exchange) → disk_by t (xs ++ x ∷ []) ≡ x.disk
+disk_more t [] x = refl
+disk_more t (y ∷ ys) x = disk_more y.disk ys x
+
+pub held_more : (held : Held) (xs : List Exchange) (x : Exchange) → held_by held (xs ++ x ∷ []) ≡ held_then (held_by held xs) x.given x.answer
+held_more held [] x = refl
+held_more held (y ∷ ys) x = held_more (held_then held y.given y.answer) ys x
+
+-- what the report of an outcome says of the log
+reported : (command : Command) (outcome : Outcome) → log_by (Some command) (answers.Reply (reply_to outcome)) ≡ logged command outcome
+reported command (outcomes.Stored number) = refl
+reported command outcomes.Same = refl
+reported command (outcomes.Refused reason) = refl
+reported command outcomes.Spent = refl
+reported command outcomes.Device = refl
+reported command outcomes.Broken = refl
+
+pub acts_log : (old new : OnDisk Ledger) (command : Option Command) (May : Answer → Type 0) (answer : Answer) (more : Log) → Acts old command May answer more new → log_by command answer ≡ more
+acts_log old new None May answer more (may, none, same) = sym none
+acts_log old new (Some command) May answer more (by, logs) =
+    ap (log_by (Some command)) by.reply ∙ reported command by.outcome ∙ sym (logs ∙ by.submission.logs)

@@ -1,0 +1,134 @@
+-- What the promise excludes.
+use Rattle.std.proofs.Common.{◌≡◌, ◌≢◌, ◌⊎◌, inl, inr, ⊎_elim, ◌<◌, ◌≤◌, ◌+◌, ◌-◌, ◌*◌, ℕ, zero, suc, true, false, nat_le, List, [], ◌∷◌, ◌++◌, length, take, refl, sym, ◌∙◌, ap, subst, arith, append_assoc, append-nil, length-take, Option, Some, None}
+use Rattle.std.proofs.lemmas.List.{append_cancel_right, take_all}
+use Rattle.std.proofs.Math.Nat.{mul-le-mul_right}
+use Rattle.std.proofs.lemmas.Bool.Decides.{leb_tells}
+use Rattle.std.specs.Prelude.{All}
+use Rattle.std.proofs.lemmas.List.Elements.{All-tail}
+use Rattle.zh_disk.specs.Disk.{IsImage, Moment, Trail}
+use Rattle.zh_records.specs.declared.command.Command.{Command}
+use Rattle.zh_returns.specs.Judgement.{judge}
+use Rattle.zh_returns.specs.Step.{after, changed, on_verdict, step}
+use Rattle.zh_returns.specs.Tally.{Tally}
+use Rattle.zh_returns.specs.declared.verdict.Verdict.{Verdict}
+use Rattle.zh_returns.specs.declared.verdict.Verdict.TheVariants as verdicts
+use Rattle.zh_divisors.specs.Rounding.{Rounds}
+use Rattle.zh_commands.specs.declared.replies.Reply.TheVariants.{Refused, Stored}
+use Rattle.zh_commands.specs.declared.replies.Refusal.TheVariants as refusals
+use Rattle.zh_ledger.specs.Images.{HasSome}
+use Rattle.zh_ledger.specs.Night.{StopsWithin}
+use Rattle.zh_ledger.specs.Stands.{Holds}
+use Rattle.zh_ledger.specs.Submissions.{Log}
+use Rattle.zh_ledger.proofs.CallerLemmas.{one_count}
+use Rattle.zh_answers.specs.declared.answer.Answer.{Answer}
+use Rattle.zh_answers.specs.declared.answer.Answer.TheVariants as answers
+use Rattle.zh_program.specs.Exchanges.{Exchange, count_by, disk_by, log_by, log_of}
+use Rattle.zh_program.specs.Headline.{Headline}
+use Rattle.zh_program.specs.Stopped.{Always}
+use Rattle.zh_program.proofs.AlwaysLemmas.{AtMoment}
+use Rattle.zh_program.proofs.EmptyLemmas.{now_first}
+use Rattle.zh_program.proofs.ExchangeLemmas.{log_more}
+
+-- Commands that are acceptable in turn are counted once each.
+abbrev AreJudged : Tally → List Command → Type 0
+AreJudged t [] = Unit {0}
+AreJudged t (c ∷ cs) = (judge t c ≡ verdicts.Accept) × AreJudged (step t c) cs
+
+judged_number : (t : Tally) (cs : List Command) → AreJudged t cs → (after t cs).accepted ≡ t.accepted + length cs
+judged_number t [] judged = omega arith
+judged_number t (c ∷ cs) judged =
+    let one : (step t c).accepted ≡ t.accepted + 1 = ap (λ (v : Verdict). (on_verdict v (changed t c) t).accepted) judged.0 in
+    let more = judged_number (step t c) cs judged.1 in
+    omega arith
+
+judged_take : (t : Tally) (n : ℕ) (cs : List Command) → AreJudged t cs → AreJudged t (take n cs)
+judged_take t zero cs judged = tt
+judged_take t (suc n) [] judged = tt
+judged_take t (suc n) (c ∷ cs) judged = (judged.0, judged_take (step t c) n cs judged.1)
+
+judged_more : (t : Tally) (cs : List Command) (c : Command) → AreJudged t cs → judge (after t cs) c ≡ verdicts.Accept → AreJudged t (cs ++ c ∷ [])
+judged_more t [] c judged is = (is, tt)
+judged_more t (d ∷ cs) c judged is = (judged.0, judged_more (step t d) cs c judged.1 is)
+
+on_verdict_canton : (v : Verdict) (new old : Tally) → new.canton ≡ old.canton → (on_verdict v new old).canton ≡ old.canton
+on_verdict_canton verdicts.Accept new old same = same
+on_verdict_canton verdicts.Same new old same = refl
+on_verdict_canton (verdicts.Refused w) new old same = refl
+
+pub after_canton : (t : Tally) (cs : List Command) → (after t cs).canton ≡ t.canton
+after_canton t [] = refl
+after_canton t (c ∷ cs) = after_canton (step t c) cs ∙ on_verdict_canton (judge t c) (changed t c) t refl
+
+-- an exchange adds one command at most
+one_at_most : (command : Option Command) (answer : Answer) → ((log_by command answer).accepted ≡ []) ⊎ ((c : Command) × ((log_by command answer).accepted ≡ c ∷ []))
+one_at_most None answer = inl refl
+one_at_most (Some c) (answers.Reply (Stored number)) = inr (c, refl)
+one_at_most (Some c) (answers.Reply (Refused refusals.Device)) = inr (c, refl)
+one_at_most (Some c) answer = inl refl
+
+-- two images for counts of one set-up hold one count
+same_held : (c : List ℕ) (t u : Tally) → Holds t c → Holds u c → t.canton ≡ u.canton → t ≡ u
+same_held c t u one other own = (one_count c one.content other.content one.end other.end one.format other.format t u one.clean.framed other.clean.framed one.stands other.stands own).1
+
+-- what is so at each moment is so where a stop comes
+all_back : {X : Type 0} (P : X → Type 0) (xs ys : List X) → All P (xs ++ ys) → All P ys
+all_back P [] ys all = all
+all_back P (x ∷ xs) ys all = all_back P xs ys (All-tail P x (xs ++ ys) all)
+
+always_at : (P : List ℕ → Type 0) (old new : Trail) (c : List ℕ) → Always P old new → StopsWithin old new c → P c
+always_at P old new c always stop =
+    let later = stop.due.0 in
+    let before = stop.begun.0 in
+    let run : later ++ (before ++ old.now ∷ old.past) ≡ always.between ++ old.now ∷ old.past = ap (λ (l : List Moment). later ++ l) (sym stop.begun.1) ∙ sym stop.due.1 ∙ always.run in
+    let parts : later ++ before ≡ always.between = append_cancel_right (later ++ before) always.between (old.now ∷ old.past) (append_assoc later before (old.now ∷ old.past) ∙ run) in
+    let each : All (AtMoment P) ((later ++ before) ++ old.now ∷ []) = subst (λ (l : List Moment). All (AtMoment P) (l ++ old.now ∷ [])) (sym parts) always.each in
+    let from : All (AtMoment P) (before ++ old.now ∷ []) = all_back (AtMoment P) later (before ++ old.now ∷ []) (subst (All (AtMoment P)) (append_assoc later before (old.now ∷ [])) each) in
+    now_first P old stop.at before stop.begun.1 from c stop.image
+
+module _ (tally : Tally) (first opened last : Trail) (exchanges : List Exchange) (promise : Headline tally first opened last exchanges) where
+  judged_from : (done xs rest : List Exchange) → exchanges ≡ done ++ (xs ++ rest) → AreJudged tally (log_of done).accepted → AreJudged tally (log_of (done ++ xs)).accepted
+  judged_from done [] rest is judged = subst (λ (d : List Exchange). AreJudged tally (log_of d).accepted) (sym (append-nil done)) judged
+  judged_from done (x ∷ xs) rest is judged =
+      subst (λ (d : List Exchange). AreJudged tally (log_of d).accepted) (append_assoc done (x ∷ []) xs)
+      (judged_from (done ++ x ∷ []) xs rest (is ∙ sym (append_assoc done (x ∷ []) (xs ++ rest))) (
+      subst (λ (l : Log). AreJudged tally l.accepted) (sym (log_more done x)) (⊎_elim
+      (λ none. subst (λ (cs : List Command). AreJudged tally ((log_of done).accepted ++ cs)) (sym none) (subst (AreJudged tally) (sym (append-nil (log_of done).accepted)) judged))
+      (λ one.
+      let by = promise.accepted done (xs ++ rest) x is one.0 one.1 in
+      let count : count_by tally (log_of done) ≡ after tally (log_of done).accepted = ap (after tally) (take_all (log_of done).acknowledged (log_of done).accepted (omega (arith, by.1))) in
+      subst (λ (cs : List Command). AreJudged tally ((log_of done).accepted ++ cs)) (sym one.1)
+      (judged_more tally (log_of done).accepted one.0 judged (subst (λ (t : Tally). judge t one.0 ≡ verdicts.Accept) count by.0)))
+      (one_at_most x.command x.answer))
+      ))
+
+  all_judged : (done rest : List Exchange) → exchanges ≡ done ++ rest → AreJudged tally (log_of done).accepted
+  all_judged done rest is = judged_from [] done rest is tt
+
+  -- no image without the last acknowledged command
+  pub none_lost : (done rest : List Exchange) (c : List ℕ) (n : ℕ) → exchanges ≡ done ++ rest → IsImage (disk_by opened done).now c → n < (log_of done).acknowledged → n ≤ length (log_of done).accepted → Holds (after tally (take n (log_of done).accepted)) c → ⊥
+  none_lost done rest c n is image fewer within holds =
+      let commands = (log_of done).accepted in
+      let some = promise.stopped_between done rest is c image in
+      let judged = all_judged done rest is in
+      let same : after tally (take n commands) ≡ after tally (take some.number commands) = same_held c _ _ holds some.holds (after_canton tally (take n commands) ∙ sym (after_canton tally (take some.number commands))) in
+      let one = judged_number tally (take n commands) (judged_take tally n commands judged) in
+      let other = judged_number tally (take some.number commands) (judged_take tally some.number commands judged) in
+      omega (arith, fewer, within, some.at_least, some.within, length-take n commands, length-take some.number commands, one, other, ap (λ (t : Tally). t.accepted) same)
+
+  -- none of another count than that after a prefix of what is accepted by then, with all that was acknowledged before
+  pub none_other : (done rest : List Exchange) (x : Exchange) (c : List ℕ) (count : Tally) → exchanges ≡ done ++ x ∷ rest → StopsWithin (disk_by opened done) x.disk c → Holds count c → count.canton ≡ tally.canton
+      → ((n : ℕ) → (log_of done).acknowledged ≤ n → n ≤ length (log_of (done ++ x ∷ [])).accepted → count ≢ after tally (take n (log_of (done ++ x ∷ [])).accepted)) → ⊥
+  none_other done rest x c count is stop holds own other =
+      let commands = (log_of (done ++ x ∷ [])).accepted in
+      let some = always_at (HasSome tally commands (log_of done).acknowledged) (disk_by opened done) x.disk c (promise.stopped_within done rest x is) stop in
+      other some.number some.at_least some.within (same_held c count (after tally (take some.number commands)) holds some.holds (own ∙ sym (after_canton tally (take some.number commands))))
+
+-- what rounds lies on no half
+pub none_on_half : (n p s k : ℕ) → Rounds n p s → 2 * n ≡ (2 * k + 1) * p → ⊥
+none_on_half n p s k rounds half = ⊎_elim
+    (λ (more : s ≤ k). let le : (2 * s + 1) * p ≤ (2 * k + 1) * p = mul-le-mul_right p (omega arith) in omega (arith, le, half, rounds.below_upper))
+    (λ (less : k < s). let le : (2 * k + 1) * p ≤ (2 * s - 1) * p = mul-le-mul_right p (omega arith) in omega (arith, le, half, rounds.above_lower (omega (arith, less))))
+    (le_or_lt s k)
+  where
+    le_or_lt : (a b : ℕ) → (a ≤ b) ⊎ (b < a)
+    le_or_lt a b = ⊎_elim (λ (h : (nat_le a b ≡ true) × (a ≤ b)). inl h.1) (λ (h : (nat_le a b ≡ false) × (b < a)). inr h.1) (leb_tells a b)

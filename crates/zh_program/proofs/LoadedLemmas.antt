@@ -1,0 +1,151 @@
+-- What a load has answered and kept.
+use Rattle.std.proofs.Common.{◌≡◌, ◌≢◌, inl, inr, ℕ, Bool, true, false, List, [], ◌∷◌, Option, Some, None, Result, Err, Ok, refl, sym, subst}
+use Rattle.std.proofs.lemmas.List.{append-nil}
+use Rattle.std.specs.Io.KnownBytes.{Appends, Keeps as KeepsBytes}
+use Rattle.zh_disk.specs.Disk.{Trail}
+use Rattle.zh_disk.specs.History.{History}
+use Rattle.zh_districts.specs.Canton.{Canton, IsCanton}
+use Rattle.zh_records.specs.declared.row.Row.{Row}
+use Rattle.zh_returns.specs.Tally.{Tally}
+use Rattle.zh_desks.specs.Batches.{Held}
+use Rattle.zh_commands.specs.declared.replies.Reply.{Reply}
+use Rattle.zh_commands.specs.declared.replies.Reply.TheVariants.{Refused}
+use Rattle.zh_csv.specs.Load.{LoadsFrom}
+use Rattle.zh_csv.specs.declared.fault.LoadFault.{LoadFault}
+use Rattle.zh_csv.specs.declared.fault.LoadFault.TheVariants as loading
+use Rattle.zh_totals.specs.Counting.{totals_of}
+use Rattle.zh_ledger.specs.Opening.{Opening}
+use Rattle.zh_ledger.specs.Submissions.{OnDisk}
+use Rattle.zh_ledger.specs.declared.fault.OpenFault.{OpenFault}
+use Rattle.zh_answers.specs.declared.answer.Answer.{Answer}
+use Rattle.zh_answers.specs.declared.answer.Answer.TheVariants as answers
+use Rattle.zh_office.specs.Load.{LoadTurn, command_loaded, load_refusal, load_reply}
+use Rattle.zh_office.specs.Office.{Office}
+use Rattle.zh_tasks.specs.Load.{LoadsFile, LoadsText, Replied, WritesPart, printed}
+use Rattle.zh_tasks.specs.Opened.{IsFrom, IsOnlyOpened}
+use Rattle.zh_tasks.specs.declared.fault.TaskFault.{TaskFault}
+use Rattle.zh_tasks.specs.declared.fault.TaskFault.TheVariants as faults
+use Rattle.zh_program.specs.Due.{AnswerText}
+use Rattle.zh_program.specs.Exchanges.{Exchange, IsReadRight, command_given}
+use Rattle.zh_program.specs.Exchanges.Given.{text}
+use Rattle.zh_program.specs.Sheets.{IsTie}
+use Rattle.zh_program.proofs.AnsweredLemmas.{IsFair, plain, same_fair}
+use Rattle.zh_program.proofs.ConductLemmas.{GoesOnTo, Keeps, nothing_given, opened_keeps, refused_keeps}
+use Rattle.zh_program.proofs.ServedLemmas.{appends_none}
+use Rattle.zh_program.proofs.TurnLemmas.{at_rest, one_is, one_then}
+
+-- what is loaded is read right
+text_right : (canton : Canton) (bytes : Option (List ℕ)) (failed : Bool) (loaded : Result (List Row) LoadFault) → LoadsFrom canton bytes failed loaded → IsReadRight canton (text bytes loaded)
+text_right canton bytes failed (Err fault) by = tt
+text_right canton None failed (Ok rows) by = (by.rows, tt)
+text_right canton (Some known) failed (Ok rows) by = (by.rows, (by.known known refl).0)
+
+-- the reply of a text that gives no command reports no tie
+refused_plain : (fault : LoadFault) → ¬ IsTie (answers.Reply (Refused (load_refusal fault)))
+refused_plain loading.Csv = λ no. no
+refused_plain loading.Syntax = λ no. no
+refused_plain (loading.Judged reason) = λ no. no
+refused_plain (loading.Row fault) = λ no. no
+refused_plain loading.Memory = λ no. no
+refused_plain loading.Read = λ no. no
+
+reply_plain : (broken : Bool) (loaded : Result (List Row) LoadFault) → ¬ IsTie (answers.Reply (load_reply broken loaded))
+reply_plain true loaded = λ no. no
+reply_plain false (Err fault) = refused_plain fault
+reply_plain false (Ok rows) = λ no. no
+
+text_gives : (broken : Bool) (held : Held) (bytes : Option (List ℕ)) (loaded : Result (List Row) LoadFault) → broken ≡ false → command_loaded broken loaded ≡ command_given held (text bytes loaded)
+text_gives true held bytes loaded is = absurd cc
+text_gives false held bytes (Ok rows) is = refl
+text_gives false held bytes (Err fault) is = refl
+
+abbrev pub exchange_of_text : (old : OnDisk Office) (bytes : Option (List ℕ)) (failed : Bool) (reply : Reply) (new : OnDisk Office) → LoadTurn old bytes failed reply new → Exchange
+exchange_of_text old bytes failed reply new turn = record {
+  given = text bytes turn.loaded;
+  command = command_loaded old.holder.ledger.store.broken turn.loaded;
+  answer = answers.Reply reply;
+  count = new.holder.ledger.tally;
+  disk = new.history.trail;
+}
+
+-- an office that met no fault is given a text
+text_goes : (start : OnDisk Office) (bytes : Option (List ℕ)) (failed : Bool) (reply : Reply) (end : OnDisk Office) (turn : LoadTurn start bytes failed reply end) → start.holder.ledger.store.broken ≡ false
+    → GoesOnTo start (exchange_of_text start bytes failed reply end turn ∷ []) end
+text_goes start bytes failed reply end turn whole tally honest at =
+    let opened = start.history.trail in
+    let broken = start.holder.ledger.store.broken in
+    let May : Answer → Type 0 = λ a. a ≡ answers.Reply (load_reply broken turn.loaded) in
+    let totals = totals_of start.holder.ledger.tally in
+    let fair : (a : Answer) → May a → IsFair totals a = λ a may. same_fair totals a (answers.Reply (load_reply broken turn.loaded)) may (plain totals (load_reply broken turn.loaded) (reply_plain broken turn.loaded)) in
+    let read : IsReadRight tally.canton (text bytes turn.loaded) = text_right tally.canton bytes failed turn.loaded (subst (λ (t : Tally). LoadsFrom t.canton bytes failed turn.loaded) at.sound.count (turn.loads whole)) in
+    let gives = text_gives broken start.holder.held bytes turn.loaded whole in
+    let one = one_is tally opened [] start end (text bytes turn.loaded) (command_loaded broken turn.loaded) May (answers.Reply reply) turn.log at honest turn.acts fair read gives turn.held in
+    let then = one_then tally opened [] start end (text bytes turn.loaded) (command_loaded broken turn.loaded) May (answers.Reply reply) turn.log at honest turn.acts fair read gives turn.held in
+    ((at_rest tally opened [] start at, one, at_rest tally opened (exchange_of_text start bytes failed reply end turn ∷ []) end then), then)
+
+module _ (known bytes w w' : Option (List ℕ)) (read : KeepsBytes known bytes) (status : ℕ) (canton : Canton) (limits : IsCanton canton) (first last : History) where
+  -- the exchange of a load, if there was one, and what is kept
+  pub record HasAnswered : Type 0 where
+    pub exchanges : List Exchange
+    pub opened : Trail
+    pub due : AnswerText known w w' status exchanges
+    pub kept : Keeps canton first last opened exchanges
+
+  -- the file gave no text
+  none_given : status ≢ 0 → w' ≡ w → IsOnlyOpened (IsFrom canton first last) → HasAnswered
+  none_given failed written (start, from) = record {
+    exchanges = [];
+    opened = start.history.trail;
+    due = record { bytes = bytes; read = read; loaded = failed; written = inl (subst (λ (v : Option (List ℕ)). Appends w v []) (sym written) (appends_none w)) };
+    kept = opened_keeps canton first last start start [] limits from (nothing_given start);
+  }
+
+  pub refused_answered : (fault : OpenFault) → status ≢ 0 → w' ≡ w → Opening canton first last (Err fault) → HasAnswered
+  refused_answered fault failed written opening = record {
+    exchanges = [];
+    opened = last.trail;
+    due = record { bytes = bytes; read = read; loaded = failed; written = inl (subst (λ (v : Option (List ℕ)). Appends w v []) (sym written) (appends_none w)) };
+    kept = refused_keeps canton first last fault limits opening;
+  }
+
+  -- it was loaded
+  module _ (reply : Reply) (by : Replied bytes (IsFrom canton first last) reply) where
+    abbrev x : Exchange
+    x = exchange_of_text by.start bytes by.failed reply by.end by.turn
+
+    kept : Keeps canton first last by.start.history.trail (x ∷ [])
+    kept = opened_keeps canton first last by.start by.end (x ∷ []) limits by.spans (text_goes by.start bytes by.failed reply by.end by.turn by.spans.begun.opening.ready.whole)
+
+    reply_written : Appends w w' (printed reply) → HasAnswered
+    reply_written written = record {
+      exchanges = x ∷ [];
+      opened = by.start.history.trail;
+      due = record { bytes = bytes; read = read; loaded = (by.turn.loaded, refl, refl); written = inl (subst (Appends w w') (sym (append-nil (printed reply))) written) };
+      kept = kept;
+    }
+
+    reply_part : status ≢ 0 → WritesPart w w' (printed reply) → HasAnswered
+    reply_part failed part = record {
+      exchanges = x ∷ [];
+      opened = by.start.history.trail;
+      due = record {
+        bytes = bytes;
+        read = read;
+        loaded = (by.turn.loaded, refl, refl);
+        written = inr (failed, record { whole = []; last = x; all = refl; front = part.front; part = part.part; written = part.written });
+      };
+      kept = kept;
+    }
+
+  text_done : (result : Result (Unit {0}) TaskFault) → ((fault : TaskFault) → result ≡ Err fault → status ≢ 0) → LoadsText bytes w w' (IsFrom canton first last) result → HasAnswered
+  text_done (Ok done) failed (reply, taken, by) = reply_written reply by.replied by.written
+  text_done (Err faults.Refused) failed (refusal, by) = reply_written (Refused refusal) by.replied by.written
+  text_done (Err faults.Faulted) failed (reply, by) = reply_written reply by.replied by.written
+  text_done (Err faults.Write) failed (reply, by, part) = reply_part reply by (failed faults.Write refl) part
+  text_done (Err fault) failed by = absurd by
+
+  pub load_done : (unwritten : Type 0) → (unwritten → w' ≡ w) → (result : Result (Unit {0}) TaskFault) → ((fault : TaskFault) → result ≡ Err fault → status ≢ 0)
+      → LoadsFile unwritten (LoadsText bytes w w') (IsFrom canton first last) result → HasAnswered
+  load_done unwritten same (Err faults.CsvFile) failed by = none_given (failed faults.CsvFile refl) (same by.0) by.1
+  load_done unwritten same (Err faults.Memory) failed by = none_given (failed faults.Memory refl) (same by.0) by.1
+  load_done unwritten same result failed by = text_done result failed by

@@ -1,0 +1,150 @@
+-- What a run has answered and kept.
+use Rattle.std.proofs.Common.{◌≡◌, ◌≢◌, inl, inr, ⊎_elim, ℕ, Bool, List, [], ◌∷◌, ◌++◌, map, take, append_assoc, Option, Some, None, Result, Err, Ok, refl, sym, ◌∙◌, ap, subst}
+use Rattle.std.proofs.lemmas.List.{append-nil}
+use Rattle.std.specs.Io.KnownBytes.{Appends, Consumes}
+use Rattle.zh_disk.specs.Disk.{Trail}
+use Rattle.zh_disk.specs.History.{History}
+use Rattle.zh_districts.specs.Canton.{Canton, IsCanton}
+use Rattle.zh_ledger.specs.Opening.{Opening}
+use Rattle.zh_ledger.specs.declared.fault.OpenFault.{OpenFault}
+use Rattle.zh_office.specs.Text.{ended_lines, lines_of}
+use Rattle.zh_office.specs.declared.service.ServeFault.TheVariants as serving
+use Rattle.zh_office.proofs.CallerLemmas.{turn_honest}
+use Rattle.zh_tasks.specs.Opened.{IsFrom}
+use Rattle.zh_tasks.specs.Run.{Served, ServedEnded, ServedFront, Serves, Streams}
+use Rattle.zh_tasks.specs.declared.fault.TaskFault.{TaskFault}
+use Rattle.zh_tasks.specs.declared.fault.TaskFault.TheVariants as faults
+use Rattle.zh_program.specs.Due.{AnswerLines}
+use Rattle.zh_program.specs.Exchanges.{Exchange, text_of}
+use Rattle.zh_program.proofs.ConductLemmas.{GoesOnTo, Keeps, opened_keeps, refused_keeps}
+use Rattle.zh_program.proofs.RunLemmas.{exchanges_of, line_in_exchange, lines_are, run_turns, texts_are, turns_more}
+use Rattle.zh_program.proofs.TurnLemmas.{exchange_of, turn_one, turn_then}
+
+-- nothing is taken, and nothing written
+pub consumes_none : (known : Option (List ℕ)) → Consumes known known []
+consumes_none None = tt
+consumes_none (Some xs) = refl
+
+pub appends_none : (known : Option (List ℕ)) → Appends known known []
+appends_none None = tt
+appends_none (Some xs) = sym (append-nil xs)
+
+map-append : {X Y : Type 0} (f : X → Y) (xs ys : List X) → map f (xs ++ ys) ≡ map f xs ++ map f ys
+map-append f [] ys = refl
+map-append f (x ∷ xs) ys = ap (λ (l : List _). f x ∷ l) (map-append f xs ys)
+
+module _ (old new : Streams) (status : ℕ) (canton : Canton) (limits : IsCanton canton) (first last : History) where
+  -- the exchanges of a run, which were due, and what is kept
+  pub record HasServed : Type 0 where
+    pub exchanges : List Exchange
+    pub opened : Trail
+    pub due : AnswerLines old.left new.left old.written new.written status exchanges
+    pub kept : Keeps canton first last opened exchanges
+
+  all_served : (faulted : Bool) → Served old new (IsFrom canton first last) faulted → HasServed
+  all_served faulted by =
+      let answers = by.all.answers in
+      let xs = exchanges_of by.start (lines_of by.all.input) answers.out answers.log by.end answers.run in
+      record {
+        exchanges = xs;
+        opened = by.start.history.trail;
+        due = record {
+          input = by.all.input;
+          read = by.all.read;
+          lines = lines_of by.all.input;
+          due = inl (by.all.end, refl);
+          others = [];
+          answered = sym (lines_are by.start (lines_of by.all.input) answers.out answers.log by.end answers.run) ∙ sym (append-nil (map line_in_exchange xs));
+          written = inl (refl, subst (Appends old.written new.written) (sym (texts_are by.start (lines_of by.all.input) answers.out answers.log by.end answers.run)) answers.written);
+        };
+        kept = opened_keeps canton first last by.start by.end xs limits by.spans
+            (λ tally honest at. run_turns tally by.start.history.trail [] by.start (lines_of by.all.input) answers.out answers.log by.end answers.run honest at);
+      }
+
+  ended_served : status ≢ 0 → ServedEnded old new (IsFrom canton first last) → HasServed
+  ended_served failed by =
+      let answers = by.ended.answers in
+      let xs = exchanges_of by.start (ended_lines by.ended.input) answers.out answers.log by.end answers.run in
+      record {
+        exchanges = xs;
+        opened = by.start.history.trail;
+        due = record {
+          input = by.ended.input;
+          read = by.ended.read;
+          lines = ended_lines by.ended.input;
+          due = inr (failed, refl);
+          others = [];
+          answered = sym (lines_are by.start (ended_lines by.ended.input) answers.out answers.log by.end answers.run) ∙ sym (append-nil (map line_in_exchange xs));
+          written = inl (refl, subst (Appends old.written new.written) (sym (texts_are by.start (ended_lines by.ended.input) answers.out answers.log by.end answers.run)) answers.written);
+        };
+        kept = opened_keeps canton first last by.start by.end xs limits by.spans
+            (λ tally honest at. run_turns tally by.start.history.trail [] by.start (ended_lines by.ended.input) answers.out answers.log by.end answers.run honest at);
+      }
+
+  front_served : status ≢ 0 → ServedFront old new (IsFrom canton first last) → HasServed
+  front_served failed by =
+      let breaks = by.front.breaks in
+      let whole = exchanges_of by.start breaks.answered breaks.out breaks.log breaks.mid breaks.run in
+      let x = exchange_of breaks.mid breaks.last breaks.answer by.end breaks.turn in
+      let lines = lines_are by.start breaks.answered breaks.out breaks.log breaks.mid breaks.run in
+      record {
+        exchanges = whole ++ x ∷ [];
+        opened = by.start.history.trail;
+        due = record {
+          input = by.front.input;
+          read = by.front.read;
+          lines = by.front.lines;
+          due = ⊎_elim (λ ended. inr (failed, ended)) (λ all. inl all) by.front.due;
+          others = breaks.others;
+          answered = ap (map Some) breaks.lines_are ∙ map-append Some breaks.answered (breaks.last ∷ breaks.others)
+              ∙ ap (λ (l : List (Option (List ℕ))). l ++ Some breaks.last ∷ map Some breaks.others) (sym lines)
+              ∙ sym (ap (λ (l : List (Option (List ℕ))). l ++ map Some breaks.others) (map-append line_in_exchange whole (x ∷ [])) ∙ append_assoc (map line_in_exchange whole) (Some breaks.last ∷ []) (map Some breaks.others));
+          written = inr (
+            failed,
+            record {
+              whole = whole;
+              last = x;
+              all = refl;
+              front = breaks.front;
+              part = breaks.part;
+              written = subst (λ (out : List ℕ). Appends old.written new.written (out ++ take breaks.front (text_of x))) (sym (texts_are by.start breaks.answered breaks.out breaks.log breaks.mid breaks.run)) breaks.written;
+            },
+          );
+        };
+        kept = opened_keeps canton first last by.start by.end (whole ++ x ∷ []) limits by.spans (λ tally honest at. goes tally honest at);
+      }
+    where
+      goes : GoesOnTo by.start (exchanges_of by.start by.front.breaks.answered by.front.breaks.out by.front.breaks.log by.front.breaks.mid by.front.breaks.run ++ exchange_of by.front.breaks.mid by.front.breaks.last by.front.breaks.answer by.end by.front.breaks.turn ∷ []) by.end
+      goes tally honest at =
+          let breaks = by.front.breaks in
+          let opened = by.start.history.trail in
+          let whole = exchanges_of by.start breaks.answered breaks.out breaks.log breaks.mid breaks.run in
+          let before = run_turns tally opened [] by.start breaks.answered breaks.out breaks.log breaks.mid breaks.run (turn_honest breaks.mid breaks.last breaks.answer by.end honest breaks.turn) at in
+          let one = turn_one tally opened whole breaks.mid breaks.last breaks.answer by.end breaks.turn honest before.1 in
+          let then = turn_then tally opened whole breaks.mid breaks.last breaks.answer by.end breaks.turn honest before.1 in
+          (turns_more tally opened [] whole (exchange_of breaks.mid breaks.last breaks.answer by.end breaks.turn) by.end before.0 one breaks.mid before.1 then, then)
+
+  pub serve_done : (result : Result (Unit {0}) TaskFault) → ((fault : TaskFault) → result ≡ Err fault → status ≢ 0) → Serves old new (IsFrom canton first last) result → HasServed
+  serve_done (Ok done) failed by = all_served _ by
+  serve_done (Err faults.Faulted) failed by = all_served _ by
+  serve_done (Err (faults.Serve serving.Read)) failed by = ended_served (failed (faults.Serve serving.Read) refl) by
+  serve_done (Err (faults.Serve serving.Turns)) failed by = ended_served (failed (faults.Serve serving.Turns) refl) by
+  serve_done (Err (faults.Serve serving.Write)) failed by = front_served (failed (faults.Serve serving.Write) refl) by
+  serve_done (Err fault) failed by = absurd by
+
+  -- an office that was refused has answered nothing
+  pub refused_done : (fault : OpenFault) → status ≢ 0 → new.left ≡ old.left → new.written ≡ old.written → Opening canton first last (Err fault) → HasServed
+  refused_done fault failed left written opening = record {
+    exchanges = [];
+    opened = last.trail;
+    due = record {
+      input = [];
+      read = subst (λ (l : Option (List ℕ)). Consumes old.left l []) (sym left) (consumes_none old.left);
+      lines = [];
+      due = inr (failed, refl);
+      others = [];
+      answered = refl;
+      written = inl (refl, subst (λ (w : Option (List ℕ)). Appends old.written w []) (sym written) (appends_none old.written));
+    };
+    kept = refused_keeps canton first last fault limits opening;
+  }

@@ -1,0 +1,115 @@
+-- What an office leaves of its disk that is given one thing after the other.
+use Rattle.std.proofs.Common.{◌≡◌, ℕ, List, [], ◌∷◌, ◌++◌, length, refl, sym, ◌∙◌, ap, subst, IsTrue, Option, Result, Ok, Err}
+use Rattle.zh_disk.specs.Disk.{Trail, IsImage}
+use Rattle.zh_records.specs.declared.command.Command.{Command}
+use Rattle.zh_returns.specs.Judgement.{judge}
+use Rattle.zh_returns.specs.Tally.{Tally}
+use Rattle.zh_returns.specs.declared.verdict.Verdict.TheVariants.{Accept}
+use Rattle.zh_desks.specs.Batches.{Held, no_batches}
+use Rattle.zh_commands.specs.declared.lines.Line.{Line}
+use Rattle.zh_commands.specs.declared.lines.LineFault.{LineFault}
+use Rattle.zh_totals.specs.Counting.{totals_of}
+use Rattle.zh_ledger.specs.Images.{HasSome}
+use Rattle.zh_ledger.specs.Submissions.{Log, OnDisk, followed_by}
+use Rattle.zh_answers.specs.Requests.{Acts}
+use Rattle.zh_answers.specs.declared.answer.Answer.{Answer}
+use Rattle.zh_office.specs.Office.{Office, MayAnswer, batches_after, command_read}
+use Rattle.zh_office.specs.Runs.{Turn, its_ledger}
+use Rattle.zh_program.specs.Exchanges.{Exchange, Given, IsReadRight, command_given, count_by, disk_by, held_by, held_then, log_by, log_of}
+use Rattle.zh_program.specs.Exchanges.Given.{line}
+use Rattle.zh_program.specs.Stopped.{Always}
+use Rattle.zh_program.proofs.AnsweredLemmas.{IsFair, acts_fair, may_fair}
+use Rattle.zh_program.proofs.ExchangeLemmas.{acts_log, disk_more, held_more, log_more}
+use Rattle.zh_program.proofs.SoundLemmas.{GoesOnBy, IsSoundBy, acts_accepted, acts_goes_on}
+
+-- between two exchanges an image has what is acknowledged by then
+abbrev pub AtRest : Tally → Trail → List Exchange → Type 0
+AtRest tally opened done = (c : List ℕ) → IsImage (disk_by opened done).now c → HasSome tally (log_of done).accepted (log_of done).acknowledged c
+
+-- what is so of an exchange, by those before it
+pub record IsOne (tally : Tally) (opened : Trail) (done : List Exchange) (x : Exchange) : Type 0 where
+  pub read : IsReadRight tally.canton x.given
+  pub command : x.command ≡ command_given (held_by no_batches done) x.given
+  pub accepted : (command : Command) → (log_by x.command x.answer).accepted ≡ command ∷ [] → (judge (count_by tally (log_of done)) command ≡ Accept) × ((log_of done).acknowledged ≡ length (log_of done).accepted)
+  pub counted : x.count ≡ count_by tally (log_of (done ++ x ∷ []))
+  pub stopped : Always (HasSome tally (log_of (done ++ x ∷ [])).accepted (log_of done).acknowledged) (disk_by opened done) x.disk
+  pub fair : IsFair (totals_of x.count) x.answer
+
+-- and of each of these
+abbrev pub AreTurns : Tally → Trail → List Exchange → List Exchange → Type 0
+AreTurns tally opened done [] = AtRest tally opened done
+AreTurns tally opened done (x ∷ xs) = AtRest tally opened done × IsOne tally opened done x × AreTurns tally opened (done ++ x ∷ []) xs
+
+-- the office is where these exchanges have led it
+pub record IsAt (tally : Tally) (opened : Trail) (done : List Exchange) (o : OnDisk Office) : Type 0 where
+  pub disk : disk_by opened done ≡ o.history.trail
+  pub held : held_by no_batches done ≡ o.holder.held
+  pub sound : IsSoundBy tally (log_of done) (its_ledger o)
+
+pub at_rest : (tally : Tally) (opened : Trail) (done : List Exchange) (o : OnDisk Office) → IsAt tally opened done o → AtRest tally opened done
+at_rest tally opened done o at c image = at.sound.each c (subst (λ (t : Trail). IsImage t.now c) at.disk image)
+
+-- something is given, and answered
+module _ (tally : Tally) (opened : Trail) (done : List Exchange) (old new : OnDisk Office) (given : Given) (command : Option Command) (May : Answer → Type 0) (answer : Answer) (more : Log) (at : IsAt tally opened done old)
+    (honest : IsTrue new.history.honest) (acts : Acts (its_ledger old) command May answer more (its_ledger new)) (fair : (a : Answer) → May a → IsFair (totals_of old.holder.ledger.tally) a)
+    (read : IsReadRight tally.canton given) (gives : command ≡ command_given old.holder.held given) (held : new.holder.held ≡ held_then old.holder.held given answer) where
+  abbrev x : Exchange
+  x = record { given = given; command = command; answer = answer; count = new.holder.ledger.tally; disk = new.history.trail }
+
+  goes_on : GoesOnBy tally (log_of done) more (its_ledger old) (its_ledger new)
+  goes_on = acts_goes_on tally (log_of done) (its_ledger old) (its_ledger new) command May answer more at.sound honest acts
+
+  log_is : log_by command answer ≡ more
+  log_is = acts_log (its_ledger old) (its_ledger new) command May answer more acts
+
+  logs : log_of (done ++ x ∷ []) ≡ followed_by (log_of done) more
+  logs = log_more done x ∙ ap (followed_by (log_of done)) log_is
+
+  pub one_then : IsAt tally opened (done ++ x ∷ []) new
+  one_then = record {
+    disk = disk_more opened done x;
+    held = held_more no_batches done x ∙ ap (λ (h : Held). held_then h given answer) at.held ∙ sym held;
+    sound = subst (λ (l : Log). IsSoundBy tally l (its_ledger new)) (sym logs) goes_on.sound;
+  }
+
+  pub one_is : IsOne tally opened done x
+  one_is = record {
+    read = read;
+    command = gives ∙ ap (λ (h : Held). command_given h given) (sym at.held);
+    accepted = λ d is.
+        let by = acts_accepted (its_ledger old) (its_ledger new) command May answer more d acts (sym (ap (λ (l : Log). l.accepted) log_is) ∙ is) in
+        (subst (λ (t : Tally). judge t d ≡ Accept) at.sound.count by.0, (at.sound.whole by.1).all);
+    counted = one_then.sound.count;
+    stopped =
+        subst (λ (t : Trail). Always (HasSome tally (log_of (done ++ x ∷ [])).accepted (log_of done).acknowledged) t new.history.trail) (sym at.disk)
+        (subst (λ (l : Log). Always (HasSome tally l.accepted (log_of done).acknowledged) old.history.trail new.history.trail) (sym logs) goes_on.moments);
+    fair = acts_fair (its_ledger old) (its_ledger new) command May answer more fair acts;
+  }
+
+-- the exchange of a line
+abbrev pub exchange_of : (old : OnDisk Office) (bytes : List ℕ) (answer : Answer) (new : OnDisk Office) → Turn old bytes answer new → Exchange
+exchange_of old bytes answer new turn = record {
+  given = line bytes turn.reading;
+  command = command_read old.holder turn.reading;
+  answer = answer;
+  count = new.holder.ledger.tally;
+  disk = new.history.trail;
+}
+
+line_gives : (office : Office) (bytes : List ℕ) (reading : Result Line LineFault) → command_read office reading ≡ command_given office.held (line bytes reading)
+line_gives office bytes (Ok read) = refl
+line_gives office bytes (Err fault) = refl
+
+line_held : (held : Held) (bytes : List ℕ) (reading : Result Line LineFault) (answer : Answer) → batches_after held reading answer ≡ held_then held (line bytes reading) answer
+line_held held bytes (Ok read) answer = refl
+line_held held bytes (Err fault) answer = refl
+
+module _ (tally : Tally) (opened : Trail) (done : List Exchange) (old : OnDisk Office) (bytes : List ℕ) (answer : Answer) (new : OnDisk Office) (turn : Turn old bytes answer new) (honest : IsTrue new.history.honest)
+    (at : IsAt tally opened done old) where
+  pub turn_one : IsOne tally opened done (exchange_of old bytes answer new turn)
+  turn_one = one_is tally opened done old new (line bytes turn.reading) (command_read old.holder turn.reading) (MayAnswer old.holder turn.reading) answer turn.log at honest turn.acts (may_fair old.holder turn.reading)
+      turn.reads (line_gives old.holder bytes turn.reading) (turn.held ∙ line_held old.holder.held bytes turn.reading answer)
+
+  pub turn_then : IsAt tally opened (done ++ exchange_of old bytes answer new turn ∷ []) new
+  turn_then = one_then tally opened done old new (line bytes turn.reading) (command_read old.holder turn.reading) (MayAnswer old.holder turn.reading) answer turn.log at honest turn.acts (may_fair old.holder turn.reading)
+      turn.reads (line_gives old.holder bytes turn.reading) (turn.held ∙ line_held old.holder.held bytes turn.reading answer)

@@ -1,0 +1,24 @@
+-- The sheets that are answered, and the answers that report a tie.
+use Rattle.std.specs.Prelude.{◌≡◌, ℕ, List}
+use Rattle.zh_commands.specs.declared.replies.Reply.TheVariants.{Refused}
+use Rattle.zh_commands.specs.declared.replies.Refusal.TheVariants as refusals
+use Rattle.zh_matrices.specs.Divisors.{Divisors}
+use Rattle.zh_matrices.specs.SeatMatrix.{IsWeak}
+use Rattle.zh_totals.specs.Totals.{VoteTotals}
+use Rattle.zh_sheet.specs.Distribution.{Distribution, IsDistribution, question_of}
+use Rattle.zh_answers.specs.declared.answer.Answer.{Answer}
+use Rattle.zh_answers.specs.declared.answer.Answer.TheVariants.{Reply}
+
+-- The distribution of the seats by these totals: each part follows from those before it, all totals are met, and each
+-- quotient rounds without a half to its seats under the divisors that the sheet carries; no divisors lead to other seats.
+pub record FollowsFrom (totals : VoteTotals) (sheet : Distribution) : Type 0 where
+  pub votes : sheet.totals ≡ totals
+  pub meets : IsDistribution sheet
+  pub one_answer : (divisors : Divisors) (seats : List ℕ) → IsWeak (question_of sheet) divisors seats → seats ≡ sheet.lower.seats
+
+-- the answer reports a tie: of the constituencies' seats, of the groups', or of the lists'
+abbrev pub IsTie : Answer → Type 0
+IsTie (Reply (Refused refusals.TiedSeats)) = Unit {0}
+IsTie (Reply (Refused refusals.TiedUpper)) = Unit {0}
+IsTie (Reply (Refused (refusals.TiedLower constituency group))) = Unit {0}
+IsTie answer = ⊥
