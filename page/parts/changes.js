@@ -1,0 +1,58 @@
+// ---- What changed from one sheet to the next
+
+const byName = (rows) => new Map(rows.map((one) => [one.name, one]));
+
+function changesOf(before, now) {
+  const found = [];
+  const note = (what, was, is) => {
+    const difference = typeof was === 'bigint' && typeof is === 'bigint' ? is - was : null;
+    if (was !== is) found.push({ what, was: was ?? '-', now: is ?? '-', difference });
+  };
+  const each = (kind, tell) => {
+    const [old, next] = [byName(before[kind]), byName(now[kind])];
+    for (const name of new Set([...old.keys(), ...next.keys()])) tell(name, old.get(name), next.get(name));
+  };
+  const yes = (one) => (one ? say(one.takesPart ? 'yes' : 'no') : undefined);
+  note(say('kindWord'), say(before.kind), say(now.kind));
+  note(say('commandsWord'), before.commands, now.commands);
+  note(say('houseWord'), before.house.seats, now.house.seats);
+  note(say('quorumCanton'), before.quorum?.perMille, now.quorum?.perMille);
+  note(say('allVotesWord'), allVotes(before), allVotes(now));
+  each('groups', (name, old, next) => {
+    note(say('takesPartIn', { name }), yes(old), yes(next));
+    note(say('seatsIn', { name }), old?.seats, next?.seats);
+  });
+  each('constituencies', (name, old, next) => {
+    note(say('seatsIn', { name }), old?.seats, next?.seats);
+    note(say('votesIn', { name }), old?.votes, next?.votes);
+  });
+  const named = (sheet) => new Map(sheet.lists.map((list) => [
+    `${constituencyFor(sheet, list).name}, ${groupFor(sheet, list).name}`, list]));
+  const [old, next] = [named(before), named(now)];
+  for (const name of new Set([...old.keys(), ...next.keys()])) note(say('seatsIn', { name }), old.get(name)?.seats, next.get(name)?.seats);
+  for (const name of new Set([...old.keys(), ...next.keys()])) note(say('votesIn', { name }), old.get(name)?.votes, next.get(name)?.votes);
+  return found;
+}
+
+const signed = (number) => (number > 0n ? `+${number}` : `${number}`.replace('-', '−'));
+
+function changes({ sheet, before, beforeParts }) {
+  if (!sheet || !before) return null;
+  const fault = before.fault ?? beforeParts.flatMap(({ faults }) => faults)[0];
+  const warning = fault ? make('p', { class: 'said wrong' }, say('beforeWrong', { line: fault.line })) : null;
+  const heading = [make('h2', {}, say('changes')), warning];
+  if (!before.found) return make('section', { id: 'changes' }, heading);
+  const found = changesOf(before.found, sheet);
+  const names = (one) => [...one.constituencies, ...one.groups].map(({ name }) => name).join('\n');
+  const other = names(before.found) === names(sheet) ? null : make('p', { class: 'hint' }, say('otherOrder'));
+  const lines = sheet.lines.flatMap((text, i) => (text === before.found.lines[i] ? [] : [i + 1]));
+  if (found.length === 0) {
+    const text = lines.length > 0 ? say('onlyLines', { lines: lines.join(', ') }) : say('nothingChanged');
+    return make('section', { id: 'changes' }, heading, make('p', {}, text));
+  }
+  return make('section', { id: 'changes' }, heading, other, make('div', { class: 'scroll' }, make('table', {},
+    make('thead', {}, make('tr', {}, ['what', 'was', 'now', 'difference'].map((key) => make('th', { scope: 'col' }, say(key))))),
+    make('tbody', {}, found.map((one) => make('tr', {},
+      make('th', { scope: 'row' }, one.what), make('td', {}, `${one.was}`), make('td', {}, `${one.now}`),
+      make('td', {}, one.difference === null ? '' : signed(one.difference))))))));
+}

@@ -1,0 +1,158 @@
+// ---- Reading a sheet (FORMATS, "The sheet")
+
+// What is wrong with a line of a file: its number from 1, its text, and the reason, a key of WORDS with its values.
+class Fault extends Error {
+  constructor(line, text, reason, values = {}) {
+    super(reason);
+    Object.assign(this, { line, text, reason, values });
+  }
+}
+
+// The text of a file. Bytes that are not UTF-8, and a mark at the beginning, are a fault of their line.
+function decoded(bytes) {
+  const decoder = new TextDecoder('utf-8', { fatal: true, ignoreBOM: true });
+  let line = 1;
+  for (let start = 0; start < bytes.length; line += 1) {
+    const found = bytes.indexOf(10, start);
+    const end = found < 0 ? bytes.length : found;
+    try {
+      decoder.decode(bytes.subarray(start, end));
+    } catch {
+      throw new Fault(line, new TextDecoder().decode(bytes.subarray(start, end)), 'notText');
+    }
+    start = end + 1;
+  }
+  return decoder.decode(bytes);
+}
+
+const NUMERAL = '(0|[1-9][0-9]{0,19})';
+const DIVISOR = '((?:0|[1-9][0-9]{0,19})\\.[0-9]{6})';
+const line = (text) => new RegExp(`^${text}$`, 'su');
+const FORMS = {
+  head: line(`([1-8]) sheet (provisional|final) ${NUMERAL}`),
+  house: line(`house ${NUMERAL}`),
+  seatsKey: line(`seats key ${NUMERAL}/${NUMERAL}`),
+  upperKey: line(`upper key ${NUMERAL}/${NUMERAL}`),
+  quorum: line(`quorum canton ${NUMERAL}`),
+  constituency: line(`constituency ${NUMERAL} persons ${NUMERAL} seats ${NUMERAL} votes ${NUMERAL} divisor ${DIVISOR} (.+)`),
+  group: line(`group ${NUMERAL} quorum (yes|no) voters (-|${NUMERAL}) seats ${NUMERAL} divisor (-|${DIVISOR}) (.+)`),
+  list: line(`list ${NUMERAL} ${NUMERAL} votes ${NUMERAL} voters (-|${NUMERAL}) seats ${NUMERAL}`),
+  end: line('end'),
+};
+const SHOWN_FORMS = {
+  head: 'D sheet provisional K', house: 'house H', seatsKey: 'seats key A/B', upperKey: 'upper key A/B',
+  constituency: 'constituency d persons P seats R votes T divisor X NAME',
+  group: 'group g quorum Q voters V seats U divisor X NAME',
+  list: 'list d g votes V voters W seats S', end: 'end',
+};
+
+// Goes through the lines of a sheet, one after the other.
+class Lines {
+  constructor(text) {
+    this.lines = text.split('\n');
+    this.rest = this.lines.pop();
+    this.at = 0;
+  }
+
+  get number() { return this.at + 1; }
+
+  get text() { return this.lines[this.at] ?? this.rest; }
+
+  fault(reason, values) { return new Fault(this.number, this.text, reason, values); }
+
+  has(form) { return this.at < this.lines.length && FORMS[form].test(this.text); }
+
+  // The words of this line, which has to be of this form.
+  take(form) {
+    // A line that begins as another one is measured by that one's form.
+    const wanted = { form: SHOWN_FORMS[['constituency', 'group', 'list'].find((word) => this.text.startsWith(`${word} `)) ?? form] };
+    if (this.number === 1 && this.text.startsWith('\ufeff')) throw this.fault('mark');
+    if (this.at >= this.lines.length) throw this.fault(this.rest === '' ? 'cut' : 'cutWithin', wanted);
+    if (this.text.endsWith('\r')) throw this.fault('carriageReturn');
+    const match = FORMS[form].exec(this.text);
+    if (!match) throw this.fault(this.text === 'end' ? 'early' : 'noForm', wanted);
+    this.at += 1;
+    return { words: match.slice(1), line: this.at, text: match[0] };
+  }
+}
+
+const millionths = (divisor) => BigInt(divisor.replace('.', ''));
+const unlessDash = (word, read) => (word === '-' ? null : read(word));
+
+function constituencyOf({ words: [number, persons, seats, votes, divisor, name], line, text }) {
+  return {
+    number: Number(number), persons: BigInt(persons), seats: BigInt(seats), votes: BigInt(votes),
+    divisor: millionths(divisor), divisorText: divisor, name, line, text,
+  };
+}
+
+function groupOf({ words: [number, quorum, voters, , seats, divisor, , name], line, text }) {
+  return {
+    number: Number(number), takesPart: quorum === 'yes', voters: unlessDash(voters, BigInt), seats: BigInt(seats),
+    divisor: unlessDash(divisor, millionths), divisorText: divisor, name, line, text,
+  };
+}
+
+function listOf({ words: [constituency, group, votes, voters, , seats], line, text }) {
+  return {
+    constituency: Number(constituency), group: Number(group), votes: BigInt(votes),
+    voters: unlessDash(voters, BigInt), seats: BigInt(seats), line, text,
+  };
+}
+
+function keyIn({ words: [a, b], line, text }) {
+  return { a: BigInt(a), b: BigInt(b), line, text };
+}
+
+// Lines of one form that are numbered 1, 2, ..; from 1 to 32 of them.
+function numbered(lines, form, read) {
+  const found = [];
+  do {
+    const next = read(lines.take(form));
+    if (next.number !== found.length + 1 || next.number > 32) {
+      throw new Fault(next.line, next.text, 'number', { number: found.length + 1 });
+    }
+    if (next.seats > 400n) throw new Fault(next.line, next.text, 'manySeats');
+    found.push(next);
+  } while (lines.has(form));
+  return found;
+}
+
+// The lists, by constituency and then group.
+function listsIn(lines, constituencies, groups) {
+  const found = [];
+  let before = 0;
+  while (lines.has('list')) {
+    const next = listOf(lines.take('list'));
+    const place = next.constituency * 100 + next.group;
+    if (next.constituency < 1 || next.constituency > constituencies.length) throw new Fault(next.line, next.text, 'noConstituency');
+    if (next.group < 1 || next.group > groups.length) throw new Fault(next.line, next.text, 'noGroup');
+    if (place <= before) throw new Fault(next.line, next.text, 'order');
+    if (next.seats > 400n) throw new Fault(next.line, next.text, 'manySeats');
+    before = place;
+    found.push(next);
+  }
+  return found;
+}
+
+// The sheet that this text is. It is thrown what is wrong if it has not the form of one.
+function readSheet(text) {
+  const lines = new Lines(text);
+  const head = lines.take('head');
+  const house = lines.take('house');
+  const seatsKey = keyIn(lines.take('seatsKey'));
+  const upperKey = keyIn(lines.take('upperKey'));
+  const quorum = lines.has('quorum') ? lines.take('quorum') : null;
+  const constituencies = numbered(lines, 'constituency', constituencyOf);
+  const groups = numbered(lines, 'group', groupOf);
+  const lists = listsIn(lines, constituencies, groups);
+  lines.take(lists.length === 0 ? 'list' : 'end');
+  if (lines.at < lines.lines.length || lines.rest !== '') throw lines.fault('after');
+  return {
+    desk: head.words[0], kind: head.words[1], commands: BigInt(head.words[2]), head,
+    house: { seats: BigInt(house.words[0]), line: house.line, text: house.text },
+    quorum: quorum && { perMille: BigInt(quorum.words[0]), line: quorum.line, text: quorum.text },
+    seatsKey, upperKey, constituencies, groups, lists, lines: lines.lines,
+    at: new Map(lists.map((list) => [`${list.constituency} ${list.group}`, list])),
+  };
+}

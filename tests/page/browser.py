@@ -1,0 +1,134 @@
+"""A headless browser on the page, driven as somebody would drive it: files are chosen, texts pasted, keys pressed."""
+import base64
+import json
+import pathlib
+import re
+import tempfile
+
+from selenium import webdriver
+from selenium.common.exceptions import WebDriverException
+from selenium.webdriver.chrome.service import Service
+from selenium.webdriver.common.by import By
+from selenium.webdriver.common.keys import Keys
+from selenium.webdriver.support.ui import WebDriverWait
+
+TOP = pathlib.Path(__file__).resolve().parents[2]
+PAGE = TOP / "page" / "index.html"
+# No test is about time: a machine may be slow, and have other work. So many seconds mean that nothing comes any more.
+PATIENCE = 600
+STARTS = 5
+
+
+def options_for(language, size):
+    options = webdriver.ChromeOptions()
+    for argument in ("headless=new", "no-sandbox", "disable-gpu", "disable-dev-shm-usage", "no-first-run",
+                     "disable-background-networking", "disable-component-update", "hide-scrollbars",
+                     f"lang={language}", f"window-size={size[0]},{size[1]}"):
+        options.add_argument("--" + argument)
+    options.add_experimental_option("prefs", {"intl.accept_languages": language})
+    options.set_capability("goog:loggingPrefs", {"performance": "ALL", "browser": "ALL"})
+    return options
+
+
+def started(language="en-GB", dark=False, size=(1280, 900)):
+    """A browser that has opened nothing. Its log has each request that it makes. A start that fails is tried again."""
+    for left in reversed(range(STARTS)):
+        try:
+            driver = webdriver.Chrome(service=Service("/usr/bin/chromedriver"), options=options_for(language, size))
+            break
+        except WebDriverException as fault:
+            if left == 0:
+                raise
+            print(f"the browser did not start, and is started again: {str(fault).splitlines()[0]}", flush=True)
+    driver.set_script_timeout(PATIENCE)
+    driver.set_page_load_timeout(PATIENCE)
+    if dark:
+        driver.execute_cdp_cmd("Emulation.setEmulatedMedia",
+                               {"features": [{"name": "prefers-color-scheme", "value": "dark"}]})
+    return driver
+
+
+class Page:
+    """The page in a browser, with the files that it was given."""
+
+    def __init__(self, driver, path=PAGE):
+        self.driver = driver
+        self.path = pathlib.Path(path)
+        self.room = tempfile.TemporaryDirectory()
+        self.open()
+
+    def open(self):
+        """Opens the page anew, without any files."""
+        self.driver.get(self.path.as_uri())
+        return self
+
+    def file(self, name, content):
+        """A file of this content, to be chosen."""
+        path = pathlib.Path(self.room.name, name)
+        path.write_bytes(content if isinstance(content, bytes) else content.encode())
+        return str(path)
+
+    def choose(self, *files):
+        """Chooses files: (name, content) each. Waits until they are shown."""
+        paths = [self.file(name, content) for name, content in files]
+        # What is shown is marked, so that it can be seen to be replaced, also where the same is shown again.
+        self.driver.execute_script("document.body.dataset.shown = ''")
+        self.driver.find_element(By.ID, "pick").send_keys("\n".join(paths))
+        self.wait("return document.body.dataset.shown !== ''")
+        return self
+
+    def sheet(self, sheet, setup=None, held=None):
+        """The page anew, with these files."""
+        files = [("sheet.txt", sheet)]
+        files += [("setup.toml", setup)] if setup is not None else []
+        files += [("held.csv", held)] if held is not None else []
+        return self.open().choose(*files)
+
+    def wait(self, condition):
+        """Waits until this script returns true."""
+        self.until(lambda: self.driver.execute_script(condition))
+
+    def until(self, holds):
+        """Waits until this call returns true."""
+        WebDriverWait(self.driver, PATIENCE, poll_frequency=0.02).until(lambda driver: holds())
+
+    def text(self, css):
+        """The text that is seen there; '' where there is none."""
+        found = self.driver.find_elements(By.CSS_SELECTOR, css)
+        return found[0].text if found else ""
+
+    def texts(self, css):
+        return [element.text for element in self.driver.find_elements(By.CSS_SELECTOR, css)]
+
+    def state(self):
+        """'right', 'wrong' or 'unsure'; 'none' without a sheet."""
+        return self.driver.find_element(By.TAG_NAME, "body").get_attribute("data-state")
+
+    def failing(self):
+        """The parts of the check that fail."""
+        names = self.texts("#parts tr.bad th")
+        return [re.sub(r"^✗ (\S+).*", r"\1", name, flags=re.S) for name in names]
+
+    def press(self, *keys):
+        webdriver.ActionChains(self.driver).send_keys(*keys).perform()
+
+    def pdf(self):
+        return base64.b64decode(self.driver.execute_cdp_cmd(
+            "Page.printToPDF", {"preferCSSPageSize": True, "printBackground": False})["data"])
+
+    def screenshot(self, path, whole=True):
+        data = self.driver.execute_cdp_cmd("Page.captureScreenshot", {"captureBeyondViewport": whole, "format": "png"})
+        pathlib.Path(path).write_bytes(base64.b64decode(data["data"]))
+
+    def requests(self):
+        """The addresses that the browser asked for since this was last called."""
+        found = []
+        for entry in self.driver.get_log("performance"):
+            message = json.loads(entry["message"])["message"]
+            if message["method"] == "Network.requestWillBeSent":
+                found.append(message["params"]["request"]["url"])
+        return found
+
+    def complaints(self):
+        """What the browser complained about: scripts that failed, and what the content policy refused."""
+        return [entry["message"] for entry in self.driver.get_log("browser")]

@@ -1,0 +1,70 @@
+"""Runs the tests of the page, or those that are named, as `Wrong` or `Wrong.test_a_half`; `--first` ends with the first
+that fails. The last line is 'N passed, M failed'."""
+import sys
+import unittest
+
+import case
+import test_numbers
+import test_others
+import test_paper
+import test_program
+import test_right
+import test_use
+import test_wrong
+
+MODULES = (test_right, test_program, test_numbers, test_wrong, test_others, test_use, test_paper)
+
+
+class Lines(unittest.TestResult):
+    """A line for each test."""
+
+    def __init__(self):
+        super().__init__()
+        self.passed = 0
+
+    def tell(self, word, test, error=None):
+        print(f"{word:<5} {test.id().split('.', 1)[-1]}", flush=True)
+        if error:
+            print("      " + self._exc_info_to_string(error, test).strip().replace("\n", "\n      "), flush=True)
+
+    def addSuccess(self, test):
+        self.passed += 1
+        self.tell("ok", test)
+
+    def addFailure(self, test, err):
+        super().addFailure(test, err)
+        self.tell("FAIL", test, err)
+
+    def addError(self, test, err):
+        super().addError(test, err)
+        self.tell("ERROR", test, err)
+
+    def addSkip(self, test, reason):
+        super().addSkip(test, reason)
+        print(f"--    {test.id().split('.', 1)[-1]}: {reason}", flush=True)
+
+    def addSubTest(self, test, subtest, err):
+        super().addSubTest(test, subtest, err)
+        if err:
+            self.tell("FAIL" if issubclass(err[0], test.failureException) else "ERROR", subtest, err)
+
+
+def main(arguments):
+    names = [argument for argument in arguments if not argument.startswith("--")]
+    tests = [found(test) for module in MODULES for found in vars(module).values()
+             if isinstance(found, type) and issubclass(found, unittest.TestCase) and found is not case.Case
+             for test in unittest.defaultTestLoader.getTestCaseNames(found)
+             if not names or found.__name__ in names or f"{found.__name__}.{test}" in names]
+    if not tests:
+        sys.exit("there is no such test")
+    suite = unittest.TestSuite(tests)
+    result = Lines()
+    result.failfast = "--first" in arguments
+    suite.run(result)
+    failed = len(result.failures) + len(result.errors)
+    print(f"{result.passed} passed, {failed} failed")
+    sys.exit(failed > 0)
+
+
+if __name__ == "__main__":
+    main(sys.argv[1:])

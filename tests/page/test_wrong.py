@@ -1,0 +1,155 @@
+"""Sheets that are wrong, each at its line."""
+import re
+
+import model
+import sheets
+from case import EXAMPLE, EXAMPLE_SETUP, Case, changed
+
+
+class Wrong(Case):
+    def test_a_wrong_seat(self):
+        sheet = changed(sheets.zurich(), "list 1 1 votes 28518 voters 2377 seats 4", "list 1 1 votes 28518 voters 2377 seats 5")
+        self.fails("lists", 22, "28518 / (7242.666666 × 1.007187) = 3.909.. rounds to 4", sheet, sheets.zurich_setup())
+
+    def test_seats_exchanged_so_that_all_totals_are_met(self):
+        sheet = EXAMPLE
+        for place, seats in (("1 1 votes 525 voters 105 seats 3", 2), ("1 2 votes 300 voters 60 seats 1", 2),
+                             ("2 1 votes 240 voters 80 seats 1", 2), ("2 2 votes 330 voters 110 seats 2", 1)):
+            sheet = changed(sheet, place, f"{place[:-1]}{seats}")
+        page = self.fails("lists", 11, "= 2.560.. rounds to 3", sheet, EXAMPLE_SETUP)
+        self.assertEqual(page.failing(), ["lists"])
+
+    def test_totals(self):
+        """Seats that all round, but do not add up as those of their constituency and their group."""
+        page = self.fails("lists", 5, "the seats of its lists make 6, and not 5", changed(EXAMPLE, "205.000000", "186.000000")
+                          .replace("voters 60 seats 1", "voters 60 seats 2", 1), EXAMPLE_SETUP)
+        self.assertEqual(page.failing(), ["lists"])
+        self.assertIn("and 1 more", page.text("#problems"))
+
+    def test_a_half(self):
+        self.fails("lists", 11, "525 / (210.000000 × 1.000000) = 2.5 lies on a half", changed(EXAMPLE, "205.000000", "210.000000"))
+        self.fails("lists", 11, "525 / (150.000000 × 1.000000) = 3.5 lies on a half", changed(EXAMPLE, "205.000000", "150.000000"))
+
+    def test_the_ends_of_each_apportionment(self):
+        """Seats by keys and by persons, on each side."""
+        self.fails("seats", 3, "the key should be 10000/10", changed(EXAMPLE, "seats key 10000/10", "seats key 10000/9"))
+        self.fails("seats", 3, "the key should be 10000/10", changed(EXAMPLE, "seats key 10000/10", "seats key 1000/1"))
+        self.fails("seats", 3, "the key should be 10000/10", changed(EXAMPLE, "seats key 10000/10", "seats key 10001/10"))
+        self.fails("groups", 4, "the key should be 300/6", changed(EXAMPLE, "upper key 300/6", "upper key 50/1"))
+        self.fails("seats", 5, "5000 / (10000/10) = 5 rounds to 5", changed(EXAMPLE, "persons 5000 seats 5", "persons 5000 seats 6"))
+        self.fails("seats", 5, "5000 / (10000/10) = 5 rounds to 5", changed(EXAMPLE, "persons 5000 seats 5", "persons 5000 seats 4"))
+        self.fails("groups", 8, "230 / (300/6) = 4.6 rounds to 5", changed(EXAMPLE, "voters 230 seats 5", "voters 230 seats 4"))
+        self.fails("groups", 8, "230 / (300/6) = 4.6 rounds to 5", changed(EXAMPLE, "voters 230 seats 5", "voters 230 seats 6"))
+        self.fails("seats", 2, "the seats make 10, and the house has 11", changed(EXAMPLE, "house 10", "house 11"))
+
+    def test_a_forged_quorum(self):
+        election = model.made_up(3, 6, 5, 60)
+        self.assertTrue(all(election.takes_part(g) for g in range(5)))
+        self.holds(election.sheet(), election.setup())
+        page = self.fails("participation", 14, "by its votes this group takes part", election.sheet(part=[True] * 3 + [False, True]),
+                          election.setup(), election.held())
+        self.assertEqual(page.failing(), ["participation"])
+        few = model.Election(10, [1000], [[600, 370, 30]])
+        self.holds(few.sheet(), few.setup())
+        page = self.fails("participation", 8, "by its votes this group takes no part", few.sheet(part=[True] * 3), few.setup())
+        self.assertEqual(page.failing(), ["participation"])
+
+    def test_the_quorum_to_the_vote(self):
+        for votes, part, quorum in ((50, True, None), (49, False, None), (49, True, 49), (48, False, 49)):
+            with self.subTest(votes=votes, quorum=quorum):
+                election, sheet, forged = self.both(votes, part, quorum)
+                self.assertEqual(election.takes_part(2), part)
+                self.holds(sheet, election.setup())
+                self.assertEqual(self.page.sheet(forged, election.setup()).failing(), ["participation"])
+
+    @staticmethod
+    def both(votes, part, quorum):
+        """An election of 1000 votes, its sheet, and the sheet with the other quorum, in the first house without a tie."""
+        for house in range(10, 40):
+            election = model.Election(house, [1000], [[613, 387 - votes, votes]], quorum=quorum)
+            try:
+                return election, election.sheet(), election.sheet(part=[True, True, not part])
+            except model.Tied:
+                pass
+        raise AssertionError("each house is tied")
+
+    def test_a_list_that_vanished(self):
+        self.fails("form", 13, "before it the line “list 1 3 ..” is missing", self.without(EXAMPLE, 13), EXAMPLE_SETUP)
+        self.fails("votes", 5, "the votes of its lists make 825", self.without(EXAMPLE, 13))
+        self.fails("form", 19, "before it the line “list 3 3 ..” is missing", self.without(EXAMPLE, 19), EXAMPLE_SETUP)
+        whole = model.made_up(3, 6, 5, 60)
+        whole.votes[5][1] = None
+        page = self.fails("form", 41, "before it the line “list 6 2 ..” is missing", whole.sheet(), model.made_up(3, 6, 5, 60).setup())
+        self.assertEqual(page.failing(), ["form"])
+
+    @staticmethod
+    def without(sheet, line):
+        lines = sheet.splitlines(keepends=True)
+        return "".join(lines[:line - 1] + lines[line:])
+
+    def test_a_cut_sheet(self):
+        lines = EXAMPLE.splitlines(keepends=True)
+        for count in range(len(lines)):
+            with self.subTest(count):
+                page = self.fails(None, count + 1, "the sheet is cut off here", "".join(lines[:count]))
+                self.assertEqual(page.text("#kind"), "THIS IS NO SHEET")
+        self.fails(None, 12, "cut off within this line", EXAMPLE[:EXAMPLE.index("list 1 2") + 12])
+        self.fails(None, 20, "its line end is missing", EXAMPLE[:-1])
+
+    def test_line_ends_marks_and_bytes(self):
+        self.fails(None, 1, "it ends in a carriage return (CR LF)", EXAMPLE.replace("\n", "\r\n"))
+        self.fails(None, 7, "it ends in a carriage return (CR LF)", changed(EXAMPLE, "West\n", "West\r\n"))
+        self.fails(None, 1, "byte order mark", "\ufeff" + EXAMPLE)
+        self.fails(None, 6, "it is not UTF-8", EXAMPLE.encode().replace(b"Mitte", b"Mitt\xe9"))
+
+    def test_what_follows_and_what_is_no_line(self):
+        self.fails(None, 21, "something follows the line “end”", EXAMPLE + "\n")
+        self.fails(None, 21, "something follows the line “end”", EXAMPLE + EXAMPLE)
+        self.fails(None, 21, "something follows the line “end”", EXAMPLE + "x")
+        for line, old, new in ((1, "1 sheet", "0 sheet"), (1, "1 sheet", "9 sheet"), (1, "provisional", "preliminary"),
+                               (2, "house 10", "house 010"), (2, "house 10", "house  10"), (5, "205.000000", "205.00000"),
+                               (8, "yes voters 230", "maybe voters 230"),
+                               (11, "525", "0525"), (11, "525", "-525"), (20, "end", "End"), (20, "end", "end ")):
+            with self.subTest(new):
+                self.fails(None, line, "it is no line of a sheet", EXAMPLE.replace(old, new, 1))
+        self.fails(None, 12, "it is twice there, or not in order", changed(EXAMPLE, "list 1 2", "list 1 1"))
+        self.fails(None, 6, "its number should be 2", changed(EXAMPLE, "constituency 2", "constituency 3"))
+        for text in ("", "\n", "hello", "\0\0\0", "<b>bold</b>\n"):
+            with self.subTest(text):
+                self.fails(None, 1, "", text)
+
+    def test_each_number_changed_by_one(self):
+        """Only the desk, K and divisors may be others."""
+        rows = model.Election(10, [5000, 3000, 2000], [[525, 300, 175], [240, 330, 30], [90, 60, 50]]).held()
+        page = self.page.sheet(EXAMPLE, EXAMPLE_SETUP, rows)
+        lines = EXAMPLE.splitlines(keepends=True)
+        for at, line in enumerate(lines):
+            for match in re.finditer(r"\d+", line):
+                for change in (-1, 1):
+                    number = int(match[0]) + change
+                    text = line[:match.start()] + str(number) + line[match.end():]
+                    page.choose(("sheet.txt", "".join(lines[:at] + [text] + lines[at + 1:])))
+                    with self.subTest(text):
+                        if at == 0 and number >= 1:
+                            self.assertEqual(page.state(), "right")
+                        elif "divisor" not in line[:match.start()]:
+                            self.assertEqual(page.state(), "wrong")
+
+    def test_limits(self):
+        self.fails("form", 2, "it should be from 1 to 400", changed(EXAMPLE, "house 10", "house 401"))
+        self.fails("form", 1, "more than 2^64 - 1 commands", changed(EXAMPLE, "provisional 9", "provisional 18446744073709551616"))
+        self.holds(changed(EXAMPLE, "provisional 9", "provisional 18446744073709551615"))
+        self.fails("form", 5, "control characters", changed(EXAMPLE, "Nord", "No\trd"))
+        self.fails("form", 6, "this name is there twice", changed(EXAMPLE, "Mitte", "Nord"))
+        self.fails("form", 6, "a name has 1 to 40 bytes", changed(EXAMPLE, "Mitte", "é" * 21))
+        self.holds(changed(EXAMPLE, "Mitte", "seats 3"))
+        self.holds(changed(EXAMPLE, "Mitte", "é" * 20))
+
+    def test_dashes(self):
+        few = model.Election(10, [1000], [[600, 370, 30]]).sheet()
+        self.assertIn("group 3 quorum no voters - seats 0 divisor - Group 3", few)
+        self.fails("voters", 8, "the group takes no part", changed(few, "no voters -", "no voters 3"))
+        self.fails("groups", 8, "a group without seats has no divisor", changed(few, "seats 0 divisor -", "seats 0 divisor 1.000000"))
+        self.fails("voters", 11, "the group takes no part", changed(few, "votes 30 voters -", "votes 30 voters 3"))
+        self.fails("groups", 8, "a group with seats has a divisor", changed(EXAMPLE, "seats 5 divisor 1.000000", "seats 5 divisor -"))
+        self.fails("lists", 5, "a divisor is above 0", changed(EXAMPLE, "205.000000", "0.000000"))
