@@ -1,0 +1,182 @@
+#!/usr/bin/env python3
+"""Makes the night of a canton from a seed: night.py FOLDER [SEED].
+
+The folder gets `setup.toml`; `evening` and `night`, the lines that eight desks send before and after a stop; and
+`evening.replies` and `night.replies`, what the office answers by docs/MANUAL.md, of a sheet the first line alone.
+"""
+import pathlib
+import sys
+
+sys.dont_write_bytecode = True
+from canton import Canton, Chance
+from office import Office
+
+SEED = 2027
+DESKS = range(1, 9)
+BATCH_DESKS = (7, 8)
+EARLIEST_STOP, LATEST_STOP = 500, 1000  # moments
+SHEETS = range(100, 1000, 100)  # when desk 1 asks for the seats
+
+
+class Desk:
+    """One desk, with its own municipalities: what it sends, and at which moments."""
+
+    def __init__(self, number, canton, chance):
+        self.number, self.canton, self.chance = number, canton, chance
+        self.lines = []
+        self.moment = 0
+        self.sent = {}  # the number under which a municipality and list were sent last
+
+    def say(self, text):
+        self.lines.append((self.moment, f"{self.number} {text}"))
+
+    def send(self, municipality, group, votes):
+        """The next number's return."""
+        number = self.sent.get((municipality, group), 0) + 1
+        self.sent[municipality, group] = number
+        self.say(f"return {municipality} {group} {number} {votes}")
+
+    def take(self, municipality, moment):
+        """The returns of a municipality have come: they are entered, and it is closed."""
+        self.moment = max(self.moment + 1, moment)
+        rows = [(municipality, group, self.canton.votes[municipality, group]) for group in self.canton.lists_in(municipality)]
+        if self.number in BATCH_DESKS:
+            self.enter_batch(rows)
+        else:
+            for row in rows:
+                self.enter(*row)
+        self.say(f"close {municipality}")
+        if self.chance.once_in(9):
+            self.correct(*self.chance.shuffled(rows)[0])
+
+    def enter(self, municipality, group, votes):
+        """A return, with the mistakes that people make."""
+        self.moment += self.chance.below(2)
+        place = f"{municipality} {group}"
+        if (municipality, group) in self.sent:  # something is held already
+            self.say(f"return {place} 1 {votes}")
+            self.say(f"show {place}")
+            self.send(municipality, group, votes)
+        elif self.chance.once_in(40):  # a wrong figure, seen at once
+            self.send(municipality, group, votes + 9)
+            self.send(municipality, group, votes)
+        elif self.chance.once_in(50):  # a wrong number
+            self.say(f"return {place} 2 {votes}")
+            self.say(f"show {place}")
+            self.send(municipality, group, votes)
+        else:
+            self.send(municipality, group, votes)
+            if self.chance.once_in(30):  # sent again, in doubt
+                self.say(f"return {place} 1 {votes}")
+
+    def enter_batch(self, rows):
+        municipality, group, votes = rows[-1]
+        if self.chance.once_in(4):  # a wrong number, which only the commit finds
+            self.batch(rows[:-1])
+            for text in (f"row {municipality} {group} 2 {votes}", "commit", f"show {municipality} {group}", "drop"):
+                self.say(text)
+        self.batch(rows)
+        self.say("commit")
+        self.sent |= {row[:2]: 1 for row in rows}
+
+    def batch(self, rows):
+        self.say("open")
+        for municipality, group, votes in rows:
+            self.moment += self.chance.below(2)
+            self.say(f"row {municipality} {group} 1 {votes}")
+            if self.chance.once_in(50):  # the same row once more
+                self.say(f"row {municipality} {group} 1 {votes}")
+
+    def correct(self, municipality, group, votes):
+        """A correction comes when the municipality is closed already."""
+        self.moment += self.chance.between(1, 30)
+        self.say(f"return {municipality} {group} {self.sent[municipality, group] + 1} {votes + 4}")
+        self.say(f"reopen {municipality}")
+        self.send(municipality, group, votes + 4)
+        self.say(f"close {municipality}")
+
+    def withdraw(self, municipality, group):
+        self.sent[municipality, group] += 1
+        self.say(f"withdraw {municipality} {group} {self.sent[municipality, group]}")
+
+    def confuse(self, municipality, other):
+        """The first return of a municipality is entered for another one, and taken back there."""
+        self.send(other, 1, self.canton.votes[municipality, 1])
+        self.withdraw(other, 1)
+
+
+def arrivals(canton, chance):
+    """The municipalities with the moments in which their returns come, the first one first."""
+    return sorted((chance.between(30, 950), m) for m in canton.municipalities())
+
+
+def desks_of(canton, chance):
+    desks = {number: Desk(number, canton, chance) for number in DESKS}
+    queues = {number: [] for number in DESKS}
+    for moment, m in arrivals(canton, chance):
+        queues[1 + (m - 1) * len(DESKS) // len(canton.names)].append((moment, m))
+    for number, queue in queues.items():
+        for place, (moment, m) in enumerate(queue):
+            if number == 3 and place == 4:
+                desks[3].moment = max(desks[3].moment + 1, moment)
+                desks[3].confuse(m, queue[place + 1][1])
+            desks[number].take(m, moment)
+            if number == 2 and place == 5:  # a list turns out not to stand there any more
+                desks[2].say(f"reopen {m}")
+                desks[2].withdraw(m, len(canton.lists_in(m)))
+                desks[2].say(f"show {m} {len(canton.lists_in(m))}")
+                desks[2].say(f"close {m}")
+    return desks
+
+
+def lost_batch(lines):
+    """The lines of a batch that is still open after these."""
+    begun = None
+    for place, (_, line) in enumerate(lines):
+        word = line.split()[1]
+        begun = place if word == "open" else None if word in ("commit", "drop") else begun
+    return [] if begun is None else lines[begun:]
+
+
+def again(stop, early, late):
+    """What a desk sends first after the stop: a lost batch from its beginning, or else its last line."""
+    lost = lost_batch(early)
+    return [(stop, line) for _, line in (late[:1] + lost if lost else early[-1:])]
+
+
+def split(desk, moment):
+    """The lines of a desk before a moment, and those from it on."""
+    return [line for line in desk.lines if line[0] < moment], [line for line in desk.lines if line[0] >= moment]
+
+
+def merged(desks):
+    """The lines before the stop and after it, in the order in which they arrive. The stop breaks a batch."""
+    stop = next(moment for moment in range(EARLIEST_STOP, LATEST_STOP)
+                if any(lost_batch(split(desk, moment)[0]) for desk in desks.values()))
+    before = [(moment, 1, "1 sheet") for moment in SHEETS if moment < stop]
+    after = [(moment, 1, "1 sheet") for moment in SHEETS if moment >= stop]
+    for number, desk in desks.items():
+        early, late = split(desk, stop)
+        before += [(moment, number, line) for moment, line in early]
+        after += [(moment, number, line) for moment, line in again(stop, early, late) + late]
+    return [[line for _, _, line in sorted(lines, key=lambda it: it[:2])] for lines in (before, after)]
+
+
+def main(folder, seed=SEED):
+    chance = Chance(int(seed))
+    canton = Canton(chance)
+    office = Office(canton)
+    folder = pathlib.Path(folder)
+    (folder / "setup.toml").write_text(canton.setup())
+    for name, lines in zip(("evening", "night"), merged(desks_of(canton, chance))):
+        lines += ["1 final"] if name == "night" else []
+        (folder / name).write_text("".join(line + "\n" for line in lines))
+        (folder / f"{name}.replies").write_text("".join(office.answer(line) + "\n" for line in lines))
+        office.stop()
+    return office
+
+
+if __name__ == "__main__":
+    if len(sys.argv) not in (2, 3):
+        sys.exit(__doc__)
+    main(*sys.argv[1:])

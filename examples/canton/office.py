@@ -1,0 +1,106 @@
+"""What the office answers, by docs/MANUAL.md: a second opinion, written from its words alone. It computes no seats."""
+
+
+class Office:
+    def __init__(self, canton):
+        self.canton = canton
+        self.held = {}  # (municipality, list): (number, votes, or None of one that is withdrawn)
+        self.closed = set()
+        self.batches = {}  # desk: rows
+        self.commands = 0
+
+    def answer(self, line):
+        desk, word, *numbers = line.split()
+        return f"{desk} " + getattr(self, "on_" + word)(desk, *map(int, numbers))
+
+    def store(self):
+        self.commands += 1
+        return f"stored {self.commands}"
+
+    def judge(self, municipality, group, number, votes):
+        """'' where the entry is accepted, or else the answer."""
+        if municipality in self.closed:
+            return "refused closed"
+        held = self.held.get((municipality, group), (0, None))
+        if number == held[0]:
+            return "same" if votes == held[1] else "refused conflict"
+        if number < held[0]:
+            return "refused stale"
+        return "" if number == held[0] + 1 else "refused gap"
+
+    def put(self, municipality, group, number, votes):
+        answer = self.judge(municipality, group, number, votes)
+        if answer:
+            return answer
+        self.held[municipality, group] = number, votes
+        return self.store()
+
+    def on_return(self, _desk, municipality, group, number, votes):
+        return self.put(municipality, group, number, votes)
+
+    def on_withdraw(self, _desk, municipality, group, number):
+        return self.put(municipality, group, number, None)
+
+    def on_show(self, _desk, municipality, group):
+        if (municipality, group) not in self.held:
+            return "none"
+        number, votes = self.held[municipality, group]
+        return f"shows {number} {'withdrawn' if votes is None else votes}"
+
+    def on_close(self, _desk, municipality):
+        if municipality in self.closed:
+            return "same"
+        self.closed.add(municipality)
+        return self.store()
+
+    def on_reopen(self, _desk, municipality):
+        if municipality not in self.closed:
+            return f"refused notclosed {municipality}"
+        self.closed.remove(municipality)
+        return self.store()
+
+    def on_open(self, desk):
+        if desk in self.batches:
+            return "refused batchopen"
+        self.batches[desk] = []
+        return "held 0"
+
+    def on_row(self, desk, municipality, group, number, votes):
+        if desk not in self.batches:
+            return "refused nobatch"
+        rows = self.batches[desk]
+        if any(row[:2] == (municipality, group) for row in rows):
+            return "refused twice"
+        rows.append((municipality, group, number, votes))
+        return f"held {len(rows)}"
+
+    def on_drop(self, desk):
+        return f"dropped {len(self.batches.pop(desk))}" if desk in self.batches else "refused nobatch"
+
+    def on_commit(self, desk):
+        if desk not in self.batches:
+            return "refused nobatch"
+        answers = {row: self.judge(*row) for row in self.batches[desk]}
+        for answer in answers.values():
+            if answer.startswith("refused"):
+                return answer
+        self.held |= {row[:2]: row[2:] for row, answer in answers.items() if not answer}
+        del self.batches[desk]
+        return self.store() if "" in answers.values() else "same"
+
+    def on_sheet(self, _desk):
+        """The first line of a sheet; or that a constituency has no votes yet."""
+        for d in sorted(set(self.canton.constituency_of)):
+            if not any(votes for (m, _), (_, votes) in self.held.items() if self.canton.constituency_of[m - 1] == d):
+                return f"refused novotes {d}"
+        return f"sheet provisional {self.commands}"
+
+    def on_final(self, _desk):
+        for municipality in self.canton.municipalities():
+            if municipality not in self.closed:
+                return f"refused notclosed {municipality}"
+        return f"sheet final {self.commands}"
+
+    def stop(self):
+        """After a stop no desk has a batch."""
+        self.batches = {}

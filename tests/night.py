@@ -1,0 +1,101 @@
+#!/usr/bin/env python3
+"""Nights of examples/canton: each answer of the program is that of the manual (examples/canton/office.py), and each sheet that of
+a calculation in exact fractions (tests/page/model.py). ZHCOUNT is the program's path; if it is not set,
+crates/zhcount/out/zhcount. The last line is 'N passed, M failed'."""
+import os
+import pathlib
+import re
+import subprocess
+import sys
+import tempfile
+
+TOP = pathlib.Path(__file__).resolve().parents[1]
+sys.dont_write_bytecode = True
+sys.path[:0] = [str(TOP / "examples" / "canton"), str(TOP / "tests" / "page")]
+import canton as cantons
+import model
+import night
+import office as offices
+
+SEEDS = (night.SEED, 1, 5)
+
+
+def answers_of(text):
+    """The answers in a text, a sheet with all its lines as one."""
+    return re.findall(r"^\d sheet (?:provisional|final) \d+\n(?:.*\n)*?end\n|^.*\n", text, re.M)
+
+
+def votes_in(office):
+    """The votes of each list, by constituency; None of a list that does not stand."""
+    canton = office.canton
+    votes = [[0 if d in canton.stands(g) else None for g in range(1, len(cantons.LISTS) + 1)]
+             for d in range(1, len(cantons.CONSTITUENCIES) + 1)]
+    for (municipality, group), (_, number) in office.held.items():
+        votes[canton.constituency_of[municipality - 1] - 1][group - 1] += number or 0
+    return votes
+
+
+def sheet_fault(office, sheet):
+    """What is wrong with a sheet of what the office holds; '' if nothing is."""
+    kind, commands = sheet.split()[2:4]
+    election = model.Election(cantons.HOUSE, office.canton.persons, votes_in(office), names=cantons.CONSTITUENCIES, groups=cantons.LISTS)
+    wanted = election.sheet(kind, int(commands)).splitlines()
+    for found, line in zip(plain(sheet).splitlines(), map(plain, wanted)):
+        if found != line:
+            return f"printed: {found}; computed: {line}"
+    rows, columns = totals("constituency", sheet), totals("group", sheet)
+    seated = [g for g, (seats, _) in enumerate(columns) if seats]
+    question = [[row[g] or 0 for g in seated] for row in election.votes]
+    is_right = model.is_right(question, [seats for seats, _ in rows], [columns[g][0] for g in seated],
+                              [divisor for _, divisor in rows], [columns[g][1] for g in seated])
+    return "" if is_right and len(wanted) == len(sheet.splitlines()) else "its seats do not follow from its divisors"
+
+
+def plain(sheet):
+    """The sheet without its divisors, of which many are right."""
+    return re.sub(r" divisor \S+", "", sheet)
+
+
+def totals(word, sheet):
+    """The seats of each constituency or group with its divisor in millionths."""
+    rows = re.findall(rf"^{word} .* seats (\d+) .*?divisor ([\d.]+|-)", sheet, re.M)
+    return [(int(seats), None if divisor == "-" else int(divisor.replace(".", ""))) for seats, divisor in rows]
+
+
+def faults(room, seed):
+    """What is wrong in the night of a seed, and the number of its answers and of its sheets."""
+    ran = subprocess.run([TOP / "examples" / "canton" / "run", str(seed)], stdin=subprocess.DEVNULL, stdout=subprocess.PIPE,
+                         stderr=subprocess.STDOUT, text=True, env={**os.environ, "KEEP": str(room)})
+    if ran.returncode:
+        return [ran.stdout], 0, 0
+    office, found, answers, sheets = offices.Office(cantons.Canton(cantons.Chance(seed))), [], 0, 0
+    for part in ("evening", "night"):
+        lines = (room / part).read_text().splitlines()
+        given = answers_of((room / f"{part}.answers").read_text())
+        if len(lines) != len(given):
+            found.append(f"{part}: {len(lines)} lines and {len(given)} answers")
+        for line, answer in zip(lines, given):
+            wanted = office.answer(line)
+            is_sheet = " sheet " in wanted
+            fault = sheet_fault(office, answer) if is_sheet and answer.count("\n") > 1 else ""
+            if answer.split("\n")[0] != wanted or fault:
+                found.append(f"{line}: {answer.splitlines()[0]}, and not {wanted} {fault}")
+            answers, sheets = answers + 1, sheets + is_sheet
+        office.stop()
+    return found, answers, sheets
+
+
+def main():
+    failed = 0
+    for seed in SEEDS:
+        with tempfile.TemporaryDirectory() as room:
+            found, answers, sheets = faults(pathlib.Path(room), seed)
+        failed += bool(found)
+        word = "FAIL" if found else "ok  "
+        print(f"{word}  the night of seed {seed}: {answers} answers, {sheets} sheets", *found[:5], sep="\n      ", flush=True)
+    print(f"{len(SEEDS) - failed} passed, {failed} failed")
+    sys.exit(failed > 0)
+
+
+if __name__ == "__main__":
+    main()
