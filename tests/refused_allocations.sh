@@ -14,13 +14,16 @@ zh_crate_tests tests::refused_memory::totals_are_made
 zh_crate_tests tests::refused_memory::groups_take_part
 zh_crate_tests tests::refused_memory::voters_are_counted
 zh_crate_tests tests::refused_memory::groups_get_seats
+zh_crate_tests tests::refused_memory::an_exhausted_search_is_explained
 zh_crate_tests tests::matrices::a_refused_allocation_leaves_the_next_call
+zh_crate_tests tests::matrices::a_refused_allocation_leaves_the_next_second_search
 zh_office_tests tests::refused_openings::a_disk_is_formatted
 zh_office_tests tests::refused_openings::an_opening_without_memory_leaves_the_disk_as_it_was
 zh_office_tests tests::refused_returns::a_return_is_stored_once
 zh_office_tests tests::refused_returns::a_return_that_needs_a_switch_is_stored_once
 zh_office_tests tests::refused_rows::a_row_without_memory_leaves_the_batch_as_it_was
 zh_office_tests tests::refused_sheets::a_sheet_without_memory_changes_nothing
+zh_office_tests tests::refused_sheets::a_sheet_of_the_second_search_without_memory_changes_nothing
 zh_office_tests tests::refused_texts::a_text_is_loaded_once_and_exported
 zh_office_tests tests::refused_rehearsals::a_rehearsal_without_memory_says_so
 "

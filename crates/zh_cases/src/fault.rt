@@ -4,6 +4,7 @@ use std::alloc::AllocError;
 use std::io;
 use thiserror::Error;
 use zh_disk::DiskFault;
+use zh_questions::QuestionFault;
 use zh_transcripts::TranscriptFault;
 
 #[derive(Debug, Drop, Error)]
@@ -17,6 +18,9 @@ pub(crate) enum Fault {
     /// The text is not one of cases.
     #[error("{0}")]
     Transcript(#[from] TranscriptFault),
+    /// The text asks no question.
+    #[error("{0}")]
+    Question(#[from] QuestionFault),
     /// A turn cannot be made.
     #[error("{0}")]
     Text(&'static str),

@@ -3,7 +3,9 @@
 use crate::device::{Device, failing, failing_once, whole};
 use crate::fault::Fault;
 use crate::image::{disk_of, image_of, put};
+use crate::opening::{open_on, opening_of};
 use crate::program::push_lines;
+use crate::question::reason_of;
 use crate::serving::{Limits, answer_to, serve_within};
 use crate::setups::Named;
 use crate::words::read_place;
@@ -12,7 +14,7 @@ use std::alloc::Global;
 use zh_commands::write_reply;
 use zh_disk::{DISK_LENGTH, MemoryDisk, Stop};
 use zh_districts::Setup;
-use zh_office::{FormatFault, NotedReader, Office, OpenFault};
+use zh_office::{FormatFault, NotedReader, Office};
 
 const NO_CASE: Fault = Fault::Text("no case has begun");
 
@@ -27,27 +29,6 @@ pub(crate) struct Fixture<'s> {
     marked: Vec<u8>,
     /// The place of a sweep's table, after the word `at`.
     pub(crate) place: String,
-}
-
-/// Opens the office on a disk, and says how it went.
-fn open_on<'s>(
-    alloc: Global,
-    setup: &'s Setup,
-    disk: &mut Device,
-) -> (Option<Office<'s>>, &'static str) {
-    match Office::open(alloc, setup, disk) {
-        Ok(office) => (Some(office), "ok"),
-        Err(OpenFault::Memory) => (None, "memory"),
-        Err(OpenFault::Device) => (None, "device"),
-        Err(OpenFault::Blank) => (None, "blank"),
-        Err(OpenFault::Damaged) => (None, "damaged"),
-        Err(OpenFault::SetupDiffers) => (None, "differs"),
-    }
-}
-
-/// How opening the office on a disk goes.
-fn opening_of(alloc: Global, setup: &Setup, disk: &mut Device) -> &'static str {
-    open_on(alloc, setup, disk).1
 }
 
 impl<'s> Fixture<'s> {
@@ -76,6 +57,12 @@ impl<'s> Fixture<'s> {
         self.close();
         self.disk = Some(disk_of(self.alloc, image)?);
         Ok("ok")
+    }
+
+    /// Takes the disk that a run of the program handed over.
+    pub(crate) fn take_over(&mut self, disk: MemoryDisk) {
+        self.close();
+        self.disk = Some(whole(disk));
     }
 
     /// A disk of zeros, and the first of the set-ups.
@@ -146,6 +133,14 @@ impl<'s> Fixture<'s> {
         Ok(answer)
     }
 
+    /// Why the lists of the office's count have no seats.
+    pub(crate) fn reason(&mut self) -> Result<String, Fault> {
+        match &self.office {
+            Some(office) => reason_of(self.alloc, office.count()),
+            None => Ok(String::from_str(self.alloc, "closed")?),
+        }
+    }
+
     pub(crate) fn image(&mut self) -> Result<Vec<u8>, Fault> {
         image_of(self.alloc, self.disk.as_mut().ok_or(NO_CASE)?)
     }
@@ -187,10 +182,9 @@ impl<'s> Fixture<'s> {
 
     /// A power failure.
     pub(crate) fn stop(&mut self, how: Stop) -> Result<&'static str, Fault> {
-        self.close();
         let mut disk = self.take_memory()?;
         disk.stop(how);
-        self.disk = Some(whole(disk));
+        self.take_over(disk);
         Ok("ok")
     }
 

@@ -6,12 +6,13 @@ mod fault;
 mod files;
 mod fixture;
 mod image;
+mod memory;
+mod opening;
 mod program;
+mod question;
 mod serving;
 mod setups;
 mod streams;
-#[cfg(test)]
-mod tests;
 mod turn;
 mod words;
 

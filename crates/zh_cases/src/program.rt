@@ -6,7 +6,9 @@ use crate::fault::Fault;
 use std::alloc::Global;
 use std::fs;
 use zh_file::Start;
+use zh_host::HostFiles;
 use zh_program::program;
+use zh_world::World;
 
 /// Stands for what a file of the folder holds when it is opened.
 #[derive(Drop)]
@@ -39,14 +41,14 @@ pub(crate) fn push_lines(answer: &mut String, separator: &str, text: &[u8]) -> R
 }
 
 /// What stands in a file, nothing where none is named.
-fn input_in(rt: &HostRuntime, name: &str) -> Result<Vec<u8>, Fault> {
+pub(crate) fn input_in(rt: &HostRuntime, name: &str) -> Result<Vec<u8>, Fault> {
     if name.is_empty() {
         return Ok(Vec::new(rt.alloc()));
     }
     Ok(fs::read(rt, name)?)
 }
 
-fn arguments_in(alloc: Global, text: &str) -> Result<Vec<String>, Fault> {
+pub(crate) fn arguments_in(alloc: Global, text: &str) -> Result<Vec<String>, Fault> {
     let mut arguments = Vec::new(alloc);
     for argument in text.split_whitespace() {
         arguments.push(String::from_str(alloc, argument)?)?;
@@ -54,27 +56,43 @@ fn arguments_in(alloc: Global, text: &str) -> Result<Vec<String>, Fault> {
     Ok(arguments)
 }
 
+/// The answer of a run: its status, the lines of its output, each after a separator, and those of its standard error.
+pub(crate) fn answer_of(
+    alloc: Global,
+    status: u8,
+    separator: &str,
+    out: &[u8],
+    faults: &[u8],
+) -> Result<String, Fault> {
+    let mut answer = format!(in alloc; "{status}")?;
+    push_lines(&mut answer, separator, out)?;
+    push_lines(&mut answer, " | ", faults)?;
+    Ok(answer)
+}
+
+/// Runs the program on these arguments and this input, with a disk that holds what `S` says.
+fn run_on<S: Start>(
+    rt: &HostRuntime,
+    start: S,
+    arguments: &[String],
+    input: &[u8],
+) -> Result<String, Fault> {
+    let alloc = rt.alloc();
+    let mut world = World {
+        input,
+        output: Vec::new(alloc),
+        faults: Vec::new(alloc),
+        files: HostFiles::<S>::new(rt),
+    };
+    let status = program(alloc, arguments, start, &mut world).result;
+    answer_of(alloc, status, "; ", &world.output, &world.faults)
+}
+
 /// Runs the program on `ARGUMENTS < INPUT`, where INPUT is a file. The answer is its status, the lines of its output
 /// and those of its standard error.
 pub(crate) fn run_program(rt: &HostRuntime, text: &str) -> Result<String, Fault> {
-    let alloc = rt.alloc();
     let (given, name) = text.split_once('<').unwrap_or((text, ""));
     let input = input_in(rt, name.trim())?;
-    let arguments = arguments_in(alloc, given)?;
-    let mut reader = input.as_slice();
-    let (mut out, mut faults) = (Vec::new(alloc), Vec::new(alloc));
-    let status = program(
-        rt,
-        alloc,
-        &arguments,
-        &mut reader,
-        &mut out,
-        &mut faults,
-        AnyContent,
-        &mut None,
-    );
-    let mut answer = format!(in alloc; "{status}")?;
-    push_lines(&mut answer, "; ", &out)?;
-    push_lines(&mut answer, " | ", &faults)?;
-    Ok(answer)
+    let arguments = arguments_in(rt.alloc(), given)?;
+    run_on(rt, AnyContent, &arguments, &input)
 }

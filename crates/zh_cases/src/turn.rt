@@ -3,7 +3,9 @@
 use crate::fault::Fault;
 use crate::files::{act_on_files, save};
 use crate::fixture::Fixture;
+use crate::memory::run_within;
 use crate::program::run_program;
+use crate::question::ask;
 use crate::serving::read_limits;
 use crate::words::read_stop;
 use std::fs;
@@ -32,7 +34,10 @@ fn act(rt: &HostRuntime, fixture: &mut Fixture<'_>, text: &str) -> Result<String
             let (name, limits) = read_limits(rest)?;
             fixture.serve(&fs::read(rt, name)?, limits)
         }
+        "question" => ask(rt, rest),
+        "reason" => fixture.reason(),
         "zhcount" => run_program(rt, rest),
+        "within" => run_within(rt, fixture, rest),
         _ => Ok(String::from_str(rt.alloc(), act_on_office(rt, fixture, word, rest)?)?),
     }
 }

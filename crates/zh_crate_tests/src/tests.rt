@@ -1,5 +1,6 @@
 mod counts;
 mod elections;
+mod files;
 mod halves;
 mod matrices;
 mod records;

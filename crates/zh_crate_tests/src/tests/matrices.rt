@@ -225,19 +225,30 @@ fn gives_no_seats(rt: HostRuntime) {
     }
 }
 
-/// Whether the one cell gets its three seats.
-fn gives_three(rt: &impl Abort, alloc: Global) -> Result<bool, LowerFault> {
-    let lower = answer(rt, alloc, &[300], &[3], &[3])?;
-    Ok(has_seats(&lower, 1, 1, &[3]))
+/// Sees that the searches give these seats to a column, at once or in a second call where memory was refused to the first.
+fn see_column(
+    rt: &impl Abort,
+    alloc: Global,
+    votes: &[u64],
+    row_totals: &[u32],
+    total: u32,
+) -> Result<(), Fail> {
+    let lower = match answer(rt, alloc, votes, row_totals, &[total]) {
+        Err(LowerFault::Memory) => answer(rt, alloc, votes, row_totals, &[total])?,
+        lower => lower?,
+    };
+    assert!(rt; row_totals.len() <= 32);
+    assert!(rt; has_seats(&lower, row_totals.len() as u32, 1, row_totals));
+    Ok(())
 }
 
-// It passes whichever allocation is refused: tests/refused_allocations.sh.
+// These pass whichever allocation is refused: tests/refused_allocations.sh.
 #[test]
 fn a_refused_allocation_leaves_the_next_call(rt: HostRuntime) -> Result<(), Fail> {
-    let is_given = match gives_three(&rt, rt.alloc()) {
-        Err(LowerFault::Memory) => gives_three(&rt, rt.alloc())?,
-        is_given => is_given?,
-    };
-    assert!(rt; is_given);
-    Ok(())
+    see_column(&rt, rt.alloc(), &[300], &[3], 3)
+}
+
+#[test]
+fn a_refused_allocation_leaves_the_next_second_search(rt: HostRuntime) -> Result<(), Fail> {
+    see_column(&rt, rt.alloc(), &[MOST_VOTES; 4], &[1, 2, 2, 1], 6)
 }

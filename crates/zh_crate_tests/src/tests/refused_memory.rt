@@ -1,7 +1,7 @@
 //! Allocations that are refused, one in each run: tests/refused_allocations.sh runs these tests once for each that is
 //! made. What is called is called once more where memory was refused to it.
 
-use super::elections::totals_of;
+use super::elections::{setup_of, totals_of};
 use std::alloc::{AllocError, Global};
 use std::process::Abort;
 use std::test::Fail;
@@ -10,6 +10,7 @@ use zh_districts::{SeatFault, Setup, seats, setup_bytes};
 use zh_quorum::participating;
 use zh_returns::Count;
 use zh_setups::{SetupFault, read_setup, rehearsal};
+use zh_sheet::{ExhaustedReason, SheetFault, explain};
 use zh_totals::Totals;
 use zh_upper::{UpperFault, upper, voters};
 
@@ -160,6 +161,18 @@ fn groups_get_seats(rt: HostRuntime) -> Result<(), Fail> {
         found => found?,
     };
     assert!(rt; found == (300, 6));
+    Ok(())
+}
+
+#[test]
+fn an_exhausted_search_is_explained(rt: HostRuntime) -> Result<(), Fail> {
+    let setup = setup_of(rt.alloc(), 4, &[1000, 3000], 2)?;
+    let totals = totals_of(&rt, rt.alloc(), &setup, &[&[1, 1], &[1, 1]])?;
+    let reason = match explain(rt.alloc(), &totals) {
+        Err(SheetFault::Memory) => explain(rt.alloc(), &totals)?,
+        reason => reason?,
+    };
+    assert!(rt; matches!(reason, ExhaustedReason::NearlyTied(1, 1)));
     Ok(())
 }
 

@@ -4,7 +4,7 @@ use super::fakes::{SlowReader, SlowWriter, run_rehearsal};
 use std::io::ErrorKind;
 use std::test::Fail;
 use zh_office::ServeFault;
-use zh_tasks::{ProgramFault, RunFault};
+use zh_tasks::TaskFault;
 
 /// Whether a rehearsal of these lines fails with this output and this fault, where its input fails after them if `at_end`
 /// says so, and its output fails after so many bytes.
@@ -66,7 +66,7 @@ fn a_line_that_the_input_breaks_off_is_not_answered(rt: HostRuntime) {
 // No test makes so many reads that the program reports this by itself.
 #[test]
 fn the_fault_of_too_many_turns_has_its_name(rt: HostRuntime) -> Result<(), Fail> {
-    let fault = ProgramFault::Run(RunFault::Serve(ServeFault::Turns));
+    let fault = TaskFault::Serve(ServeFault::Turns);
     let name = format!(in rt.alloc(); "{fault}")?;
     assert!(rt; name.as_str() == "turns");
     Ok(())

@@ -4,7 +4,9 @@ ghost use Rattle.std.specs.Prelude.{[], false};
 
 use std::io::{self, ErrorKind, Read, Write};
 use zh_file::Start;
+use zh_host::HostFiles;
 use zh_program::program;
+use zh_world::World;
 
 /// A rehearsal opens no file.
 #[derive(Drop)]
@@ -22,6 +24,23 @@ impl Start for NoFile {
     }
 }
 
+/// Runs the program without arguments, and gives its status. No disk holds what `S` says.
+fn rehearse<S: Start, I: Read + Drop, O: Write + Drop, F: Write + Drop>(
+    rt: &HostRuntime,
+    start: S,
+    input: I,
+    output: O,
+    faults: F,
+) -> u8 {
+    let mut world = World {
+        input,
+        output,
+        faults,
+        files: HostFiles::<S>::new(rt),
+    };
+    program(rt.alloc(), &[], start, &mut world).result
+}
+
 /// Runs the program without arguments, and gives its status.
 pub(crate) fn run_rehearsal<I: Read, O: Write, F: Write>(
     rt: &HostRuntime,
@@ -29,7 +48,7 @@ pub(crate) fn run_rehearsal<I: Read, O: Write, F: Write>(
     out: &mut O,
     faults: &mut F,
 ) -> u8 {
-    program(rt, rt.alloc(), &[], input, out, faults, NoFile, &mut None)
+    rehearse(rt, NoFile, input, out, faults)
 }
 
 /// Gives the bytes of a text one by one, and then comes to its end or fails.

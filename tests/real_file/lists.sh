@@ -1,0 +1,55 @@
+# The tables of a set-up.
+
+list() { timeout 20 "$program" list --setup "$1" --of "$2"; }
+
+# The 10 seats of the rehearsal: 5,000, 3,000 and 2,000 persons over 1,000.
+all_tables() {
+    ends 0 "" $'number,name,persons,seats\n1,Nord,5000,5\n2,Mitte,3000,3\n3,West,2000,2' list "$setup" constituencies
+    ends 0 "" $'number,name,constituency\n1,N,1\n2,M,2\n3,W,3' list "$setup" municipalities
+    ends 0 "" $'number,name\n1,A\n2,B\n3,C' list "$setup" groups
+    list "$setup" lists > lists.csv 2> faults
+    same "the status of the lists" 0 $?
+    same "the lists and the names of their columns" 10 "$(wc -l < lists.csv)"
+    same "the last list" "3,3,West,C" "$(tail -n 1 lists.csv)"
+}
+
+# A run keeps its disk to itself, and a table needs none.
+table_beside_a_run() {
+    new_disk d
+    rm -f input
+    mkfifo input
+    run d < input > replies 2> faults &
+    exec 8> input
+    echo "1 return 1 1 1 7" >&8
+    await_lines replies 1
+    list "$setup" groups > groups.csv
+    same "the status of the groups" 0 $?
+    same "the groups" $'number,name\n1,A\n2,B\n3,C' "$(cat groups.csv)"
+    exec 8>&-
+    wait $!
+    same "the status of run" 0 $?
+    same "the replies" "1 stored 1" "$(cat replies)"
+}
+
+unwritten_tables() {
+    ends 1 write "" closed '>&-' list "$setup" groups
+    list "$setup" lists > /dev/full 2> faults
+    same "the status with a full output" 1 $?
+    same "the fault with a full output" "zhcount: write" "$(cat faults)"
+}
+
+missing_setup() {
+    local table
+    for table in constituencies municipalities groups lists; do
+        ends 1 "setup file" "" list none.toml "$table"
+    done
+    same "what was made" "" "$(ls none.toml 2> /dev/null)"
+}
+
+seats_without_a_table() {
+    sed 's/^persons = 5000/persons = 3000/; s/^house = 10/house = 1/' "$setup" > tied.toml
+    ends 1 "tied seats" "" list tied.toml constituencies
+    sed 's/^house = 10/house = 1/' "$setup" > few.toml
+    ends 1 "noseat 2" "" list few.toml constituencies
+    ends 0 "" $'number,name\n1,A\n2,B\n3,C' list few.toml groups
+}
