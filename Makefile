@@ -1,5 +1,6 @@
 # Short names for the repository's commands. `make` lists them.
-.PHONY: help run build example test check quick cases refused wrong-bodies documents shape bench fmt
+.PHONY: help run build example night test proofs page test-page install uninstall check quick cases refused wrong-bodies documents shape \
+	bench fmt
 
 help:
 	@cat scripts/help
@@ -13,8 +14,26 @@ build:
 example:
 	@scripts/example
 
-test:
+night:
+	@examples/canton/run $(SEED)
+
+test: proofs
+	@tests/page.sh
+
+proofs:
 	@scripts/test
+
+page:
+	@page/seal
+
+test-page:
+	@tests/page.sh $(TESTS)
+
+install:
+	@scripts/install "$(DESTDIR)$(PREFIX)"
+
+uninstall:
+	@scripts/uninstall "$(DESTDIR)$(PREFIX)"
 
 check:
 	@scripts/check $(CRATE)

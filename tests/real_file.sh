@@ -36,7 +36,7 @@ exec 9<> never  # nothing is ever written to it
 readonly DISK=1118720 JOURNAL=332032 PAGE=256
 
 # The functions of the checks, by subject.
-for subject in checks program tasks streams two_programs volume memory kills kinds; do
+for subject in checks program tasks streams lists two_programs volume memory kills kinds; do
     . "$here/$subject.sh" || exit 1
 done
 
@@ -53,6 +53,11 @@ check "standard input closed: the fault is read, and the disk is untouched" clos
 check "standard error closed: run serves, and a fault leaves the disk untouched" closed_error
 check "all streams closed: the disk is untouched" all_closed
 check "format makes a disk with streams closed" closed_format
+check "the four tables of a set-up" all_tables
+check "a table while run has the disk" table_beside_a_run
+check "a table with its output closed or full: the fault is write" unwritten_tables
+check "a table of a set-up that is not there" missing_setup
+check "no table of constituencies without seats" seats_without_a_table
 check "a second program ends with disk busy, and the first goes on" second_program
 check "two programs at once, 20 times" two_at_once
 check "run on a full volume keeps what it acknowledged" full_run

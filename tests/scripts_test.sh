@@ -52,6 +52,8 @@ expect "rt's own lines are not the program's" 0 said 'proved=no'
 
 expect "a slow input is whole" $'unproved: 1 open\nunproved: 1 drop' \
     sh -c "(printf '1 open\n'; sleep 3; printf '1 drop\n') | make -s run"
+# A build that is at its first crate, which takes a while.
+at_work() { until grep -q ' of ' log 2> /dev/null; do sleep 0.1; done; }
 typed() { (sleep 1; printf '1 open\n\004'; sleep 4) | script -qc 'make -s run' /dev/null | tr -d '\r' | grep -c "$1"; }
 expect "at a terminal the input goes on to Ctrl-D" 1 typed 'unproved: 1 open'
 expect "and that is said" 1 typed 'Ctrl-D'
@@ -81,13 +83,13 @@ echo "changed text" > crates/zh_low/src/lib.rt
 echo "text of zh_low" > crates/zh_low/src/lib.rt
 expect "another program in that place: unproved" "unproved: 1 open" answer
 
-(PAUSE=2 make -s build > log 2>&1 & job=$!; sleep 1; kill "$job"; wait "$job") 2> noise
+(rm -f log; PAUSE=5 make -s build > log 2>&1 & job=$!; at_work; kill "$job"; wait "$job") 2> noise
 expect "make build interrupted: unproved" "unproved: 1 open" answer
 touch refused
 expect "make build refused: it says which crate, and fails" "1" sh -c "make -s build | grep -c 'zh_low is NOT proved'"
 expect "and the sources are unproved" "unproved: 1 open" answer
 rm refused
-(PAUSE=2 make -s build > log 2>&1 & job=$!; sleep 1; echo "new text" > crates/zh_low/src/lib.rt; wait "$job") 2> noise
+(rm -f log; PAUSE=5 make -s build > log 2>&1 & job=$!; at_work; echo "new text" > crates/zh_low/src/lib.rt; wait "$job") 2> noise
 expect "a source changed while make build ran: unproved" "unproved: 1 open" answer
 expect "made anew, it is proved" "proved new text: 1 open" sh -c "make -s build > log; printf '1 open\n' | make -s run"
 
