@@ -6,7 +6,7 @@ ghost use Rattle.zh_records.specs.declared.command.Command.TheVariants as comman
 ghost use Rattle.zh_records.specs.Spelling.{HasNumbers};
 ghost use Rattle.zh_answers.specs.Answers.{batch_of, batch_after, command_of, held_after};
 ghost use Rattle.zh_answers.specs.declared.answer.Answer.TheVariants as answers;
-ghost use Rattle.zh_commands.specs.Lines.{IsLine};
+ghost use Rattle.zh_commands.specs.Lines.{IsRequest};
 ghost use Rattle.zh_desks.specs.Batches.{rows_of, with_batch};
 ghost use Rattle.zh_ledger.specs.Submissions.{Log, on_disk};
 ghost use Rattle.zh_answers.specs.Requests.{Acts, MayAnswerWhere, ReportsOutcome, answer_may_write};
@@ -62,7 +62,7 @@ pub fn answer_to<'s, D: Disk>(
     disk: &mut D,
     line: Line,
 ) -> Answer<'s>
-    requires line { IsLine line }
+    requires line { IsRequest line.request }
     requires room { rows_length ≤ length rows.old }
     ensures acts { (log : Log) × Acts (on_disk ledger.old (D.history disk.old))
         (command_of line.desk (rows_of desks.old line.desk) line.request)

@@ -3,7 +3,7 @@
 ghost use Rattle.std.specs.Prelude.{◌≡◌, ◌≢◌, None};
 ghost use Rattle.zh_answers.specs.Answers.{MayAnswerTo, MayAnswerRow, answer_to_open, answer_to_drop, batch_after, held_after};
 ghost use Rattle.zh_commands.specs.Commands.{own_command};
-ghost use Rattle.zh_commands.specs.Lines.{IsLine, IsRow};
+ghost use Rattle.zh_commands.specs.Lines.{IsRequest, IsRow};
 ghost use Rattle.zh_commands.specs.declared.lines.Request.TheVariants as requests;
 ghost use Rattle.zh_desks.specs.Batches.{rows_of, with_batch};
 ghost use Rattle.zh_totals.specs.Counting.{totals_of};
@@ -25,7 +25,7 @@ pub(crate) fn answer_without_command<'s>(
     desks: &mut Desks,
     line: Line,
 ) -> Answer<'s>
-    requires line { IsLine line }
+    requires line { IsRequest line.request }
     requires none { own_command line.desk line.request ≡ None }
     requires no_commit { line.request ≢ requests.Commit }
     requires totals { totals.now ≡ totals_of count.now }

@@ -8,11 +8,12 @@ use Rattle.zh_commands.specs.declared.lines.Line.{Line}
 use Rattle.zh_commands.specs.declared.lines.LineFault.{LineFault}
 use Rattle.zh_commands.specs.declared.lines.LineFault.TheVariants as faults
 use Rattle.zh_commands.specs.Words.{first_word, numerals, AreNumerals}
-use Rattle.zh_commands.specs.Lines.{request_text, word_of, numbers_of, spelling, IsRequest, IsLine, NamesNoDesk, ParsesAs, desk_of}
+use Rattle.zh_commands.specs.Forms.{form_of}
+use Rattle.zh_commands.specs.Lines.{spelling, IsRequest, NamesNoDesk, ParsesAs, desk_of}
 use Rattle.zh_desks.specs.Numbers.{IsDesk}
 use Rattle.zh_desks.specs.declared.desk.Desk.{Desk}
 use Rattle.zh_commands.proofs.SplitLemmas.{IsWord-decimal, first_word-append, split_is}
-use Rattle.zh_commands.proofs.RequestLemmas.{request_injective}
+use Rattle.zh_commands.proofs.RequestLemmas.{request_injective, request_text}
 
 -- a text that is split at its first space, where it spells a line
 pub split_spelling : (bytes first left : List ℕ) (line : Line) → first ≡ first_word bytes → bytes ≡ first ++ left → bytes ≡ spelling line → (first ≡ decimal line.desk.number) × (left ≡ 32 ∷ request_text line.request)
@@ -32,18 +33,18 @@ numerals-short (n ∷ ns) all =
     let digits = length-decimal-le 10 n (omega arith) (omega (arith, all.0)) (omega (arith, all.0)) in
     omega (arith, digits, numerals-short ns all.1, length-append (decimal n) (numerals ns))
 
-length-word_of : (request : Request) → (length (word_of request) ≤ 10) × (length (numbers_of request) ≤ 4)
-length-word_of requests.Open = (omega arith, omega arith)
-length-word_of request = (omega arith, omega arith)
+length-form_of : (request : Request) → (length (form_of request).word ≤ 10) × (length (form_of request).numbers ≤ 4)
+length-form_of requests.Open = (omega arith, omega arith)
+length-form_of request = (omega arith, omega arith)
 
 length-request_text : (request : Request) → IsRequest request → length (request_text request) ≤ 54
 length-request_text request is =
-    let short = numerals-short (numbers_of request) is.0 in
-    let (word, numbers) = length-word_of request in
-    omega (arith, short, word, numbers, length-append (word_of request) (numerals (numbers_of request)))
+    let short = numerals-short (form_of request).numbers is.0 in
+    let (word, numbers) = length-form_of request in
+    omega (arith, short, word, numbers, length-append (form_of request).word (numerals (form_of request).numbers))
 
 -- a line's spelling is short enough to be read
-pub length-spelling : (line : Line) → IsLine line → length (spelling line) ≤ 120
+pub length-spelling : (line : Line) → IsRequest line.request → length (spelling line) ≤ 120
 length-spelling line is =
     let digits = length-decimal-le 10 line.desk.number (omega arith) (omega (arith, line.desk.there)) (omega (arith, line.desk.there)) in
     omega (arith, digits, length-request_text line.request is, length-append (decimal line.desk.number) (32 ∷ request_text line.request))
@@ -66,7 +67,7 @@ line_same a b desk request =
     ap (λ (d : Desk). let line : Line = record { desk = d; request = a.request } in line) desk ∙ ap (λ (k : Request). let line : Line = record { desk = b.desk; request = k } in line) request
 
 -- lines that read alike are one
-pub spelling_injective : (a b : Line) → IsLine a → IsLine b → spelling a ≡ spelling b → a ≡ b
+pub spelling_injective : (a b : Line) → IsRequest a.request → IsRequest b.request → spelling a ≡ spelling b → a ≡ b
 spelling_injective a b is are e =
     let own = decimal a.desk.number in
     let first = first_word-append own (32 ∷ request_text a.request) (IsWord-decimal a.desk.number (omega (arith, a.desk.there))) refl in

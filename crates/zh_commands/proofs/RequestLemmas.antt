@@ -7,8 +7,13 @@ use Rattle.zh_records.specs.declared.row.Row.{Row}
 use Rattle.zh_commands.specs.declared.lines.Request.{Request}
 use Rattle.zh_commands.specs.declared.lines.Request.TheVariants as requests
 use Rattle.zh_commands.specs.Words.{first_word, numerals, AreNumerals}
-use Rattle.zh_commands.specs.Lines.{request_text, word_of, numbers_of, IsRequest}
+use Rattle.zh_commands.specs.Forms.{form_of}
+use Rattle.zh_commands.specs.Lines.{IsRequest}
 use Rattle.zh_commands.proofs.SplitLemmas.{IsWord, IsWord-decimal, first_word-append, first_word-numerals, split_is}
+
+-- the text of a request, which stands after the desk
+abbrev pub request_text : Request → List ℕ
+request_text request = (form_of request).word ++ numerals (form_of request).numbers
 
 -- numerals that read alike are of the same numbers
 pub numerals_injective : (ms ns : List ℕ) → AreNumerals ms → AreNumerals ns → numerals ms ≡ numerals ns → ms ≡ ns
@@ -25,14 +30,14 @@ numerals_injective (m ∷ ms) (n ∷ ns) fit fits e =
 
 -- what the word of a request is
 record IsWorded (request : Request) : Type 0 where
-  one_word : IsWord (word_of request)
-  text : IsUtf8 (word_of request)
-  itself : bytes_eq (word_of request) (word_of request) ≡ true
+  one_word : IsWord (form_of request).word
+  text : IsUtf8 (form_of request).word
+  itself : bytes_eq (form_of request).word (form_of request).word ≡ true
 
 worded : (request : Request) → IsWorded request
 unfolding lib.Utf8.encode
-worded requests.Open = record { one_word = refl; text = (word_of requests.Open, (refl, refl)); itself = refl }
-worded request = record { one_word = refl; text = (word_of request, (refl, refl)); itself = refl }
+worded requests.Open = record { one_word = refl; text = ((form_of requests.Open).word, (refl, refl)); itself = refl }
+worded request = record { one_word = refl; text = ((form_of request).word, (refl, refl)); itself = refl }
 
 -- the row of these numbers
 abbrev row_from : List ℕ → Row
@@ -40,44 +45,44 @@ row_from ns = record { municipality = get_or ns 0 0; list = get_or ns 1 0; numbe
 
 -- what requests of one word have in common: whether they have numbers, and all else if these are the same
 record IsLike (a b : Request) : Type 0 where
-  alone : numbers_of a ≡ [] → numbers_of b ≡ []
-  one : numbers_of a ≡ numbers_of b → a ≡ b
+  alone : (form_of a).numbers ≡ [] → (form_of b).numbers ≡ []
+  one : (form_of a).numbers ≡ (form_of b).numbers → a ≡ b
 
 -- two words are compared byte by byte
-alike : (a b : Request) → bytes_eq (word_of a) (word_of b) ≡ true → IsLike a b
+alike : (a b : Request) → bytes_eq (form_of a).word (form_of b).word ≡ true → IsLike a b
 alike requests.Open = elim [ requests.Open ↦ λ same. record { alone = λ e. e; one = λ e. refl } | _ ↦ λ same. absurd (cc) ]
 alike a = elim [
   | requests.Open ↦ λ same. absurd (cc)
   | _ ↦ λ same. record { alone = λ e. cc; one = λ e. let rows = ap row_from e in cc }
 ]
 
-IsLike-words : (a b : Request) → word_of a ≡ word_of b → IsLike a b
-IsLike-words a b e = alike a b (ap (bytes_eq (word_of a)) (sym e) ∙ (worded a).itself)
+IsLike-words : (a b : Request) → (form_of a).word ≡ (form_of b).word → IsLike a b
+IsLike-words a b e = alike a b (ap (bytes_eq (form_of a).word) (sym e) ∙ (worded a).itself)
 
 -- a text that is split at its first space, where it is a request
-pub split_request : (text first left : List ℕ) (request : Request) → first ≡ first_word text → text ≡ first ++ left → text ≡ request_text request → (first ≡ word_of request) × (left ≡ numerals (numbers_of request))
+pub split_request : (text first left : List ℕ) (request : Request) → first ≡ first_word text → text ≡ first ++ left → text ≡ request_text request → (first ≡ (form_of request).word) × (left ≡ numerals (form_of request).numbers)
 split_request text first left request is whole e =
-    split_is text first left (word_of request) (numerals (numbers_of request)) is whole (worded request).one_word (first_word-numerals (numbers_of request)) e
+    split_is text first left (form_of request).word (numerals (form_of request).numbers) is whole (worded request).one_word (first_word-numerals (form_of request).numbers) e
 
 -- a text is no request, if its first word is of none
-pub NoRequest-word : (text first left : List ℕ) → first ≡ first_word text → text ≡ first ++ left → ((request : Request) → first ≢ word_of request) → (request : Request) → IsRequest request → text ≢ request_text request
+pub NoRequest-word : (text first left : List ℕ) → first ≡ first_word text → text ≡ first ++ left → ((request : Request) → first ≢ (form_of request).word) → (request : Request) → IsRequest request → text ≢ request_text request
 NoRequest-word text first left is whole other request fits e = other request (split_request text first left request is whole e).0
 
 -- bytes that are no text are no word of a request
-pub other_word-bytes : (word : List ℕ) → ¬ IsUtf8 word → (request : Request) → word ≢ word_of request
+pub other_word-bytes : (word : List ℕ) → ¬ IsUtf8 word → (request : Request) → word ≢ (form_of request).word
 other_word-bytes word none request e = none (subst IsUtf8 (sym e) (worded request).text)
 
 -- a word and the numerals of a request are its text
-request_text-from_parts : (text first left : List ℕ) (request : Request) → text ≡ first ++ left → first ≡ word_of request → left ≡ numerals (numbers_of request) → text ≡ request_text request
+request_text-from_parts : (text first left : List ℕ) (request : Request) → text ≡ first ++ left → first ≡ (form_of request).word → left ≡ numerals (form_of request).numbers → text ≡ request_text request
 request_text-from_parts text first left request whole word rest =
-    whole ∙ ap (λ l. l ++ left) word ∙ ap (λ l. word_of request ++ l) rest
+    whole ∙ ap (λ l. l ++ left) word ∙ ap (λ l. (form_of request).word ++ l) rest
 
 -- the request of a text, where there is one
 abbrev pub Reads : List ℕ → Option Request → Type 0
 Reads text result = MatchOption result ((request : Request) → IsRequest request → text ≢ request_text request) (λ request. IsRequest request × (text ≡ request_text request))
 
 -- what a text is whose first word stands alone
-pub Reads-lone : (text first left : List ℕ) (lone : Request) (result : Option Request) → first ≡ first_word text → text ≡ first ++ left → IsRequest lone → numbers_of lone ≡ [] → first ≡ word_of lone → MatchOption result (left ≢ []) (λ found. (found ≡ lone) × (left ≡ [])) → Reads text result
+pub Reads-lone : (text first left : List ℕ) (lone : Request) (result : Option Request) → first ≡ first_word text → text ≡ first ++ left → IsRequest lone → (form_of lone).numbers ≡ [] → first ≡ (form_of lone).word → MatchOption result (left ≢ []) (λ found. (found ≡ lone) × (left ≡ [])) → Reads text result
 Reads-lone text first left lone None is whole fits alone one more = λ request _ e.
     let (same, rest) = split_request text first left request is whole e in
     more (rest ∙ ap numerals ((IsLike-words lone request (sym one ∙ same)).alone alone))
@@ -85,7 +90,7 @@ Reads-lone text first left lone (Some found) is whole fits alone one (same, noth
     rw same (fits, request_text-from_parts text first left lone whole one (nothing ∙ sym (ap numerals alone)))
 
 -- what a text is whose first word does not stand alone
-pub Reads-numbers : (text first left : List ℕ) (result : Option Request) → first ≡ first_word text → text ≡ first ++ left → ((lone : Request) → numbers_of lone ≡ [] → first ≢ word_of lone) → MatchOption result ((request : Request) → IsRequest request → numbers_of request ≢ [] → first ≡ word_of request → left ≢ numerals (numbers_of request)) (λ request. IsRequest request × (first ≡ word_of request) × (left ≡ numerals (numbers_of request))) → Reads text result
+pub Reads-numbers : (text first left : List ℕ) (result : Option Request) → first ≡ first_word text → text ≡ first ++ left → ((lone : Request) → (form_of lone).numbers ≡ [] → first ≢ (form_of lone).word) → MatchOption result ((request : Request) → IsRequest request → (form_of request).numbers ≢ [] → first ≡ (form_of request).word → left ≢ numerals (form_of request).numbers) (λ request. IsRequest request × (first ≡ (form_of request).word) × (left ≡ numerals (form_of request).numbers)) → Reads text result
 Reads-numbers text first left None is whole alone none = λ request fits e.
     let (same, rest) = split_request text first left request is whole e in
     none request fits (λ no. alone request no same) same rest
@@ -95,6 +100,6 @@ Reads-numbers text first left (Some request) is whole alone found =
 -- requests that read alike are one
 pub request_injective : (a b : Request) → IsRequest a → IsRequest b → request_text a ≡ request_text b → a ≡ b
 request_injective a b is are e =
-    let first = first_word-append (word_of a) (numerals (numbers_of a)) (worded a).one_word (first_word-numerals (numbers_of a)) in
-    let (word, rest) = split_request (request_text a) (word_of a) (numerals (numbers_of a)) b (sym first) refl e in
-    (IsLike-words a b word).one (numerals_injective (numbers_of a) (numbers_of b) is.0 are.0 rest)
+    let first = first_word-append (form_of a).word (numerals (form_of a).numbers) (worded a).one_word (first_word-numerals (form_of a).numbers) in
+    let (word, rest) = split_request (request_text a) (form_of a).word (numerals (form_of a).numbers) b (sym first) refl e in
+    (IsLike-words a b word).one (numerals_injective (form_of a).numbers (form_of b).numbers is.0 are.0 rest)

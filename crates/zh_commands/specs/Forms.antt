@@ -14,24 +14,18 @@ pub record Form : Type 0 where
 abbrev pub row_numbers : Row → List ℕ
 row_numbers row = row.municipality ∷ row.list ∷ row.number ∷ row.votes ∷ []
 
--- a word with numbers, and one with a replacement number among them
-abbrev pub said : List ℕ → List ℕ → Form
-said word numbers = record { word = word; numbers = numbers; replacement = None }
-
-abbrev pub replacing : List ℕ → List ℕ → ℕ → Form
-replacing word numbers number = record { word = word; numbers = numbers; replacement = Some number }
-
 -- a row a request
 abbrev pub form_of : Request → Form
-form_of (requests.Return row) = replacing (codes "return") (row_numbers row) row.number
-form_of (requests.Withdraw municipality list number) = replacing (codes "withdraw") (municipality ∷ list ∷ number ∷ []) number
-form_of (requests.Close municipality) = said (codes "close") (municipality ∷ [])
-form_of (requests.Reopen municipality) = said (codes "reopen") (municipality ∷ [])
-form_of requests.Open = said (codes "open") []
-form_of (requests.Row row) = replacing (codes "row") (row_numbers row) row.number
-form_of requests.Commit = said (codes "commit") []
-form_of requests.Drop = said (codes "drop") []
-form_of (requests.Show municipality list) = said (codes "show") (municipality ∷ list ∷ [])
-form_of (requests.Last municipality list) = said (codes "last") (municipality ∷ list ∷ [])
-form_of requests.Sheet = said (codes "sheet") []
-form_of requests.Final = said (codes "final") []
+form_of (requests.Return row) = record { word = codes "return"; numbers = row_numbers row; replacement = Some row.number }
+form_of (requests.Withdraw municipality list number) =
+    record { word = codes "withdraw"; numbers = municipality ∷ list ∷ number ∷ []; replacement = Some number }
+form_of (requests.Close municipality) = record { word = codes "close"; numbers = municipality ∷ []; replacement = None }
+form_of (requests.Reopen municipality) = record { word = codes "reopen"; numbers = municipality ∷ []; replacement = None }
+form_of requests.Open = record { word = codes "open"; numbers = []; replacement = None }
+form_of (requests.Row row) = record { word = codes "row"; numbers = row_numbers row; replacement = Some row.number }
+form_of requests.Commit = record { word = codes "commit"; numbers = []; replacement = None }
+form_of requests.Drop = record { word = codes "drop"; numbers = []; replacement = None }
+form_of (requests.Show municipality list) = record { word = codes "show"; numbers = municipality ∷ list ∷ []; replacement = None }
+form_of (requests.Last municipality list) = record { word = codes "last"; numbers = municipality ∷ list ∷ []; replacement = None }
+form_of requests.Sheet = record { word = codes "sheet"; numbers = []; replacement = None }
+form_of requests.Final = record { word = codes "final"; numbers = []; replacement = None }

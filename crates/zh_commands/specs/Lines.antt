@@ -10,20 +10,9 @@ use Rattle.zh_commands.specs.declared.lines.Line.{Line}
 use Rattle.zh_commands.specs.declared.lines.LineFault.{LineFault}
 use Rattle.zh_commands.specs.declared.lines.LineFault.TheVariants.{Syntax, Desk}
 
--- the word of a request, and the numbers after it
-abbrev pub word_of : Request → List ℕ
-word_of request = (form_of request).word
-
-abbrev pub numbers_of : Request → List ℕ
-numbers_of request = (form_of request).numbers
-
--- the text after the desk: the word, and the numerals, a space before each
-abbrev pub request_text : Request → List ℕ
-request_text request = word_of request ++ numerals (numbers_of request)
-
--- the one spelling of a line: its desk, a space, the request
+-- the one spelling of a line: its desk, a space, the word of its request, and the numerals, a space before each
 abbrev pub spelling : Line → List ℕ
-spelling line = decimal line.desk.number ++ 32 ∷ request_text line.request
+spelling line = decimal line.desk.number ++ 32 ∷ ((form_of line.request).word ++ numerals (form_of line.request).numbers)
 
 -- the numbers of a row in their order, each after a space
 abbrev pub row_text : Row → List ℕ
@@ -35,11 +24,7 @@ IsRow row = AreNumerals (row_numbers row) × (1 ≤ row.number)
 
 -- the same of all that stands after a desk
 abbrev pub IsRequest : Request → Type 0
-IsRequest request = AreNumerals (numbers_of request) × IfSome (form_of request).replacement (λ number. 1 ≤ number)
-
--- the line can be said
-abbrev pub IsLine : Line → Type 0
-IsLine line = IsRequest line.request
+IsRequest request = AreNumerals (form_of request).numbers × IfSome (form_of request).replacement (λ number. 1 ≤ number)
 
 -- at most 120 bytes, of which the first word is the number of a desk that there is not
 abbrev pub NamesNoDesk : List ℕ → Type 0
@@ -47,9 +32,9 @@ NamesNoDesk bytes = (length bytes ≤ 120) × ((n : ℕ) × (n < 2 ^ 32) × ¬ I
 
 -- what reading a line gives: the line with this spelling, or else the fault that it has
 abbrev pub ParsesAs : List ℕ → Result Line LineFault → Type 0
-ParsesAs bytes (Ok line) = IsLine line × (bytes ≡ spelling line)
+ParsesAs bytes (Ok line) = IsRequest line.request × (bytes ≡ spelling line)
 ParsesAs bytes (Err Desk) = NamesNoDesk bytes
-ParsesAs bytes (Err Syntax) = ¬ NamesNoDesk bytes × ((line : Line) → IsLine line → bytes ≢ spelling line)
+ParsesAs bytes (Err Syntax) = ¬ NamesNoDesk bytes × ((line : Line) → IsRequest line.request → bytes ≢ spelling line)
 
 -- the digit where the bytes begin with 1 to 8 and a space, else 0
 abbrev pub desk_of : List ℕ → ℕ

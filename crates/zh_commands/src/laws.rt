@@ -5,7 +5,7 @@ ghost use Rattle.zh_commands.specs.declared.lines.Line.{Line};
 ghost use Rattle.zh_commands.specs.declared.lines.LineFault.{LineFault};
 ghost use Rattle.zh_commands.specs.declared.replies.Reply.{Reply};
 ghost use Rattle.zh_commands.specs.Replies.{reply_text, IsReply};
-ghost use Rattle.zh_commands.specs.Lines.{spelling, IsLine, ParsesAs, desk_of};
+ghost use Rattle.zh_commands.specs.Lines.{spelling, IsRequest, ParsesAs, desk_of};
 
 /// A text is read in one way.
 pub fn one_reading()
@@ -14,9 +14,9 @@ pub fn one_reading()
 
 /// A line has one spelling, which is short enough to be read, and a spelling is of one line.
 pub fn one_spelling()
-    ensures same { (a b : Line) → IsLine a → IsLine b → spelling a ≡ spelling b → a ≡ b }
-    ensures short { (line : Line) → IsLine line → length (spelling line) ≤ 120 }
-    ensures read { (line : Line) → IsLine line → ParsesAs (spelling line) (Ok line) }
+    ensures same { (a b : Line) → IsRequest a.request → IsRequest b.request → spelling a ≡ spelling b → a ≡ b }
+    ensures short { (line : Line) → IsRequest line.request → length (spelling line) ≤ 120 }
+    ensures read { (line : Line) → IsRequest line.request → ParsesAs (spelling line) (Ok line) }
 {}
 
 /// A line that is read is answered under its own desk.

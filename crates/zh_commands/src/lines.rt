@@ -1,7 +1,7 @@
 ghost use Rattle.std.specs.Prelude.{◌≡◌, IfSome};
 ghost use Rattle.zh_records.specs.Spelling.{HasNumbers};
 ghost use Rattle.zh_commands.specs.Commands.{own_command};
-ghost use Rattle.zh_commands.specs.Lines.{IsLine};
+ghost use Rattle.zh_commands.specs.Lines.{IsRequest};
 
 use thiserror::Error;
 use zh_desks::Desk;
@@ -64,7 +64,7 @@ impl Line {
     /// and is not given here.
     pub fn command(self) -> Option<Command<'static>>
         ensures command { result ≡ own_command self.desk self.request }
-        ensures numbers { IsLine self → IfSome result HasNumbers }
+        ensures numbers { IsRequest self.request → IfSome result HasNumbers }
     {
         let desk = self.desk.number;
         match self.request {

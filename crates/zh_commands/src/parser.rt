@@ -1,7 +1,7 @@
-ghost use Rattle.std.specs.Prelude.{◌≡◌, ◌≢◌, ◌^◌, ◌<◌, ℕ, [], ◌∷◌, MatchOption};
+ghost use Rattle.std.specs.Prelude.{◌≡◌, ◌≢◌, ◌^◌, ◌<◌, ℕ, [], ◌∷◌, ◌++◌, MatchOption};
 ghost use Rattle.zh_commands.specs.Words.{numerals};
-ghost use Rattle.zh_commands.specs.Lines.{request_text, word_of, numbers_of, row_text};
-ghost use Rattle.zh_commands.specs.Lines.{IsRow, IsRequest, ParsesAs, desk_of};
+ghost use Rattle.zh_commands.specs.Forms.{form_of};
+ghost use Rattle.zh_commands.specs.Lines.{IsRow, IsRequest, ParsesAs, desk_of, row_text};
 
 use crate::lines::{Line, LineFault, Request};
 use crate::words::{after_space, numbers, numeral, split_word};
@@ -40,8 +40,9 @@ pub fn parse_line(bytes: &[u8]) -> Result<Line, LineFault>
 
 // What the text after the desk and the space asks for.
 fn request_of(text: &[u8]) -> Option<Request>
-    ensures { MatchOption result ((request : Request) → IsRequest request → text.now ≢ request_text request)
-        (λ request. IsRequest request × (text.now ≡ request_text request)) }
+    ensures { MatchOption result
+        ((request : Request) → IsRequest request → text.now ≢ (form_of request).word ++ numerals (form_of request).numbers)
+        (λ request. IsRequest request × (text.now ≡ (form_of request).word ++ numerals (form_of request).numbers)) }
 {
     let (word, rest) = split_word(text);
     let Ok(word) = str::from_utf8(word) else {
@@ -55,8 +56,8 @@ fn request_of(text: &[u8]) -> Option<Request>
 
 // The request that is this word, with no number after it.
 fn lone_request(word: &str) -> Option<Request>
-    ensures { MatchOption result ((request : Request) → numbers_of request ≡ [] → word.now ≢ word_of request)
-        (λ request. IsRequest request × (numbers_of request ≡ []) × (word.now ≡ word_of request)) }
+    ensures { MatchOption result ((request : Request) → (form_of request).numbers ≡ [] → word.now ≢ (form_of request).word)
+        (λ request. IsRequest request × ((form_of request).numbers ≡ []) × (word.now ≡ (form_of request).word)) }
 {
     match word {
         "open" => Some(Request::Open),
@@ -71,10 +72,10 @@ fn lone_request(word: &str) -> Option<Request>
 // The request of this word and of the numerals after it, of which there is at least one.
 fn numbered_request(word: &str, text: &[u8]) -> Option<Request>
     ensures { MatchOption result
-        ((request : Request) → IsRequest request → numbers_of request ≢ [] → word.now ≡ word_of request
-        → text.now ≢ numerals (numbers_of request))
-        (λ request. IsRequest request × (word.now ≡ word_of request)
-        × (text.now ≡ numerals (numbers_of request))) }
+        ((request : Request) → IsRequest request → (form_of request).numbers ≢ [] → word.now ≡ (form_of request).word
+        → text.now ≢ numerals (form_of request).numbers)
+        (λ request. IsRequest request × (word.now ≡ (form_of request).word)
+        × (text.now ≡ numerals (form_of request).numbers)) }
 {
     match word {
         "return" => Some(Request::Return(row_of(text)?)),

@@ -1,11 +1,11 @@
 -- What is kept by an office that was opened on a disk, or refused.
-use Rattle.std.proofs.Common.{◌≡◌, ℕ, List, [], Err, IsTrue, refl, sym, ◌∙◌, ap, subst}
+use Rattle.std.proofs.Common.{◌≡◌, ℕ, List, [], Ok, Err, IsTrue, refl, sym, ◌∙◌, ap, subst}
 use Rattle.zh_disk.specs.Disk.{Trail, Leaves, fresh_trail}
 use Rattle.zh_disk.specs.History.{History}
 use Rattle.zh_districts.specs.Canton.{Canton, IsCanton}
 use Rattle.zh_returns.specs.Tally.{Tally}
-use Rattle.zh_ledger.specs.Opening.{MayLeave, Opening}
-use Rattle.zh_ledger.specs.Stands.{Holds}
+use Rattle.zh_ledger.specs.Opening.{MayLeave, Opening, Opens}
+use Rattle.zh_ledger.specs.Stands.{Holds, Stands}
 use Rattle.zh_ledger.specs.Submissions.{OnDisk}
 use Rattle.zh_ledger.specs.declared.fault.OpenFault.{OpenFault}
 use Rattle.zh_office.specs.Office.{Office}
@@ -19,10 +19,12 @@ use Rattle.zh_program.proofs.OpensLemmas.{opening_always, opening_holds, started
 use Rattle.zh_program.proofs.TurnLemmas.{AreTurns, IsAt, at_rest}
 use Rattle.zh_ledger.proofs.CallerLemmas.{has_none}
 
--- what is kept of a disk that began with the one history and has the other, where these exchanges came after its opening
-abbrev pub Keeps : Canton → History → History → Trail → List Exchange → Type 0
-Keeps canton first last opened xs = IsTrue last.honest → (bytes : List ℕ) → first.trail ≡ fresh_trail bytes → (tally : Tally) → IsCanton tally.canton → Holds tally bytes
-    → Headline tally (fresh_trail bytes) opened last.trail xs
+-- what is kept of a disk that began with the one history and has the other, where these exchanges came after its opening; and
+-- where no count stood there were none
+pub record Keeps (canton : Canton) (first last : History) (opened : Trail) (xs : List Exchange) : Type 0 where
+  pub office : IsTrue last.honest → (bytes : List ℕ) → first.trail ≡ fresh_trail bytes → (tally : Tally) → IsCanton tally.canton → Holds tally bytes
+      → Headline tally (fresh_trail bytes) opened last.trail xs
+  pub idle : IsTrue last.honest → (bytes : List ℕ) → first.trail ≡ fresh_trail bytes → ((tally : Tally) → IsCanton tally.canton → ¬ Stands tally bytes) → xs ≡ []
 
 -- how an office goes on from its start
 abbrev pub GoesOnTo : OnDisk Office → List Exchange → OnDisk Office → Type 0
@@ -30,11 +32,19 @@ GoesOnTo start xs end = (tally : Tally) → IsTrue end.history.honest → IsAt t
     → AreTurns tally start.history.trail [] xs × IsAt tally start.history.trail xs end
 
 pub opened_keeps : (canton : Canton) (first last : History) (start end : OnDisk Office) (xs : List Exchange) → IsCanton canton → IsFrom canton first last start end → GoesOnTo start xs end → Keeps canton first last start.history.trail xs
-opened_keeps canton first last start end xs limits from goes honest bytes fresh tally own holds =
-    let at = started canton first start from.begun (from.honest honest) bytes fresh tally limits own holds in
-    let then = goes tally (subst (λ (h : History). IsTrue h.honest) (sym from.ended) honest) at in
-    headline_of tally start.history.trail (fresh_trail bytes) last.trail xs (opening_always canton first start from.begun (from.honest honest) bytes fresh tally limits own holds) then.0
-    (then.1.disk ∙ ap (λ (h : History). h.trail) from.ended)
+opened_keeps canton first last start end xs limits from goes = record { office = kept; idle = stood }
+  where
+    kept : IsTrue last.honest → (bytes : List ℕ) → first.trail ≡ fresh_trail bytes → (tally : Tally) → IsCanton tally.canton → Holds tally bytes → Headline tally (fresh_trail bytes) start.history.trail last.trail xs
+    kept honest bytes fresh tally own holds =
+        let at = started canton first start from.begun (from.honest honest) bytes fresh tally limits own holds in
+        let then = goes tally (subst (λ (h : History). IsTrue h.honest) (sym from.ended) honest) at in
+        headline_of tally start.history.trail (fresh_trail bytes) last.trail xs (opening_always canton first start from.begun (from.honest honest) bytes fresh tally limits own holds) then.0
+        (then.1.disk ∙ ap (λ (h : History). h.trail) from.ended)
+
+    stood : IsTrue last.honest → (bytes : List ℕ) → first.trail ≡ fresh_trail bytes → ((tally : Tally) → IsCanton tally.canton → ¬ Stands tally bytes) → xs ≡ []
+    stood honest bytes fresh none =
+        let opens = subst (λ (t : Trail). Opens canton (Ok start.holder.ledger) t start.history.trail) fresh (from.begun.opening.call.did (from.honest honest)) in
+        absurd (none start.holder.ledger.tally (subst IsCanton (sym from.begun.opening.ready.set_up) limits) opens.opened.stood)
 
 -- an office to which nothing is given
 pub nothing_given : (start : OnDisk Office) → GoesOnTo start [] start
@@ -42,9 +52,12 @@ nothing_given start tally honest at = (at_rest tally start.history.trail [] star
 
 -- a disk of which each image still holds the count
 pub unchanged_keeps : (canton : Canton) (first last : History) → (IsTrue last.honest → (bytes : List ℕ) → first.trail ≡ fresh_trail bytes → (tally : Tally) → IsCanton tally.canton → Holds tally bytes → Always (Holds tally) (fresh_trail bytes) last.trail) → Keeps canton first last last.trail []
-unchanged_keeps canton first last still honest bytes fresh tally own holds =
-    let opening = still honest bytes fresh tally own holds in
-    headline_of tally last.trail (fresh_trail bytes) last.trail [] opening (λ c image. has_none tally [] c (always_now (Holds tally) (fresh_trail bytes) last.trail opening c image)) refl
+unchanged_keeps canton first last still = record { office = kept; idle = λ honest bytes fresh none. refl }
+  where
+    kept : IsTrue last.honest → (bytes : List ℕ) → first.trail ≡ fresh_trail bytes → (tally : Tally) → IsCanton tally.canton → Holds tally bytes → Headline tally (fresh_trail bytes) last.trail last.trail []
+    kept honest bytes fresh tally own holds =
+        let opening = still honest bytes fresh tally own holds in
+        headline_of tally last.trail (fresh_trail bytes) last.trail [] opening (λ c image. has_none tally [] c (always_now (Holds tally) (fresh_trail bytes) last.trail opening c image)) refl
 
 pub refused_keeps : (canton : Canton) (first last : History) (fault : OpenFault) → IsCanton canton → Opening canton first last (Err fault) → Keeps canton first last last.trail []
 refused_keeps canton first last fault limits opening = unchanged_keeps canton first last (λ honest bytes fresh tally own holds.

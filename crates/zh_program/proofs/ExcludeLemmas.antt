@@ -132,3 +132,7 @@ none_on_half n p s k rounds half = ⊎_elim
   where
     le_or_lt : (a b : ℕ) → (a ≤ b) ⊎ (b < a)
     le_or_lt a b = ⊎_elim (λ (h : (nat_le a b ≡ true) × (a ≤ b)). inl h.1) (λ (h : (nat_le a b ≡ false) × (b < a)). inr h.1) (leb_tells a b)
+
+-- no verdict is both
+pub none_new : (verdict : Verdict) → verdict ≡ verdicts.Accept → verdict ≡ verdicts.Same → ⊥
+none_new verdict accept same = let wrong : verdicts.Accept ≡ verdicts.Same = sym accept ∙ same in absurd cc

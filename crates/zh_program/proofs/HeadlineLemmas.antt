@@ -44,11 +44,13 @@ module _ (tally : Tally) (opened : Trail) where
     commands = λ done rest x is. (at_one [] done rest x xs turns is).command;
     accepted = λ done rest x is. (at_one [] done rest x xs turns is).accepted;
     counted = λ done rest x is. (at_one [] done rest x xs turns is).counted;
+    stored = λ done rest x is. (at_one [] done rest x xs turns is).stored;
+    same = λ done rest x is. (at_one [] done rest x xs turns is).same;
     stopped_opening = opening;
     stopped_between = λ done rest is. at_any [] done rest xs turns is;
     stopped_within = λ done rest x is. (at_one [] done rest x xs turns is).stopped;
     end = end;
     reopened = λ count c holds. opens_to count c holds;
     sheets = λ done rest x is. (at_one [] done rest x xs turns is).fair.sheet;
-    ties = λ done rest x is. (at_one [] done rest x xs turns is).fair.tie;
+    ties_are_true = λ done rest x is. (at_one [] done rest x xs turns is).fair.tie;
   }

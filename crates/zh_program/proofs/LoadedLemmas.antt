@@ -28,8 +28,7 @@ use Rattle.zh_tasks.specs.declared.fault.TaskFault.TheVariants as faults
 use Rattle.zh_program.specs.Due.{AnswerText}
 use Rattle.zh_program.specs.Exchanges.{Exchange, IsReadRight, command_given}
 use Rattle.zh_program.specs.Exchanges.Given.{text}
-use Rattle.zh_program.specs.Sheets.{IsTie}
-use Rattle.zh_program.proofs.AnsweredLemmas.{IsFair, plain, same_fair}
+use Rattle.zh_program.proofs.AnsweredLemmas.{IsMarked, StoresNone, plain, same_fair}
 use Rattle.zh_program.proofs.ConductLemmas.{GoesOnTo, Keeps, nothing_given, opened_keeps, refused_keeps}
 use Rattle.zh_program.proofs.ServedLemmas.{appends_none}
 use Rattle.zh_program.proofs.TurnLemmas.{at_rest, one_is, one_then}
@@ -40,8 +39,8 @@ text_right canton bytes failed (Err fault) by = tt
 text_right canton None failed (Ok rows) by = (by.rows, tt)
 text_right canton (Some known) failed (Ok rows) by = (by.rows, (by.known known refl).0)
 
--- the reply of a text that gives no command reports no tie
-refused_plain : (fault : LoadFault) → ¬ IsTie (answers.Reply (Refused (load_refusal fault)))
+-- the reply of a text that gives no command reports no tie, and not that something is stored
+refused_plain : (fault : LoadFault) → ¬ IsMarked (answers.Reply (Refused (load_refusal fault)))
 refused_plain loading.Csv = λ no. no
 refused_plain loading.Syntax = λ no. no
 refused_plain (loading.Judged reason) = λ no. no
@@ -49,7 +48,7 @@ refused_plain (loading.Row fault) = λ no. no
 refused_plain loading.Memory = λ no. no
 refused_plain loading.Read = λ no. no
 
-reply_plain : (broken : Bool) (loaded : Result (List Row) LoadFault) → ¬ IsTie (answers.Reply (load_reply broken loaded))
+reply_plain : (broken : Bool) (loaded : Result (List Row) LoadFault) → ¬ IsMarked (answers.Reply (load_reply broken loaded))
 reply_plain true loaded = λ no. no
 reply_plain false (Err fault) = refused_plain fault
 reply_plain false (Ok rows) = λ no. no
@@ -76,7 +75,7 @@ text_goes start bytes failed reply end turn whole tally honest at =
     let broken = start.holder.ledger.store.broken in
     let May : Answer → Type 0 = λ a. a ≡ answers.Reply (load_reply broken turn.loaded) in
     let totals = totals_of start.holder.ledger.tally in
-    let fair : (a : Answer) → May a → IsFair totals a = λ a may. same_fair totals a (answers.Reply (load_reply broken turn.loaded)) may (plain totals (load_reply broken turn.loaded) (reply_plain broken turn.loaded)) in
+    let fair : (a : Answer) → May a → StoresNone totals a = λ a may. same_fair totals a (answers.Reply (load_reply broken turn.loaded)) may (plain totals (load_reply broken turn.loaded) (reply_plain broken turn.loaded)) in
     let read : IsReadRight tally.canton (text bytes turn.loaded) = text_right tally.canton bytes failed turn.loaded (subst (λ (t : Tally). LoadsFrom t.canton bytes failed turn.loaded) at.sound.count (turn.loads whole)) in
     let gives = text_gives broken start.holder.held bytes turn.loaded whole in
     let one = one_is tally opened [] start end (text bytes turn.loaded) (command_loaded broken turn.loaded) May (answers.Reply reply) turn.log at honest turn.acts fair read gives turn.held in
@@ -96,7 +95,7 @@ module _ (known bytes w w' : Option (List ℕ)) (read : KeepsBytes known bytes) 
   none_given failed written (start, from) = record {
     exchanges = [];
     opened = start.history.trail;
-    due = record { bytes = bytes; read = read; loaded = failed; written = inl (subst (λ (v : Option (List ℕ)). Appends w v []) (sym written) (appends_none w)) };
+    due = record { bytes = bytes; read = read; loaded = inl (refl, failed); written = inl (subst (λ (v : Option (List ℕ)). Appends w v []) (sym written) (appends_none w)) };
     kept = opened_keeps canton first last start start [] limits from (nothing_given start);
   }
 
@@ -104,7 +103,7 @@ module _ (known bytes w w' : Option (List ℕ)) (read : KeepsBytes known bytes) 
   refused_answered fault failed written opening = record {
     exchanges = [];
     opened = last.trail;
-    due = record { bytes = bytes; read = read; loaded = failed; written = inl (subst (λ (v : Option (List ℕ)). Appends w v []) (sym written) (appends_none w)) };
+    due = record { bytes = bytes; read = read; loaded = inl (refl, failed); written = inl (subst (λ (v : Option (List ℕ)). Appends w v []) (sym written) (appends_none w)) };
     kept = refused_keeps canton first last fault limits opening;
   }
 
@@ -120,7 +119,7 @@ module _ (known bytes w w' : Option (List ℕ)) (read : KeepsBytes known bytes) 
     reply_written written = record {
       exchanges = x ∷ [];
       opened = by.start.history.trail;
-      due = record { bytes = bytes; read = read; loaded = (by.turn.loaded, refl, refl); written = inl (subst (Appends w w') (sym (append-nil (printed reply))) written) };
+      due = record { bytes = bytes; read = read; loaded = inr (x, by.turn.loaded, refl, refl); written = inl (subst (Appends w w') (sym (append-nil (printed reply))) written) };
       kept = kept;
     }
 
@@ -131,7 +130,7 @@ module _ (known bytes w w' : Option (List ℕ)) (read : KeepsBytes known bytes) 
       due = record {
         bytes = bytes;
         read = read;
-        loaded = (by.turn.loaded, refl, refl);
+        loaded = inr (x, by.turn.loaded, refl, refl);
         written = inr (failed, record { whole = []; last = x; all = refl; front = part.front; part = part.part; written = part.written });
       };
       kept = kept;

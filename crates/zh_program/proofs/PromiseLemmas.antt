@@ -168,7 +168,8 @@ module _ {I O E F T D R : Type 0} (of : Known I O E F T D R) where
       exchanges = by.exchanges;
       due = by.due;
       opened = by.opened;
-      kept = λ honest bytes is tally own holds. by.kept honest bytes (known_fresh (of.files.disk_at old.files paths.disk.now) (of.disks.history first) bytes begins is) tally own holds;
+      office = λ honest bytes is tally own holds. by.kept.office honest bytes (known_fresh (of.files.disk_at old.files paths.disk.now) (of.disks.history first) bytes begins is) tally own holds;
+      idle = λ honest bytes is none. by.kept.idle honest bytes (known_fresh (of.files.disk_at old.files paths.disk.now) (of.disks.history first) bytes begins is) none;
       formatted = λ p is. absurd (other p is);
     }
 
@@ -219,10 +220,11 @@ module _ {I O E F T D R : Type 0} (of : Known I O E F T D R) where
           exchanges = here.exchanges;
           due = here.due;
           opened = here.opened;
-          kept = λ honest bytes is tally own holds. ⊎_elim
-              (λ fresh. here.kept honest bytes fresh tally own holds)
+          office = λ honest bytes is tally own holds. ⊎_elim
+              (λ fresh. here.kept.office honest bytes fresh tally own holds)
               (λ filled. absurd (none_held tally bytes filled.0 holds))
               (known_made known (of.disks.history uses.first) bytes uses.began.begins (first_honest honest) is);
+          idle = λ honest bytes is none. here.due;
           formatted = λ p is honest bytes known_is. empties honest bytes known_is;
         })
         by

@@ -2,6 +2,7 @@
 use Rattle.std.proofs.Common.{◌≡◌, inl, ⊎_elim, ℕ, ◌+◌, ◌≤◌, List, [], ◌∷◌, ◌++◌, length, take, refl, sym, ◌∙◌, ap, subst, arith, length-append, add-zero, Bool, true, false, IsTrue, Option, Some, None}
 use Rattle.std.proofs.lemmas.List.{take_all, append-nil}
 use Rattle.std.proofs.Math.Seq.{take-append-add}
+use Rattle.std.specs.Prelude.{IfSome}
 use Rattle.zh_disk.specs.Disk.{Trail, IsImage, Leaves, Moves}
 use Rattle.zh_disk.proofs.CallerLemmas.{leaves_now}
 use Rattle.zh_records.specs.declared.command.Command.{Command}
@@ -11,14 +12,16 @@ use Rattle.zh_returns.specs.Tally.{Tally}
 use Rattle.zh_returns.specs.declared.verdict.Verdict.{Verdict}
 use Rattle.zh_returns.specs.declared.verdict.Verdict.TheVariants as verdicts
 use Rattle.zh_ledger.specs.Images.{HasSome, KeepsOrSteps, LeavesBy, Stores}
-use Rattle.zh_ledger.specs.Ledger.{Becomes, Ledger, MayFollow, MayResult, MayResultWhere, stored}
+use Rattle.zh_ledger.specs.Ledger.{Becomes, Ledger, MayFollow, MayResult, MayResultWhere, MayStoreWhere, is_spent, stored}
 use Rattle.zh_ledger.specs.Stands.{Holds, IsKept}
 use Rattle.zh_ledger.specs.Submissions.{Log, OnDisk, followed_by, logged, nothing}
 use Rattle.zh_ledger.specs.declared.outcome.Outcome.{Outcome}
-use Rattle.zh_ledger.specs.declared.outcome.Outcome.TheVariants.{Stored, Device}
+use Rattle.zh_ledger.specs.declared.outcome.Outcome.TheVariants.{Stored, Same, Device}
 use Rattle.zh_ledger.proofs.CallerLemmas.{has_none, log_none}
-use Rattle.zh_answers.specs.Requests.{Acts}
+use Rattle.zh_answers.specs.Requests.{Acts, reply_to}
 use Rattle.zh_answers.specs.declared.answer.Answer.{Answer}
+use Rattle.zh_answers.specs.declared.answer.Answer.TheVariants as answers
+use Rattle.zh_commands.specs.declared.replies.Reply.TheVariants as replies
 use Rattle.zh_program.specs.Exchanges.{count_by}
 use Rattle.zh_program.specs.Stopped.{Always}
 use Rattle.zh_program.proofs.AlwaysLemmas.{always_left, always_same}
@@ -173,3 +176,28 @@ pub acts_accepted : (old new : OnDisk Ledger) (command : Option Command) (May : 
 acts_accepted old new None May answer more d (may, none, same) is = let wrong : [] ≡ d ∷ [] = sym (ap (λ (l : Log). l.accepted) none) ∙ is in absurd cc
 acts_accepted old new (Some command) May answer more d (by, logs) is =
     accepted_where old.holder.store.broken old.holder command d by.outcome by.submission.results (sym (ap (λ (l : Log). l.accepted) (logs ∙ by.submission.logs)) ∙ is)
+
+-- A command is answered `same` only where it is judged the same.
+same_stores : (spent : Bool) (accepted : ℕ) → MayStoreWhere spent accepted Same → ⊥
+same_stores true accepted may = absurd cc
+same_stores false accepted may = ⊎_elim (λ stored. absurd cc) (λ device. absurd cc) may
+
+same_by : (v : Verdict) (s : Ledger) (c : Command) → judge s.tally c ≡ v → MayFollow v s c Same → judge s.tally c ≡ verdicts.Same
+same_by verdicts.Accept s c is may = absurd (same_stores (is_spent s c) s.tally.accepted may)
+same_by verdicts.Same s c is may = is
+same_by (verdicts.Refused w) s c is may = absurd cc
+
+same_where : (b : Bool) (s : Ledger) (c : Command) → MayResultWhere b s c Same → judge s.tally c ≡ verdicts.Same
+same_where true s c may = absurd cc
+same_where false s c may = same_by (judge s.tally c) s c refl may
+
+reports_same : (outcome : Outcome) → answers.Reply (reply_to outcome) ≡ answers.Reply replies.Same → outcome ≡ Same
+reports_same Same is = refl
+reports_same outcome is = absurd cc
+
+pub acts_same : (old new : OnDisk Ledger) (command : Option Command) (May : Answer → Type 0) (answer : Answer) (more : Log) → Acts old command May answer more new → answer ≡ answers.Reply replies.Same
+    → IfSome command (λ c. judge old.holder.tally c ≡ verdicts.Same)
+acts_same old new None May answer more acts is = tt
+acts_same old new (Some command) May answer more (by, logs) is =
+    same_where old.holder.store.broken old.holder command
+    (subst (λ (outcome : Outcome). MayResult old.holder command outcome) (reports_same by.outcome (sym by.reply ∙ is)) by.submission.results)

@@ -1,26 +1,29 @@
 -- What an office leaves of its disk that is given one thing after the other.
-use Rattle.std.proofs.Common.{◌≡◌, ℕ, List, [], ◌∷◌, ◌++◌, length, refl, sym, ◌∙◌, ap, subst, IsTrue, Option, Result, Ok, Err}
+use Rattle.std.proofs.Common.{◌≡◌, ◌≢◌, ℕ, List, [], ◌∷◌, ◌++◌, length, refl, sym, ◌∙◌, ap, subst, IsTrue, Option, None, Result, Ok, Err}
+use Rattle.std.specs.Prelude.{IfSome}
 use Rattle.zh_disk.specs.Disk.{Trail, IsImage}
 use Rattle.zh_records.specs.declared.command.Command.{Command}
 use Rattle.zh_returns.specs.Judgement.{judge}
 use Rattle.zh_returns.specs.Tally.{Tally}
-use Rattle.zh_returns.specs.declared.verdict.Verdict.TheVariants.{Accept}
+use Rattle.zh_returns.specs.declared.verdict.Verdict.TheVariants as verdicts
 use Rattle.zh_desks.specs.Batches.{Held, no_batches}
 use Rattle.zh_commands.specs.declared.lines.Line.{Line}
 use Rattle.zh_commands.specs.declared.lines.LineFault.{LineFault}
+use Rattle.zh_commands.specs.declared.replies.Reply.TheVariants.{Stored, Same}
 use Rattle.zh_totals.specs.Counting.{totals_of}
 use Rattle.zh_ledger.specs.Images.{HasSome}
 use Rattle.zh_ledger.specs.Submissions.{Log, OnDisk, followed_by}
 use Rattle.zh_answers.specs.Requests.{Acts}
 use Rattle.zh_answers.specs.declared.answer.Answer.{Answer}
+use Rattle.zh_answers.specs.declared.answer.Answer.TheVariants as answers
 use Rattle.zh_office.specs.Office.{Office, MayAnswer, batches_after, command_read}
 use Rattle.zh_office.specs.Runs.{Turn, its_ledger}
 use Rattle.zh_program.specs.Exchanges.{Exchange, Given, IsReadRight, command_given, count_by, disk_by, held_by, held_then, log_by, log_of}
 use Rattle.zh_program.specs.Exchanges.Given.{line}
 use Rattle.zh_program.specs.Stopped.{Always}
-use Rattle.zh_program.proofs.AnsweredLemmas.{IsFair, acts_fair, may_fair}
+use Rattle.zh_program.proofs.AnsweredLemmas.{IsFair, StoresNone, acts_fair, acts_stored, may_fair}
 use Rattle.zh_program.proofs.ExchangeLemmas.{acts_log, disk_more, held_more, log_more}
-use Rattle.zh_program.proofs.SoundLemmas.{GoesOnBy, IsSoundBy, acts_accepted, acts_goes_on}
+use Rattle.zh_program.proofs.SoundLemmas.{GoesOnBy, IsSoundBy, acts_accepted, acts_goes_on, acts_same}
 
 -- between two exchanges an image has what is acknowledged by then
 abbrev pub AtRest : Tally → Trail → List Exchange → Type 0
@@ -30,8 +33,10 @@ AtRest tally opened done = (c : List ℕ) → IsImage (disk_by opened done).now 
 pub record IsOne (tally : Tally) (opened : Trail) (done : List Exchange) (x : Exchange) : Type 0 where
   pub read : IsReadRight tally.canton x.given
   pub command : x.command ≡ command_given (held_by no_batches done) x.given
-  pub accepted : (command : Command) → (log_by x.command x.answer).accepted ≡ command ∷ [] → (judge (count_by tally (log_of done)) command ≡ Accept) × ((log_of done).acknowledged ≡ length (log_of done).accepted)
+  pub accepted : (command : Command) → (log_by x.command x.answer).accepted ≡ command ∷ [] → (judge (count_by tally (log_of done)) command ≡ verdicts.Accept) × ((log_of done).acknowledged ≡ length (log_of done).accepted)
   pub counted : x.count ≡ count_by tally (log_of (done ++ x ∷ []))
+  pub stored : (number : ℕ) → x.answer ≡ answers.Reply (Stored number) → x.command ≢ None
+  pub same : x.answer ≡ answers.Reply Same → IfSome x.command (λ c. judge (count_by tally (log_of done)) c ≡ verdicts.Same)
   pub stopped : Always (HasSome tally (log_of (done ++ x ∷ [])).accepted (log_of done).acknowledged) (disk_by opened done) x.disk
   pub fair : IsFair (totals_of x.count) x.answer
 
@@ -51,7 +56,7 @@ at_rest tally opened done o at c image = at.sound.each c (subst (λ (t : Trail).
 
 -- something is given, and answered
 module _ (tally : Tally) (opened : Trail) (done : List Exchange) (old new : OnDisk Office) (given : Given) (command : Option Command) (May : Answer → Type 0) (answer : Answer) (more : Log) (at : IsAt tally opened done old)
-    (honest : IsTrue new.history.honest) (acts : Acts (its_ledger old) command May answer more (its_ledger new)) (fair : (a : Answer) → May a → IsFair (totals_of old.holder.ledger.tally) a)
+    (honest : IsTrue new.history.honest) (acts : Acts (its_ledger old) command May answer more (its_ledger new)) (fair : (a : Answer) → May a → StoresNone (totals_of old.holder.ledger.tally) a)
     (read : IsReadRight tally.canton given) (gives : command ≡ command_given old.holder.held given) (held : new.holder.held ≡ held_then old.holder.held given answer) where
   abbrev x : Exchange
   x = record { given = given; command = command; answer = answer; count = new.holder.ledger.tally; disk = new.history.trail }
@@ -78,8 +83,10 @@ module _ (tally : Tally) (opened : Trail) (done : List Exchange) (old new : OnDi
     command = gives ∙ ap (λ (h : Held). command_given h given) (sym at.held);
     accepted = λ d is.
         let by = acts_accepted (its_ledger old) (its_ledger new) command May answer more d acts (sym (ap (λ (l : Log). l.accepted) log_is) ∙ is) in
-        (subst (λ (t : Tally). judge t d ≡ Accept) at.sound.count by.0, (at.sound.whole by.1).all);
+        (subst (λ (t : Tally). judge t d ≡ verdicts.Accept) at.sound.count by.0, (at.sound.whole by.1).all);
     counted = one_then.sound.count;
+    stored = acts_stored (its_ledger old) (its_ledger new) command May answer more fair acts;
+    same = λ is. subst (λ (t : Tally). IfSome command (λ c. judge t c ≡ verdicts.Same)) at.sound.count (acts_same (its_ledger old) (its_ledger new) command May answer more acts is);
     stopped =
         subst (λ (t : Trail). Always (HasSome tally (log_of (done ++ x ∷ [])).accepted (log_of done).acknowledged) t new.history.trail) (sym at.disk)
         (subst (λ (l : Log). Always (HasSome tally l.accepted (log_of done).acknowledged) old.history.trail new.history.trail) (sym logs) goes_on.moments);

@@ -32,16 +32,13 @@ pub record AnswerLines (reader reader' writer writer' : Option (List ℕ)) (stat
   pub written : ((others ≡ []) × Appends writer writer' (flat_map text_of exchanges))
       ⊎ ((status ≢ 0) × IsCutShort writer writer' exchanges)
 
--- the one exchange is that of this text; or there is none, as the file gave no text
-abbrev pub IsOneText : Option (List ℕ) → ℕ → List Exchange → Type 0
-IsOneText bytes status [] = status ≢ 0
-IsOneText bytes status (x ∷ xs) = (loaded : Result (List Row) LoadFault) × (x.given ≡ text bytes loaded) × (xs ≡ [])
-
--- the text of a file, whose bytes may be known, is loaded, and the reply written, or with another status than 0 a front
+-- The text of a file, whose bytes may be known, is loaded as the one exchange, and the reply written, or with another status
+-- than 0 a front of it; or, again not with status 0, there is no exchange, as the file gave no text.
 pub record AnswerText (known writer writer' : Option (List ℕ)) (status : ℕ) (exchanges : List Exchange) : Type 0 where
   pub bytes : Option (List ℕ)
   pub read : Keeps known bytes
-  pub loaded : IsOneText bytes status exchanges
+  pub loaded : ((exchanges ≡ []) × (status ≢ 0))
+      ⊎ ((x : Exchange) × (loaded : Result (List Row) LoadFault) × (exchanges ≡ x ∷ []) × (x.given ≡ text bytes loaded))
   pub written : Appends writer writer' (flat_map text_of exchanges) ⊎ ((status ≢ 0) × IsCutShort writer writer' exchanges)
 
 -- the path of the disk of a task

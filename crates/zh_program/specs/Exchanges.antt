@@ -1,5 +1,5 @@
 -- What an office is given on its disk, one thing after the other, and what it answers.
-use Rattle.std.specs.Prelude.{ℕ, List, [], ◌∷◌, map, take, Option, Some, None, IfSome, Result, Ok, Err}
+use Rattle.std.specs.Prelude.{◌≡◌, ℕ, List, [], ◌∷◌, ◌++◌, map, take, Option, Some, None, IfSome, Result, Ok, Err}
 use Rattle.zh_disk.specs.Disk.{Trail}
 use Rattle.zh_districts.specs.Canton.{Canton}
 use Rattle.zh_records.specs.declared.command.Command.{Command}
@@ -8,6 +8,7 @@ use Rattle.zh_returns.specs.Step.{after}
 use Rattle.zh_returns.specs.Tally.{Tally}
 use Rattle.zh_desks.specs.Batches.{Held, rows_of}
 use Rattle.zh_commands.specs.Lines.{ParsesAs, desk_of}
+use Rattle.zh_commands.specs.Replies as replies
 use Rattle.zh_commands.specs.declared.lines.Line.{Line}
 use Rattle.zh_commands.specs.declared.lines.LineFault.{LineFault}
 use Rattle.zh_commands.specs.declared.replies.Reply.TheVariants.{Stored, Refused}
@@ -20,7 +21,6 @@ use Rattle.zh_answers.specs.Answers.{batch_of, command_of, held_after}
 use Rattle.zh_answers.specs.declared.answer.Answer.{Answer}
 use Rattle.zh_answers.specs.declared.answer.Answer.TheVariants.{Reply, Sheet}
 use Rattle.zh_office.specs.Runs.{answer_text}
-use Rattle.zh_tasks.specs.Load.{printed}
 
 -- the bytes of a line, and what it is read as; or a text that is loaded, whose bytes may be unknown, and what it loads
 pub data Given : Type 0 where
@@ -44,10 +44,10 @@ abbrev pub held_then : Held → Given → Answer → Held
 held_then held (line bytes (Ok read)) answer = held_after held read answer
 held_then held given answer = held
 
--- the text of the answer to it, where so many commands are accepted: that to a line stands under its desk
+-- the text of the answer to it, where so many commands are accepted: to a line under its desk, to a text without one; 10 is LF
 abbrev pub answer_to_given : Given → ℕ → Answer → List ℕ
 answer_to_given (line bytes reading) accepted answer = answer_text (desk_of bytes) accepted answer
-answer_to_given (text bytes loaded) accepted (Reply reply) = printed reply
+answer_to_given (text bytes loaded) accepted (Reply reply) = replies.answer reply ++ 10 ∷ []
 answer_to_given (text bytes loaded) accepted (Sheet sheet is_final) = []
 
 -- the bytes of a line; a text is none
@@ -62,6 +62,10 @@ pub record Exchange : Type 0 where
   pub answer : Answer
   pub count : Tally
   pub disk : Trail
+
+-- so it is of each of these exchanges, by those before it
+abbrev pub EachIn : List Exchange → (List Exchange → Exchange → Type 0) → Type 0
+EachIn exchanges P = (done rest : List Exchange) (x : Exchange) → exchanges ≡ done ++ x ∷ rest → P done x
 
 -- `stored` acknowledges a command; after `device` one is accepted too, and the disk may have it or not
 abbrev pub log_by : Option Command → Answer → Log

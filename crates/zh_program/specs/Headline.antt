@@ -1,17 +1,18 @@
 -- The promise of the program, whatever its status: of each disk that it hands over, each command, and each sheet.
-use Rattle.std.specs.Prelude.{◌≡◌, ℕ, Bool, List, ◌∷◌, [], ◌++◌, length, Some, IsTrue}
+use Rattle.std.specs.Prelude.{◌≡◌, ◌≢◌, ℕ, Bool, List, ◌∷◌, [], ◌++◌, length, Some, None, IfSome, IsTrue}
 use Rattle.zh_disk.specs.Disk.{Trail, IsImage, fresh_trail}
 use Rattle.zh_districts.specs.Canton.{IsCanton}
 use Rattle.zh_records.specs.declared.command.Command.{Command}
 use Rattle.zh_returns.specs.Judgement.{judge}
 use Rattle.zh_returns.specs.Tally.{Tally}
-use Rattle.zh_returns.specs.declared.verdict.Verdict.TheVariants.{Accept}
+use Rattle.zh_returns.specs.declared.verdict.Verdict.TheVariants as verdicts
 use Rattle.zh_desks.specs.Batches.{no_batches}
+use Rattle.zh_commands.specs.declared.replies.Reply.TheVariants.{Stored, Same}
 use Rattle.zh_totals.specs.Counting.{totals_of}
 use Rattle.zh_sheet.specs.Distribution.{Distribution, IsDistribution}
 use Rattle.zh_ledger.specs.Images.{HasSome}
-use Rattle.zh_ledger.specs.Stands.{Holds}
-use Rattle.zh_answers.specs.declared.answer.Answer.TheVariants.{Sheet}
+use Rattle.zh_ledger.specs.Stands.{Holds, Stands}
+use Rattle.zh_answers.specs.declared.answer.Answer.TheVariants.{Reply, Sheet}
 use Rattle.zh_arguments.specs.Arguments.{AsksFor}
 use Rattle.zh_arguments.specs.declared.arguments.Paths.{Paths}
 use Rattle.zh_arguments.specs.declared.arguments.Task.{Task}
@@ -19,29 +20,32 @@ use Rattle.zh_arguments.specs.declared.arguments.Task.TheVariants.{Format}
 use Rattle.zh_world.specs.declared.world.World.{World}
 use Rattle.zh_tasks.specs.World.{Known}
 use Rattle.zh_program.specs.Due.{AreOfTask, disk_path}
-use Rattle.zh_program.specs.Exchanges.{Exchange, IsReadRight, command_given, count_by, disk_by, held_by, log_by, log_of}
+use Rattle.zh_program.specs.Exchanges.{EachIn, Exchange, IsReadRight, command_given, count_by, disk_by, held_by, log_by, log_of}
 use Rattle.zh_program.specs.Sheets.{FollowsFrom, IsTie}
 use Rattle.zh_program.specs.Stopped.{Always, MakesEmpty, OpensTo}
 
--- so it is of each of these exchanges, by those before it
-abbrev pub EachIn : List Exchange → (List Exchange → Exchange → Type 0) → Type 0
-EachIn exchanges P = (done rest : List Exchange) (x : Exchange) → exchanges ≡ done ++ x ∷ rest → P done x
-
 -- Of an office that was opened where this count stood: stopped at any moment, even within a write or a sync, and reopened,
 -- it holds the count after a prefix, in order, of the accepted commands, which includes every acknowledged one; and every
--- sheet is that of the count at its line, and right. Its disk had the first trail, the second once the office was opened or
--- refused, and has the last one.
+-- sheet is that of the count at its line, and right. Acknowledged is a command that is answered `stored`. Not said here: that
+-- an answer is written only after the moments of its exchange; when a line is refused, and when a sheet is final. The disk
+-- had the first trail, the second once the office was opened or refused, and has the last one.
 pub record Headline (tally : Tally) (first opened last : Trail) (exchanges : List Exchange) : Type 0 where
   -- each line, and each text, is read by its rules, and gives the command that it says
   pub read : EachIn exchanges (λ done x. IsReadRight tally.canton x.given)
   pub commands : EachIn exchanges (λ done x. x.command ≡ command_given (held_by no_batches done) x.given)
-  -- what is accepted is acceptable to the count by then, and all accepted before it are acknowledged; these are counted
+  -- what is accepted is acceptable to the count by then, and all accepted before it are acknowledged
   pub accepted : EachIn exchanges (λ done x. (command : Command) → (log_by x.command x.answer).accepted ≡ command ∷ []
-      → (judge (count_by tally (log_of done)) command ≡ Accept) × ((log_of done).acknowledged ≡ length (log_of done).accepted))
+      → (judge (count_by tally (log_of done)) command ≡ verdicts.Accept) × ((log_of done).acknowledged ≡ length (log_of done).accepted))
+  -- the count has the acknowledged ones, and not one that is answered `device`
   pub counted : EachIn exchanges (λ done x. x.count ≡ count_by tally (log_of (done ++ x ∷ [])))
+  -- `stored` answers a command, and a command is answered `same` only where the count by then judges it the same
+  pub stored : EachIn exchanges (λ done x. (number : ℕ) → x.answer ≡ Reply (Stored number) → x.command ≢ None)
+  pub same : EachIn exchanges (λ done x. x.answer ≡ Reply Same
+      → IfSome x.command (λ command. judge (count_by tally (log_of done)) command ≡ verdicts.Same))
   -- a stop within the opening, a migration or a refusal among it, leaves the count as it was
   pub stopped_opening : Always (Holds tally) first opened
-  -- one between two lines leaves what is acknowledged by then, and one within the work on a line what was so before it
+  -- one between two lines leaves at least what is acknowledged by then, at most what is accepted; one within the work on a
+  -- line leaves what one before it may leave, or the same with the command of this line
   pub stopped_between : (done rest : List Exchange) → exchanges ≡ done ++ rest → (c : List ℕ) → IsImage (disk_by opened done).now c
       → HasSome tally (log_of done).accepted (log_of done).acknowledged c
   pub stopped_within : EachIn exchanges (λ done x. Always
@@ -49,15 +53,14 @@ pub record Headline (tally : Tally) (first opened last : Trail) (exchanges : Lis
   pub end : disk_by opened exchanges ≡ last
   -- each image that holds a count opens to it
   pub reopened : (count : Tally) (c : List ℕ) → Holds count c → OpensTo count c
-  -- every sheet follows strictly from the count at its line, and a tie leaves no seats
+  -- every sheet follows strictly from the count at its line, so at a tie there is none; and a tie is answered only there
   pub sheets : EachIn exchanges (λ done x. (sheet : Distribution) (is_final : Bool) → x.answer ≡ Sheet sheet is_final
       → FollowsFrom (totals_of x.count) sheet)
-  pub ties : EachIn exchanges (λ done x. IsTie x.answer → (sheet : Distribution) → sheet.totals ≡ totals_of x.count
+  pub ties_are_true : EachIn exchanges (λ done x. IsTie x.answer → (sheet : Distribution) → sheet.totals ≡ totals_of x.count
       → ¬ IsDistribution sheet)
 
 module _ {I O E F T D R : Type 0} where
-  -- What the program has done that hands this disk over. The premises are those of `kept`: the disk has kept its word, and
-  -- what its file held when it was opened was the clean image of a count, of whatever set-up within the limits.
+  -- What the program has done when it ends and hands this disk over, that is returns it; a stopped run did a front of one.
   pub record Promise (of : Known I O E F T D R) (arguments : List (List ℕ)) (old new : World I O E F) (status : ℕ) (disk : D) : Type 0 where
     pub task : Task
     pub asked : AsksFor arguments task
@@ -66,8 +69,12 @@ module _ {I O E F T D R : Type 0} where
     pub exchanges : List Exchange
     pub due : AreOfTask of task old new status exchanges
     pub opened : Trail
-    pub kept : IsTrue (of.disks.history disk).honest → (bytes : List ℕ) → of.files.disk_at old.files path ≡ Some bytes
+    -- if the disk was honest, and its file held a count when it was opened: the clean image of one within the limits
+    pub office : IsTrue (of.disks.history disk).honest → (bytes : List ℕ) → of.files.disk_at old.files path ≡ Some bytes
         → (tally : Tally) → IsCanton tally.canton → Holds tally bytes
         → Headline tally (fresh_trail bytes) opened (of.disks.history disk).trail exchanges
+    -- if it was honest, and its file held no such count, not even in an image that isn't clean: nothing is answered
+    pub idle : IsTrue (of.disks.history disk).honest → (bytes : List ℕ) → of.files.disk_at old.files path ≡ Some bytes
+        → ((tally : Tally) → IsCanton tally.canton → ¬ Stands tally bytes) → exchanges ≡ []
     pub formatted : (paths : Paths) → task ≡ Format paths → IsTrue (of.disks.history disk).honest
         → (bytes : List ℕ) → of.files.disk_at old.files path ≡ Some bytes → MakesEmpty bytes status (of.disks.history disk).trail

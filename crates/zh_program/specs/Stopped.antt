@@ -2,11 +2,10 @@
 use Rattle.std.specs.Prelude.{◌≡◌, ◌⊎◌, ℕ, List, [], ◌∷◌, ◌++◌, All}
 use Rattle.zh_disk.specs.Disk.{Moment, Trail, IsImage, fresh_trail}
 use Rattle.zh_districts.specs.Canton.{Canton, IsCanton}
-use Rattle.zh_returns.specs.Tally.{Tally}
+use Rattle.zh_returns.specs.Tally.{Tally, empty}
 use Rattle.zh_snapshot.specs.Image.{IsBlank}
-use Rattle.zh_ledger.specs.Opened.{IsNew}
 use Rattle.zh_ledger.specs.Opening.{IsCause}
-use Rattle.zh_ledger.specs.Stands.{Stands}
+use Rattle.zh_ledger.specs.Stands.{Holds, Stands}
 use Rattle.zh_ledger.specs.declared.fault.OpenFault.{OpenFault}
 use Rattle.zh_ledger.specs.declared.fault.OpenFault.TheVariants as faults
 
@@ -23,11 +22,12 @@ pub record OpensTo (count : Tally) (c : List ℕ) : Type 0 where
   pub refused : (fault : OpenFault) → IsCause count.canton c fault → (fault ≡ faults.Memory) ⊎ (fault ≡ faults.Device)
 
 -- At each moment of a formatting a stop leaves what the disk began with or, if that was blank, a blank disk or the empty
--- count of a set-up; after status 0 this count. It began with these bytes, or if there were none with what it was filled with.
+-- count of a set-up; with status 0 it ends with this count. That the set-up is the one at `--setup` is said by `done`. The
+-- disk began with the bytes of its file or, where these are none at all, with what it was filled with.
 pub record MakesEmpty (bytes : List ℕ) (status : ℕ) (last : Trail) : Type 0 where
   pub first : List ℕ
   pub began : (first ≡ bytes) ⊎ (bytes ≡ [])
   pub canton : Canton
   pub limits : IsCanton canton
-  pub moments : Always (λ c. (c ≡ first) ⊎ (IsBlank first × (IsBlank c ⊎ IsNew canton c))) (fresh_trail first) last
-  pub made : status ≡ 0 → (c : List ℕ) → IsImage last.now c → IsNew canton c
+  pub moments : Always (λ c. (c ≡ first) ⊎ (IsBlank first × (IsBlank c ⊎ Holds (empty canton) c))) (fresh_trail first) last
+  pub made : status ≡ 0 → (c : List ℕ) → IsImage last.now c → Holds (empty canton) c

@@ -5,4 +5,4 @@ mod entry;
 mod laws;
 
 pub use entry::program;
-pub use laws::{headline_excludes, reopenings};
+pub use laws::{headline_excludes, promise_excludes, reopenings};

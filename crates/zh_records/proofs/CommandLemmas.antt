@@ -1,5 +1,5 @@
 -- The bytes of a command: how many there are, and that they are of one command.
-use Rattle.std.proofs.Common.{◌≡◌, ◌<◌, ◌≤◌, ◌+◌, ◌^◌, ◌∙◌, ℕ, List, [], ◌++◌, length, take, drop, get_or, sym, ap, arith, lit≤}
+use Rattle.std.proofs.Common.{◌≡◌, ◌<◌, ◌≤◌, ◌+◌, ◌^◌, ◌∙◌, ℕ, List, [], ◌∷◌, ◌++◌, length, take, drop, get_or, sym, ap, arith, lit≤}
 use Rattle.std.specs.Prelude.{All}
 use Rattle.std.specs.Int.{w16, w32, to_be_bytes, from_be_bytes}
 use Rattle.std.specs.List.{flat_map}
@@ -13,8 +13,8 @@ use Rattle.zh_records.specs.declared.format.Format.TheVariants.{One, Two}
 use Rattle.zh_records.specs.declared.row.Row.{Row}
 use Rattle.zh_records.specs.RowBytes.{row_from, rows_from}
 use Rattle.zh_records.specs.Rows.{row_spelling, FitsRow, IsSpeakableRow, IsBatch}
-use Rattle.zh_records.specs.Spelling.{command_spelling, withdrawal_spelling, batch_spelling, head, last_desk, FitsCommand, IsSpeakable, IsWithdrawal}
-use Rattle.zh_records.proofs.RowBytesLemmas.{row_back, rows_back, length-batch}
+use Rattle.zh_records.specs.Spelling.{command_spelling, head, last_desk, FitsCommand, IsSpeakable, IsWithdrawal}
+use Rattle.zh_records.proofs.RowBytesLemmas.{batch_spelling, row_back, rows_back, length-batch}
 
 pub row_once : (a b : Row) → IsSpeakableRow a → IsSpeakableRow b → row_spelling a ≡ row_spelling b → a ≡ b
 row_once a b speakable_a speakable_b same =
@@ -46,6 +46,10 @@ head_once : (format : Format) (one two desk other : ℕ) (fields others : List �
     head format one two desk ++ fields ≡ head format one two other ++ others → (desk ≡ other) × (fields ≡ others)
 head_once One one two desk other fields others said said_other same = (omega arith, ap (drop 1) same)
 head_once Two one two desk other fields others said said_other same = (ap (λ (bytes : List ℕ). get_or bytes 1 0) same, ap (drop 2) same)
+
+-- the bytes of a withdrawal after its head
+abbrev withdrawal_spelling : ℕ → ℕ → ℕ → List ℕ
+withdrawal_spelling municipality list number = to_be_bytes w16 municipality ++ (list ∷ to_be_bytes w32 number)
 
 withdrawal_once : (desk m l n m' l' n' : ℕ) → IsWithdrawal m l n → IsWithdrawal m' l' n' → withdrawal_spelling m l n ≡ withdrawal_spelling m' l' n' →
     commands.Withdraw desk m l n ≡ commands.Withdraw desk m' l' n'

@@ -10,13 +10,16 @@ use Rattle.std.proofs.Math.Seq.{take-add}
 use Rattle.zh_records.specs.declared.row.Row.{Row}
 use Rattle.zh_records.specs.Rows.{row_spelling, IsSpeakableRow}
 use Rattle.zh_records.specs.RowBytes.{row_from, rows_from, rows_in}
-use Rattle.zh_records.specs.Spelling.{batch_spelling}
 use Rattle.zh_records.proofs.BlockLemmas.{HasWidth, length-blocks}
 use Rattle.zh_records.proofs.NumeralLemmas.{first_fit}
 
 -- a row takes eleven bytes
 pub rows_wide : HasWidth row_spelling 11
 rows_wide = record { at = λ row. refl }
+
+-- the bytes of a batch after its head
+abbrev pub batch_spelling : List Row → List ℕ
+batch_spelling rows = to_be_bytes w16 (length rows) ++ flat_map row_spelling rows
 
 -- a batch takes two bytes and its rows
 pub length-batch : (rows : List Row) → length (batch_spelling rows) ≡ 2 + 11 * length rows

@@ -6,30 +6,22 @@ use Rattle.zh_records.specs.declared.command.Command.{Command}
 use Rattle.zh_records.specs.declared.command.Command.TheVariants as commands
 use Rattle.zh_records.specs.declared.format.Format.{Format}
 use Rattle.zh_records.specs.declared.format.Format.TheVariants.{One, Two}
-use Rattle.zh_records.specs.declared.row.Row.{Row}
 use Rattle.zh_records.specs.Rows.{row_spelling, FitsRow, IsSpeakableRow, IsBatch}
-
--- the municipality in two bytes, the list in one, the replacement number in four
-abbrev pub withdrawal_spelling : ℕ → ℕ → ℕ → List ℕ
-withdrawal_spelling municipality list number = to_be_bytes w16 municipality ++ (list ∷ to_be_bytes w32 number)
-
--- the number of rows in two bytes, and the rows in order
-abbrev pub batch_spelling : List Row → List ℕ
-batch_spelling rows = to_be_bytes w16 (length rows) ++ flat_map row_spelling rows
 
 -- the kind of a command with a desk: format One has a byte for it, format Two another, and the desk in one more
 abbrev pub head : Format → ℕ → ℕ → ℕ → List ℕ
 head One one two desk = one ∷ []
 head Two one two desk = two ∷ desk ∷ []
 
--- the kind of the command, and what it is about
+-- the kind of the command, and what it is about: a municipality in two bytes, a list in one, a replacement number in four; of a
+-- batch the number of rows in two, and the rows in order
 abbrev pub command_spelling : Format → Command → List ℕ
 command_spelling format (commands.Return desk row) = head format 1 6 desk ++ row_spelling row
 command_spelling format (commands.Withdraw desk municipality list number) =
-    head format 2 7 desk ++ withdrawal_spelling municipality list number
+    head format 2 7 desk ++ (to_be_bytes w16 municipality ++ (list ∷ to_be_bytes w32 number))
 command_spelling format (commands.Close municipality) = 3 ∷ to_be_bytes w16 municipality
 command_spelling format (commands.Reopen municipality) = 4 ∷ to_be_bytes w16 municipality
-command_spelling format (commands.Batch desk rows) = head format 5 8 desk ++ batch_spelling rows
+command_spelling format (commands.Batch desk rows) = head format 5 8 desk ++ (to_be_bytes w16 (length rows) ++ flat_map row_spelling rows)
 
 -- the last desk that a format can say: format One says none
 abbrev pub last_desk : Format → ℕ

@@ -1,11 +1,12 @@
 //! Commands read from their bytes, in either format.
 
-ghost use Rattle.std.specs.Prelude.{◌≡◌, ◌≢◌, ◌<◌, ◌^◌, ℕ, length, IfSome, IfNone};
-ghost use Rattle.std.specs.Int.{w16, to_be_bytes};
+ghost use Rattle.std.specs.Prelude.{◌≡◌, ◌≢◌, ◌<◌, ◌^◌, ◌∷◌, ◌++◌, ℕ, length, IfSome, IfNone};
+ghost use Rattle.std.specs.Int.{w16, w32, to_be_bytes};
+ghost use Rattle.std.specs.List.{flat_map};
 ghost use Rattle.zh_records.specs.declared.command.Command.{Command};
 ghost use Rattle.zh_records.specs.Decoding.{Decodes};
-ghost use Rattle.zh_records.specs.Rows.{IsBatch};
-ghost use Rattle.zh_records.specs.Spelling.{command_spelling, withdrawal_spelling, batch_spelling, IsWithdrawal, IsSpeakable};
+ghost use Rattle.zh_records.specs.Rows.{IsBatch, row_spelling};
+ghost use Rattle.zh_records.specs.Spelling.{command_spelling, IsWithdrawal, IsSpeakable};
 
 use crate::command::Command;
 use crate::encoder::{SHORT_LENGTH, WITHDRAWAL_LENGTH};
@@ -81,9 +82,9 @@ impl Withdrawal {
 /// The withdrawal that has these bytes, if there is one.
 fn read_withdrawal(bytes: &[u8]) -> Option<Withdrawal>
     ensures read { IfSome result (λ it. IsWithdrawal it.municipality it.list it.number
-        × (withdrawal_spelling it.municipality it.list it.number ≡ bytes.now)) }
+        × (to_be_bytes w16 it.municipality ++ (it.list ∷ to_be_bytes w32 it.number) ≡ bytes.now)) }
     ensures refused { IfNone result ((municipality list number : ℕ) → IsWithdrawal municipality list number
-        → withdrawal_spelling municipality list number ≡ bytes.now → ⊥) }
+        → to_be_bytes w16 municipality ++ (list ∷ to_be_bytes w32 number) ≡ bytes.now → ⊥) }
 {
     if bytes.len() != WITHDRAWAL_LENGTH {
         return None;
@@ -114,7 +115,7 @@ fn read_short(bytes: &[u8]) -> Option<u32>
 
 /// The rows of the batch that has these bytes, if there is one.
 fn read_batch(bytes: &[u8]) -> Option<Rows<'_>>
-    ensures { Decodes IsBatch batch_spelling bytes.now result }
+    ensures { Decodes IsBatch (λ rows. to_be_bytes w16 (length rows) ++ flat_map row_spelling rows) bytes.now result }
 {
     if bytes.len() < SHORT_LENGTH {
         return None;

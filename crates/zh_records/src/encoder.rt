@@ -1,9 +1,11 @@
 //! The bytes of a command, in format Two.
 
 ghost use Rattle.std.specs.Prelude.{◌≡◌, ◌+◌, ◌*◌, ◌<◌, ◌≤◌, ◌^◌, ◌∷◌, ◌++◌, length, drop};
-ghost use Rattle.std.specs.Int.{w16, to_be_bytes};
+ghost use Rattle.std.specs.Int.{w16, w32, to_be_bytes};
+ghost use Rattle.std.specs.List.{flat_map};
 ghost use Rattle.zh_records.specs.declared.format.Format.{Format};
-ghost use Rattle.zh_records.specs.Spelling.{command_spelling, withdrawal_spelling, batch_spelling, FitsCommand};
+ghost use Rattle.zh_records.specs.Rows.{row_spelling};
+ghost use Rattle.zh_records.specs.Spelling.{command_spelling, FitsCommand};
 
 use crate::command::Command;
 use crate::format::{BATCH_TWO, CLOSE, REOPEN, RETURN_TWO, WITHDRAW_TWO};
@@ -67,7 +69,7 @@ fn write_withdrawal(municipality: u32, list: u32, number: u32, out: &mut [u8])
     requires municipality { municipality < 2 ^ 16 }
     requires list { list < 2 ^ 8 }
     requires room { length out.old ≡ WITHDRAWAL_LENGTH }
-    ensures { out.new ≡ withdrawal_spelling municipality list number }
+    ensures { out.new ≡ to_be_bytes w16 municipality ++ (list ∷ to_be_bytes w32 number) }
 {
     BigEndian::write_u16(out, municipality as u16);
     out[2] = list as u8;
@@ -91,7 +93,8 @@ fn write_batch(desk: u8, rows: &Rows<'_>, out: &mut [u8]) -> usize
     requires { HEAD_LENGTH + SHORT_LENGTH + ROW_LENGTH * length rows.now ≤ length out.old }
     ensures length { result ≡ HEAD_LENGTH + SHORT_LENGTH + ROW_LENGTH * length rows.now }
     ensures most { result ≤ COMMAND_LENGTH }
-    ensures spelling { out.new ≡ (BATCH_TWO ∷ desk ∷ batch_spelling rows.now) ++ drop result out.old }
+    ensures spelling { out.new ≡ (BATCH_TWO ∷ desk ∷ (to_be_bytes w16 (length rows.now) ++ flat_map row_spelling rows.now))
+        ++ drop result out.old }
 {
     let head = HEAD_LENGTH + SHORT_LENGTH;
     let end = head + ROW_LENGTH * rows.len();

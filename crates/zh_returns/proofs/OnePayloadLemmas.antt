@@ -1,5 +1,5 @@
 -- Two counts for one set-up with the same bytes are the same count.
-use Rattle.std.proofs.Common.{◌≡◌, ◌<◌, ◌≤◌, ◌+◌, ◌*◌, ◌/◌, ◌%◌, ◌^◌, ◌∙◌, ◌==◌, ◌⊎◌, ℕ, zero, suc, true, false, cond, List, length, get_or, take, drop, map, Option, Some, None, sym, ap, refl, arith, inl, inr}
+use Rattle.std.proofs.Common.{◌≡◌, ◌<◌, ◌≤◌, ◌+◌, ◌*◌, ◌/◌, ◌%◌, ◌^◌, ◌∙◌, ◌==◌, ◌⊎◌, ℕ, zero, suc, true, false, cond, List, ◌∷◌, length, get_or, take, drop, map, Option, Some, None, sym, ap, refl, arith, inl, inr}
 use Rattle.std.specs.Prelude.{IfSome}
 use Rattle.std.specs.Int.{w32, w64, from_be_bytes, to_be_bytes}
 use Rattle.std.specs.List.{flat_map, slice_index, slice_get}
@@ -17,14 +17,14 @@ use Rattle.zh_records.specs.declared.format.Format.TheVariants.{One, Two}
 use Rattle.zh_records.specs.Spelling.{last_desk}
 use Rattle.zh_returns.specs.declared.entry.Entry.{Entry}
 use Rattle.zh_returns.specs.Limits.{IsTally, IsEntry}
-use Rattle.zh_returns.specs.Payload.{payload_spelling, entry_spelling, content_spelling, format_spelling, format_byte, closed_byte, numbers, table_of, HasDesksOf, IsPayload}
+use Rattle.zh_returns.specs.Payload.{payload_spelling, entry_spelling, content_spelling, format_byte, zeros, closed_byte, numbers, table_of, IsPayload}
 use Rattle.zh_returns.specs.Tables.{place_of, bit_of}
 use Rattle.zh_returns.specs.Tally.{Tally, held}
 use Rattle.zh_records.proofs.CallerLemmas.{block_at, exact_keys, keys_total}
 use Rattle.zh_returns.proofs.ClosedBytesLemmas.{closed_bit, never}
 use Rattle.zh_returns.proofs.EntryBytesLemmas.{entries_wide}
 use Rattle.zh_returns.proofs.PlaceLemmas.{key_of-place_of}
-use Rattle.zh_returns.proofs.TallyTableLemmas.{length-table_of, at_table_of}
+use Rattle.zh_returns.proofs.TallyTableLemmas.{HasDesksOf, length-table_of, at_table_of}
 use Rattle.zh_returns.proofs.PayloadLemmas.{parts}
 use Rattle.zh_districts.proofs.CallerLemmas.{municipality_within, list_within}
 
@@ -127,7 +127,7 @@ same_closed a b limits_a limits_b same (suc m) =
     ]
 
 -- the bytes of two formats are not the same
-pub format_once : (f g : Format) → format_spelling f ≡ format_spelling g → f ≡ g
+pub format_once : (f g : Format) → (format_byte f ∷ zeros 174) ≡ (format_byte g ∷ zeros 174) → f ≡ g
 format_once One One same = refl
 format_once One Two same = absurd (let first = ap (λ (bytes : List ℕ). get_or bytes 0 0) same in omega arith)
 format_once Two One same = absurd (let first = ap (λ (bytes : List ℕ). get_or bytes 0 0) same in omega arith)

@@ -1,5 +1,5 @@
 -- The bytes of a count, part by part.
-use Rattle.std.proofs.Common.{◌≡◌, ◌<◌, ◌≤◌, ◌+◌, ◌-◌, ◌*◌, ◌^◌, ◌∙◌, ℕ, Bool, true, false, not, List, ◌++◌, length, get_or, take, drop, map, Option, None, sym, ap, arith, rules, tests, inl, inr, length-append, append_assoc}
+use Rattle.std.proofs.Common.{◌≡◌, ◌<◌, ◌≤◌, ◌+◌, ◌-◌, ◌*◌, ◌^◌, ◌∙◌, ℕ, Bool, true, false, not, List, ◌∷◌, ◌++◌, length, get_or, take, drop, map, Option, None, sym, ap, arith, rules, tests, inl, inr, length-append, append_assoc}
 use Rattle.std.specs.Int.{w64, to_be_bytes}
 use Rattle.std.specs.List.{flat_map, list_all}
 use Rattle.std.specs.FinSet as set_of
@@ -12,14 +12,14 @@ use Rattle.zh_records.specs.declared.format.Format.{Format}
 use Rattle.zh_records.specs.declared.format.Format.TheVariants.{One, Two}
 use Rattle.zh_returns.specs.declared.entry.Entry.{Entry}
 use Rattle.zh_returns.specs.Limits.{IsTally, IsEntry, IsEntryOf}
-use Rattle.zh_returns.specs.Payload.{payload_spelling, payload_length, entry_spelling, format_spelling, closed_byte, numbers, table_of, HasDesksOf}
+use Rattle.zh_returns.specs.Payload.{payload_spelling, payload_length, entry_spelling, format_byte, zeros, closed_byte, numbers, table_of}
 use Rattle.zh_returns.specs.Tables.{tally_from, closed_of, key_of, IsTable, IsHeldAt}
 use Rattle.zh_returns.specs.Tally.{Tally}
 use Rattle.zh_records.proofs.CallerLemmas.{length-blocks}
 use Rattle.zh_returns.proofs.ClosedBytesLemmas.{none_set-at}
 use Rattle.zh_returns.proofs.EntryBytesLemmas.{entries_wide}
 use Rattle.zh_returns.proofs.FlagLemmas.{contains-closed_of, closed_from_one}
-use Rattle.zh_returns.proofs.TallyTableLemmas.{length-table_of, each_key, if_weaker}
+use Rattle.zh_returns.proofs.TallyTableLemmas.{HasDesksOf, length-table_of, each_key, if_weaker}
 use Rattle.zh_returns.proofs.NumbersLemmas.{length-numbers}
 use Rattle.zh_returns.proofs.ZeroLemmas.{length-zeros}
 
@@ -29,30 +29,30 @@ four_parts a b c d rest =
     sym (append_assoc a (b ++ (c ++ d)) rest ∙ ap (λ (t : List ℕ). a ++ t) (append_assoc b (c ++ d) rest ∙ ap (λ (t : List ℕ). b ++ t) (append_assoc c d rest)))
 
 -- four parts that are those of a count are its bytes
-pub parts_are : (format : Format) (tally : Tally) (a b c d rest after : List ℕ) → a ≡ to_be_bytes w64 tally.accepted → b ≡ map (closed_byte tally) (numbers 0 64) → c ≡ format_spelling format →
+pub parts_are : (format : Format) (tally : Tally) (a b c d rest after : List ℕ) → a ≡ to_be_bytes w64 tally.accepted → b ≡ map (closed_byte tally) (numbers 0 64) → c ≡ (format_byte format ∷ zeros 174) →
     d ≡ flat_map entry_spelling (table_of tally 512) → rest ≡ after → a ++ (b ++ (c ++ (d ++ rest))) ≡ payload_spelling format tally ++ after
 parts_are format tally a b c d rest after ea eb ec ed er =
     four_parts a b c d rest
     ∙ ap (λ (t : List ℕ). (t ++ (b ++ (c ++ d))) ++ rest) ea
     ∙ ap (λ (t : List ℕ). (to_be_bytes w64 tally.accepted ++ (t ++ (c ++ d))) ++ rest) eb
     ∙ ap (λ (t : List ℕ). (to_be_bytes w64 tally.accepted ++ (map (closed_byte tally) (numbers 0 64) ++ (t ++ d))) ++ rest) ec
-    ∙ ap (λ (t : List ℕ). (to_be_bytes w64 tally.accepted ++ (map (closed_byte tally) (numbers 0 64) ++ (format_spelling format ++ t))) ++ rest) ed
+    ∙ ap (λ (t : List ℕ). (to_be_bytes w64 tally.accepted ++ (map (closed_byte tally) (numbers 0 64) ++ ((format_byte format ∷ zeros 174) ++ t))) ++ rest) ed
     ∙ ap (λ (t : List ℕ). payload_spelling format tally ++ t) er
 
-pub length-format : (format : Format) → length (format_spelling format) ≡ 175
+pub length-format : (format : Format) → length (format_byte format ∷ zeros 174) ≡ 175
 length-format One = let e = length-zeros 174 in omega arith
 length-format Two = let e = length-zeros 174 in omega arith
 
 -- what stands in the parts of bytes that are those of a count
 pub record Parts (format : Format) (tally : Tally) (bytes : List ℕ) : Type 0 where
   pub closed : take 64 (drop 8 bytes) ≡ map (closed_byte tally) (numbers 0 64)
-  pub says : take 175 (drop 64 (drop 8 bytes)) ≡ format_spelling format
+  pub says : take 175 (drop 64 (drop 8 bytes)) ≡ (format_byte format ∷ zeros 174)
   pub entries : drop 175 (drop 64 (drop 8 bytes)) ≡ flat_map entry_spelling (table_of tally 512)
   pub whole : length bytes ≡ payload_length
 
 pub parts : (format : Format) (tally : Tally) (bytes : List ℕ) → payload_spelling format tally ≡ bytes → Parts format tally bytes
 parts format tally bytes spelled =
-    let c : List ℕ = format_spelling format in
+    let c : List ℕ = format_byte format ∷ zeros 174 in
     let b : List ℕ = map (closed_byte tally) (numbers 0 64) in
     let d : List ℕ = flat_map entry_spelling (table_of tally 512) in
     let lb : length b ≡ 64 = length-map (numbers 0 64) (closed_byte tally) ∙ length-numbers 0 64 in
@@ -69,10 +69,10 @@ parts format tally bytes spelled =
 
 -- parts that are those of a count are all of the bytes
 pub parts_read : (format : Format) (tally : Tally) (bytes : List ℕ) → to_be_bytes w64 tally.accepted ≡ take 8 bytes → map (closed_byte tally) (numbers 0 64) ≡ take 64 (drop 8 bytes) →
-    format_spelling format ≡ take 175 (drop 64 (drop 8 bytes)) → flat_map entry_spelling (table_of tally 512) ≡ drop 175 (drop 64 (drop 8 bytes)) → payload_spelling format tally ≡ bytes
+    (format_byte format ∷ zeros 174) ≡ take 175 (drop 64 (drop 8 bytes)) → flat_map entry_spelling (table_of tally 512) ≡ drop 175 (drop 64 (drop 8 bytes)) → payload_spelling format tally ≡ bytes
 parts_read format tally bytes ea eb ec ed =
-    ap (λ (t : List ℕ). t ++ (map (closed_byte tally) (numbers 0 64) ++ (format_spelling format ++ flat_map entry_spelling (table_of tally 512)))) ea
-    ∙ ap (λ (t : List ℕ). take 8 bytes ++ (t ++ (format_spelling format ++ flat_map entry_spelling (table_of tally 512)))) eb
+    ap (λ (t : List ℕ). t ++ (map (closed_byte tally) (numbers 0 64) ++ ((format_byte format ∷ zeros 174) ++ flat_map entry_spelling (table_of tally 512)))) ea
+    ∙ ap (λ (t : List ℕ). take 8 bytes ++ (t ++ ((format_byte format ∷ zeros 174) ++ flat_map entry_spelling (table_of tally 512)))) eb
     ∙ ap (λ (t : List ℕ). take 8 bytes ++ (take 64 (drop 8 bytes) ++ (t ++ flat_map entry_spelling (table_of tally 512)))) ec
     ∙ ap (λ (t : List ℕ). take 8 bytes ++ (take 64 (drop 8 bytes) ++ (take 175 (drop 64 (drop 8 bytes)) ++ t))) ed
     ∙ ap (λ (t : List ℕ). take 8 bytes ++ (take 64 (drop 8 bytes) ++ t)) (take-append-drop 175 (drop 64 (drop 8 bytes)))

@@ -11,7 +11,7 @@ use Rattle.zh_returns.specs.declared.entry.Entry.{Entry}
 use Rattle.zh_returns.specs.Limits.{IsTally, IsEntry}
 use Rattle.zh_records.specs.Spelling.{last_desk}
 use Rattle.zh_records.specs.declared.format.Format.{Format}
-use Rattle.zh_returns.specs.Payload.{numbers, table_of, HasDesksOf}
+use Rattle.zh_returns.specs.Payload.{numbers, table_of}
 use Rattle.zh_returns.specs.Tables.{IsHeldAt, IsTable, key_of, entries_of, entries_from}
 use Rattle.zh_records.specs.Keys.{key_cmp}
 use Rattle.zh_returns.specs.Tally.{Tally, held}
@@ -75,6 +75,10 @@ each_key P table each key =
 pub if_weaker : (P Q : Entry → Type 0) (h : Option Entry) → ((entry : Entry) → P entry → Q entry) → IfSome h P → IfSome h Q
 if_weaker P Q None weaker is = tt
 if_weaker P Q (Some entry) weaker is = weaker entry is
+
+-- the desks of the entries are ones that the format can say
+abbrev pub HasDesksOf : Format → Tally → Type 0
+HasDesksOf format tally = (municipality list : ℕ) → IfSome (held tally municipality list) (λ entry. entry.desk ≤ last_desk format)
 
 if_held : (format : Format) (tally : Tally) (key : ℕ × ℕ) (h : Option Entry) → IfSome h IsEntry → IfSome h (λ entry. entry.desk ≤ last_desk format) →
     IfSome h (λ _. stands tally.canton (constituency_of tally.canton key.0) key.1 ≡ true) →

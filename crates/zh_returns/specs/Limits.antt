@@ -18,13 +18,14 @@ pub record IsEntryOf (format : Format) (entry : Entry) : Type 0 where
   pub number : (1 ≤ entry.number) × (entry.number < 2 ^ 32)
   pub votes : IfSome entry.votes (λ votes. votes ≤ most_votes)
 
+-- the same of the format that is written
 abbrev pub IsEntry : Entry → Type 0
 IsEntry = IsEntryOf Two
 
 -- entries within their limits, only of lists that stand in municipalities of the set-up; closed are only municipalities of the set-up
 pub record IsTally (tally : Tally) : Type 0 where
   pub canton : IsCanton tally.canton
-  pub entries : (municipality list : ℕ) → IfSome (held tally municipality list) IsEntry
+  pub entries : (municipality list : ℕ) → IfSome (held tally municipality list) (IsEntryOf Two)
   pub lists : (municipality list : ℕ) → IfSome (held tally municipality list)
       (λ _. stands tally.canton (constituency_of tally.canton municipality) list ≡ true)
   pub municipalities : (municipality list : ℕ) → IfSome (held tally municipality list)

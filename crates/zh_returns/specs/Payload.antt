@@ -52,23 +52,15 @@ abbrev pub format_byte : Format → ℕ
 format_byte One = 0
 format_byte Two = 2
 
--- the format in one byte, and 174 bytes not in use
-abbrev pub format_spelling : Format → List ℕ
-format_spelling format = format_byte format ∷ zeros 174
-
--- how many commands were accepted, which of 512 municipalities are closed, the format, and what is held
+-- how many commands were accepted, which of 512 municipalities are closed, the format and 174 bytes not in use, what is held
 abbrev pub payload_spelling : Format → Tally → List ℕ
 payload_spelling format tally =
     to_be_bytes w64 tally.accepted
-    ++ (map (closed_byte tally) (numbers 0 64) ++ (format_spelling format ++ flat_map entry_spelling (table_of tally 512)))
+    ++ (map (closed_byte tally) (numbers 0 64) ++ ((format_byte format ∷ zeros 174) ++ flat_map entry_spelling (table_of tally 512)))
 
--- the desks of the entries are ones that the format can say
-abbrev pub HasDesksOf : Format → Tally → Type 0
-HasDesksOf format tally = (municipality list : ℕ) → IfSome (held tally municipality list) (λ entry. entry.desk ≤ last_desk format)
-
--- these are the bytes of the count in this format
+-- these are the bytes of the count in this format, which can say the desks of its entries
 pub record IsPayload (format : Format) (tally : Tally) (bytes : List ℕ) : Type 0 where
-  pub desks : HasDesksOf format tally
+  pub desks : (municipality list : ℕ) → IfSome (held tally municipality list) (λ entry. entry.desk ≤ last_desk format)
   pub spelling : payload_spelling format tally ≡ bytes
 
 -- A count becomes the one that has these bytes in one of the formats; or there is none, and it is the count before the

@@ -1,6 +1,6 @@
 //! Laws about counts and accepted commands. The functions do nothing: their contracts are the laws.
 
-ghost use Rattle.std.specs.Prelude.{◌≡◌, ◌≤◌, ℕ, false, List, Some, length, slice_get};
+ghost use Rattle.std.specs.Prelude.{◌≡◌, ◌≤◌, ℕ, false, IfSome, List, Some, length, slice_get};
 ghost use Rattle.std.specs.Option.{IsSomeAnd};
 ghost use Rattle.zh_records.specs.declared.command.Command.{Command};
 ghost use Rattle.zh_records.specs.declared.command.Command.TheVariants as commands;
@@ -11,7 +11,7 @@ ghost use Rattle.zh_records.specs.Spelling.{FitsCommand, HasNumbers, IsSpeakable
 ghost use Rattle.zh_returns.specs.declared.verdict.Verdict.TheVariants.{Accept, Same};
 ghost use Rattle.zh_returns.specs.Judgement.{judge, judge_row};
 ghost use Rattle.zh_returns.specs.Limits.{IsTally};
-ghost use Rattle.zh_returns.specs.Payload.{payload_spelling, payload_length, format_byte, HasDesksOf};
+ghost use Rattle.zh_returns.specs.Payload.{payload_spelling, payload_length, format_byte};
 ghost use Rattle.zh_returns.specs.Step.{changed, named_desk, entry_of};
 ghost use Rattle.zh_returns.specs.Tally.{Tally, held};
 
@@ -23,7 +23,8 @@ pub fn one_payload()
     ensures same { (f g : Format) (a b : Tally) → IsTally a → IsTally b → a.canton ≡ b.canton
         → payload_spelling f a ≡ payload_spelling g b → a ≡ b }
     ensures one_format { (f g : Format) (a b : Tally) → payload_spelling f a ≡ payload_spelling g b → f ≡ g }
-    ensures desks { (tally : Tally) → IsTally tally → HasDesksOf Format.Two tally }
+    ensures desks { (tally : Tally) → IsTally tally
+        → (municipality list : ℕ) → IfSome (held tally municipality list) (λ entry. entry.desk ≤ last_desk Format.Two) }
 {}
 
 /// The numbers of an accepted command have room in its bytes, if its desk is one that they can say.

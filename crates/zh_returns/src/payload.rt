@@ -1,10 +1,10 @@
 //! The bytes of a count, part by part.
 
-ghost use Rattle.std.specs.Prelude.{◌≡◌, ◌≢◌, ◌+◌, ◌++◌, ◌≤◌, ◌<◌, ◌^◌, length, drop, slice_get, Some, IfSome, IfNone};
+ghost use Rattle.std.specs.Prelude.{◌≡◌, ◌≢◌, ◌+◌, ◌∷◌, ◌++◌, ◌≤◌, ◌<◌, ◌^◌, length, drop, slice_get, Some, IfSome, IfNone};
 ghost use Rattle.zh_districts.specs.Canton.{Canton};
 ghost use Rattle.zh_returns.specs.Limits.{IsTally};
 ghost use Rattle.zh_records.specs.declared.format.Format.{Format};
-ghost use Rattle.zh_returns.specs.Payload.{IsPayload, format_byte, format_spelling, payload_spelling, zeros};
+ghost use Rattle.zh_returns.specs.Payload.{IsPayload, format_byte, payload_spelling, zeros};
 ghost use Rattle.zh_returns.specs.Tables.{tally_from};
 ghost use Rattle.zh_returns.specs.Tally.{Tally};
 
@@ -54,7 +54,7 @@ fn write_zeros(out: &mut [u8])
 /// Writes that the bytes are those of format Two.
 fn write_format(out: &mut [u8])
     requires { length out.old ≡ FORMAT_LENGTH }
-    ensures { out.new ≡ format_spelling Format.Two }
+    ensures { out.new ≡ format_byte Format.Two ∷ zeros 174 }
 {
     write_zeros(out);
     out[0] = FORMAT_TWO;
@@ -75,8 +75,8 @@ fn format_of(byte: u8) -> Option<Format>
 /// The format that these bytes spell, if they spell one.
 fn read_format(bytes: &[u8]) -> Option<Format>
     requires { length bytes.now ≡ FORMAT_LENGTH }
-    ensures read { IfSome result (λ format. format_spelling format ≡ bytes.now) }
-    ensures refused { IfNone result ((format : Format) → format_spelling format ≢ bytes.now) }
+    ensures read { IfSome result (λ format. (format_byte format ∷ zeros 174) ≡ bytes.now) }
+    ensures refused { IfNone result ((format : Format) → (format_byte format ∷ zeros 174) ≢ bytes.now) }
 {
     if !is_zero(&bytes[1..]) {
         return None;

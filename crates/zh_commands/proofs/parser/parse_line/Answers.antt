@@ -1,6 +1,6 @@
 use Rattle.std.proofs.Common.{ap, drop, length, sym, ◌∙◌, arith, decimal}
-use Rattle.zh_commands.specs.Lines.{request_text}
 use Rattle.zh_commands.proofs.LineLemmas.{split_spelling, NamesDesk, length-spelling}
+use Rattle.zh_commands.proofs.RequestLemmas.{request_text}
 use Rattle.zh_commands.proofs.parser.parse_line.Goals as goal
 
 pub returns-then-bytes-gt-LONGEST : goal.returns-then-bytes-gt-LONGEST

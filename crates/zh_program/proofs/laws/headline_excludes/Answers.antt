@@ -1,6 +1,11 @@
-use Rattle.std.proofs.Common.{◌∙◌, ap}
+use Rattle.std.proofs.Common.{◌≡◌, ◌∙◌, ap, subst, Option}
+use Rattle.std.specs.Prelude.{IfSome}
+use Rattle.zh_records.specs.declared.command.Command.{Command}
+use Rattle.zh_returns.specs.Judgement.{judge}
+use Rattle.zh_returns.specs.declared.verdict.Verdict.TheVariants as verdicts
 use Rattle.zh_totals.specs.Counting.{totals_of}
-use Rattle.zh_program.proofs.ExcludeLemmas.{none_lost, none_on_half, none_other}
+use Rattle.zh_program.proofs.ExcludeLemmas.{none_lost, none_new, none_on_half, none_other}
+use Rattle.zh_program.specs.Exchanges.{count_by, log_of}
 use Rattle.zh_program.proofs.laws.headline_excludes.Goals as goal
 
 pub returns-clause-lost : goal.returns-clause-lost
@@ -8,6 +13,13 @@ returns-clause-lost c = λ tally first opened last exchanges done rest image n p
 
 pub returns-clause-skipped : goal.returns-clause-skipped
 returns-clause-skipped c = λ tally count first opened last exchanges done rest x image promise is stop holds own other. none_other tally first opened last exchanges promise done rest x image count is stop holds own other
+
+pub returns-clause-nothing_stored : goal.returns-clause-nothing_stored
+returns-clause-nothing_stored c = λ tally first opened last exchanges done rest x number promise is answer none. promise.stored done rest x is number answer none
+
+pub returns-clause-not_same : goal.returns-clause-not_same
+returns-clause-not_same c = λ tally first opened last exchanges done rest x command promise is answer given accepted.
+    none_new (judge (count_by tally (log_of done)) command) accepted (subst (λ (d : Option Command). IfSome d (λ e. judge (count_by tally (log_of done)) e ≡ verdicts.Same)) given (promise.same done rest x is answer))
 
 pub returns-clause-other_count : goal.returns-clause-other_count
 returns-clause-other_count c = λ tally first opened last exchanges done rest x sheet is_final promise is answer other.
@@ -18,4 +30,4 @@ returns-clause-half c = λ tally first opened last exchanges done rest x sheet i
     none_on_half _ _ _ k ((promise.sheets done rest x is sheet is_final answer).meets.lower.each_rounds d g row column) half
 
 pub returns-clause-tie : goal.returns-clause-tie
-returns-clause-tie c = λ tally first opened last exchanges done rest x sheet promise is tie same meets. promise.ties done rest x is tie sheet same meets
+returns-clause-tie c = λ tally first opened last exchanges done rest x sheet promise is tie same meets. promise.ties_are_true done rest x is tie sheet same meets

@@ -3,8 +3,7 @@ use Rattle.std.specs.Int.{w16, to_be_bytes}
 use Rattle.byteorder.specs.Endian.{big_number}
 use Rattle.zh_records.specs.declared.row.Row.{Row}
 use Rattle.zh_records.specs.Rows.{IsBatch}
-use Rattle.zh_records.specs.Spelling.{batch_spelling}
-use Rattle.zh_records.proofs.RowBytesLemmas.{rows_are}
+use Rattle.zh_records.proofs.RowBytesLemmas.{batch_spelling, rows_are}
 use Rattle.zh_records.proofs.decoder.read_batch.Goals as goal
 
 -- the number of rows in front is another
