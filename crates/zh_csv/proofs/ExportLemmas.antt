@@ -2,12 +2,13 @@
 use Rattle.std.proofs.Common.{◌≡◌, ◌<◌, ◌+◌, ◌^◌, ℕ, zero, suc, List, [], ◌∷◌, ◌++◌, length, get_or, false, Option, Some, None, refl, sym, ap, ◌∙◌, arith, append_assoc, add-zero, subst, decimal, All, IfSome}
 use Rattle.std.specs.Int.{IsInRange}
 use Rattle.std.specs.List.{flat_map, list_any}
-use Rattle.std.specs.Io.KnownBytes.{Appends, Keeps, append_known}
-use Rattle.std.proofs.lemmas.List.{append-nil, flat_map_more}
 use Rattle.std.proofs.lemmas.Bool.Decides.{nat_tests}
 use Rattle.std.proofs.lemmas.Fmt.{decimal_is_IsNumeral}
 use Rattle.std.proofs.lemmas.Str.Parse.{digit_at}
 use Rattle.csv.specs.Writing.{default_writer, needs_byte, needs_quotes, fields_text, row_text, is_blank}
+use Rattle.csv.specs.declared.writer.Writer.{Writer}
+use Rattle.zh_tables.specs.Records.{IsBetweenRecords, PutsText, record_text}
+use Rattle.zh_tables.proofs.CallerLemmas.{Puts-none, Puts-push}
 use Rattle.zh_returns.specs.declared.entry.Entry.{Entry}
 use Rattle.zh_returns.specs.Payload.{numbers}
 use Rattle.zh_csv.specs.Records.{Record}
@@ -70,46 +71,19 @@ numbers-push first (suc n) =
     let same : first + 1 + n ≡ first + suc n = omega arith in
     ap (λ (l : List ℕ). first ∷ l) (numbers-push (first + 1) n ∙ ap (λ (k : ℕ). numbers (first + 1) n ++ k ∷ []) same)
 
--- bytes, and then more
-pub Appends-join : (a b c : Option (List ℕ)) (xs ys : List ℕ) → Appends a b xs → Appends b c ys → Appends a c (xs ++ ys)
-Appends-join None b c xs ys h k = tt
-Appends-join (Some kept) None c xs ys h k = absurd h
-Appends-join (Some kept) (Some more) None xs ys h k = absurd k
-Appends-join (Some kept) (Some more) (Some cs) xs ys h k = k ∙ ap (λ (l : List ℕ). l ++ ys) h ∙ append_assoc kept xs ys
-
-pub Appends-none : (a : Option (List ℕ)) → Appends a a []
-Appends-none None = tt
-Appends-none (Some kept) = sym (append-nil kept)
-
 -- what was written for the numbers so far, and then for the next
-pub Appends-next : (f : ℕ → List ℕ) (a b c : Option (List ℕ)) (n : ℕ) → Appends a b (flat_map f (numbers 1 n)) → Appends b c (f (n + 1)) → Appends a c (flat_map f (numbers 1 (n + 1)))
-Appends-next f a b c n h k =
+pub Puts-next : {W : Type 0} (contents : W → Option (List ℕ)) (f : ℕ → List ℕ) (n : ℕ) (a b c : Writer W) → PutsText contents (flat_map f (numbers 1 n)) a b → PutsText contents (f (n + 1)) b c → PutsText contents (flat_map f (numbers 1 (n + 1))) a c
+Puts-next contents f n a b c first second =
     let next : n + 1 ≡ 1 + n = omega arith in
     let one : suc n ≡ n + 1 = omega arith in
-    let all : flat_map f (numbers 1 n) ++ f (n + 1) ≡ flat_map f (numbers 1 (n + 1)) =
-    flat_map_more f [] (numbers 1 n) (n + 1) ∙ ap (flat_map f) (ap (λ (k : ℕ). numbers 1 n ++ k ∷ []) next ∙ sym (numbers-push 1 n) ∙ ap (numbers 1) one) in
-    subst (Appends a c) all (Appends-join a b c (flat_map f (numbers 1 n)) (f (n + 1)) h k)
-
--- from a writer to what it gives back
-pub Appends-all : (a b c : Option (List ℕ)) (xs : List ℕ) → Appends (append_known a []) b xs → Keeps b c → Appends a c xs
-Appends-all None b c xs h k = tt
-Appends-all (Some kept) None c xs h k = absurd h
-Appends-all (Some kept) (Some more) None xs h k = absurd k
-Appends-all (Some kept) (Some more) (Some cs) xs h k = k ∙ h ∙ ap (λ (l : List ℕ). l ++ xs) (append-nil kept)
+    let all : numbers 1 n ++ (n + 1) ∷ [] ≡ numbers 1 (n + 1) = ap (λ (k : ℕ). numbers 1 n ++ k ∷ []) next ∙ sym (numbers-push 1 n) ∙ ap (numbers 1) one in
+    subst (λ (ns : List ℕ). PutsText contents (flat_map f ns) a c) all (Puts-push contents f (numbers 1 n) (n + 1) a b c first second)
 
 -- nothing was written yet
-pub Appends-start : (f : ℕ → List ℕ) (a : Option (List ℕ)) → Appends a a (flat_map f (numbers 1 0))
+pub Puts-start : {W : Type 0} (contents : W → Option (List ℕ)) (f : ℕ → List ℕ) (writer : Writer W) → IsBetweenRecords writer → PutsText contents (flat_map f (numbers 1 0)) writer writer
 unfolding numbers
-Appends-start f a = Appends-none a
+Puts-start contents f writer ready = Puts-none contents writer ready
 
--- two parts, from a writer to what it gives back
-pub Appends-whole : (a b c d : Option (List ℕ)) (xs ys : List ℕ) → Appends (append_known a []) b xs → Appends b c ys → Keeps c d → Appends a d (xs ++ ys)
-Appends-whole a b c d xs ys h k l = Appends-all a c d (xs ++ ys) (Appends-join (append_known a []) b c xs ys h k) l
-
--- the same of equal fields
-pub plain_along : (a b c d x y z w : List ℕ) → a ≡ x → b ≡ y → c ≡ z → d ≡ w → ArePlain (x ∷ y ∷ z ∷ w ∷ []) → ArePlain (a ∷ b ∷ c ∷ d ∷ [])
-plain_along a b c d x y z w e f g h plain =
-    subst ArePlain (λ i. sym e i ∷ sym f i ∷ sym g i ∷ sym h i ∷ []) plain
-
-pub line_along : (a b c d x y z w : List ℕ) → a ≡ x → b ≡ y → c ≡ z → d ≡ w → line (a ∷ b ∷ c ∷ d ∷ []) ≡ line (x ∷ y ∷ z ∷ w ∷ [])
-line_along a b c d x y z w e f g h = λ i. line (e i ∷ f i ∷ g i ∷ h i ∷ [])
+-- what `csv` writes for fields that are those of a plain record is the line of that record
+pub plain_record : (a b c d x y z w : List ℕ) → a ≡ x → b ≡ y → c ≡ z → d ≡ w → ArePlain (x ∷ y ∷ z ∷ w ∷ []) → record_text (a ∷ b ∷ c ∷ d ∷ []) ≡ line (x ∷ y ∷ z ∷ w ∷ [])
+plain_record a b c d x y z w e f g h plain = ap record_text (λ i. e i ∷ f i ∷ g i ∷ h i ∷ []) ∙ row_text-plain (x ∷ y ∷ z ∷ w ∷ []) plain

@@ -1,3 +1,4 @@
+pub mod CallerLemmas
 mod ExportLemmas
 mod FieldLemmas
 mod FirstRecordsLemmas

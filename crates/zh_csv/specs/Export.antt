@@ -1,8 +1,7 @@
 -- The text of a count. 44 is the comma, 10 the end of a line.
 use Rattle.std.specs.Prelude.{◌≡◌, ◌≤◌, All, ℕ, List, [], ◌∷◌, ◌++◌, length, Option, Some, None, codes, decimal, false}
 use Rattle.std.specs.List.{flat_map}
-use Rattle.csv.specs.Writing.{default_writer, needs_quotes, writer_setup, fields_written, has_written}
-use Rattle.csv.specs.declared.writer.Writer.{Writer}
+use Rattle.csv.specs.Writing.{default_writer, needs_quotes}
 use Rattle.zh_returns.specs.declared.entry.Entry.{Entry}
 use Rattle.zh_returns.specs.Payload.{numbers}
 use Rattle.zh_returns.specs.Tally.{Tally, held}
@@ -43,12 +42,6 @@ municipality_text tally municipality = flat_map (list_text tally municipality) (
 -- the line of the names, and then those of what is held, municipality by municipality
 abbrev pub export_text : Tally → List ℕ
 export_text tally = line names ++ flat_map (municipality_text tally) (numbers 1 (length tally.canton.municipalities))
-
--- a writer with the defaults of `csv`, between two records
-pub record IsBetween {W : Type 0} (writer : Writer W) : Type 0 where
-  pub setup : writer_setup writer ≡ default_writer
-  pub fields : fields_written writer ≡ 0
-  pub wrote : has_written writer ≡ false
 
 -- fields, two at least, none of which calls for quotes
 abbrev pub ArePlain : Record → Type 0

@@ -1,55 +1,18 @@
 //! The count written as text.
 
-ghost use Rattle.std.specs.Prelude.{◌≡◌, ◌≤◌, length, map, OnOk, IfOk};
+ghost use Rattle.std.specs.Prelude.{◌≡◌, ◌≤◌, length, OnOk, IfOk};
 ghost use Rattle.std.specs.Io.KnownBytes.{Appends};
-ghost use Rattle.csv.specs.Writing.{text_written};
 ghost use Rattle.std.specs.List.{flat_map};
 ghost use Rattle.zh_returns.specs.Payload.{numbers};
+ghost use Rattle.zh_tables.specs.Records.{IsBetweenRecords, PutsText};
 ghost use Rattle.zh_csv.specs.Load.{names};
 ghost use Rattle.zh_csv.specs.Export.{line, record_of, entry_text, municipality_text, export_text, votes_field};
-ghost use Rattle.zh_csv.specs.Export.{ArePlain, IsBetween};
 
-use csv::{Error, ErrorKind, Writer, WriterBuilder};
+use csv::{Writer, WriterBuilder};
 use itoa::Buffer;
 use std::io::Write;
-use thiserror::Error as ErrorOfLibrary;
 use zh_returns::{Count, Entry};
-
-/// Why a count is not written to its end.
-#[derive(Clone, Copy, Debug, PartialEq, Eq, ErrorOfLibrary)]
-pub enum ExportFault {
-    /// Memory ran out.
-    #[error("memory")]
-    Memory,
-    /// The writer failed, or took no byte.
-    #[error("write")]
-    Write,
-}
-
-/// The fault for an error of the writer.
-fn fault_by(error: &Error) -> ExportFault {
-    match error.kind() {
-        ErrorKind::OutOfMemory => ExportFault::Memory,
-        _ => ExportFault::Write,
-    }
-}
-
-/// Writes the record of these fields.
-fn write_record<W: Write + Drop>(
-    writer: &mut Writer<W>,
-    fields: &[&[u8]],
-) -> Result<(), ExportFault>
-    requires ready { IsBetween writer.old }
-    requires plain { ArePlain (map (λ field. field.now) fields.now) }
-    ensures written { OnOk result
-        (Appends (text_written W.contents writer.old) (text_written W.contents writer.new) (line (map (λ field. field.now) fields.now))) }
-    ensures ready { OnOk result (IsBetween writer.new) }
-{
-    match writer.write_fields(fields) {
-        Ok(()) => Ok(()),
-        Err(error) => Err(fault_by(&error)),
-    }
-}
+use zh_tables::{RecordFault, write_record};
 
 /// The field of votes: their numeral, or that the list is withdrawn.
 fn votes_field(votes: Option<u32>, numeral: &mut Buffer) -> &[u8]
@@ -67,11 +30,9 @@ fn write_entry<W: Write + Drop>(
     municipality: u32,
     list: u32,
     entry: Entry,
-) -> Result<(), ExportFault>
-    requires ready { IsBetween writer.old }
-    ensures written { OnOk result
-        (Appends (text_written W.contents writer.old) (text_written W.contents writer.new) (line (record_of municipality list entry))) }
-    ensures ready { OnOk result (IsBetween writer.new) }
+) -> Result<(), RecordFault>
+    requires { IsBetweenRecords writer.old }
+    ensures { OnOk result (PutsText W.contents (line (record_of municipality list entry)) writer.old writer.new) }
 {
     let mut municipality_numeral = Buffer::new();
     let mut list_numeral = Buffer::new();
@@ -92,11 +53,9 @@ fn write_held<W: Write + Drop>(
     municipality: u32,
     list: u32,
     held: Option<Entry>,
-) -> Result<(), ExportFault>
-    requires ready { IsBetween writer.old }
-    ensures written { OnOk result
-        (Appends (text_written W.contents writer.old) (text_written W.contents writer.new) (entry_text municipality list held)) }
-    ensures ready { OnOk result (IsBetween writer.new) }
+) -> Result<(), RecordFault>
+    requires { IsBetweenRecords writer.old }
+    ensures { OnOk result (PutsText W.contents (entry_text municipality list held) writer.old writer.new) }
 {
     match held {
         Some(entry) => write_entry(writer, municipality, list, entry),
@@ -109,13 +68,11 @@ fn write_municipality<W: Write + Drop>(
     writer: &mut Writer<W>,
     count: &Count<'_>,
     municipality: u32,
-) -> Result<(), ExportFault>
-    requires ready { IsBetween writer.old }
+) -> Result<(), RecordFault>
+    requires ready { IsBetweenRecords writer.old }
     requires from_one { 1 ≤ municipality }
     requires there { municipality ≤ length count.now.canton.municipalities }
-    ensures written { OnOk result
-        (Appends (text_written W.contents writer.old) (text_written W.contents writer.new) (municipality_text count.now municipality)) }
-    ensures ready { OnOk result (IsBetween writer.new) }
+    ensures { OnOk result (PutsText W.contents (municipality_text count.now municipality) writer.old writer.new) }
 {
     for place in 0..count.setup().groups() {
         let list = place + 1;
@@ -128,11 +85,10 @@ fn write_municipality<W: Write + Drop>(
 fn write_entries<W: Write + Drop>(
     writer: &mut Writer<W>,
     count: &Count<'_>,
-) -> Result<(), ExportFault>
-    requires ready { IsBetween writer.old }
-    ensures written { OnOk result
-        (Appends (text_written W.contents writer.old) (text_written W.contents writer.new)
-        (flat_map (municipality_text count.now) (numbers 1 (length count.now.canton.municipalities)))) }
+) -> Result<(), RecordFault>
+    requires { IsBetweenRecords writer.old }
+    ensures { OnOk result (PutsText W.contents
+        (flat_map (municipality_text count.now) (numbers 1 (length count.now.canton.municipalities))) writer.old writer.new) }
 {
     for place in 0..count.setup().municipalities() {
         write_municipality(writer, count, place + 1)?;
@@ -141,11 +97,9 @@ fn write_entries<W: Write + Drop>(
 }
 
 /// Writes the names of the columns.
-fn write_names<W: Write + Drop>(writer: &mut Writer<W>) -> Result<(), ExportFault>
-    requires ready { IsBetween writer.old }
-    ensures written { OnOk result
-        (Appends (text_written W.contents writer.old) (text_written W.contents writer.new) (line names)) }
-    ensures ready { OnOk result (IsBetween writer.new) }
+fn write_names<W: Write + Drop>(writer: &mut Writer<W>) -> Result<(), RecordFault>
+    requires { IsBetweenRecords writer.old }
+    ensures { OnOk result (PutsText W.contents (line names) writer.old writer.new) }
 {
     let columns = [
         b"municipality".as_slice(),
@@ -158,7 +112,7 @@ fn write_names<W: Write + Drop>(writer: &mut Writer<W>) -> Result<(), ExportFaul
 
 /// Writes the count: the names of the columns, and then a record for each municipality and list under which something
 /// is held, in order. It gives the writer back. After an error a front of the text may be written.
-pub fn write_count<W: Write + Drop>(count: &Count<'_>, writer: W) -> Result<W, ExportFault>
+pub fn write_count<W: Write + Drop>(count: &Count<'_>, writer: W) -> Result<W, RecordFault>
     ensures { IfOk result (λ after. Appends (W.contents writer) (W.contents after) (export_text count.now)) }
 {
     let mut writer = WriterBuilder::new().from_writer(writer);
@@ -166,6 +120,6 @@ pub fn write_count<W: Write + Drop>(count: &Count<'_>, writer: W) -> Result<W, E
     write_entries(&mut writer, count)?;
     match writer.into_inner() {
         Ok(writer) => Ok(writer),
-        Err(_) => Err(ExportFault::Write),
+        Err(_) => Err(RecordFault::Write),
     }
 }

@@ -11,10 +11,10 @@ use zh_commands::numeral;
 use zh_records::Row;
 
 /// How many fields a record has.
-const FIELDS: usize = 4;
+pub const FIELDS: usize = 4;
 
 /// A field of a record.
-fn field(record: &ByteRecord, place: usize) -> &[u8]
+pub fn field(record: &ByteRecord, place: usize) -> &[u8]
     requires { place < length (fields_of «record».now) }
     ensures { result.now ≡ get_or (fields_of «record».now) place [] }
 {
@@ -32,7 +32,7 @@ fn are_names(municipality: &[u8], list: &[u8], number: &[u8], votes: &[u8]) -> b
 }
 
 /// Whether a record is the names of the columns.
-pub(crate) fn is_names(record: &ByteRecord) -> bool
+pub fn is_names(record: &ByteRecord) -> bool
     ensures { IsTrue result ↔ (fields_of «record».now ≡ names) }
 {
     record.len() == FIELDS

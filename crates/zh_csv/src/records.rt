@@ -12,7 +12,7 @@ use std::alloc::Global;
 use std::io::Read;
 
 /// A reader of the records of a text, none of which it takes for a header row.
-pub(crate) fn reader_of<R: Read>(alloc: Global, text: R) -> Reader<R>
+pub fn reader_of<R: Read>(alloc: Global, text: R) -> Reader<R>
     ensures { (bytes : List ℕ) → R.remaining text ≡ Some bytes → HasRead R.remaining bytes [] result }
 {
     ReaderBuilder::new()
@@ -32,7 +32,7 @@ fn fault_by(error: &Error) -> LoadFault
 }
 
 /// Reads the next record, and returns whether there was one.
-pub(crate) fn next_record<R: Read>(
+pub fn next_record<R: Read>(
     reader: &mut Reader<R>,
     record: &mut ByteRecord,
 ) -> Result<bool, LoadFault>

@@ -1,2 +1,3 @@
 -- What the crates above may use.
 pub use Rattle.zh_office.proofs.LoggedLemmas.{acts_submitted, turn_submitted, turn_honest, run_is_logged, run_honest}
+pub use Rattle.zh_office.proofs.ContinuesLemmas.{risen_since}

@@ -1,6 +1,7 @@
 pub mod CallerLemmas
 mod BlockLemmas
 mod CalmAnswerLemmas
+mod ContinuesLemmas
 mod InputLemmas
 mod LoadLemmas
 mod LoggedLemmas

@@ -41,7 +41,7 @@ turn_submitted old line answer new turn =
     acts_submitted (its_ledger old) (command_read old.holder turn.reading) (MayAnswer old.holder turn.reading) answer turn.log (its_ledger new) turn.acts
 
 -- line after line
-run_submitted : (old : OnDisk Office) (lines : List (List ℕ)) (out : List ℕ) (log : Log) (new : OnDisk Office)
+pub run_submitted : (old : OnDisk Office) (lines : List (List ℕ)) (out : List ℕ) (log : Log) (new : OnDisk Office)
     → Runs old lines out log new → (commands : List (Command × Outcome)) × Submits (its_ledger old) commands log (its_ledger new)
 run_submitted old [] out log new run = ([], (run.logs, ap its_ledger run.same))
 run_submitted old (line ∷ lines) out log new run =

@@ -1,9 +1,10 @@
 -- A run of an office over lines.
-use Rattle.std.specs.Prelude.{◌≡◌, ℕ, List, [], ◌∷◌, ◌++◌, Result}
+use Rattle.std.specs.Prelude.{◌≡◌, ◌≤◌, ℕ, List, [], ◌∷◌, ◌++◌, Result, IsTrue, true, false}
 use Rattle.zh_commands.specs.Lines.{ParsesAs, desk_of}
 use Rattle.zh_commands.specs.Replies.{reply_text}
 use Rattle.zh_commands.specs.declared.lines.Line.{Line}
 use Rattle.zh_commands.specs.declared.lines.LineFault.{LineFault}
+use Rattle.zh_disk.specs.History.{HasRisen}
 use Rattle.zh_ledger.specs.Ledger.{Ledger}
 use Rattle.zh_ledger.specs.Submissions.{OnDisk, of_ledger, Log, nothing, followed_by}
 use Rattle.zh_sheet_text.specs.SheetText.{sheet_text}
@@ -15,6 +16,13 @@ use Rattle.zh_office.specs.Office.{Office, MayAnswer, command_read, batches_afte
 -- the ledger of an office, on the same disk
 abbrev pub its_ledger : OnDisk Office → OnDisk Ledger
 its_ledger = of_ledger (λ o. o.ledger)
+
+-- What a ledger's calls leave of it and of the history of its disk, whatever they are: a disk that is honest was so before,
+-- no failure is forgotten, and one came where the ledger broke.
+pub record Continues (old new : OnDisk Ledger) : Type 0 where
+  pub kept : IsTrue new.history.honest → IsTrue old.history.honest
+  pub later : old.history.failures ≤ new.history.failures
+  pub cause : old.holder.store.broken ≡ false → new.holder.store.broken ≡ true → HasRisen old.history.failures new.history.failures
 
 -- the office may answer these bytes of a line so, and then it and its disk hold this
 pub record Turn (old : OnDisk Office) (bytes : List ℕ) (answer : Answer) (new : OnDisk Office) : Type 0 where

@@ -4,6 +4,7 @@ ghost use Rattle.std.specs.Prelude.{◌≡◌, ℕ, true, false, Bool, List, Opt
 ghost use Rattle.zh_csv.specs.Load.{LoadsFrom};
 ghost use Rattle.zh_csv.specs.Noted.{has_failed, inner_reader};
 ghost use Rattle.zh_office.specs.Load.{LoadTurn, load_refusal};
+ghost use Rattle.zh_office.specs.Runs.{Continues};
 ghost use Rattle.zh_ledger.specs.Submissions.{on_disk};
 ghost use Rattle.zh_answers.specs.Requests.{answer_may_write};
 ghost use Rattle.zh_answers.specs.declared.answer.Answer.TheVariants as answers;
@@ -43,6 +44,7 @@ impl<'s> Office<'s> {
             (R.remaining (inner_reader reader.old)) (has_failed reader.new) result
             (on_disk self.new (D.history disk.new)) }
 
+        ensures disk { Continues (on_disk self.old.ledger (D.history disk.old)) (on_disk self.new.ledger (D.history disk.new)) }
         ensures untouched { answer_may_write (answers.Reply result) ≡ false → disk.new ≡ disk.old }
         ensures unread { self.old.ledger.store.broken ≡ true → reader.new ≡ reader.old }
     {
@@ -60,6 +62,7 @@ impl<'s> Office<'s> {
         requires whole { self.old.ledger.store.broken ≡ false }
         ensures turn { (text : Option (List ℕ)) (failed : Bool) → LoadsFrom self.old.ledger.tally.canton text failed (Ok batch.now)
             → LoadTurn (on_disk self.old (D.history disk.old)) text failed result (on_disk self.new (D.history disk.new)) }
+        ensures disk { Continues (on_disk self.old.ledger (D.history disk.old)) (on_disk self.new.ledger (D.history disk.new)) }
         ensures untouched { answer_may_write (answers.Reply result) ≡ false → disk.new ≡ disk.old }
     {
         if batch.len() == 0 {

@@ -1,6 +1,8 @@
 //! Serving the lines of a reader.
 
 ghost use Rattle.std.specs.Prelude.{◌≡◌, ◌++◌, length, MatchResult, IfOk, IsErrOf, OnOk};
+ghost use Rattle.zh_ledger.specs.Submissions.{on_disk};
+ghost use Rattle.zh_office.specs.Runs.{Continues};
 ghost use Rattle.zh_office.specs.Text.{HasNoEnd, ended_lines, last_line};
 ghost use Rattle.zh_office.specs.Served.{session, WritesAnswer, AnswersAll, BreaksOff, TakesBlock};
 ghost use Rattle.zh_office.specs.Served.{ServesAll, ServesEnded, ServesFront, TakesFewerReads, TakesReads, TakesReadsUpTo};
@@ -139,6 +141,8 @@ impl<'s> Office<'s> {
         ensures turns { IsErrOf result ServeFault.Turns → ServesEnded (R.remaining reader.old) (R.remaining reader.new)
             (session (W.contents writer.old) self.old (D.history disk.old))
             (session (W.contents writer.new) self.new (D.history disk.new)) }
+        // However it ends: the history of the disk goes on from that before, and none of its failures is forgotten.
+        ensures disk { Continues (on_disk self.old.ledger (D.history disk.old)) (on_disk self.new.ledger (D.history disk.new)) }
         // Each read but the last took a byte at least. So as many bytes as turns were there, where the turns are used up.
         ensures enough { IsErrOf result ServeFault.Turns → TakesReads (R.remaining reader.old) (R.remaining reader.new) turns }
         ensures most { OnOk result (TakesFewerReads (R.remaining reader.old) (R.remaining reader.new) turns) }

@@ -1,1 +1,3 @@
+pub mod CallerLemmas
+mod RecordLemmas
 mod TextLemmas

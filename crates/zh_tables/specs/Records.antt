@@ -19,6 +19,7 @@ pub record IsBetweenRecords {W : Type 0} (writer : Writer W) : Type 0 where
   pub fields : fields_written writer ≡ 0
   pub wrote : has_written writer ≡ false
 
--- this text was written, as far as the bytes of the writer underneath are known
-abbrev pub WritesText : {W : Type 0} → (W → Option (List ℕ)) → Writer W → Writer W → List ℕ → Type 0
-WritesText contents old new text = Appends (text_written contents old) (text_written contents new) text
+-- this text was written, as far as the bytes of the writer underneath are known, and the writer is between two records again
+pub record PutsText {W : Type 0} (contents : W → Option (List ℕ)) (text : List ℕ) (old new : Writer W) : Type 0 where
+  pub written : Appends (text_written contents old) (text_written contents new) text
+  pub ready : IsBetweenRecords new

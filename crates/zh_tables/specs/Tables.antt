@@ -10,6 +10,8 @@ use Rattle.zh_districts.specs.declared.shares.SeatFault.TheVariants as refusals
 use Rattle.zh_tables.specs.Records.{TableRecord, record_text}
 use Rattle.zh_tables.specs.declared.fault.ListFault.{ListFault}
 use Rattle.zh_tables.specs.declared.fault.ListFault.TheVariants as faults
+use Rattle.zh_tables.specs.declared.records.RecordFault.{RecordFault}
+use Rattle.zh_tables.specs.declared.records.RecordFault.TheVariants as records
 use Rattle.zh_tables.specs.declared.table.Table.{Table}
 use Rattle.zh_tables.specs.declared.table.Table.TheVariants.{Constituencies, Municipalities, Groups, Lists}
 
@@ -83,17 +85,18 @@ AreLines canton Lists lines = lines ≡ list_rows canton
 abbrev pub IsTableText : Canton → Table → List ℕ → Type 0
 IsTableText canton table text = (lines : List ℕ) × AreLines canton table lines × (text ≡ record_text (header table) ++ lines)
 
--- the fault is one of the writer or of memory
-abbrev pub IsOfWriter : ListFault → Type 0
-IsOfWriter (faults.Seats refusal) = ⊥
-IsOfWriter fault = Unit {0}
+-- the fault of a record that is not written, as that of its table
+abbrev pub RecordedAs : RecordFault → ListFault → Type 0
+RecordedAs records.Memory e = e ≡ faults.Memory
+RecordedAs records.Write e = e ≡ faults.Write
 
 -- Why a table is not written: that of the constituencies where a seat is worth as much to two of them, or where the first
 -- without a seat is this one. A fault of memory or of the writer is no matter of the table.
 abbrev pub RefusesTable : Canton → Table → ListFault → Type 0
+RefusesTable canton table faults.Memory = Unit {0}
+RefusesTable canton table faults.Write = Unit {0}
+RefusesTable canton table (faults.Seats refusals.Memory) = Unit {0}
 RefusesTable canton Constituencies (faults.Seats refusals.Tied) = IsTied (persons canton) canton.house
 RefusesTable canton Constituencies (faults.Seats (refusals.NoSeat d)) =
     (seats : List ℕ) × AreSeats canton seats × IsFirstWithout seats d
-RefusesTable canton table (faults.Seats refusals.Memory) = Unit {0}
 RefusesTable canton table (faults.Seats refusal) = ⊥
-RefusesTable canton table fault = Unit {0}

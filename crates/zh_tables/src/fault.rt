@@ -2,8 +2,10 @@
 
 ghost use Rattle.std.specs.Prelude.{◌≡◌};
 ghost use Rattle.zh_districts.specs.declared.shares.SeatFault.{SeatFault as Refusal};
+ghost use Rattle.zh_tables.specs.Tables.{RecordedAs};
 ghost use Rattle.zh_tables.specs.declared.fault.ListFault.TheVariants as faults;
 
+use crate::records::RecordFault;
 use thiserror::Error;
 use zh_districts::SeatFault;
 
@@ -26,5 +28,16 @@ impl From<SeatFault> for ListFault {
 
     fn from(refusal: SeatFault) -> Self {
         ListFault::Seats(refusal)
+    }
+}
+
+impl From<RecordFault> for ListFault {
+    ghost from_gives = { RecordedAs };
+
+    fn from(fault: RecordFault) -> Self {
+        match fault {
+            RecordFault::Memory => ListFault::Memory,
+            RecordFault::Write => ListFault::Write,
+        }
     }
 }

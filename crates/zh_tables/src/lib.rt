@@ -9,5 +9,6 @@ mod table;
 mod tables;
 
 pub use fault::ListFault;
+pub use records::{RecordFault, write_record};
 pub use table::Table;
 pub use tables::write_list;

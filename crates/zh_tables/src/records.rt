@@ -1,32 +1,38 @@
 //! Records of comma-separated text.
 
-ghost use Rattle.std.specs.Prelude.{IfErr, OnOk, map};
-ghost use Rattle.zh_tables.specs.Records.{IsBetweenRecords, WritesText, record_text};
-ghost use Rattle.zh_tables.specs.Tables.{IsOfWriter};
+ghost use Rattle.std.specs.Prelude.{OnOk, map};
+ghost use Rattle.zh_tables.specs.Records.{IsBetweenRecords, PutsText, record_text};
 
-use crate::fault::ListFault;
 use csv::{Error, ErrorKind, Writer};
 use std::io::Write;
+use thiserror::Error as ErrorOfLibrary;
+
+/// Why a record is not written to its end.
+#[derive(Clone, Copy, Debug, PartialEq, Eq, ErrorOfLibrary)]
+pub enum RecordFault {
+    /// Memory ran out.
+    #[error("memory")]
+    Memory,
+    /// The writer failed, or took no byte.
+    #[error("write")]
+    Write,
+}
 
 /// The fault for an error of the writer.
-fn fault_by(error: &Error) -> ListFault
-    ensures { IsOfWriter result }
-{
+fn fault_by(error: &Error) -> RecordFault {
     match error.kind() {
-        ErrorKind::OutOfMemory => ListFault::Memory,
-        _ => ListFault::Write,
+        ErrorKind::OutOfMemory => RecordFault::Memory,
+        _ => RecordFault::Write,
     }
 }
 
-/// Writes the record of these fields.
-pub(crate) fn write_record<W: Write + Drop>(
+/// Writes the record of these fields. After an error a front of it may be written.
+pub fn write_record<W: Write + Drop>(
     writer: &mut Writer<W>,
     fields: &[&[u8]],
-) -> Result<(), ListFault>
+) -> Result<(), RecordFault>
     requires { IsBetweenRecords writer.old }
-    ensures written { OnOk result (WritesText W.contents writer.old writer.new (record_text (map (λ field. field.now) fields.now))) }
-    ensures ready { OnOk result (IsBetweenRecords writer.new) }
-    ensures fault { IfErr result IsOfWriter }
+    ensures { OnOk result (PutsText W.contents (record_text (map (λ field. field.now) fields.now)) writer.old writer.new) }
 {
     match writer.write_fields(fields) {
         Ok(()) => Ok(()),

@@ -1,12 +1,10 @@
 //! The rows of each table.
 
-ghost use Rattle.std.specs.Prelude.{◌≤◌, IfErr, OnOk, length};
-ghost use Rattle.zh_tables.specs.Records.{IsBetweenRecords, WritesText, record_text};
-ghost use Rattle.zh_tables.specs.Tables.{IsOfWriter, constituency_row, group_row, header};
-ghost use Rattle.zh_tables.specs.Tables.{list_row, municipality_row};
+ghost use Rattle.std.specs.Prelude.{◌≤◌, OnOk, length};
+ghost use Rattle.zh_tables.specs.Records.{IsBetweenRecords, PutsText, record_text};
+ghost use Rattle.zh_tables.specs.Tables.{constituency_row, group_row, header, list_row, municipality_row};
 
-use crate::fault::ListFault;
-use crate::records::write_record;
+use crate::records::{RecordFault, write_record};
 use crate::table::Table;
 use csv::Writer;
 use itoa::Buffer;
@@ -17,11 +15,9 @@ use zh_districts::Setup;
 pub(crate) fn write_header<W: Write + Drop>(
     writer: &mut Writer<W>,
     table: Table,
-) -> Result<(), ListFault>
+) -> Result<(), RecordFault>
     requires { IsBetweenRecords writer.old }
-    ensures written { OnOk result (WritesText W.contents writer.old writer.new (record_text (header table))) }
-    ensures ready { OnOk result (IsBetweenRecords writer.new) }
-    ensures fault { IfErr result IsOfWriter }
+    ensures { OnOk result (PutsText W.contents (record_text (header table)) writer.old writer.new) }
 {
     let number = b"number".as_slice();
     let name = b"name".as_slice();
@@ -51,13 +47,11 @@ pub(crate) fn write_constituency<W: Write + Drop>(
     setup: &Setup,
     constituency: u32,
     seats: u32,
-) -> Result<(), ListFault>
+) -> Result<(), RecordFault>
     requires ready { IsBetweenRecords writer.old }
     requires from_one { 1 ≤ constituency }
     requires there { constituency ≤ length setup.now.constituencies }
-    ensures written { OnOk result (WritesText W.contents writer.old writer.new (constituency_row setup.now constituency seats)) }
-    ensures ready { OnOk result (IsBetweenRecords writer.new) }
-    ensures fault { IfErr result IsOfWriter }
+    ensures { OnOk result (PutsText W.contents (constituency_row setup.now constituency seats) writer.old writer.new) }
 {
     let mut number = Buffer::new();
     let mut persons = Buffer::new();
@@ -76,13 +70,11 @@ pub(crate) fn write_municipality<W: Write + Drop>(
     writer: &mut Writer<W>,
     setup: &Setup,
     municipality: u32,
-) -> Result<(), ListFault>
+) -> Result<(), RecordFault>
     requires ready { IsBetweenRecords writer.old }
     requires from_one { 1 ≤ municipality }
     requires there { municipality ≤ length setup.now.municipalities }
-    ensures written { OnOk result (WritesText W.contents writer.old writer.new (municipality_row setup.now municipality)) }
-    ensures ready { OnOk result (IsBetweenRecords writer.new) }
-    ensures fault { IfErr result IsOfWriter }
+    ensures { OnOk result (PutsText W.contents (municipality_row setup.now municipality) writer.old writer.new) }
 {
     let mut number = Buffer::new();
     let mut constituency = Buffer::new();
@@ -101,13 +93,11 @@ pub(crate) fn write_group<W: Write + Drop>(
     writer: &mut Writer<W>,
     setup: &Setup,
     group: u32,
-) -> Result<(), ListFault>
+) -> Result<(), RecordFault>
     requires ready { IsBetweenRecords writer.old }
     requires from_one { 1 ≤ group }
     requires there { group ≤ length setup.now.groups }
-    ensures written { OnOk result (WritesText W.contents writer.old writer.new (group_row setup.now group)) }
-    ensures ready { OnOk result (IsBetweenRecords writer.new) }
-    ensures fault { IfErr result IsOfWriter }
+    ensures { OnOk result (PutsText W.contents (group_row setup.now group) writer.old writer.new) }
 {
     let mut number = Buffer::new();
     let fields = [
@@ -123,15 +113,13 @@ pub(crate) fn write_list_in<W: Write + Drop>(
     setup: &Setup,
     constituency: u32,
     group: u32,
-) -> Result<(), ListFault>
+) -> Result<(), RecordFault>
     requires ready { IsBetweenRecords writer.old }
     requires from_one { 1 ≤ constituency }
     requires there { constituency ≤ length setup.now.constituencies }
     requires group_from_one { 1 ≤ group }
     requires group_there { group ≤ length setup.now.groups }
-    ensures written { OnOk result (WritesText W.contents writer.old writer.new (list_row setup.now constituency group)) }
-    ensures ready { OnOk result (IsBetweenRecords writer.new) }
-    ensures fault { IfErr result IsOfWriter }
+    ensures { OnOk result (PutsText W.contents (list_row setup.now constituency group) writer.old writer.new) }
 {
     if !setup.stands(constituency, group) {
         return Ok(());

@@ -2,11 +2,12 @@
 
 ghost use Rattle.std.specs.Prelude.{◌≡◌, ◌≤◌, ℕ, List, IfErr, IfOk, OnOk, length};
 ghost use Rattle.std.specs.Io.KnownBytes.{Appends};
-ghost use Rattle.zh_tables.specs.Records.{IsBetweenRecords, WritesText};
-ghost use Rattle.zh_tables.specs.Tables.{IsOfWriter, RefusesTable, IsTableText, constituency_rows, group_rows};
+ghost use Rattle.zh_tables.specs.Records.{IsBetweenRecords, PutsText};
+ghost use Rattle.zh_tables.specs.Tables.{RefusesTable, IsTableText, constituency_rows, group_rows};
 ghost use Rattle.zh_tables.specs.Tables.{list_rows, lists_in, municipality_rows};
 
 use crate::fault::ListFault;
+use crate::records::RecordFault;
 use crate::rows::{
     write_constituency, write_group, write_header, write_list_in, write_municipality,
 };
@@ -21,11 +22,10 @@ fn write_constituencies<W: Write + Drop>(
     writer: &mut Writer<W>,
     setup: &Setup,
     seats: &[u32],
-) -> Result<(), ListFault>
+) -> Result<(), RecordFault>
     requires ready { IsBetweenRecords writer.old }
     requires each { length seats.now ≡ length setup.now.constituencies }
-    ensures written { OnOk result (WritesText W.contents writer.old writer.new (constituency_rows setup.now seats.now)) }
-    ensures fault { IfErr result IsOfWriter }
+    ensures { OnOk result (PutsText W.contents (constituency_rows setup.now seats.now) writer.old writer.new) }
 {
     for place in 0..setup.constituencies() {
         write_constituency(writer, setup, place + 1, seats[place as usize])?;
@@ -37,10 +37,9 @@ fn write_constituencies<W: Write + Drop>(
 fn write_municipalities<W: Write + Drop>(
     writer: &mut Writer<W>,
     setup: &Setup,
-) -> Result<(), ListFault>
+) -> Result<(), RecordFault>
     requires { IsBetweenRecords writer.old }
-    ensures written { OnOk result (WritesText W.contents writer.old writer.new (municipality_rows setup.now)) }
-    ensures fault { IfErr result IsOfWriter }
+    ensures { OnOk result (PutsText W.contents (municipality_rows setup.now) writer.old writer.new) }
 {
     for place in 0..setup.municipalities() {
         write_municipality(writer, setup, place + 1)?;
@@ -49,10 +48,9 @@ fn write_municipalities<W: Write + Drop>(
 }
 
 /// Writes the groups.
-fn write_groups<W: Write + Drop>(writer: &mut Writer<W>, setup: &Setup) -> Result<(), ListFault>
+fn write_groups<W: Write + Drop>(writer: &mut Writer<W>, setup: &Setup) -> Result<(), RecordFault>
     requires { IsBetweenRecords writer.old }
-    ensures written { OnOk result (WritesText W.contents writer.old writer.new (group_rows setup.now)) }
-    ensures fault { IfErr result IsOfWriter }
+    ensures { OnOk result (PutsText W.contents (group_rows setup.now) writer.old writer.new) }
 {
     for place in 0..setup.groups() {
         write_group(writer, setup, place + 1)?;
@@ -65,13 +63,11 @@ fn write_lists_in<W: Write + Drop>(
     writer: &mut Writer<W>,
     setup: &Setup,
     constituency: u32,
-) -> Result<(), ListFault>
+) -> Result<(), RecordFault>
     requires ready { IsBetweenRecords writer.old }
     requires from_one { 1 ≤ constituency }
     requires there { constituency ≤ length setup.now.constituencies }
-    ensures written { OnOk result (WritesText W.contents writer.old writer.new (lists_in setup.now constituency)) }
-    ensures ready { OnOk result (IsBetweenRecords writer.new) }
-    ensures fault { IfErr result IsOfWriter }
+    ensures { OnOk result (PutsText W.contents (lists_in setup.now constituency) writer.old writer.new) }
 {
     for place in 0..setup.groups() {
         write_list_in(writer, setup, constituency, place + 1)?;
@@ -80,10 +76,9 @@ fn write_lists_in<W: Write + Drop>(
 }
 
 /// Writes the lists, constituency by constituency.
-fn write_lists<W: Write + Drop>(writer: &mut Writer<W>, setup: &Setup) -> Result<(), ListFault>
+fn write_lists<W: Write + Drop>(writer: &mut Writer<W>, setup: &Setup) -> Result<(), RecordFault>
     requires { IsBetweenRecords writer.old }
-    ensures written { OnOk result (WritesText W.contents writer.old writer.new (list_rows setup.now)) }
-    ensures fault { IfErr result IsOfWriter }
+    ensures { OnOk result (PutsText W.contents (list_rows setup.now) writer.old writer.new) }
 {
     for place in 0..setup.constituencies() {
         write_lists_in(writer, setup, place + 1)?;
@@ -100,26 +95,26 @@ fn write_table<W: Write + Drop>(
 ) -> Result<(), ListFault>
     requires { IsBetweenRecords writer.old }
     ensures written { OnOk result
-        ((text : List ℕ) × IsTableText setup.now table text × WritesText W.contents writer.old writer.new text) }
+        ((text : List ℕ) × IsTableText setup.now table text × PutsText W.contents text writer.old writer.new) }
     ensures fault { IfErr result (RefusesTable setup.now table) }
 {
     match table {
         Table::Constituencies => {
             let shares = seats(alloc, setup)?;
             write_header(writer, table)?;
-            write_constituencies(writer, setup, shares.seats())
+            Ok(write_constituencies(writer, setup, shares.seats())?)
         }
         Table::Municipalities => {
             write_header(writer, table)?;
-            write_municipalities(writer, setup)
+            Ok(write_municipalities(writer, setup)?)
         }
         Table::Groups => {
             write_header(writer, table)?;
-            write_groups(writer, setup)
+            Ok(write_groups(writer, setup)?)
         }
         Table::Lists => {
             write_header(writer, table)?;
-            write_lists(writer, setup)
+            Ok(write_lists(writer, setup)?)
         }
     }
 }

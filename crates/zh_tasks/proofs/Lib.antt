@@ -1,4 +1,3 @@
-mod DeviceLemmas
 mod ExportLemmas
 mod FormatLemmas
 mod KeptLemmas

@@ -10,7 +10,7 @@ use Rattle.zh_commands.specs.declared.replies.Reply.{Reply}
 use Rattle.zh_office.specs.Load.{LoadTurn}
 use Rattle.zh_ledger.specs.Submissions.{OnDisk}
 use Rattle.zh_office.specs.Office.{Office}
-use Rattle.zh_tasks.specs.Opened.{IsThis}
+use Rattle.zh_tasks.specs.Opened.{IsOfDevice, IsThis}
 use Rattle.zh_tasks.specs.Load.{IsUnreadable, Loaded, LoadsText, LoadsFile, Replied, WritesPart, printed}
 use Rattle.zh_tasks.specs.declared.fault.TaskFault.{TaskFault}
 use Rattle.zh_tasks.specs.declared.fault.TaskFault.TheVariants as faults
@@ -54,6 +54,12 @@ pub unread : (unwritten : Type 0) (Gives : (OnDisk Office → OnDisk Office → 
 unread unwritten Gives Spans start faults.CsvFile is same spans = (same, (start, spans))
 unread unwritten Gives Spans start faults.Memory is same spans = (same, (start, spans))
 unread unwritten Gives Spans start fault is same spans = absurd is
+
+-- and the device is not reported
+pub unread_calm : (fault : TaskFault) → IsUnreadable fault → IsOfDevice fault → ⊥
+unread_calm faults.CsvFile is of_device = of_device
+unread_calm faults.Memory is of_device = of_device
+unread_calm fault is of_device = absurd is
 
 -- the same of an office that began in another way too
 replied_as : (text : Option (List ℕ)) (Spans Spans' : OnDisk Office → OnDisk Office → Type 0) (reply : Reply) → ((start end : OnDisk Office) → Spans start end → Spans' start end) → Replied text Spans reply → Replied text Spans' reply

@@ -1,17 +1,23 @@
 -- How an office begins on the disk that it was opened from.
-use Rattle.std.proofs.Common.{◌≡◌, ℕ, List, Ok, IsTrue, sym, subst}
+use Rattle.std.proofs.Common.{◌≡◌, ◌≤◌, ℕ, List, Result, Ok, Err, IfErr, IsTrue, sym, ap, subst, arith}
 use Rattle.zh_districts.specs.Canton.{Canton}
 use Rattle.zh_desks.specs.Batches.{no_batches}
-use Rattle.zh_disk.specs.History.{History}
+use Rattle.zh_disk.specs.History.{History, HasRisen}
 use Rattle.zh_returns.specs.Tally.{Tally}
 use Rattle.zh_snapshot.specs.Image.{Content, IsClean}
 use Rattle.zh_snapshot.proofs.CallerLemmas.{framed_alike}
+use Rattle.zh_ledger.specs.Faults.{open_fails}
+use Rattle.zh_ledger.specs.Ledger.{Ledger}
 use Rattle.zh_ledger.specs.Opening.{Opening}
 use Rattle.zh_ledger.specs.Stands.{Holds, Stands, StandsFor}
 use Rattle.zh_ledger.proofs.CallerLemmas.{knows_images}
 use Rattle.zh_ledger.specs.Submissions.{OnDisk}
+use Rattle.zh_ledger.specs.declared.fault.OpenFault.{OpenFault}
 use Rattle.zh_office.specs.Office.{Office}
-use Rattle.zh_tasks.specs.Opened.{IsFrom, IsStart, IsThis}
+use Rattle.zh_office.proofs.CallerLemmas.{risen_since}
+use Rattle.zh_tasks.specs.Opened.{IsFrom, IsOfDevice, IsStart, IsThis, LeavesDisk}
+use Rattle.zh_tasks.specs.declared.fault.TaskFault.{TaskFault}
+use Rattle.zh_tasks.specs.declared.fault.TaskFault.TheVariants as faults
 
 -- clean bytes that stand for a count hold it
 held_by : (bytes : List ℕ) (tally : Tally) → Stands tally bytes → (x : Content) (j : ℕ) → IsClean x j bytes → Holds tally bytes
@@ -38,3 +44,28 @@ begun_at canton first last start begun honest s e this = record {
   ended = this.1;
   honest = λ h. subst (λ (o : OnDisk Office). IsTrue o.history.honest) (sym this.0) (honest h);
 }
+
+-- what is left of a disk after an office was opened on it, is left of it from before
+pub leaves_after : (canton : Canton) (first mid last : History) (ledger : Ledger) (result : Result (Unit {0}) TaskFault) → Opening canton first mid (Ok ledger) → LeavesDisk mid last result → LeavesDisk first last result
+leaves_after canton first mid last ledger result opening leaves = record {
+  kept = λ honest. opening.call.kept (leaves.kept honest);
+  later = omega (arith, opening.call.counts.later, leaves.later);
+  cause = at result leaves.cause;
+}
+  where
+    at : (r : Result (Unit {0}) TaskFault) → IfErr r (λ fault. IsOfDevice fault → HasRisen mid.failures last.failures) → IfErr r (λ fault. IsOfDevice fault → HasRisen first.failures last.failures)
+    at (Ok done) cause = tt
+    at (Err fault) cause = λ is. risen_since first.failures mid.failures last.failures opening.call.counts.later (cause is)
+
+-- where no office was opened
+pub refused_leaves : (canton : Canton) (first last : History) (fault : OpenFault) → Opening canton first last (Err fault) → LeavesDisk first last (Err (faults.Open fault))
+refused_leaves canton first last fault by = record {
+  kept = by.call.kept;
+  later = by.call.counts.later;
+  cause = λ is. by.call.counts.rose (ap (λ (f : OpenFault). open_fails {T = Ledger} (Err f)) is);
+}
+
+-- where nothing is done to the disk, and the device is not reported
+pub untouched_leaves : (history : History) (result : Result (Unit {0}) TaskFault) → IfErr result (λ fault. IsOfDevice fault → ⊥) → LeavesDisk history history result
+untouched_leaves history (Ok done) calm = record { kept = λ honest. honest; later = omega arith; cause = tt }
+untouched_leaves history (Err fault) calm = record { kept = λ honest. honest; later = omega arith; cause = λ is. absurd (calm is) }

@@ -10,7 +10,6 @@ use Rattle.zh_ledger.specs.Opening.{Opening}
 use Rattle.zh_ledger.specs.Images.{HasSome}
 use Rattle.zh_ledger.specs.Stands.{IsKept}
 use Rattle.zh_ledger.specs.Submissions.{Log, OnDisk}
-use Rattle.zh_ledger.specs.declared.fault.OpenFault.{OpenFault}
 use Rattle.zh_ledger.specs.declared.fault.OpenFault.TheVariants as opening
 use Rattle.zh_office.specs.Office.{Office}
 use Rattle.zh_tasks.specs.declared.fault.TaskFault.{TaskFault}
@@ -34,17 +33,13 @@ pub record IsFrom (canton : Canton) (first last : History) (start end : OnDisk O
 abbrev pub IsThis : OnDisk Office → History → OnDisk Office → OnDisk Office → Type 0
 IsThis first last start end = (start ≡ first) × (end.history ≡ last)
 
--- no office was opened on this disk
-abbrev pub IsRefused : Canton → History → History → OpenFault → Type 0
-IsRefused canton first last fault = Opening canton first last (Err fault)
-
 -- an office was opened, and nothing else was done to its disk
 abbrev pub IsOnlyOpened : (OnDisk Office → OnDisk Office → Type 0) → Type 0
 IsOnlyOpened Spans = (start : OnDisk Office) × Spans start start
 
 -- the device is reported to have failed, under the opening of an office or under what it was given
 abbrev pub IsOfDevice : TaskFault → Type 0
-IsOfDevice (faults.Open opening.Device) = Unit {0}
+IsOfDevice (faults.Open fault) = fault ≡ opening.Device
 IsOfDevice faults.Faulted = Unit {0}
 IsOfDevice fault = ⊥
 
@@ -58,7 +53,7 @@ pub record LeavesDisk (first last : History) (result : Result (Unit {0}) TaskFau
 -- an office was opened on a disk and then this was done with it; or none was, and then nothing else was done
 abbrev pub WithOffice : Canton → History → History → Type 0
     → ((OnDisk Office → OnDisk Office → Type 0) → Result (Unit {0}) TaskFault → Type 0) → Result (Unit {0}) TaskFault → Type 0
-WithOffice canton first last nothing Does (Err (faults.Open fault)) = nothing × IsRefused canton first last fault
+WithOffice canton first last nothing Does (Err (faults.Open fault)) = nothing × Opening canton first last (Err fault)
 WithOffice canton first last nothing Does result = Does (IsFrom canton first last) result
 
 -- What commands with this log leave of a disk that was opened, from its one trail to the other: at each moment each image

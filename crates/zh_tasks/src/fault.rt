@@ -6,7 +6,7 @@ use zh_commands::WriteFault;
 use zh_districts::SeatFault;
 use zh_office::{OpenFault, ServeFault};
 use zh_setups::SetupFault;
-use zh_tables::ListFault;
+use zh_tables::{ListFault, RecordFault};
 use zh_world::FileFault;
 
 /// The fault of a task, in the order of the manual. Its text is what the program reports after its name.
@@ -125,14 +125,14 @@ impl From<ServeFault> for TaskFault {
     }
 }
 
-impl From<zh_csv::ExportFault> for TaskFault {
+impl From<RecordFault> for TaskFault {
     ghost use Rattle.std.specs.Prelude.{◌≡◌};
     ghost use Rattle.zh_tasks.specs.declared.fault.TaskFault.TheVariants as faults;
 
     // The text is made in memory, where nothing else can fail.
     ghost from_gives = { λ _ e. e ≡ faults.Memory };
 
-    fn from(_: zh_csv::ExportFault) -> Self {
+    fn from(_: RecordFault) -> Self {
         TaskFault::Memory
     }
 }

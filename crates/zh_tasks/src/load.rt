@@ -1,11 +1,11 @@
 //! Loading a CSV file.
 
-ghost use Rattle.std.specs.Prelude.{◌≡◌, IsTrue, IfErr, IfOk, OnErr, OnOk};
+ghost use Rattle.std.specs.Prelude.{◌≡◌, false, IfErr, IfOk, OnErr, OnOk};
 ghost use Rattle.std.specs.Io.KnownBytes.{Appends, Keeps};
 ghost use Rattle.zh_ledger.specs.Submissions.{on_disk};
 ghost use Rattle.zh_world.specs.Files.{IsCallOfFiles};
 ghost use Rattle.zh_tasks.specs.Load.{HasLoaded, IsUnreadable, LoadsText, WritesPart, printed};
-ghost use Rattle.zh_tasks.specs.Opened.{IsThis};
+ghost use Rattle.zh_tasks.specs.Opened.{IsThis, LeavesDisk};
 ghost use Rattle.zh_tasks.specs.World.{known};
 
 use crate::fault::TaskFault;
@@ -57,7 +57,8 @@ fn load_text<R: Read + Drop, O: Write, D: Disk>(
     text: R,
     out: &mut O,
 ) -> Result<(), TaskFault>
-    ensures kept { IsTrue (D.history disk.new).honest → IsTrue (D.history disk.old).honest }
+    requires { office.old.ledger.store.broken ≡ false }
+    ensures disk { LeavesDisk (D.history disk.old) (D.history disk.new) result }
     ensures loaded { LoadsText (R.remaining text) (O.contents out.old) (O.contents out.new)
         (IsThis (on_disk office.old (D.history disk.old)) (D.history disk.new)) result }
 {

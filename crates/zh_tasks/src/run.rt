@@ -1,6 +1,6 @@
 //! Serving on a disk.
 
-ghost use Rattle.std.specs.Prelude.{◌≡◌, ◌^◌, IsTrue};
+ghost use Rattle.std.specs.Prelude.{◌≡◌, ◌^◌, false};
 ghost use Rattle.zh_ledger.specs.Submissions.{on_disk};
 ghost use Rattle.zh_tasks.specs.Opened.{IsThis, LeavesDisk, WithOffice};
 ghost use Rattle.zh_tasks.specs.Run.{IsReadWithin, Ran, Serves, streams};
@@ -46,7 +46,8 @@ fn serve_lines<I: Read, O: Write, D: Disk>(
     input: &mut I,
     out: &mut O,
 ) -> Result<(), TaskFault>
-    ensures kept { IsTrue (D.history disk.new).honest → IsTrue (D.history disk.old).honest }
+    requires { office.old.ledger.store.broken ≡ false }
+    ensures disk { LeavesDisk (D.history disk.old) (D.history disk.new) result }
     ensures served { Serves (streams (I.remaining input.old) (O.contents out.old)) (streams (I.remaining input.new) (O.contents out.new))
         (IsThis (on_disk office.old (D.history disk.old)) (D.history disk.new)) result }
     ensures reads { IsReadWithin (I.remaining input.old) (I.remaining input.new) (2 ^ 32) result }

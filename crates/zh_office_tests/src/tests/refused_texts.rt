@@ -8,7 +8,8 @@ use std::test::Fail;
 use zh_commands::{Refusal, Reply};
 use zh_disk::MemoryDisk;
 use zh_districts::Setup;
-use zh_office::{ExportFault, NotedReader, Office};
+use zh_office::{NotedReader, Office};
+use zh_tables::RecordFault;
 
 const TEXT: &str = "municipality,list,number,votes\n1,1,1,525\n2,1,1,240\n";
 
@@ -63,7 +64,7 @@ fn export_on(
     let office = opened(alloc, setup, disk)?;
     let mut before = Held::of(alloc, &office, disk)?;
     match office.export(buffer(alloc)?) {
-        Err(ExportFault::Memory) => {
+        Err(RecordFault::Memory) => {
             assert!(rt; before.is_held_by(&office, disk));
             Ok(office.export(buffer(alloc)?)?)
         }

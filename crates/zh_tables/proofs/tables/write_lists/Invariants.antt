@@ -1,11 +1,6 @@
-use Rattle.std.specs.Io.KnownBytes.{Appends}
-use Rattle.csv.specs.Writing.{text_written}
-use Rattle.zh_tables.specs.Records.{IsBetweenRecords}
+use Rattle.zh_tables.specs.Records.{PutsText}
 use Rattle.zh_tables.specs.Tables.{each_to, lists_in}
 use Rattle.zh_tables.proofs.tables.write_lists.Given as goal
 
 abbrev pub invariant-loop-place : goal.invariant-loop-place
-invariant-loop-place g l = record {
-  written : Appends (text_written g.W.Write.contents l.fn.writer) (text_written g.W.Write.contents l.writer) (each_to l.place (lists_in l.fn.setup));
-  ready : IsBetweenRecords l.writer;
-}
+invariant-loop-place g l = PutsText g.W.Write.contents (each_to l.place (lists_in l.fn.setup)) l.fn.writer l.writer

@@ -4,10 +4,9 @@ use Rattle.zh_office.specs.Office.{Office}
 use Rattle.zh_tasks.specs.Export.{Exports}
 use Rattle.zh_tasks.specs.Opened.{IsFrom}
 use Rattle.zh_tasks.specs.declared.fault.TaskFault.TheVariants as faults
-use Rattle.zh_tasks.proofs.DeviceLemmas.{exports_leaves, refused_leaves}
-use Rattle.zh_tasks.proofs.ExportLemmas.{exports_as}
+use Rattle.zh_tasks.proofs.ExportLemmas.{exports_as, exports_calm}
 use Rattle.zh_tasks.proofs.RunLemmas.{with_office}
-use Rattle.zh_tasks.proofs.StartLemmas.{begun_at, starts}
+use Rattle.zh_tasks.proofs.StartLemmas.{begun_at, leaves_after, refused_leaves, starts, untouched_leaves}
 use Rattle.zh_tasks.proofs.export.export_from.Goals as goal
 
 pub returns-in_err-office : goal.returns-in_err-office
@@ -30,5 +29,5 @@ returns g c =
     let exports = exports_as _ _ _ (λ s e. (s ≡ start) × (e ≡ start)) From c.write_held.result same (c.write_held.ensures start refl) in
     record {
       written = with_office canton first last _ (Exports _ _ _) c.write_held.result (λ fault none. none) exports;
-      disk = exports_leaves canton first last _ _ _ c.write_held.result exports;
+      disk = leaves_after canton first last last _ c.write_held.result c.in_ok-office.ensures.opening (untouched_leaves last c.write_held.result (exports_calm _ _ _ From c.write_held.result exports));
     }

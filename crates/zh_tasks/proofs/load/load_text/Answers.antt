@@ -7,12 +7,13 @@ use Rattle.zh_office.specs.Load.{LoadTurn}
 use Rattle.zh_tasks.specs.Load.{Loaded}
 use Rattle.zh_tasks.specs.Opened.{IsThis}
 use Rattle.zh_tasks.specs.declared.fault.TaskFault.TheVariants as faults
-use Rattle.zh_tasks.proofs.DeviceLemmas.{load_fares}
 use Rattle.zh_tasks.proofs.LoadLemmas.{loaded_to, replied_to}
 use Rattle.zh_tasks.proofs.load.load_text.Goals as goal
 
-pub returns-in_err-print_reply-clause-kept : goal.returns-in_err-print_reply-clause-kept
-returns-in_err-print_reply-clause-kept g c = (load_fares _ _ _ _ _ c.load-reply.ensures.turn).honest
+pub returns-in_err-print_reply-clause-disk : goal.returns-in_err-print_reply-clause-disk
+returns-in_err-print_reply-clause-disk g c =
+    let is : c.from_residual.result ≡ Err faults.Write = search rules in
+    rw is (record { kept = c.load-reply.ensures.disk.kept; later = c.load-reply.ensures.disk.later; cause = λ none. absurd none })
 
 pub returns-in_err-print_reply-clause-loaded : goal.returns-in_err-print_reply-clause-loaded
 returns-in_err-print_reply-clause-loaded g c =
@@ -23,8 +24,8 @@ returns-in_err-print_reply-clause-loaded g c =
     let is : c.from_residual.result ≡ Err faults.Write = search rules in
     rw is ((c.load-reply.result, replied_to _ _ _ _ _ turn, c.in_err-print_reply.ensures.front))
 
-pub returns-then-faulted-clause-kept : goal.returns-then-faulted-clause-kept
-returns-then-faulted-clause-kept g c = (load_fares _ _ _ _ _ c.load-reply.ensures.turn).honest
+pub returns-then-faulted-clause-disk : goal.returns-then-faulted-clause-disk
+returns-then-faulted-clause-disk g c = record { kept = c.load-reply.ensures.disk.kept; later = c.load-reply.ensures.disk.later; cause = λ _. c.load-reply.ensures.disk.cause c.requires (search rules) }
 
 pub returns-then-faulted-clause-loaded : goal.returns-then-faulted-clause-loaded
 returns-then-faulted-clause-loaded g c =
@@ -34,8 +35,8 @@ returns-then-faulted-clause-loaded g c =
     let turn : LoadTurn start (g.R.Read.remaining c.args.text) (has_failed c.load-reply.new.reader) c.load-reply.result end = subst (λ (t : Option (List ℕ)). LoadTurn start t (has_failed c.load-reply.new.reader) c.load-reply.result end) given c.load-reply.ensures.turn in
     (c.load-reply.result, loaded_to _ _ _ _ _ _ _ _ turn c.in_ok-print_reply.ensures.all (search rules))
 
-pub returns-in-Refused-clause-kept : goal.returns-in-Refused-clause-kept
-returns-in-Refused-clause-kept g c = (load_fares _ _ _ _ _ c.load-reply.ensures.turn).honest
+pub returns-in-Refused-clause-disk : goal.returns-in-Refused-clause-disk
+returns-in-Refused-clause-disk g c = record { kept = c.load-reply.ensures.disk.kept; later = c.load-reply.ensures.disk.later; cause = λ none. absurd none }
 
 pub returns-in-Refused-clause-loaded : goal.returns-in-Refused-clause-loaded
 returns-in-Refused-clause-loaded g c =
@@ -54,6 +55,6 @@ returns g c =
     let given : g.R.Read.remaining (inner_reader c.new-reader.result) ≡ g.R.Read.remaining c.args.text = ap g.R.Read.remaining c.new-reader.ensures.over in
     let turn : LoadTurn start (g.R.Read.remaining c.args.text) (has_failed c.load-reply.new.reader) c.load-reply.result end = subst (λ (t : Option (List ℕ)). LoadTurn start t (has_failed c.load-reply.new.reader) c.load-reply.result end) given c.load-reply.ensures.turn in
     record {
-      kept = (load_fares _ _ _ _ _ c.load-reply.ensures.turn).honest;
+      disk = record { kept = c.load-reply.ensures.disk.kept; later = c.load-reply.ensures.disk.later; cause = tt };
       loaded = (c.load-reply.result, c.in_default.not-Refused, loaded_to _ _ _ _ _ _ _ _ turn c.in_ok-print_reply.ensures.all (search rules));
     }

@@ -1,30 +1,21 @@
 use Rattle.std.proofs.Common.{rules, refl, ◌≡◌, Err}
 use Rattle.zh_ledger.specs.Submissions.{on_disk}
-use Rattle.zh_office.specs.Served.{session}
 use Rattle.zh_tasks.specs.Opened.{IsThis}
 use Rattle.zh_tasks.specs.Run.{streams}
 use Rattle.zh_tasks.specs.declared.fault.TaskFault.TheVariants as faults
-use Rattle.zh_tasks.proofs.DeviceLemmas.{serve_fares}
 use Rattle.zh_tasks.proofs.RunLemmas.{broke_off, read_off}
 use Rattle.zh_tasks.proofs.run.serve_lines.Goals as goal
 
-pub returns-in_err-serve-clause-kept : goal.returns-in_err-serve-clause-kept
-returns-in_err-serve-clause-kept g c =
-    let old = session (g.O.Write.contents c.args.out.now) c.args.office.now (g.D.Disk.history c.args.disk.now) in
-    let new = session (g.O.Write.contents c.serve.new.writer) c.serve.new.self (g.D.Disk.history c.serve.new.disk) in
-    (serve_fares _ _ old new c.serve.result c.serve.ensures.ok c.serve.ensures.read c.serve.ensures.write c.serve.ensures.turns).honest
+pub returns-in_err-serve-clause-disk : goal.returns-in_err-serve-clause-disk
+returns-in_err-serve-clause-disk g c =
+    let is : c.from_residual.result ≡ Err (faults.Serve c.in_err-serve.field-0.0) = search rules in
+    rw is (record { kept = c.serve.ensures.disk.kept; later = c.serve.ensures.disk.later; cause = λ none. absurd none })
 
-pub returns-then-faulted-clause-kept : goal.returns-then-faulted-clause-kept
-returns-then-faulted-clause-kept g c =
-    let old = session (g.O.Write.contents c.args.out.now) c.args.office.now (g.D.Disk.history c.args.disk.now) in
-    let new = session (g.O.Write.contents c.serve.new.writer) c.serve.new.self (g.D.Disk.history c.serve.new.disk) in
-    (serve_fares _ _ old new c.serve.result c.serve.ensures.ok c.serve.ensures.read c.serve.ensures.write c.serve.ensures.turns).honest
+pub returns-then-faulted-clause-disk : goal.returns-then-faulted-clause-disk
+returns-then-faulted-clause-disk g c = record { kept = c.serve.ensures.disk.kept; later = c.serve.ensures.disk.later; cause = λ _. c.serve.ensures.disk.cause c.requires (search rules) }
 
-pub returns-clause-kept : goal.returns-clause-kept
-returns-clause-kept g c =
-    let old = session (g.O.Write.contents c.args.out.now) c.args.office.now (g.D.Disk.history c.args.disk.now) in
-    let new = session (g.O.Write.contents c.serve.new.writer) c.serve.new.self (g.D.Disk.history c.serve.new.disk) in
-    (serve_fares _ _ old new c.serve.result c.serve.ensures.ok c.serve.ensures.read c.serve.ensures.write c.serve.ensures.turns).honest
+pub returns-clause-disk : goal.returns-clause-disk
+returns-clause-disk g c = record { kept = c.serve.ensures.disk.kept; later = c.serve.ensures.disk.later; cause = tt }
 
 pub returns-in_err-serve-clause-served : goal.returns-in_err-serve-clause-served
 returns-in_err-serve-clause-served g c =

@@ -3,9 +3,8 @@ use Rattle.zh_ledger.specs.Submissions.{on_disk}
 use Rattle.zh_tasks.specs.Opened.{IsFrom, IsThis}
 use Rattle.zh_tasks.specs.Run.{Serves, streams}
 use Rattle.zh_tasks.specs.declared.fault.TaskFault.TheVariants as faults
-use Rattle.zh_tasks.proofs.DeviceLemmas.{refused_leaves, serves_leaves}
 use Rattle.zh_tasks.proofs.RunLemmas.{serves_as, with_office}
-use Rattle.zh_tasks.proofs.StartLemmas.{begun_at, starts}
+use Rattle.zh_tasks.proofs.StartLemmas.{begun_at, leaves_after, refused_leaves, starts}
 use Rattle.zh_tasks.proofs.run.serve_on.Goals as goal
 
 pub returns-in_err-office : goal.returns-in_err-office
@@ -25,10 +24,13 @@ returns g c =
     let start = on_disk c.in_ok-office.office (g.D.Disk.history c.open.new.disk) in
     let old = streams (g.I.Read.remaining c.args.input.now) (g.O.Write.contents c.args.out.now) in
     let new = streams (g.I.Read.remaining c.serve_lines.new.input) (g.O.Write.contents c.serve_lines.new.out) in
-    let begins = begun_at canton first last start (starts canton first start c.in_ok-office.ensures.opening c.in_ok-office.ensures.held) c.serve_lines.ensures.kept in
+    let begins = begun_at canton first last start (starts canton first start c.in_ok-office.ensures.opening c.in_ok-office.ensures.held) c.serve_lines.ensures.disk.kept in
     let serves = serves_as old new (IsThis start last) (IsFrom canton first last) c.serve_lines.result begins c.serve_lines.ensures.served in
     record {
       served = with_office canton first last _ (Serves old new) c.serve_lines.result (λ fault none. none) serves;
       reads = c.serve_lines.ensures.reads;
-      disk = serves_leaves canton first last old new c.serve_lines.result serves;
+      disk = leaves_after canton first start.history last _ c.serve_lines.result c.in_ok-office.ensures.opening c.serve_lines.ensures.disk;
     }
+
+pub serve_lines-requires : goal.serve_lines-requires
+serve_lines-requires g c = c.in_ok-office.ensures.opening.ready.whole

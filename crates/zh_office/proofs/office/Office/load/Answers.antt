@@ -1,7 +1,8 @@
-use Rattle.std.proofs.Common.{◌≡◌, rules, ◌∙◌, sym, subst, Ok, Err}
+use Rattle.std.proofs.Common.{◌≡◌, rules, ◌∙◌, refl, sym, subst, Ok, Err}
 use Rattle.zh_csv.specs.Load.{LoadsFrom}
 use Rattle.zh_csv.specs.Noted.{has_failed, inner_reader}
 use Rattle.zh_districts.specs.Canton.{Canton}
+use Rattle.zh_office.proofs.ContinuesLemmas.{none_continues}
 use Rattle.zh_office.proofs.LoadLemmas.{broken_turn, refused_turn}
 use Rattle.zh_office.proofs.office.Office.load.Goals as goal
 
@@ -21,6 +22,15 @@ returns-in-Ok-clause-turn g c =
     let From = λ (canton : Canton). LoadsFrom canton (g.R.Read.remaining (inner_reader c.args.reader.now)) (has_failed c.read_batch.new.text) (Ok c.in-Ok.batch) in
     let loads : From c.setup.result.now = record { rows = c.in-Ok.ensures.loaded; read = λ is. absurd (cc is); known = c.in-Ok.ensures.loads } in
     c.store.ensures.turn _ _ (subst From own loads)
+
+pub returns-then-faulted-clause-disk : goal.returns-then-faulted-clause-disk
+returns-then-faulted-clause-disk g c = none_continues _ _ refl
+
+pub returns-in-Err-clause-disk : goal.returns-in-Err-clause-disk
+returns-in-Err-clause-disk g c = none_continues _ _ refl
+
+pub returns-in-Ok-clause-disk : goal.returns-in-Ok-clause-disk
+returns-in-Ok-clause-disk g c = c.store.ensures.disk
 
 pub returns-then-faulted-clause-unread : goal.returns-then-faulted-clause-unread
 returns-then-faulted-clause-unread g c = search rules

@@ -1,6 +1,7 @@
 use Rattle.std.proofs.Common.{◌+◌, arith}
 use Rattle.zh_office.specs.Served.{session}
 use Rattle.zh_office.proofs.BlockLemmas.{Consumes-none}
+use Rattle.zh_office.proofs.ContinuesLemmas.{answers_continue, answers_on, breaks_on}
 use Rattle.zh_office.proofs.InputLemmas.{Serving-start, Serving-clean, Serving-more, Serving-breaks, Serving-last_breaks, Serving-stops, Serving-ends, Consumes-kept}
 use Rattle.zh_office.proofs.ReadCountLemmas.{TakesReads-start, TakesReads-more, TakesReads-same, TakesReads-stops}
 use Rattle.zh_office.proofs.office.Office.serve.Goals as goal
@@ -45,6 +46,23 @@ returns-clause-read g c = λ is. absurd (cc)
 
 pub returns-clause-write : goal.returns-clause-write
 returns-clause-write g c = λ is. absurd (cc)
+
+pub returns-in_default-clause-disk : goal.returns-in_default-clause-disk
+returns-in_default-clause-disk g c = answers_continue _ _ _ c.loop.invariant.serving.answers
+
+pub returns-in_err-last-clause-disk : goal.returns-in_err-last-clause-disk
+returns-in_err-last-clause-disk g c = breaks_on _ _ _ _ _ c.loop.invariant.serving.answers (rw c.in_err-last.was at c.finish.ensures)
+
+pub returns-then-len-eq0-clause-disk : goal.returns-then-len-eq0-clause-disk
+returns-then-len-eq0-clause-disk g c =
+    let last = rw c.in_ok-last.was at c.finish.ensures in
+    answers_on _ _ _ _ _ c.loop.invariant.serving.answers last.1
+
+pub returns-in_err-lines-clause-disk : goal.returns-in_err-lines-clause-disk
+returns-in_err-lines-clause-disk g c = breaks_on _ _ _ _ _ c.loop.invariant.serving.answers (rw c.in_err-lines.was at c.take_block.ensures)
+
+pub returns-clause-disk : goal.returns-clause-disk
+returns-clause-disk g c = answers_continue _ _ _ c.loop.invariant.serving.answers
 
 pub returns-clause-enough : goal.returns-clause-enough
 returns-clause-enough g c = λ _. TakesReads-same _ _ _ _ c.loop.invariant.reads (omega arith)
