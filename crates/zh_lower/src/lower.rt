@@ -27,7 +27,8 @@ impl Model for Lower {
 }
 
 impl Lower {
-    pub(crate) fn new(seats: Vec<u32>, row_divisors: Vec<u64>, column_divisors: Vec<u64>) -> Self
+    /// These seats, row by row, with a divisor in millionths for each row and each column.
+    pub fn new(seats: Vec<u32>, row_divisors: Vec<u64>, column_divisors: Vec<u64>) -> Self
         requires { length seats.items ≡ length row_divisors.items * length column_divisors.items }
         ensures { result ≡ record { seats = seats.items; divisors = millionths row_divisors.items column_divisors.items } }
     {

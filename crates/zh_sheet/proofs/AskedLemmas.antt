@@ -66,7 +66,7 @@ test_cases true = inl refl
 test_cases false = inr refl
 
 -- a group with seats takes part
-seated_takes : (t : VoteTotals) (a : Targets t) (k : ℕ) → k < length a.upper → 1 ≤ get_or a.upper k 0 → get_or a.taking k false ≡ true
+pub seated_takes : (t : VoteTotals) (a : Targets t) (k : ℕ) → k < length a.upper → 1 ≤ get_or a.upper k 0 → get_or a.taking k false ≡ true
 seated_takes t a k lt some =
     elim (test_cases (get_or a.taking k false)) [
       | inl holds ↦ holds
@@ -88,7 +88,7 @@ upper_within t a k lt =
     ]
 
 -- some group has a seat
-some_seated : (t : VoteTotals) (a : Targets t) → 1 ≤ t.canton.house → 1 ≤ length (seated_groups a.upper)
+pub some_seated : (t : VoteTotals) (a : Targets t) → 1 ≤ t.canton.house → 1 ≤ length (seated_groups a.upper)
 some_seated t a house =
     elim (cases_lt 0 (length (seated_groups a.upper))) [
       | inl some ↦ omega (arith, some)

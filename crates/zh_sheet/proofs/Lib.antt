@@ -2,6 +2,7 @@ pub mod CallerLemmas
 mod AskedLemmas
 mod BalanceLemmas
 mod DistributionLemmas
+mod GivenLemmas
 mod OneSheetLemmas
 mod ReasonLemmas
 mod RefusalLemmas

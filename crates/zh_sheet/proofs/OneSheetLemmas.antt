@@ -37,7 +37,7 @@ same_divisor weights a b seats A B =
     ∙ ap (λ n. record { seats = a.seats; num = a.num; den = n }) den
 
 -- equal parts make equal distributions
-same_parts : (x y : Distribution) → y.totals ≡ x.totals → y.seats ≡ x.seats → y.taking ≡ x.taking → y.voters ≡ x.voters →
+pub same_parts : (x y : Distribution) → y.totals ≡ x.totals → y.seats ≡ x.seats → y.taking ≡ x.taking → y.voters ≡ x.voters →
     y.upper ≡ x.upper → y.lower ≡ x.lower → y ≡ x
 same_parts x y totals seats taking voters upper lower =
     ap (λ t. record { totals = t; seats = y.seats; taking = y.taking; voters = y.voters; upper = y.upper; lower = y.lower }) totals
@@ -53,16 +53,22 @@ same_upper_shares taking a b seats shares =
     ap (λ s. record { seats = s; num = b.num; den = b.den }) seats
     ∙ ap (λ x. record { seats = a.seats; num = x.num; den = x.den }) shares
 
-same_asked : (x y : Distribution) → y.totals ≡ x.totals → y.seats ≡ x.seats → y.upper ≡ x.upper → question_of y ≡ question_of x
+pub same_asked : (x y : Distribution) → y.totals ≡ x.totals → y.seats ≡ x.seats → y.upper ≡ x.upper → question_of y ≡ question_of x
 same_asked x y totals seats upper =
     ap (λ t. lower_question t y.seats.seats y.upper.seats) totals
     ∙ ap (λ s. lower_question x.totals s.seats y.upper.seats) seats
     ∙ ap (λ u. lower_question x.totals x.seats.seats u.seats) upper
 
--- two distributions of the same votes, both with divisors that the search comes to
-pub same_distribution : (x y : Distribution) → IsDistribution x → IsShown (question_of x) x.lower.divisors →
-    IsDistribution y → IsShown (question_of y) y.lower.divisors → y.totals ≡ x.totals → y ≡ x
-same_distribution x y X x_reached Y y_reached totals =
+-- the parts above the lists are equal
+pub record AreSameAbove (x y : Distribution) : Type 0 where
+  pub seats : y.seats ≡ x.seats
+  pub taking : y.taking ≡ x.taking
+  pub voters : y.voters ≡ x.voters
+  pub upper : y.upper ≡ x.upper
+
+-- those of two distributions of the same votes are
+pub same_above : (x y : Distribution) → IsDistribution x → IsDistribution y → y.totals ≡ x.totals → AreSameAbove x y
+same_above x y X Y totals =
     let other : Targets x.totals = record {
       seats = y.seats.seats;
       taking = y.taking;
@@ -80,7 +86,14 @@ same_distribution x y X x_reached Y y_reached totals =
     = same_divisor (of_participants x.voters x.taking) (shares_of_participants x.upper x.taking) (shares_of_participants y.upper x.taking)
     (ap (λ u. of_participants u x.taking) same.upper) X.upper_key (rw (← same.voters, ← same.taking) Y.upper_key) in
     let upper : y.upper ≡ x.upper = same_upper_shares x.taking x.upper y.upper same.upper shares in
-    let question : question_of y ≡ question_of x = same_asked x y totals seats upper in
+    record { seats = seats; taking = same.taking; voters = same.voters; upper = upper }
+
+-- two distributions of the same votes, both with divisors that the search comes to
+pub same_distribution : (x y : Distribution) → IsDistribution x → IsShown (question_of x) x.lower.divisors →
+    IsDistribution y → IsShown (question_of y) y.lower.divisors → y.totals ≡ x.totals → y ≡ x
+same_distribution x y X x_reached Y y_reached totals =
+    let same : AreSameAbove x y = same_above x y X Y totals in
+    let question : question_of y ≡ question_of x = same_asked x y totals same.seats same.upper in
     let lower : y.lower ≡ x.lower
     = only_shown (question_of x) x.lower y.lower x_reached X.lower (rw (← question) y_reached) (rw (← question) Y.lower) in
-    same_parts x y totals seats same.taking same.voters upper lower
+    same_parts x y totals same.seats same.taking same.voters same.upper lower

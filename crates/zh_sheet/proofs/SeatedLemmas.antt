@@ -9,7 +9,7 @@ use Rattle.std.proofs.lemmas.List.Elements.{All-filter, All-from_get_or, filter-
 use Rattle.std.proofs.lemmas.List.FromFn.{get_or-range_with_len, length-range_with_len}
 use Rattle.zh_records.proofs.CallerLemmas.{HasWidth, in_block, length-blocks}
 use Rattle.zh_totals.specs.Totals.{VoteTotals, votes_in}
-use Rattle.zh_sheet.specs.Distribution.{seated_groups, seated_votes}
+use Rattle.zh_sheet.specs.Distribution.{seated_groups}
 
 numbers_suc : (a n : ℕ) → range_with_len a (suc n) ≡ range_with_len a n ++ (a + n) ∷ []
 numbers_suc a zero = ap (λ (x : ℕ). x ∷ []) (omega arith)
@@ -82,6 +82,11 @@ none_first upper (suc n) none k lt =
 
 pub none_seated : (upper : List ℕ) → length (seated_groups upper) ≡ 0 → (k : ℕ) → k < length upper → get_or upper k 0 ≡ 0
 none_seated upper none k lt = none_first upper (length upper) none k lt
+
+-- the votes of the seated groups, constituency by constituency
+abbrev seated_votes : VoteTotals → List ℕ → List ℕ
+seated_votes totals upper =
+    flat_map (λ d. map (votes_in totals d) (seated_groups upper)) (range_with_len 1 (length totals.canton.constituencies))
 
 row_wide : (totals : VoteTotals) (seated : List ℕ) → HasWidth (λ (d : ℕ). map (votes_in totals d) seated) (length seated)
 row_wide totals seated = record { at = λ d. length-map seated (votes_in totals d) }

@@ -41,17 +41,12 @@ pub record Targets (totals : VoteTotals) : Type 0 where
 abbrev pub seated_groups : List ℕ → List ℕ
 seated_groups upper = filter (λ g. nat_lt 0 (slice_index upper (g - 1))) (range_with_len 1 (length upper))
 
--- the votes of the seated groups, constituency by constituency
-abbrev pub seated_votes : VoteTotals → List ℕ → List ℕ
-seated_votes totals upper =
-    flat_map (λ d. map (votes_in totals d) (seated_groups upper)) (range_with_len 1 (length totals.canton.constituencies))
-
 -- the lower apportionment: constituencies in rows, seated groups in columns
 abbrev pub lower_question : VoteTotals → List ℕ → List ℕ → Question
 lower_question totals seats upper = record {
   rows = length totals.canton.constituencies;
   columns = length (seated_groups upper);
-  votes = seated_votes totals upper;
+  votes = flat_map (λ d. map (votes_in totals d) (seated_groups upper)) (range_with_len 1 (length totals.canton.constituencies));
   row_totals = seats;
   column_totals = map (λ g. slice_index upper (g - 1)) (seated_groups upper);
 }

@@ -1,4 +1,5 @@
 pub mod Distribution
+pub mod Given
 pub mod Inside
 pub mod Made
 pub mod Readings

@@ -5,6 +5,7 @@
 mod above;
 mod apportionment;
 mod fault;
+mod given_lists;
 mod laws;
 mod lower;
 mod reason;
@@ -13,6 +14,7 @@ mod sheet;
 
 pub use apportionment::make;
 pub use fault::SheetFault;
-pub use laws::one_sheet;
+pub use given_lists::given;
+pub use laws::{made_is_given, one_result, one_sheet};
 pub use reason::{ExhaustedReason, explain};
 pub use sheet::Sheet;

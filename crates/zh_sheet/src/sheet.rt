@@ -1,4 +1,5 @@
-ghost use Rattle.std.specs.Prelude.{◌≡◌, ◌-◌, ◌<◌, ◌≤◌, IfSome, length, slice_index};
+ghost use Rattle.std.specs.Prelude.{◌≡◌, ◌-◌, ◌<◌, ◌≤◌, if◌then◌else◌, Some, None, IfSome, [], length, slice_get, slice_index};
+ghost use Rattle.std.specs.Option.{option_map_or};
 
 use crate::seated::column_of;
 use std::marker::Model;
@@ -36,8 +37,9 @@ impl<'s> Model for Sheet<'s> {
 
 impl<'s> Sheet<'s> {
     ghost use Rattle.zh_sheet.specs.Distribution.{IsDistribution};
-    ghost use Rattle.zh_sheet.specs.Readings.{column_of, constituency_name, group_divisor, group_name};
-    ghost use Rattle.zh_sheet.specs.Readings.{list_seats, list_voters, takes_part, voters_of};
+    ghost use Rattle.zh_sheet.specs.Readings.{column_of, list_seats, takes_part};
+    ghost use Rattle.zh_totals.specs.Totals.{votes_in};
+    ghost use Rattle.zh_upper.specs.VoterNumbers.{voter_number};
 
     /// The set-up of the election. The sheet meets the definitions.
     pub fn setup(&self) -> &'s Setup
@@ -91,7 +93,7 @@ impl<'s> Sheet<'s> {
     pub fn constituency_name(&self, constituency: u32) -> &str
         requires from_one { 1 ≤ constituency }
         requires there { constituency ≤ length self.now.totals.canton.constituencies }
-        ensures name { result.now ≡ constituency_name self.now constituency }
+        ensures name { result.now ≡ option_map_or (λ c. c.name) (slice_get self.now.totals.canton.constituencies (constituency - 1)) [] }
         ensures short { length result.now ≤ 40 }
     {
         self.setup().constituency_name(constituency)
@@ -110,7 +112,7 @@ impl<'s> Sheet<'s> {
     pub fn voters(&self, group: u32) -> Option<u64>
         requires from_one { 1 ≤ group }
         requires there { group ≤ length self.now.totals.canton.groups }
-        ensures { result ≡ voters_of self.now group }
+        ensures { result ≡ (if takes_part self.now group then Some (slice_index self.now.voters (group - 1)) else None) }
     {
         if self.takes_part(group) {
             Some(self.voters[(group - 1) as usize])
@@ -139,7 +141,8 @@ impl<'s> Sheet<'s> {
 
     /// The divisor of a group in millionths, where it has seats.
     pub fn group_divisor(&self, group: u32) -> Option<u64>
-        ensures { result ≡ group_divisor self.now group }
+        ensures { result ≡ option_map_or (λ column. Some (slice_index self.now.lower.divisors.of_columns column))
+            (column_of self.now group) None }
     {
         let column = self.column(group)?;
         Some(self.lower.column_divisor(column as u32 + 1))
@@ -149,7 +152,7 @@ impl<'s> Sheet<'s> {
     pub fn group_name(&self, group: u32) -> &str
         requires from_one { 1 ≤ group }
         requires there { group ≤ length self.now.totals.canton.groups }
-        ensures name { result.now ≡ group_name self.now group }
+        ensures name { result.now ≡ option_map_or (λ g. g.name) (slice_get self.now.totals.canton.groups (group - 1)) [] }
         ensures short { length result.now ≤ 40 }
     {
         self.setup().group_name(group)
@@ -161,7 +164,9 @@ impl<'s> Sheet<'s> {
         requires there { constituency ≤ length self.now.totals.canton.constituencies }
         requires group_from_one { 1 ≤ group }
         requires group_there { group ≤ length self.now.totals.canton.groups }
-        ensures { result ≡ list_voters self.now constituency group }
+        ensures { result ≡ (if takes_part self.now group
+            then Some (voter_number (votes_in self.now.totals constituency group) (slice_index self.now.seats.seats (constituency - 1)))
+            else None) }
     {
         if self.takes_part(group) {
             let votes = self.totals.votes(constituency, group);

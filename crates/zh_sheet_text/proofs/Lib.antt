@@ -1,3 +1,4 @@
+mod LongestLemmas
 mod PageLemmas
 mod PrintingLemmas
 mod StandingLemmas

@@ -1,7 +1,9 @@
 -- Parts that are put on a page one after another.
-use Rattle.std.proofs.Common.{◌≡◌, ℕ, ◌+◌, ◌-◌, ◌≤◌, List, [], ◌∷◌, ◌++◌, length, take, drop, replicate, decimal, ap, sym, ◌∙◌, arith, append_assoc, length-append}
+use Rattle.std.proofs.Common.{◌≡◌, ℕ, ◌+◌, ◌-◌, ◌≤◌, Bool, true, false, if◌then◌else◌, Option, Some, None, List, [], ◌∷◌, ◌++◌, length, take, drop, replicate, codes, decimal, refl, ap, sym, ◌∙◌, arith, append_assoc, length-append}
+use Rattle.std.specs.Option.{option_map_or}
 use Rattle.std.proofs.Math.Seq.{take-length}
 use Rattle.std.proofs.lemmas.List.{drop-replicate, length-replicate}
+use Rattle.zh_sheet_text.specs.Printing.{or_dash}
 use Rattle.zh_sheet_text.specs.SheetText.{six_digits}
 
 -- the page is what it was, and then this text
@@ -18,6 +20,17 @@ put_next old before page next text n m first put same = record {
 
 pub put_words : (old before page next words : List ℕ) → EndsWith old page before → next ≡ page ++ words → EndsWith old next (before ++ words)
 put_words old before page next words first put = record { is = put ∙ (ap (λ t. t ++ words) first.is ∙ append_assoc old before words) }
+
+-- a dash for what is left out
+pub dash_unless : (there : Bool) (n : ℕ) → or_dash decimal (if there then Some n else None) ≡ (if there then decimal n else codes "-")
+dash_unless true n = refl
+dash_unless false n = refl
+
+-- a dash for what isn't found
+pub dash_unless_found : (text : ℕ → List ℕ) (f : ℕ → ℕ) (found : Option ℕ) →
+    or_dash text (option_map_or (λ k. Some (f k)) found None) ≡ option_map_or (λ k. text (f k)) found (codes "-")
+dash_unless_found text f None = refl
+dash_unless_found text f (Some k) = refl
 
 abbrev pub six_zeros : List ℕ
 six_zeros = 48 ∷ 48 ∷ 48 ∷ 48 ∷ 48 ∷ 48 ∷ []

@@ -14,6 +14,14 @@ use Rattle.zh_sheet.proofs.CallerLemmas.{numbers_more}
 pub Prints-put : (held : Option (List ℕ)) (page next text : List ℕ) → next ≡ page ++ text → Prints held page held next text
 Prints-put held page next text put = record { sent = []; appended = Appends-nil held; whole = sym put }
 
+-- what is put on an empty page, line by line
+pub Prints-lines : (held : Option (List ℕ)) (empty one two four five a b c d e : List ℕ) → empty ≡ [] → one ≡ empty ++ a → two ≡ one ++ b →
+    four ≡ two ++ (c ++ d) → five ≡ four ++ e → Prints held [] held five (a ++ b ++ c ++ d ++ e)
+Prints-lines held empty one two four five a b c d e is_empty first second keys last =
+    Prints-put held [] five (a ++ b ++ c ++ d ++ e)
+    (last ∙ ap (λ t. t ++ e) (keys
+    ∙ (sym (append_assoc two c d) ∙ ap (λ t. t ++ c ++ d) (second ∙ ap (λ t. t ++ b) (first ∙ ap (λ t. t ++ a) is_empty)))))
+
 -- one text after another
 pub Prints-append : (a b c : Option (List ℕ)) (p q r x y : List ℕ) → Prints a p b q x → Prints b q c r y → Prints a p c r (x ++ y)
 Prints-append a b c p q r x y first second = record {

@@ -1,22 +1,22 @@
 //! The lines of a sheet (docs/FORMATS.md, "The sheet").
-ghost use Rattle.std.specs.Prelude.{◌≡◌, ◌+◌, ◌≤◌, length};
+ghost use Rattle.std.specs.Prelude.{◌≡◌, ◌+◌, ◌≤◌, if◌then◌else◌, [], ◌∷◌, ◌++◌, length, codes, decimal};
+ghost use Rattle.std.specs.Option.{option_map_or};
 ghost use Rattle.zh_sheet_text.specs.Printing.{Puts};
-ghost use Rattle.zh_sheet_text.specs.SheetText.{constituency_line, group_line, head_line, house_line, key_lines};
-ghost use Rattle.zh_sheet_text.specs.SheetText.{kind, list_line, quorum_line, yes_or_no};
+ghost use Rattle.zh_sheet_text.specs.SheetText.{constituency_line, field, group_line, list_line};
 
 use crate::page::{LINE, Page, ROOM};
 use zh_sheet::Sheet;
 
 /// Whether a sheet is final, in a word.
 fn kind(is_final: bool) -> &'static str
-    ensures kind { result.now ≡ kind is_final }
+    ensures kind { result.now ≡ (if is_final then codes "final" else codes "provisional") }
     ensures short { length result.now ≤ 11 }
 {
     if is_final { "final" } else { "provisional" }
 }
 
 fn yes_or_no(yes: bool) -> &'static str
-    ensures word { result.now ≡ yes_or_no yes }
+    ensures word { result.now ≡ (if yes then codes "yes" else codes "no") }
     ensures short { length result.now ≤ 3 }
 {
     if yes { "yes" } else { "no" }
@@ -25,7 +25,8 @@ fn yes_or_no(yes: bool) -> &'static str
 /// The first line: the desk, whether the sheet is final, and how many commands were accepted.
 pub(crate) fn push_head(page: &mut Page, desk: u8, is_final: bool, accepted: u64)
     requires { length page.old + LINE ≤ ROOM }
-    ensures { Puts LINE (head_line desk is_final accepted) page.old page.new }
+    ensures { Puts LINE (decimal desk ++ codes " sheet " ++ (if is_final then codes "final" else codes "provisional")
+        ++ field (codes " ") accepted ++ 10 ∷ []) page.old page.new }
 {
     page.push_number(u64::from(desk));
     page.push(b" sheet ");
@@ -37,7 +38,7 @@ pub(crate) fn push_head(page: &mut Page, desk: u8, is_final: bool, accepted: u64
 /// The house.
 pub(crate) fn push_house(page: &mut Page, sheet: &Sheet<'_>)
     requires { length page.old + LINE ≤ ROOM }
-    ensures { Puts LINE (house_line sheet.now) page.old page.new }
+    ensures { Puts LINE (field (codes "house ") sheet.now.totals.canton.house ++ 10 ∷ []) page.old page.new }
 {
     page.push_field(b"house ", u64::from(sheet.setup().house()));
     page.push(b"\n");
@@ -46,7 +47,8 @@ pub(crate) fn push_house(page: &mut Page, sheet: &Sheet<'_>)
 /// The divisors of the constituencies' seats and of the groups' seats, each a fraction.
 pub(crate) fn push_keys(page: &mut Page, sheet: &Sheet<'_>)
     requires { length page.old + LINE ≤ ROOM }
-    ensures { Puts LINE (key_lines sheet.now) page.old page.new }
+    ensures { Puts LINE (field (codes "seats key ") sheet.now.seats.num ++ field (codes "/") sheet.now.seats.den ++ 10 ∷ []
+        ++ (field (codes "upper key ") sheet.now.upper.num ++ field (codes "/") sheet.now.upper.den ++ 10 ∷ [])) page.old page.new }
 {
     page.push_field(b"seats key ", sheet.seats().num());
     page.push_field(b"/", u64::from(sheet.seats().den()));
@@ -59,7 +61,8 @@ pub(crate) fn push_keys(page: &mut Page, sheet: &Sheet<'_>)
 /// The canton-wide quorum, where the set-up has one.
 pub(crate) fn push_quorum(page: &mut Page, sheet: &Sheet<'_>)
     requires { length page.old + LINE ≤ ROOM }
-    ensures { Puts LINE (quorum_line sheet.now) page.old page.new }
+    ensures { Puts LINE (option_map_or (λ q. field (codes "quorum canton ") q ++ 10 ∷ []) sheet.now.totals.canton.canton_quorum [])
+        page.old page.new }
 {
     if let Some(per_mille) = sheet.setup().canton_quorum() {
         page.push_field(b"quorum canton ", u64::from(per_mille));

@@ -1,7 +1,7 @@
 //! Text that waits for the writer.
 ghost use Rattle.std.specs.Prelude.{◌≡◌, ◌+◌, ◌<◌, ◌≤◌, ◌++◌, [], length, decimal, OnErr, OnOk};
-ghost use Rattle.zh_sheet_text.specs.Printing.{Prints, Puts, WritesFront};
-ghost use Rattle.zh_sheet_text.specs.SheetText.{divisor_text, field, or_dash, six_digits};
+ghost use Rattle.zh_sheet_text.specs.Printing.{Prints, Puts, WritesFront, or_dash};
+ghost use Rattle.zh_sheet_text.specs.SheetText.{divisor_text, field, six_digits};
 
 use itoa::Buffer;
 use std::io::Write;

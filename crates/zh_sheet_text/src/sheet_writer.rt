@@ -1,8 +1,9 @@
 //! The text of a sheet, written through a page.
-ghost use Rattle.std.specs.Prelude.{ℕ, ◌+◌, ◌<◌, ◌≤◌, length, OnErr, OnOk, take};
+ghost use Rattle.std.specs.Prelude.{ℕ, ◌+◌, ◌<◌, ◌≤◌, flat_map, length, OnErr, OnOk, take};
 ghost use Rattle.std.specs.Io.KnownBytes.{Appends};
+ghost use Rattle.std.specs.List.{range_with_len};
 ghost use Rattle.zh_sheet_text.specs.Printing.{PrintsAll};
-ghost use Rattle.zh_sheet_text.specs.SheetText.{constituency_lines, group_lines, list_lines, list_lines_in, sheet_text};
+ghost use Rattle.zh_sheet_text.specs.SheetText.{constituency_line, group_line, list_lines, sheet_text};
 
 use crate::lines::{
     push_constituency, push_group, push_head, push_house, push_keys, push_list, push_quorum,
@@ -18,7 +19,8 @@ fn print_constituencies<W: Write>(
     sheet: &Sheet<'_>,
 ) -> Result<(), WriteFault>
     requires { length page.old + LINE ≤ ROOM }
-    ensures { PrintsAll (constituency_lines sheet.now) result (W.contents out.old) page.old (W.contents out.new) page.new }
+    ensures { PrintsAll (flat_map (constituency_line sheet.now) (range_with_len 1 (length sheet.now.totals.canton.constituencies)))
+        result (W.contents out.old) page.old (W.contents out.new) page.new }
 {
     for place in 0..sheet.setup().constituencies() {
         push_constituency(page, sheet, place + 1);
@@ -29,7 +31,8 @@ fn print_constituencies<W: Write>(
 
 fn print_groups<W: Write>(page: &mut Page, out: &mut W, sheet: &Sheet<'_>) -> Result<(), WriteFault>
     requires { length page.old + LINE ≤ ROOM }
-    ensures { PrintsAll (group_lines sheet.now) result (W.contents out.old) page.old (W.contents out.new) page.new }
+    ensures { PrintsAll (flat_map (group_line sheet.now) (range_with_len 1 (length sheet.now.totals.canton.groups)))
+        result (W.contents out.old) page.old (W.contents out.new) page.new }
 {
     for place in 0..sheet.setup().groups() {
         push_group(page, sheet, place + 1);
@@ -48,7 +51,7 @@ fn print_lists_in<W: Write>(
     requires from_one { 1 ≤ constituency }
     requires there { constituency ≤ length sheet.now.totals.canton.constituencies }
     requires room { length page.old + LINE ≤ ROOM }
-    ensures { PrintsAll (list_lines_in sheet.now constituency) result (W.contents out.old) page.old (W.contents out.new) page.new }
+    ensures { PrintsAll (list_lines sheet.now constituency) result (W.contents out.old) page.old (W.contents out.new) page.new }
 {
     let setup = sheet.setup();
     for place in 0..setup.groups() {
@@ -62,7 +65,8 @@ fn print_lists_in<W: Write>(
 
 fn print_lists<W: Write>(page: &mut Page, out: &mut W, sheet: &Sheet<'_>) -> Result<(), WriteFault>
     requires { length page.old + LINE ≤ ROOM }
-    ensures { PrintsAll (list_lines sheet.now) result (W.contents out.old) page.old (W.contents out.new) page.new }
+    ensures { PrintsAll (flat_map (list_lines sheet.now) (range_with_len 1 (length sheet.now.totals.canton.constituencies)))
+        result (W.contents out.old) page.old (W.contents out.new) page.new }
 {
     for place in 0..sheet.setup().constituencies() {
         print_lists_in(page, out, sheet, place + 1)?;

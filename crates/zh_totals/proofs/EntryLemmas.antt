@@ -18,7 +18,7 @@ passing p es = sum_by (λ e. votes_of e.1) (filter (λ e. p e.0) es)
 abbrev pub votes_found : Option Entry → ℕ
 votes_found found = option_map_or votes_of found 0
 
-passing_first : (p : ℕ × ℕ → Bool) (e : (ℕ × ℕ) × Entry) (es : List ((ℕ × ℕ) × Entry)) → passing p (e ∷ es) ≡ cond (p e.0) (votes_of e.1) 0 + passing p es
+pub passing_first : (p : ℕ × ℕ → Bool) (e : (ℕ × ℕ) × Entry) (es : List ((ℕ × ℕ) × Entry)) → passing p (e ∷ es) ≡ cond (p e.0) (votes_of e.1) 0 + passing p es
 passing_first p e es =
     elim (p e.0) as (λ b. sum_by (λ e. votes_of e.1) (cond b (e ∷ filter (λ e. p e.0) es) (filter (λ e. p e.0) es)) ≡ cond b (votes_of e.1) 0 + passing p es) [
       | true ↦ sum_by-cons (λ (e : (ℕ × ℕ) × Entry). votes_of e.1) e (filter (λ e. p e.0) es)
@@ -31,7 +31,7 @@ is_less Equal is = cc
 is_less Greater is = cc
 
 -- a key before all others is not among them
-find_before : (k : ℕ × ℕ) (es : List ((ℕ × ℕ) × Entry)) → below_all key_cmp k es ≡ true → find key_cmp k es ≡ None
+pub find_before : (k : ℕ × ℕ) (es : List ((ℕ × ℕ) × Entry)) → below_all key_cmp k es ≡ true → find key_cmp k es ≡ None
 find_before k [] before = refl
 find_before k (e ∷ es) before =
     let parts = and_parts (is_lt (key_cmp k e.0)) (below_all key_cmp k es) before in

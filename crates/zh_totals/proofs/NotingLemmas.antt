@@ -18,7 +18,7 @@ use Rattle.zh_totals.proofs.PlaceLemmas.{table, length-table, at_table, place_wi
 abbrev pub with_entry : Tally → ℕ → ℕ → Entry → Tally
 with_entry tally municipality list entry = record tally { entries = map_of.insert tally.entries (municipality, list) entry }
 
-is_true : (b : Bool) → T b → b ≡ true
+pub is_true : (b : Bool) → T b → b ≡ true
 is_true true t = refl
 is_true false t = absurd t
 

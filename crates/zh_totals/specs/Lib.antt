@@ -3,3 +3,5 @@ pub mod Counting
 pub mod Parts
 pub mod Changes
 pub mod Inside
+pub mod GivenVotes
+pub mod Hidden

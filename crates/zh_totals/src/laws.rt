@@ -13,6 +13,7 @@ ghost use Rattle.zh_returns.specs.Step.{changed};
 ghost use Rattle.zh_returns.specs.Tally.{Tally};
 ghost use Rattle.zh_totals.specs.Changes.{all_noted, noted, change_to, changes_of};
 ghost use Rattle.zh_totals.specs.Counting.{totals_of, votes_of};
+ghost use Rattle.zh_totals.specs.Hidden.{NoneHidden};
 ghost use Rattle.zh_totals.specs.Totals.{AreTotals};
 
 /// After an accepted command the totals are those before it with each of its changes noted, one after the other; and
@@ -29,4 +30,9 @@ pub fn changes_are_noted()
 /// The totals of a count are within their limits.
 pub fn totals_are_few()
     ensures { (tally : Tally) → IsTally tally → AreTotals (totals_of tally) }
+{}
+
+/// A count has no votes of lists that do not stand.
+pub fn no_votes_are_hidden()
+    ensures { (tally : Tally) → IsTally tally → NoneHidden (totals_of tally) }
 {}

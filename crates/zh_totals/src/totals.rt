@@ -4,9 +4,11 @@ ghost use Rattle.std.specs.Prelude.{◌≡◌, ◌+◌, ◌-◌, ◌*◌, ◌^�
 ghost use Rattle.zh_returns.specs.Tally.{empty};
 ghost use Rattle.zh_totals.specs.Changes.{IsChange, noted};
 ghost use Rattle.zh_totals.specs.Counting.{totals_of};
+ghost use Rattle.zh_totals.specs.GivenVotes.{AreTotalsOf};
 ghost use Rattle.zh_totals.specs.Totals.{AreTotals, votes_in, constituency_votes, place_in};
 
 use crate::change::Change;
+use crate::row_sums::row_sums;
 use std::alloc::{AllocError, Global};
 use std::marker::Model;
 use zh_districts::Setup;
@@ -63,12 +65,43 @@ impl<'s> Totals<'s> {
         })
     }
 
+    /// The totals that have these votes: constituency by constituency one sum for each group. `None` where they are not one
+    /// for each, or more than 10^14 in all.
+    pub fn from_votes(
+        alloc: Global,
+        setup: &'s Setup,
+        votes: Vec<u64>,
+    ) -> Result<Option<Totals<'s>>, AllocError>
+        ensures { IfOk result (λ totals. AreTotalsOf (record { canton = setup.now; votes = votes.items }) totals) }
+    {
+        let rows = setup.constituencies() as usize;
+        let columns = setup.groups() as usize;
+        if votes.len() != rows * columns {
+            return Ok(None);
+        }
+        let Some(constituencies) = row_sums(alloc, &votes, rows, columns)? else {
+            return Ok(None);
+        };
+        Ok(Some(Totals {
+            setup,
+            votes,
+            constituencies,
+        }))
+    }
+
     /// The set-up that the totals are for.
     pub fn setup(&self) -> &'s Setup
         ensures setup { result.now ≡ self.now.canton }
         ensures limits { AreTotals self.now }
     {
         self.setup
+    }
+
+    /// The votes of every group, constituency by constituency.
+    pub fn all(&self) -> &[u64]
+        ensures { result.now ≡ self.now.votes }
+    {
+        self.votes.as_slice()
     }
 
     /// The votes of a group in a constituency.

@@ -1,5 +1,5 @@
-use Rattle.std.proofs.Common.{◌∙◌, ◌++◌, ◌∷◌, [], ℕ, ap, append_assoc, arith, codes, length, length-append}
-use Rattle.zh_sheet_text.specs.SheetText.{field, key_text}
+use Rattle.std.proofs.Common.{◌∙◌, ℕ, ap, arith, codes, length, length-append}
+use Rattle.zh_sheet_text.specs.SheetText.{field}
 use Rattle.zh_sheet_text.proofs.PageLemmas.{put_first, put_next, put_words}
 use Rattle.zh_sheet_text.proofs.lines.push_keys.Goals as goal
 
@@ -16,13 +16,11 @@ pub returns : goal.returns
 returns c =
     let number = put_first _ _ (field (codes "seats key ")) _ _ c.push_field.ensures.text (c.num.ensures ∙ ap (λ s. s.num) c.seats.ensures) in
     let first = put_next _ _ _ _ (field (codes "/")) _ _ number c.push_field-2.ensures.text (c.from.ensures ∙ c.den.ensures ∙ ap (λ s. s.den) c.seats-2.ensures) in
-    let line = put_words _ _ _ _ _ first c.push.ensures in
-    let with_number = put_next _ _ _ _ (field (codes "upper key ")) _ _ line c.push_field-3.ensures.text (c.num-2.ensures ∙ ap (λ u. u.num) c.upper.ensures) in
+    let seats = put_words _ _ _ _ _ first c.push.ensures in
+    let with_number = put_first _ _ (field (codes "upper key ")) _ _ c.push_field-3.ensures.text (c.num-2.ensures ∙ ap (λ u. u.num) c.upper.ensures) in
     let second = put_next _ _ _ _ (field (codes "/")) _ _ with_number c.push_field-4.ensures.text (c.from-2.ensures ∙ c.den-2.ensures ∙ ap (λ u. u.den) c.upper-2.ensures) in
-    let x = c.args.sheet.now in
+    let upper = put_words _ _ _ _ _ second c.push-2.ensures in
     record {
-      text =
-          (put_words _ _ _ _ _ second c.push-2.ensures).is
-          ∙ ap (λ t. c.args.page.now ++ (t ++ 10 ∷ [])) (append_assoc (key_text (codes "seats key ") x.seats ++ 10 ∷ []) (field (codes "upper key ") x.upper.num) (field (codes "/") x.upper.den));
+      text = (put_words _ _ _ _ _ seats upper.is).is;
       short = omega (arith, length-append {A = ℕ}, ap length c.push.ensures, ap length c.push-2.ensures);
     }

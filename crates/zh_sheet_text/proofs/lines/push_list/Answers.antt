@@ -1,7 +1,9 @@
 use Rattle.std.proofs.Common.{◌∙◌, ℕ, ap, arith, codes, decimal, length, length-append}
 use Rattle.zh_totals.specs.Totals.{votes_in}
-use Rattle.zh_sheet_text.specs.SheetText.{field, or_dash}
-use Rattle.zh_sheet_text.proofs.PageLemmas.{put_first, put_next, put_words}
+use Rattle.zh_sheet.specs.Readings.{takes_part}
+use Rattle.zh_sheet_text.specs.Printing.{or_dash}
+use Rattle.zh_sheet_text.specs.SheetText.{field}
+use Rattle.zh_sheet_text.proofs.PageLemmas.{dash_unless, put_first, put_next, put_words}
 use Rattle.zh_sheet_text.proofs.lines.push_list.Goals as goal
 
 pub returns : goal.returns
@@ -11,7 +13,8 @@ returns c =
     let with_group = put_next _ _ _ _ (field (codes " ")) _ _ number c.push_field-2.ensures.text c.from-2.ensures in
     let with_votes = put_next _ _ _ _ (field (codes " votes ")) _ _ with_group c.push_field-3.ensures.text votes in
     let before_voters = put_words _ _ _ _ _ with_votes c.push.ensures in
-    let with_voters = put_next _ _ _ _ (or_dash decimal) _ _ before_voters c.push_number_or_dash.ensures.text c.list_voters.ensures in
+    let voters = ap (or_dash decimal) c.list_voters.ensures ∙ dash_unless (takes_part c.args.sheet.now c.args.group) _ in
+    let with_voters = put_next _ _ _ _ (λ t. t) _ _ before_voters c.push_number_or_dash.ensures.text voters in
     let with_seats = put_next _ _ _ _ (field (codes " seats ")) _ _ with_voters c.push_field-4.ensures.text (c.from-3.ensures ∙ c.list_seats.ensures) in
     record {
       text = (put_words _ _ _ _ _ with_seats c.push-2.ensures).is;

@@ -1,8 +1,7 @@
 use Rattle.std.proofs.Common.{◌≡◌, ◌+◌, ◌<◌, ◌++◌, true, false, length, append-nil, ap, sym, ◌∙◌, arith, rules}
 use Rattle.zh_districts.specs.Canton.{stands}
-use Rattle.zh_sheet_text.specs.SheetText.{line_if_standing}
 use Rattle.zh_sheet_text.proofs.PrintingLemmas.{Prints-put, Prints-sent, at_error, lines_all, lines_printed, lines_stopped}
-use Rattle.zh_sheet_text.proofs.StandingLemmas.{absent_line, standing_line}
+use Rattle.zh_sheet_text.proofs.StandingLemmas.{absent_line, line_if_standing, standing_line}
 use Rattle.zh_sheet_text.proofs.sheet_writer.print_lists_in.Goals as goal
 use Rattle.zh_sheet_text.proofs.sheet_writer.print_lists_in.Goals.{then-stands+in_ok-make_room, else-stands}
 

@@ -1,8 +1,8 @@
 use Rattle.std.proofs.Common.{◌+◌, ◌≤◌, length}
 use Rattle.std.specs.List.{flat_map, range_with_len}
 use Rattle.zh_sheet_text.specs.Printing.{Prints}
-use Rattle.zh_sheet_text.specs.SheetText.{line_if_standing}
 use Rattle.zh_sheet_text.specs.declared.page.TheConstants.{LINE, ROOM}
+use Rattle.zh_sheet_text.proofs.StandingLemmas.{line_if_standing}
 use Rattle.zh_sheet_text.proofs.sheet_writer.print_lists_in.Given as goal
 
 -- the lines so far are printed, and there is room for one more

@@ -1,0 +1,228 @@
+-- A distribution with given lists: where it is open, no refusal before the lists holds, and it is the only one.
+use Rattle.std.proofs.Common.{◌≡◌, ◌≢◌, ℕ, ◌+◌, ◌-◌, ◌*◌, ◌/◌, ◌%◌, ◌<◌, ◌≤◌, List, length, get_or, Option, Ok, Err, Some, None, refl, inl, inr, ap, sym, ◌∙◌, subst, arith}
+use Rattle.zh_divisors.specs.Shares.{Apportionment}
+use Rattle.zh_divisors.proofs.CallerLemmas.{term-le-sum_to}
+use Rattle.std.specs.Prelude.{◌↔◌, Bool, IsTrue, false}
+use Rattle.std.proofs.lemmas.List.Elements.{All-from_get_or}
+use Rattle.std.proofs.Math.Nat.{div-add-mod'}
+use Rattle.zh_matrices.specs.Divisors.{millionths}
+use Rattle.zh_matrices.proofs.CallerLemmas.{column_of, only_seats, row_of, weakened}
+use Rattle.zh_sheet.specs.Made.{IsMade}
+use Rattle.zh_matrices.specs.Question.{AreSeatTotals, Question, cell}
+use Rattle.zh_matrices.specs.SeatMatrix.{IsStrict, SeatMatrix}
+use Rattle.zh_districts.specs.Canton.{IsCanton}
+use Rattle.zh_totals.specs.Totals as sums
+use Rattle.zh_totals.specs.Hidden.{NoneHidden}
+use Rattle.zh_totals.specs.Totals.{VoteTotals}
+use Rattle.zh_sheet.specs.Distribution.{Distribution, IsDistribution, Targets, lower_question, question_of, seated_groups}
+use Rattle.zh_sheet.specs.Given.{DoFit, DoFollow, HaveSameSeats, IsGiven, IsPublished}
+use Rattle.zh_sheet.specs.Refusals.{HaveNoVoters, IsAnswer, NoneOf, NoneTakesPart, place_in_order}
+use Rattle.zh_sheet.specs.Stages.{StandAbove}
+use Rattle.zh_sheet.specs.declared.fault.SheetFault.{SheetFault}
+use Rattle.zh_sheet.specs.declared.fault.SheetFault.TheVariants as faults
+use Rattle.zh_sheet.proofs.AskedLemmas.{seated_takes, some_seated}
+use Rattle.zh_sheet.proofs.DistributionLemmas.{none_of_seats}
+use Rattle.zh_sheet.proofs.OneSheetLemmas.{AreSameAbove, same_above, same_asked, same_parts}
+use Rattle.zh_sheet.proofs.RefusalLemmas.{none_3, none_4, none_5}
+use Rattle.zh_sheet.proofs.SeatedLemmas.{IsSeated, seated_are}
+use Rattle.zh_sheet.proofs.SheetLemmas.{targets}
+use Rattle.zh_sheet.proofs.TargetLemmas.{not_tied_above, same_question}
+
+-- a group with seats takes part
+some_takes : (t : VoteTotals) (a : Targets t) → IsCanton t.canton → ¬ NoneTakesPart t
+some_takes t a canton none =
+    let some : 0 < length (seated_groups a.upper) = omega (arith, some_seated t a canton.house.0) in
+    let is : IsSeated a.upper (get_or (seated_groups a.upper) 0 0) = seated_are a.upper 0 0 some in
+    let g : ℕ = get_or (seated_groups a.upper) 0 0 in
+    let there : g ≤ length t.canton.groups = omega (arith, is.there, a.groups.one_each, a.sums.one_each) in
+    none g is.from_one there
+    ((a.participation.each g is.from_one there).0 (seated_takes t a (g - 1) (omega (arith, is.from_one, is.there)) is.seated))
+
+-- no refusal before the lists holds
+none_early : (x : Distribution) → IsPublished x → NoneOf 5 x.totals
+none_early x is =
+    let a : Targets x.totals = targets x is.distribution in
+    none_5 x.totals
+    (none_4 x.totals (none_3 x.totals (none_of_seats x.totals a.seats a.constituencies) (some_takes x.totals a is.distribution.totals.canton)) is.voters)
+    (not_tied_above x.totals a)
+
+-- so only memory is refused
+not_refused : (totals : VoteTotals) (fault : SheetFault) → IsAnswer {Sheet = Distribution} totals (Err fault) → place_in_order fault ≤ 5 →
+    1 ≤ place_in_order fault → (x : Distribution) → IsPublished x → ¬ (x.totals ≡ totals)
+not_refused totals fault answer early late x is same =
+    let none : NoneOf 5 totals = subst (λ t. NoneOf 5 t) same (none_early x is) in
+    none fault late early (answer.refused fault refl).holds
+
+-- a distribution asks the question that the seats above leave
+asked_above : (totals : VoteTotals) (a : Targets totals) (x : Distribution) → IsDistribution x → x.totals ≡ totals →
+    question_of x ≡ lower_question totals a.seats a.upper
+asked_above totals a x is same =
+    let b : Targets totals = record {
+      seats = x.seats.seats;
+      taking = x.taking;
+      voters = x.voters;
+      upper = x.upper.seats;
+      constituencies = rw (← same) is.seats;
+      participation = rw (← same) is.participation;
+      sums = rw (← same) is.voters;
+      groups = rw (← same) is.upper;
+    } in
+    ap (λ t. lower_question t x.seats.seats x.upper.seats) same ∙ same_question totals a b
+
+-- the lists of an open distribution follow
+follow_above : (totals : VoteTotals) (a : Targets totals) (lists : SeatMatrix) (x : Distribution) → IsDistribution x → x.totals ≡ totals → x.lower ≡ lists →
+    DoFollow (lower_question totals a.seats a.upper) lists
+follow_above totals a lists x is same lower =
+    let own : DoFollow (question_of x) x.lower = record { strict = is.lower; limits = is.limits } in
+    subst (λ l. DoFollow (lower_question totals a.seats a.upper) l) lower (subst (λ q. DoFollow q x.lower) (asked_above totals a x is same) own)
+
+-- where the lists do not follow there is none
+pub none_given : (totals : VoteTotals) (a : Targets totals) (lists : SeatMatrix) → ¬ DoFollow (lower_question totals a.seats a.upper) lists →
+    IsGiven totals lists None
+none_given totals a lists not = record {
+  votes = tt;
+  seats = tt;
+  meets = tt;
+  every = λ x is same lower. absurd (not (follow_above totals a lists x is.distribution same lower));
+}
+
+-- nor where votes are hidden, or a part above the lists is refused for another reason than memory
+pub none_shown : (totals : VoteTotals) (lists : SeatMatrix) → ¬ NoneHidden totals → IsGiven totals lists None
+none_shown totals lists hidden = record {
+  votes = tt;
+  seats = tt;
+  meets = tt;
+  every = λ x is same lower. absurd (hidden (subst (λ t. NoneHidden t) same is.votes));
+}
+
+late_refusal : (fault : SheetFault) → fault ≢ faults.Memory → 1 ≤ place_in_order fault
+late_refusal faults.Memory other = absurd (other refl)
+late_refusal faults.TiedSeats other = omega arith
+late_refusal (faults.NoSeat d) other = omega arith
+late_refusal faults.NoGroup other = omega arith
+late_refusal faults.NoVoters other = omega arith
+late_refusal faults.TiedUpper other = omega arith
+late_refusal (faults.NoVotes d) other = omega arith
+late_refusal (faults.TiedLower d g) other = omega arith
+late_refusal faults.Exhausted other = omega arith
+
+pub none_above : (totals : VoteTotals) (lists : SeatMatrix) (fault : SheetFault) → IsAnswer {Sheet = Distribution} totals (Err fault) →
+    place_in_order fault ≤ 5 → fault ≢ faults.Memory → IsGiven totals lists None
+none_above totals lists fault answer early other = record {
+  votes = tt;
+  seats = tt;
+  meets = tt;
+  every = λ x is same lower. absurd (not_refused totals fault answer early (late_refusal fault other) x is same);
+}
+
+-- the distribution of the seats above and the lists
+abbrev pub distribution_with : VoteTotals → Apportionment → List Bool → List ℕ → Apportionment → SeatMatrix → Distribution
+distribution_with totals seats taking voters upper lists = record {
+  totals = totals;
+  seats = seats;
+  taking = taking;
+  voters = voters;
+  upper = upper;
+  lower = lists;
+}
+
+pub meets_with : (totals : VoteTotals) (seats : Apportionment) (taking : List Bool) (voters : List ℕ) (upper : Apportionment) (lists : SeatMatrix) →
+    sums.AreTotals totals → StandAbove totals seats taking voters upper → DoFollow (lower_question totals seats.seats upper.seats) lists →
+    lists.divisors ≡ millionths lists.divisors.of_rows lists.divisors.of_columns →
+    IsDistribution (distribution_with totals seats taking voters upper lists)
+meets_with totals seats taking voters upper lists limits above follow in_millionths = record {
+  totals = limits;
+  seats = above.constituencies;
+  seats_key = above.seats_key;
+  participation = above.participation;
+  voters = above.sums;
+  upper = above.groups;
+  upper_key = above.upper_key;
+  lower = follow.strict;
+  divisors = in_millionths;
+  limits = follow.limits;
+}
+
+-- it is the only one
+pub one_given : (totals : VoteTotals) (lists : SeatMatrix) (x : Distribution) → IsDistribution x → NoneHidden totals → NoneOf 4 totals →
+    x.totals ≡ totals → x.lower ≡ lists → IsGiven totals lists (Some x)
+one_given totals lists x is hidden none same lower = record {
+  votes = same;
+  seats = lower;
+  meets = record {
+    distribution = is;
+    votes = subst (λ t. NoneHidden t) (sym same) hidden;
+    voters = subst (λ t. ¬ HaveNoVoters t) (sym same) (none faults.NoVoters (omega arith) (omega arith));
+  };
+  every = λ y Y votes seats.
+      let totals_same : y.totals ≡ x.totals = votes ∙ sym same in
+      let above : AreSameAbove x y = same_above x y is Y.distribution totals_same in
+      ap Some (sym (same_parts x y totals_same above.seats above.taking above.voters above.upper (seats ∙ sym lower)));
+}
+
+-- what the test of rounding asks of the sizes of lists that follow
+pub few_given : (q : Question) (lists : SeatMatrix) → AreSeatTotals q.rows q.row_totals → DoFollow q lists → DoFit q.rows q.columns lists
+few_given q lists totals follow = record {
+  rows = follow.limits.rows;
+  columns = follow.limits.columns;
+  one_each = follow.strict.one_each;
+  few = All-from_get_or (λ s. s ≤ 400) lists.seats 0 (λ k lt.
+      let within : k < q.rows * q.columns = omega (arith, follow.strict.one_each) in
+      let d : ℕ = k / q.columns in
+      let g : ℕ = k % q.columns in
+      let dm : d < q.rows = row_of q.rows q.columns k within in
+      let gn : g < q.columns = column_of q.rows q.columns k within in
+      let place : d * q.columns + g ≡ k = div-add-mod' k q.columns in
+      let most : get_or q.row_totals d 0 ≤ 400 = totals.at_most_400 d 0 (omega (arith, totals.one_each)) in
+      let few : cell q.columns lists.seats d g ≤ 400
+      = omega (arith, term-le-sum_to q.columns (cell q.columns lists.seats d) g gn, follow.strict.rows_add_up d dm) in
+      rw place at few);
+}
+
+-- a sheet that was made of votes that it shows all is open
+pub made_open : (totals : VoteTotals) (x : Distribution) → IsMade totals (Ok x) → NoneHidden totals → IsPublished x
+made_open totals x made hidden =
+    let same : x.totals ≡ totals = made.sheet.votes in
+    let is : IsDistribution x = made.sheet.meets in
+    let a : Targets x.totals = targets x is in
+    let before : NoneOf 3 totals
+    = subst (λ t. NoneOf 3 t) same (none_3 x.totals (none_of_seats x.totals a.seats a.constituencies) (some_takes x.totals a is.totals.canton)) in
+    let voters : ¬ HaveNoVoters totals
+    = λ none. elim (made.refused.exactly faults.NoVoters (omega arith) (omega arith) (record { holds = none; first = before })) [
+      | inl refused ↦ absurd (cc)
+      | inr refused ↦ absurd (cc)
+    ] in
+    record {
+      distribution = is;
+      votes = subst (λ t. NoneHidden t) (sym same) hidden;
+      voters = subst (λ t. ¬ HaveNoVoters t) (sym same) voters;
+    }
+
+-- and its own seats and divisors give it again
+pub made_given : (totals : VoteTotals) (x : Distribution) (found : Option Distribution) → IsMade totals (Ok x) → NoneHidden totals →
+    IsGiven totals x.lower found → found ≡ Some x
+made_given totals x found made hidden given = given.every x (made_open totals x made hidden) made.sheet.votes refl
+
+-- two distributions of the same votes have the same seats, whatever their divisors
+pub one_result : (x y : Distribution) → IsDistribution x → IsDistribution y → y.totals ≡ x.totals → HaveSameSeats x y
+one_result x y X Y totals =
+    let above : AreSameAbove x y = same_above x y X Y totals in
+    let question : question_of y ≡ question_of x = same_asked x y totals above.seats above.upper in
+    record {
+      constituencies = above.seats;
+      groups = above.upper;
+      lists = only_seats (question_of x) x.lower.divisors y.lower.divisors x.lower.seats y.lower.seats X.lower
+          (weakened (question_of x) y.lower.divisors y.lower.seats (subst (λ q. IsStrict q y.lower.divisors y.lower.seats) question Y.lower));
+    }
+
+-- lists that fit follow exactly where the strict test passes
+pub follow_if : (q : Question) (lists : SeatMatrix) (passes : Bool) → DoFit q.rows q.columns lists →
+    (IsTrue passes ↔ IsStrict q lists.divisors lists.seats) → IsTrue passes ↔ DoFollow q lists
+follow_if q lists passes fit is = (
+  λ yes. record { strict = is.0 yes; limits = record { rows = fit.rows; columns = fit.columns } },
+  λ follow. is.1 follow.strict,
+)
+
+-- and others do not
+pub none_fit : (q : Question) (lists : SeatMatrix) → AreSeatTotals q.rows q.row_totals → ¬ DoFit q.rows q.columns lists → IsTrue false ↔ DoFollow q lists
+none_fit q lists totals not = (λ yes. absurd (cc), λ follow. absurd (not (few_given q lists totals follow)))

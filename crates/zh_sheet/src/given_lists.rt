@@ -1,0 +1,176 @@
+//! A sheet from seats of the lists and divisors that are given: no search.
+ghost use Rattle.std.specs.Prelude.{◌≡◌, ◌≤◌, ◌↔◌, IfOk, IsTrue, length};
+ghost use Rattle.zh_matrices.specs.Divisors.{AreWithin};
+ghost use Rattle.zh_sheet.specs.Distribution.{lower_question, seated_groups};
+ghost use Rattle.zh_sheet.specs.Given.{DoFit, DoFollow, IsGiven, given_lists};
+ghost use Rattle.zh_sheet.specs.Stages.{StandAbove};
+ghost use Rattle.zh_totals.specs.Hidden.{NoneHidden, NoneHiddenIn};
+
+use crate::above::{Above, seats_above};
+use crate::fault::SheetFault;
+use crate::seated::{seated_groups, seats_of, votes_of};
+use crate::sheet::Sheet;
+use std::alloc::{AllocError, Global};
+use zh_lower::{Lower, Matrix, is_strict};
+use zh_totals::Totals;
+
+/// The greatest divisor of a constituency, in millionths.
+const MOST_OF_A_ROW: u64 = 1_000_000_000_000_000_000;
+
+/// The greatest divisor of a group, in millionths.
+const MOST_OF_A_COLUMN: u64 = 1_000_000_000_000;
+
+/// Whether each list with votes in a constituency stands there.
+fn none_hidden_in(totals: &Totals<'_>, constituency: u32) -> bool
+    requires from_one { 1 ≤ constituency }
+    requires there { constituency ≤ length totals.now.canton.constituencies }
+    ensures { IsTrue result ↔ NoneHiddenIn totals.now constituency }
+{
+    let setup = totals.setup();
+    for place in 0..setup.groups() {
+        if !setup.stands(constituency, place + 1) && totals.votes(constituency, place + 1) > 0 {
+            return false;
+        }
+    }
+    true
+}
+
+/// Whether each list with votes stands.
+fn none_hidden(totals: &Totals<'_>) -> bool
+    ensures { IsTrue result ↔ NoneHidden totals.now }
+{
+    for place in 0..totals.setup().constituencies() {
+        if !none_hidden_in(totals, place + 1) {
+            return false;
+        }
+    }
+    true
+}
+
+/// Whether there is a divisor for each of these lines, from 1 to the most.
+fn are_within(lines: usize, most: u64, divisors: &[u64]) -> bool
+    ensures { IsTrue result ↔ AreWithin lines most divisors.now }
+{
+    divisors.len() == lines && divisors.iter().all(|x| *x >= 1 && *x <= most)
+}
+
+/// Whether lists have this size, with divisors within the limits and at most 400 seats each.
+fn do_fit(
+    rows: usize,
+    columns: usize,
+    seats: &[u32],
+    row_divisors: &[u64],
+    column_divisors: &[u64],
+) -> bool
+    requires rows { rows ≤ 32 }
+    requires columns { columns ≤ 32 }
+    ensures { IsTrue result ↔ DoFit rows columns (given_lists seats.now row_divisors.now column_divisors.now) }
+{
+    are_within(rows, MOST_OF_A_ROW, row_divisors)
+        && are_within(columns, MOST_OF_A_COLUMN, column_divisors)
+        && seats.len() == rows * columns
+        && seats.iter().all(|x| *x <= 400)
+}
+
+/// Whether the seats of the lists follow from the divisors, which are within the limits.
+fn do_follow(
+    alloc: Global,
+    totals: &Totals<'_>,
+    above: &Above,
+    seated: &[u32],
+    seats: &[u32],
+    row_divisors: &[u64],
+    column_divisors: &[u64],
+) -> Result<bool, AllocError>
+    requires above { StandAbove totals.now above.now.seats above.now.taking.items above.now.voters.items above.now.upper }
+    requires seated { seated.now ≡ seated_groups above.now.upper.seats }
+    ensures { IfOk result (λ follow. IsTrue follow ↔ DoFollow
+        (lower_question totals.now above.now.seats.seats above.now.upper.seats)
+        (given_lists seats.now row_divisors.now column_divisors.now)) }
+{
+    let rows = totals.setup().constituencies() as usize;
+    if !do_fit(rows, seated.len(), seats, row_divisors, column_divisors) {
+        return Ok(false);
+    }
+    let column_totals = seats_of(alloc, &above.upper, seated)?;
+    let votes = votes_of(alloc, totals, seated)?;
+    let matrix = Matrix::new(alloc, rows, seated.len(), &votes)?;
+    Ok(is_strict(
+        &matrix,
+        above.seats.seats(),
+        &column_totals,
+        seats,
+        row_divisors,
+        column_divisors,
+    ))
+}
+
+/// The seats above the lists, which stand, with the lists, where these follow.
+fn with_given<'s>(
+    alloc: Global,
+    totals: &Totals<'s>,
+    above: Above,
+    seats: Vec<u32>,
+    row_divisors: Vec<u64>,
+    column_divisors: Vec<u64>,
+) -> Result<Option<Sheet<'s>>, AllocError>
+    requires above { StandAbove totals.now above.seats above.taking.items above.voters.items above.upper }
+    requires votes { NoneHidden totals.now }
+    ensures { IfOk result (IsGiven totals.now (given_lists seats.items row_divisors.items column_divisors.items)) }
+{
+    let seated = seated_groups(alloc, &above.upper, totals.setup().groups())?;
+    if !do_follow(
+        alloc,
+        totals,
+        &above,
+        &seated,
+        &seats,
+        &row_divisors,
+        &column_divisors,
+    )? {
+        return Ok(None);
+    }
+    let totals = totals.copy(alloc)?;
+    let Above {
+        seats: row_totals,
+        taking,
+        voters,
+        upper,
+    } = above;
+    Ok(Some(Sheet {
+        totals,
+        seats: row_totals,
+        taking,
+        voters,
+        upper,
+        seated,
+        lower: Lower::new(seats, row_divisors, column_divisors),
+    }))
+}
+
+/// The sheet of these totals with these seats of the lists and these divisors, or `None` where they are no distribution of
+/// these totals. Nothing is searched: any divisors do that give the seats with no quotient on a half.
+///
+/// The seats are those of the groups with seats in the whole canton, constituency by constituency. There is a divisor in
+/// millionths for each constituency, 1 to 10^18, and for each of those groups, 1 to 10^12. Totals with votes of lists that
+/// do not stand, which no sheet shows, have none.
+pub fn given<'s>(
+    alloc: Global,
+    totals: &Totals<'s>,
+    seats: Vec<u32>,
+    row_divisors: Vec<u64>,
+    column_divisors: Vec<u64>,
+) -> Result<Option<Sheet<'s>>, AllocError>
+    ensures { IfOk result (IsGiven totals.now (given_lists seats.items row_divisors.items column_divisors.items)) }
+{
+    if !none_hidden(totals) {
+        return Ok(None);
+    }
+    match seats_above(alloc, totals) {
+        Ok(above) => with_given(alloc, totals, above, seats, row_divisors, column_divisors),
+        Err(fault) => match fault {
+            SheetFault::Memory => Err(AllocError),
+            _ => Ok(None),
+        },
+    }
+}

@@ -1,0 +1,232 @@
+-- How long the text of a sheet is at most: 1,094 lines of 256 bytes.
+use Rattle.std.proofs.Common.{◌≡◌, ◌∙◌, ℕ, zero, suc, ◌+◌, ◌-◌, ◌*◌, ◌/◌, ◌%◌, ◌^◌, ◌<◌, ◌≤◌, ◌==◌, Bool, cond, true, false, All, IfSome, IsTrue, Option, Some, None, List, [], ◌∷◌, ◌++◌, length, get_or, map, replicate, decimal, codes, refl, ap, sym, arith, length-append, inl, inr}
+use Rattle.std.specs.Prelude.{slice_get, sum}
+use Rattle.std.specs.List.{flat_map, range_with_len}
+use Rattle.std.specs.Option.{option_map_or}
+use Rattle.std.proofs.lemmas.Bool.{cases_lt}
+use Rattle.std.proofs.lemmas.Fmt.{length-decimal-le}
+use Rattle.std.proofs.lemmas.List.{get_or_past, length-map, length-replicate}
+use Rattle.std.proofs.lemmas.List.Quantifiers.{position-Some}
+use Rattle.std.proofs.lemmas.List.Sums.{get_or-le-sum_by, sum_by-cons}
+use Rattle.zh_districts.specs.Canton.{Constituency, Group, is_name, persons_of, stands}
+use Rattle.zh_districts.specs.Seats.{persons}
+use Rattle.zh_districts.proofs.CallerLemmas.{is_name-short}
+use Rattle.zh_divisors.proofs.CallerLemmas.{sum_to-le, term-le-sum_to}
+use Rattle.zh_matrices.specs.Question.{cell}
+use Rattle.zh_matrices.specs.SeatMatrix.{seats_of}
+use Rattle.zh_totals.specs.Totals.{constituency_votes, votes_in}
+use Rattle.zh_totals.proofs.CallerLemmas.{constituency_most, group_most, group_within}
+use Rattle.zh_upper.specs.UpperSeats.{of_participants}
+use Rattle.zh_upper.specs.VoterNumbers.{voter_number, voter_sum}
+use Rattle.zh_upper.proofs.CallerLemmas.{voter_number-le}
+use Rattle.zh_sheet.specs.Distribution.{Distribution, IsDistribution, seated_groups}
+use Rattle.zh_sheet.specs.Readings.{column_of, list_seats, takes_part}
+use Rattle.zh_sheet_text.specs.SheetText.{constituency_line, divisor_text, field, group_line, list_line, list_lines, sheet_text, six_digits}
+
+-- numbers of 64 bits have 20 digits
+digits : (n : ℕ) → n < 2 ^ 64 → length (decimal n) ≤ 20
+digits n small = length-decimal-le 20 n (omega arith) (omega arith) small
+
+number : (words : List ℕ) (n : ℕ) → n < 2 ^ 64 → length (field words n) ≤ length words + 20
+number words n small = omega (arith, length-append words (decimal n), digits n small)
+
+six : (n : ℕ) → n < 1000000 → length (six_digits n) ≤ 6
+six n small =
+    let few = length-decimal-le 6 n (omega arith) (omega arith) (omega arith) in
+    omega (arith, few, length-append (replicate (6 - length (decimal n)) 48) (decimal n), length-replicate {A = ℕ} (6 - length (decimal n)) 48)
+
+divisor : (n : ℕ) → n < 2 ^ 64 → length (divisor_text n) ≤ 27
+divisor n small =
+    let whole = digits (n / 1000000) (omega arith) in
+    let rest = simp length-append at (six (n % 1000000) (omega arith)) in
+    simp length-append (omega (arith, whole, rest))
+
+-- one text or the other
+choice : (b : Bool) (one other : List ℕ) (most : ℕ) → length one ≤ most → length other ≤ most → length (cond b one other) ≤ most
+choice true one other most is or = is
+choice false one other most is or = or
+
+-- the text of what is found, or a dash
+found : (text : ℕ → List ℕ) (most : ℕ) (o : Option ℕ) → 1 ≤ most → ((k : ℕ) → length (text k) ≤ most) → length (option_map_or text o (codes "-")) ≤ most
+found text most None some each = some
+found text most (Some k) some each = each k
+
+-- elements that are all small, and one past the end
+each_at_most : (xs : List ℕ) (most k : ℕ) → All (λ v. v ≤ most) xs → get_or xs k 0 ≤ most
+each_at_most xs most k all = elim (cases_lt k (length xs)) [
+  | inl within ↦ all k 0 within
+  | inr past ↦ let none = get_or_past xs k 0 past in omega (arith, none)
+]
+
+within_sum : (xs : List ℕ) (k : ℕ) → get_or xs k 0 ≤ sum xs
+within_sum xs k = elim (cases_lt k (length xs)) [
+  | inl within ↦ get_or-le-sum_by (λ x. x) xs k 0 within
+  | inr past ↦ let none = get_or_past xs k 0 past in omega (arith, none)
+]
+
+-- persons, as one of all and as one that is looked up
+mapped_at_most : {X : Type 0} (f : X → ℕ) (most : ℕ) (xs : List X) (k : ℕ) → All (λ x. f x ≤ most) xs → get_or (map f xs) k 0 ≤ most
+mapped_at_most f most [] k all = omega arith
+mapped_at_most f most (x ∷ xs) zero all = all 0 x (omega arith)
+mapped_at_most f most (x ∷ xs) (suc k) all = mapped_at_most f most xs k (λ i d within. all (suc i) d (omega arith))
+
+found_at_most : {X : Type 0} (f : X → ℕ) (most : ℕ) (xs : List X) (k : ℕ) → All (λ x. f x ≤ most) xs → option_map_or f (slice_get xs k) 0 ≤ most
+found_at_most f most [] k all = omega arith
+found_at_most f most (x ∷ xs) zero all = all 0 x (omega arith)
+found_at_most f most (x ∷ xs) (suc k) all = found_at_most f most xs k (λ i d within. all (suc i) d (omega arith))
+
+-- a name that is looked up
+name_at : {X : Type 0} (name : X → List ℕ) (xs : List X) (k : ℕ) → All (λ n. IsTrue (is_name n)) (map name xs) → length (option_map_or name (slice_get xs k) []) ≤ 40
+name_at name [] k rule = omega arith
+name_at name (x ∷ xs) zero rule = is_name-short (name x) (rule 0 (name x) (omega arith))
+name_at name (x ∷ xs) (suc k) rule = name_at name xs k (λ i d within. rule (suc i) d (omega arith))
+
+-- a number of a group that takes part
+participant_at_most : (numbers : List ℕ) (taking : List Bool) (most k : ℕ) → ((i : ℕ) → get_or numbers i 0 ≤ most) → get_or (of_participants numbers taking) k 0 ≤ most
+participant_at_most [] taking most k each = each 0
+participant_at_most (n ∷ numbers) [] most k each = omega arith
+participant_at_most (n ∷ numbers) (true ∷ taking) most zero each = each 0
+participant_at_most (n ∷ numbers) (true ∷ taking) most (suc k) each = participant_at_most numbers taking most k (λ i. each (suc i))
+participant_at_most (n ∷ numbers) (false ∷ taking) most k each = participant_at_most numbers taking most k (λ i. each (suc i))
+
+-- a group that takes part has at most the seats of all of these, and another one has none
+seats_within : (numbers : List ℕ) (taking : List Bool) (k : ℕ) → length taking ≡ length numbers → ((place : ℕ) → slice_get taking place ≡ Some false → get_or numbers place 0 ≡ 0) → get_or numbers k 0 ≤ sum (of_participants numbers taking)
+seats_within [] taking k same others = omega arith
+seats_within (n ∷ numbers) [] k same others = absurd (omega arith)
+seats_within (n ∷ numbers) (true ∷ taking) zero same others = omega (arith, sum_by-cons (λ x. x) n (of_participants numbers taking))
+seats_within (n ∷ numbers) (true ∷ taking) (suc k) same others =
+    omega (arith, sum_by-cons (λ x. x) n (of_participants numbers taking), seats_within numbers taking k (omega arith) (λ place. others (suc place)))
+seats_within (n ∷ numbers) (false ∷ taking) zero same others = let none : n ≡ 0 = others 0 refl in omega arith
+seats_within (n ∷ numbers) (false ∷ taking) (suc k) same others = seats_within numbers taking k (omega arith) (λ place. others (suc place))
+
+-- lines of at most so many bytes
+lines_within : (line : ℕ → List ℕ) (most a n : ℕ) → ((i : ℕ) → a ≤ i → i < a + n → length (line i) ≤ most) → length (flat_map line (range_with_len a n)) ≤ n * most
+lines_within line most a zero each = omega arith
+lines_within line most a (suc n) each =
+    let first = each a (omega arith) (omega arith) in
+    let others = lines_within line most (a + 1) n (λ i from_a within. each i (omega arith) (omega arith)) in
+    omega (arith, first, others, length-append (line a) (flat_map line (range_with_len (a + 1) n)))
+
+module _ (x : Distribution) (is : IsDistribution x) where
+  -- the numbers of a sheet
+  seats_small : (k : ℕ) → get_or x.seats.seats k 0 ≤ 400
+  seats_small k = omega (arith, within_sum x.seats.seats k, is.seats.in_proportion.add_up, is.totals.canton.house.1)
+
+  all_participants : sum (of_participants x.upper.seats x.taking) ≤ 400
+  all_participants = omega (arith, is.upper.in_proportion.add_up, is.totals.canton.house.1)
+
+  upper_small : (k : ℕ) → get_or x.upper.seats k 0 ≤ 400
+  upper_small k =
+      omega (arith, all_participants, seats_within x.upper.seats x.taking k (is.participation.one_each ∙ sym is.voters.one_each ∙ sym is.upper.one_each) is.upper.others)
+
+  participant_seats_small : (k : ℕ) → get_or (of_participants x.upper.seats x.taking) k 0 ≤ 400
+  participant_seats_small k = omega (arith, all_participants, within_sum (of_participants x.upper.seats x.taking) k)
+
+  few_persons : All (λ (c : Constituency). c.persons ≤ 10000000) x.totals.canton.constituencies
+  few_persons i d within = (is.totals.canton.persons i d within).1
+
+  persons_small : (k : ℕ) → get_or (persons x.totals.canton) k 0 ≤ 10000000
+  persons_small k = mapped_at_most (λ (c : Constituency). c.persons) 10000000 x.totals.canton.constituencies k few_persons
+
+  one_seat_each : length x.seats.seats ≡ length x.totals.canton.constituencies
+  one_seat_each = is.seats.in_proportion.one_each ∙ length-map x.totals.canton.constituencies (λ (c : Constituency). c.persons)
+
+  sum_small : (g : ℕ) → 1 ≤ g → g ≤ length x.totals.canton.groups → voter_sum x.totals x.seats.seats g ≤ 10 ^ 14
+  sum_small g from_one there =
+      let each : (i : ℕ) → i < length x.totals.canton.constituencies → voter_number (votes_in x.totals (i + 1) g) (get_or x.seats.seats i 0) ≤ constituency_votes x.totals (i + 1) =
+      λ i within. omega (arith, voter_number-le (votes_in x.totals (i + 1) g) (get_or x.seats.seats i 0) (is.seats.each i (omega (arith, one_seat_each))), group_within x.totals (i + 1) g from_one there) in
+      let all = sum_to-le (length x.totals.canton.constituencies) (λ i. voter_number (votes_in x.totals (i + 1) g) (get_or x.seats.seats i 0)) (λ i. constituency_votes x.totals (i + 1)) each in
+      omega (arith, all, is.totals.most)
+
+  voters_small : (k : ℕ) → get_or x.voters k 0 ≤ 10 ^ 14
+  voters_small k = elim (cases_lt k (length x.totals.canton.groups)) [
+    | inl within ↦
+        let place : k + 1 - 1 ≡ k = omega arith in
+        let sum : get_or x.voters k 0 ≡ voter_sum x.totals x.seats.seats (k + 1) = ap (λ (i : ℕ). get_or x.voters i 0) (sym place) ∙ is.voters.each (k + 1) (omega arith) (omega arith) in
+        omega (arith, sum, sum_small (k + 1) (omega arith) (omega arith))
+    | inr past ↦ let none = get_or_past x.voters k 0 (omega (arith, is.voters.one_each, past)) in omega (arith, none)
+  ]
+
+  list_seats_small : (d g : ℕ) → 1 ≤ d → d ≤ length x.totals.canton.constituencies → list_seats x d g ≤ 400
+  list_seats_small d g from_one there =
+      elim (column_of x g) as (λ o. column_of x g ≡ o → option_map_or (λ column. seats_of x.lower d (column + 1)) o 0 ≤ 400) [
+        | None ↦ λ is_none. omega arith
+        | (Some column) ↦ λ at.
+            let (within, _, _) = position-Some (λ seated. seated == g) (seated_groups x.upper.seats) column 0 at in
+            let back : column + 1 - 1 ≡ column = omega arith in
+            let here : seats_of x.lower d (column + 1) ≡ cell (length (seated_groups x.upper.seats)) x.lower.seats (d - 1) column =
+            ap (λ (n : ℕ). cell n x.lower.seats (d - 1) (column + 1 - 1)) is.limits.columns.one_each ∙ ap (cell (length (seated_groups x.upper.seats)) x.lower.seats (d - 1)) back in
+            let all = is.lower.rows_add_up (d - 1) (omega arith) in
+            let one = term-le-sum_to (length (seated_groups x.upper.seats)) (λ k. cell (length (seated_groups x.upper.seats)) x.lower.seats (d - 1) k) column within in
+            omega (arith, here, all, one, seats_small (d - 1))
+      ] refl
+
+  -- the lines
+  quorum : length (option_map_or (λ q. field (codes "quorum canton ") q ++ 10 ∷ []) x.totals.canton.canton_quorum []) ≤ 256
+  quorum =
+      elim x.totals.canton.canton_quorum as (λ o. IfSome o (λ q. (1 ≤ q) × (q ≤ 49)) → length (option_map_or (λ q. field (codes "quorum canton ") q ++ 10 ∷ []) o []) ≤ 256) [
+        | None ↦ λ limits. omega arith
+        | (Some q) ↦ λ limits. simp length-append (omega (arith, digits q (omega (arith, limits))))
+      ] is.totals.canton.canton_quorum
+
+  constituency : (d : ℕ) → 1 ≤ d → d ≤ length x.totals.canton.constituencies → length (constituency_line x d) ≤ 256
+  constituency d from_one there =
+      let number = digits d (omega (arith, is.totals.canton.constituencies.1)) in
+      let persons = digits (persons_of x.totals.canton d) (omega (arith, found_at_most (λ (c : Constituency). c.persons) 10000000 x.totals.canton.constituencies (d - 1) few_persons)) in
+      let seats = digits (get_or x.seats.seats (d - 1) 0) (omega (arith, seats_small (d - 1))) in
+      let votes = digits (constituency_votes x.totals d) (omega (arith, constituency_most x.totals d is.totals from_one there)) in
+      let over = divisor (get_or x.lower.divisors.of_rows (d - 1) 0) (omega (arith, each_at_most x.lower.divisors.of_rows (10 ^ 18) (d - 1) is.limits.rows.at_most)) in
+      let name = name_at (λ (c : Constituency). c.name) x.totals.canton.constituencies (d - 1) is.totals.canton.constituency_names.rule in
+      simp length-append (omega (arith, number, persons, seats, votes, simp length-append at over, name))
+
+  group : (g : ℕ) → 1 ≤ g → g ≤ length x.totals.canton.groups → length (group_line x g) ≤ 256
+  group g from_one there =
+      let number = digits g (omega (arith, is.totals.canton.groups.1)) in
+      let yes = choice (takes_part x g) (codes "yes") (codes "no") 3 (omega arith) (omega arith) in
+      let voters = choice (takes_part x g) (decimal (get_or x.voters (g - 1) 0)) (codes "-") 20 (digits (get_or x.voters (g - 1) 0) (omega (arith, voters_small (g - 1)))) (omega arith) in
+      let seats = digits (get_or x.upper.seats (g - 1) 0) (omega (arith, upper_small (g - 1))) in
+      let over = found (λ k. divisor_text (get_or x.lower.divisors.of_columns k 0)) 27 (column_of x g) (omega arith) (λ k.
+      divisor (get_or x.lower.divisors.of_columns k 0) (omega (arith, each_at_most x.lower.divisors.of_columns (10 ^ 12) k is.limits.columns.at_most))) in
+      let name = name_at (λ (c : Group). c.name) x.totals.canton.groups (g - 1) is.totals.canton.group_names.rule in
+      simp length-append (omega (arith, number, yes, voters, seats, over, name))
+
+  list : (d g : ℕ) → 1 ≤ d → d ≤ length x.totals.canton.constituencies → 1 ≤ g → g ≤ length x.totals.canton.groups → length (list_line x d g) ≤ 256
+  list d g from_one there group_from_one group_there =
+      let number = digits d (omega (arith, is.totals.canton.constituencies.1)) in
+      let group_number = digits g (omega (arith, is.totals.canton.groups.1)) in
+      let most = group_most x.totals d g is.totals from_one there group_from_one group_there in
+      let votes = digits (votes_in x.totals d g) (omega (arith, most)) in
+      let few = voter_number-le (votes_in x.totals d g) (get_or x.seats.seats (d - 1) 0) (is.seats.each (d - 1) (omega (arith, one_seat_each))) in
+      let voters = choice (takes_part x g) (decimal (voter_number (votes_in x.totals d g) (get_or x.seats.seats (d - 1) 0))) (codes "-") 20 (digits (voter_number (votes_in x.totals d g) (get_or x.seats.seats (d - 1) 0)) (omega (arith, most, few))) (omega arith) in
+      let seats = digits (list_seats x d g) (omega (arith, list_seats_small d g from_one there)) in
+      simp length-append (omega (arith, number, group_number, votes, voters, seats))
+
+  lists : (d : ℕ) → 1 ≤ d → d ≤ length x.totals.canton.constituencies → length (list_lines x d) ≤ 8192
+  lists d from_one there =
+      let all = lines_within (λ g. cond (stands x.totals.canton d g) (list_line x d g) []) 256 1 (length x.totals.canton.groups) (λ g g1 g2.
+      choice (stands x.totals.canton d g) (list_line x d g) [] 256 (list d g from_one there g1 (omega arith)) (omega arith)) in
+      omega (arith, all, is.totals.canton.groups.1)
+
+  longest : (desk : ℕ) (is_final : Bool) (accepted : ℕ) → desk ≤ 8 → accepted < 2 ^ 64 → length (sheet_text x desk is_final accepted) ≤ 280064
+  longest desk is_final accepted few small =
+      let on = digits desk (omega arith) in
+      let state = choice is_final (codes "final") (codes "provisional") 11 (omega arith) (omega arith) in
+      let commands = digits accepted small in
+      let house = digits x.totals.canton.house (omega (arith, is.totals.canton.house.1)) in
+      let a = digits x.seats.num (omega (arith, is.seats_key.num_is, persons_small is.seats_key.last, persons_small is.seats_key.next)) in
+      let b = digits x.seats.den (omega (arith, is.seats_key.den_is, seats_small is.seats_key.last, seats_small is.seats_key.next)) in
+      let c = digits x.upper.num (omega (
+        arith,
+        is.upper_key.num_is,
+        participant_at_most x.voters x.taking (10 ^ 14) is.upper_key.last voters_small,
+        participant_at_most x.voters x.taking (10 ^ 14) is.upper_key.next voters_small,
+      )) in
+      let d = digits x.upper.den (omega (arith, is.upper_key.den_is, participant_seats_small is.upper_key.last, participant_seats_small is.upper_key.next)) in
+      let constituencies = lines_within (constituency_line x) 256 1 (length x.totals.canton.constituencies) (λ d d1 d2. constituency d d1 (omega arith)) in
+      let groups = lines_within (group_line x) 256 1 (length x.totals.canton.groups) (λ g g1 g2. group g g1 (omega arith)) in
+      let all = lines_within (list_lines x) 8192 1 (length x.totals.canton.constituencies) (λ d d1 d2. lists d d1 (omega arith)) in
+      simp length-append (omega (arith, on, state, commands, house, a, b, c, d, quorum, constituencies, groups, all, is.totals.canton.constituencies.1, is.totals.canton.groups.1))
+
+-- no sheet is longer
+pub no_longer : (x : Distribution) (desk : ℕ) (is_final : Bool) (accepted : ℕ) → IsDistribution x → desk ≤ 8 → accepted < 2 ^ 64 → length (sheet_text x desk is_final accepted) ≤ 280064
+no_longer x desk is_final accepted is few small = longest x is desk is_final accepted few small
