@@ -1,0 +1,16 @@
+mod BodyLemmas
+mod ColumnLemmas
+mod DifferenceLemmas
+mod DigitLemmas
+mod Divisors
+mod LineLemmas
+mod ListLemmas
+mod PushLemmas
+mod RangeLemmas
+mod ReadLemmas
+mod SeamLemmas
+mod SheetLemmas
+mod ShownLemmas
+mod StandingLemmas
+mod VerdictLemmas
+mod WordLemmas

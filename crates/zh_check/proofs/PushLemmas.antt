@@ -1,0 +1,51 @@
+-- What is put at the end of a list that grows, and what is still to be put.
+use Rattle.std.proofs.Common.{◌≡◌, ℕ, ◌+◌, ◌<◌, Bool, true, false, cond, List, [], ◌∷◌, ◌++◌, map, filter, sym, ap, ◌∙◌, append_assoc}
+use Rattle.std.proofs.lemmas.List.{map-append}
+use Rattle.zh_check.specs.Lines.{after_if, after_where, line_if, lines_where}
+use Rattle.zh_check.proofs.ReadLemmas.{where_append}
+use Rattle.zh_check.proofs.StandingLemmas.{next_number, numbers_from}
+
+-- one number more
+pub one_put : {A : Type 0} (done new rest whole all : List A) (value is : A) → done ++ whole ≡ all → whole ≡ is ∷ rest → value ≡ is → new ≡ done ++ value ∷ [] →
+    new ++ rest ≡ all
+one_put done new rest whole all value is before parts same put =
+    ap (λ xs. xs ++ rest) put ∙ (append_assoc done (value ∷ []) rest ∙ (ap (λ v. done ++ (v ∷ rest)) same ∙ (ap (λ xs. done ++ xs) (sym parts) ∙ before)))
+
+-- some more
+pub some_put : {A : Type 0} (done new front rest whole all : List A) → done ++ whole ≡ all → whole ≡ front ++ rest → new ≡ done ++ front → new ++ rest ≡ all
+some_put done new front rest whole all before parts put =
+    ap (λ xs. xs ++ rest) put ∙ (append_assoc done front rest ∙ (ap (λ xs. done ++ xs) (sym parts) ∙ before))
+
+-- of the numbers from a place on, those that pass a test
+pub next_kept : {A : Type 0} (f : ℕ → A) (test : ℕ → Bool) (n p : ℕ) → p < n → test (p + 1) ≡ true →
+    map f (filter test (numbers_from n p)) ≡ f (p + 1) ∷ map f (filter test (numbers_from n (p + 1)))
+next_kept f test n p lt passes =
+    let rest : List ℕ = filter test (numbers_from n (p + 1)) in
+    ap (λ ks. map f (filter test ks)) (next_number n p lt) ∙ ap (λ b. map f (cond b ((p + 1) ∷ rest) rest)) passes
+
+pub next_dropped : {A : Type 0} (f : ℕ → A) (test : ℕ → Bool) (n p : ℕ) → p < n → test (p + 1) ≡ false →
+    map f (filter test (numbers_from n p)) ≡ map f (filter test (numbers_from n (p + 1)))
+next_dropped f test n p lt fails =
+    let rest : List ℕ = filter test (numbers_from n (p + 1)) in
+    ap (λ ks. map f (filter test ks)) (next_number n p lt) ∙ ap (λ b. map f (cond b ((p + 1) ∷ rest) rest)) fails
+
+-- one list more
+pub list_put : (number : List ℕ → ℕ) (s : Bool) (flags all_flags : List Bool) (text after line : List ℕ) (done new all : List ℕ) (value : ℕ) →
+    done ++ map number (lines_where all_flags text) ≡ all → all_flags ≡ s ∷ flags → line ≡ line_if s text → after ≡ after_if s text → value ≡ number line →
+    new ≡ done ++ value ∷ [] → new ++ map number (lines_where flags after) ≡ all
+list_put number s flags all_flags text after line done new all value before parts line_is after_is value_is put =
+    one_put done new (map number (lines_where flags after)) (map number (lines_where all_flags text)) all value (number (line_if s text)) before
+    (ap (λ fs. map number (lines_where fs text)) parts ∙ ap (λ t. number (line_if s text) ∷ map number (lines_where flags t)) (sym after_is))
+    (value_is ∙ ap number line_is) put
+
+-- the lists of one constituency more
+pub lists_put : (number : List ℕ → ℕ) (front flags all_flags : List Bool) (text after : List ℕ) (done new all : List ℕ) →
+    done ++ map number (lines_where all_flags text) ≡ all → all_flags ≡ front ++ flags → after ≡ after_where front text →
+    new ≡ done ++ map number (lines_where front text) → new ++ map number (lines_where flags after) ≡ all
+lists_put number front flags all_flags text after done new all before parts after_is put =
+    some_put done new (map number (lines_where front text)) (map number (lines_where flags after)) (map number (lines_where all_flags text)) all before
+    (ap (λ fs. map number (lines_where fs text)) parts
+    ∙ (ap (map number) (where_append front flags text)
+    ∙ (map-append number (lines_where front text) (lines_where flags (after_where front text))
+    ∙ ap (λ t. map number (lines_where front text) ++ map number (lines_where flags t)) (sym after_is))))
+    put

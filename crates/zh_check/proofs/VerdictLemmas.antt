@@ -1,0 +1,198 @@
+-- What is recomputed of a text, and what is right.
+use Rattle.std.proofs.Common.{◌≡◌, ◌≢◌, ℕ, zero, suc, ◌-◌, ◌*◌, ◌^◌, ◌≤◌, Bool, true, false, List, [], ◌∷◌, length, min, Option, Some, None, refl, sym, ap, ◌∙◌, subst, arith, mul_comm}
+use Rattle.std.specs.Prelude.{IfSome, codes, ◌↔◌}
+use Rattle.std.specs.List.{range_with_len}
+use Rattle.std.proofs.lemmas.List.{length-map}
+use Rattle.std.proofs.lemmas.List.FromFn.{length-range_with_len}
+use Rattle.zh_districts.specs.Canton.{Canton, stands}
+use Rattle.zh_matrices.specs.SeatMatrix.{SeatMatrix}
+use Rattle.zh_records.proofs.CallerLemmas.{HasWidth, length-blocks}
+use Rattle.zh_sheet.specs.Distribution.{Distribution}
+use Rattle.zh_sheet.specs.Given.{IsGiven, IsPublished, given_lists}
+use Rattle.zh_totals.specs.Totals.{AreTotals, VoteTotals}
+use Rattle.zh_check.specs.Lines.{after_if, after_line, first_line, first_lines, lines_where, number_at, word_at}
+use Rattle.zh_check.specs.Reading.{column_divisors, divisors_in, group_divisors_read, text_of_lists, row_divisors_read, seats_in_columns, seats_read, standing, standing_in, votes_read}
+use Rattle.zh_check.specs.Differences.{DiffersAt}
+use Rattle.zh_check.specs.Verdicts.{DiffersFromSheet, FindsSheet, IsRecomputed, IsRight, right_text}
+use Rattle.zh_check.specs.declared.checked.WrongLine.{WrongLine}
+use Rattle.zh_check.specs.declared.checked.RightSheet.{RightSheet}
+use Rattle.zh_check.proofs.BodyLemmas.{head_accepted, head_desk, head_kind, kind}
+use Rattle.zh_check.proofs.ReadLemmas.{head_read}
+use Rattle.zh_check.proofs.SheetLemmas.{final_word, lower_is, votes_are}
+
+-- how much is read
+length-first_lines : (n : ℕ) (text : List ℕ) → length (first_lines n text) ≡ n
+length-first_lines zero text = refl
+length-first_lines (suc n) text = ap suc (length-first_lines n (after_line text))
+
+length-lines_where : (flags : List Bool) (text : List ℕ) → length (lines_where flags text) ≡ length flags
+length-lines_where [] text = refl
+length-lines_where (flag ∷ flags) text = ap suc (length-lines_where flags (after_if flag text))
+
+pub length-divisors : (n : ℕ) (text : List ℕ) → length (divisors_in n text) ≡ n
+length-divisors n text = length-map (first_lines n text) (λ line. number_at line 9) ∙ length-first_lines n text
+
+length-standing : (canton : Canton) → length (standing canton) ≡ length canton.constituencies * length canton.groups
+length-standing canton =
+    let m : ℕ = length canton.constituencies in
+    let n : ℕ = length canton.groups in
+    let wide : HasWidth (standing_in canton) n = record { at = λ d. length-map (range_with_len 1 n) (stands canton d) ∙ length-range_with_len 1 n } in
+    length-blocks (standing_in canton) n wide (range_with_len 1 m) ∙ ap (λ k. n * k) (length-range_with_len 1 m) ∙ mul_comm n m
+
+pub length-seats : (canton : Canton) (text : List ℕ) → length (seats_read canton text) ≡ length canton.constituencies * length canton.groups
+length-seats canton text =
+    length-map (lines_where (standing canton) (text_of_lists canton text)) (λ line. min (number_at line 8) 400)
+    ∙ (length-lines_where (standing canton) (text_of_lists canton text) ∙ length-standing canton)
+
+-- the totals and the lists of a text
+abbrev pub totals_in : Canton → List ℕ → VoteTotals
+totals_in canton text = record { canton = canton; votes = votes_read canton text }
+
+abbrev pub lists_in : Canton → List ℕ → SeatMatrix
+lists_in canton text =
+    given_lists (seats_in_columns canton (group_divisors_read canton text) (seats_read canton text)) (row_divisors_read canton text)
+    (column_divisors (group_divisors_read canton text))
+
+pub same_lists : (canton : Canton) (text divisors table rows seats columns : List ℕ) → divisors ≡ group_divisors_read canton text → table ≡ seats_read canton text →
+    rows ≡ row_divisors_read canton text → seats ≡ seats_in_columns canton divisors table → columns ≡ column_divisors divisors →
+    given_lists seats rows columns ≡ lists_in canton text
+same_lists canton text divisors table rows seats columns divisors_are table_is rows_are seats_are columns_are =
+    let all_seats : seats ≡ seats_in_columns canton (group_divisors_read canton text) (seats_read canton text)
+    = seats_are ∙ (ap (λ ds. seats_in_columns canton ds table) divisors_are ∙ ap (seats_in_columns canton (group_divisors_read canton text)) table_is) in
+    ap (λ s. given_lists s rows columns) all_seats
+    ∙ (ap (λ r. given_lists (seats_in_columns canton (group_divisors_read canton text) (seats_read canton text)) r columns) rows_are
+    ∙ ap (given_lists (seats_in_columns canton (group_divisors_read canton text) (seats_read canton text)) (row_divisors_read canton text))
+    (columns_are ∙ ap column_divisors divisors_are))
+
+-- a desk that there is not
+pub no_desk : (canton : Canton) (text : List ℕ) (desk : ℕ) → desk ≡ number_at (first_line text) 0 → (1 ≤ desk → desk ≤ 8 → ⊥) → FindsSheet canton text None
+no_desk canton text desk read not = record {
+  some = tt;
+  every = λ c is. absurd (not (omega (arith, read, is.desk_read, is.desk.0)) (omega (arith, read, is.desk_read, is.desk.1)));
+}
+
+-- votes that are no totals
+pub no_totals : (canton : Canton) (text : List ℕ) (given : VoteTotals) → given ≡ totals_in canton text → ¬ AreTotals given → FindsSheet canton text None
+no_totals canton text given read not = record {
+  some = tt;
+  every = λ c is. absurd (not (subst (λ t. AreTotals t) (is.votes ∙ sym read) is.meets.distribution.totals));
+}
+
+-- seats that do not follow
+pub no_sheet : (canton : Canton) (text : List ℕ) (totals : VoteTotals) (lists : SeatMatrix) → totals ≡ totals_in canton text → lists ≡ lists_in canton text →
+    IsGiven totals lists None → FindsSheet canton text None
+no_sheet canton text totals lists votes seats given = record {
+  some = tt;
+  every = λ c is. let e : None ≡ Some c.sheet = given.every c.sheet is.meets (is.votes ∙ sym votes) (is.lists ∙ sym seats) in absurd (cc);
+}
+
+same_truth : {P : Type 0} (a b : Bool) → (a ≡ true) ↔ P → (b ≡ true) ↔ P → a ≡ b
+same_truth true true a b = refl
+same_truth false false a b = refl
+same_truth true false a b = sym (b.1 (a.0 refl))
+same_truth false true a b = a.1 (b.0 refl)
+
+-- the sheet that follows
+pub one_sheet : (canton : Canton) (text : List ℕ) (totals : VoteTotals) (lists : SeatMatrix) (x : Distribution) (desk : ℕ) (is_final : Bool) (accepted : ℕ) →
+    totals ≡ totals_in canton text → lists ≡ lists_in canton text → IsGiven totals lists (Some x) →
+    1 ≤ desk → desk ≤ 8 → desk ≡ number_at (first_line text) 0 → (is_final ≡ true) ↔ (word_at (first_line text) 2 ≡ codes "final") →
+    accepted ≡ number_at (first_line text) 3 → FindsSheet canton text (Some (record { sheet = x; desk = desk; is_final = is_final; accepted = accepted }))
+one_sheet canton text totals lists x desk is_final accepted votes seats given low high desk_read final_read accepted_read = record {
+  some = record {
+    votes = given.votes ∙ votes;
+    lists = given.seats ∙ seats;
+    meets = given.meets;
+    desk = (low, high);
+    desk_read = desk_read;
+    is_final = final_read;
+    accepted = accepted_read;
+  };
+  every = λ c is.
+      let e : Some x ≡ Some c.sheet = given.every c.sheet is.meets (is.votes ∙ sym votes) (is.lists ∙ sym seats) in
+      let sheet : x ≡ c.sheet = cc in
+      let desks : desk ≡ c.desk = desk_read ∙ sym is.desk_read in
+      let kinds : is_final ≡ c.is_final = same_truth is_final c.is_final final_read is.is_final in
+      let counts : accepted ≡ c.accepted = accepted_read ∙ sym is.accepted in
+      ap Some
+      (ap (λ s. record { sheet = s; desk = desk; is_final = is_final; accepted = accepted }) sheet
+      ∙ (ap (λ d. record { sheet = c.sheet; desk = d; is_final = is_final; accepted = accepted }) desks
+      ∙ (ap (λ f. record { sheet = c.sheet; desk = c.desk; is_final = f; accepted = accepted }) kinds
+      ∙ ap (λ a. record { sheet = c.sheet; desk = c.desk; is_final = c.is_final; accepted = a }) counts)));
+}
+
+-- a number that is read has at most 64 bits
+pub number_most : (line : List ℕ) (place : ℕ) → number_at line place ≤ 2 ^ 64 - 1
+unfolding number_at
+number_most line place = omega arith
+
+-- a sheet is recomputed from its own text
+own_text : (c : RightSheet) → (1 ≤ c.desk) × (c.desk ≤ 8) → c.accepted ≤ 2 ^ 64 - 1 → IsPublished c.sheet → IsRecomputed c.sheet.totals.canton (right_text c) c
+own_text c desk accepted shown = record {
+  votes = ap (λ v. record { canton = c.sheet.totals.canton; votes = v }) (sym (votes_are c.sheet c.desk c.is_final c.accepted shown));
+  lists = lower_is c.sheet c.desk c.is_final c.accepted shown;
+  meets = shown;
+  desk = desk;
+  desk_read = sym (ap (λ l. number_at l 0) (head_read c.sheet c.desk c.is_final c.accepted) ∙ head_desk c.desk c.is_final c.accepted (omega (arith, desk.1)));
+  is_final =
+      let word : word_at (first_line (right_text c)) 2 ≡ kind c.is_final = ap (λ l. word_at l 2) (head_read c.sheet c.desk c.is_final c.accepted) ∙ head_kind c.desk c.is_final c.accepted in
+      let both = final_word c.is_final in
+      (λ yes_final. word ∙ both.0 yes_final, λ e. both.1 (sym word ∙ e));
+  accepted = sym (ap (λ l. number_at l 3) (head_read c.sheet c.desk c.is_final c.accepted) ∙ head_accepted c.desk c.is_final c.accepted (omega (arith, accepted)));
+}
+
+pub right_recomputed : (canton : Canton) (held : Option VoteTotals) (bytes : List ℕ) (c : RightSheet) → IsRight canton held bytes c → IsRecomputed canton bytes c
+right_recomputed canton held bytes c is =
+    subst (λ text. IsRecomputed canton text c) (sym is.text)
+    (subst (λ k. IsRecomputed k (right_text c) c) is.same_setup (own_text c is.desk is.accepted is.meets))
+
+-- the right sheet is the one that is found
+pub only_found : (canton : Canton) (held : Option VoteTotals) (bytes : List ℕ) (found : Option RightSheet) → FindsSheet canton bytes found →
+    (c : RightSheet) → IsRight canton held bytes c → found ≡ Some c
+only_found canton held bytes found is c right = is.every c (right_recomputed canton held bytes c right)
+
+-- no sheet follows
+pub none_right : (canton : Canton) (held : Option VoteTotals) (bytes : List ℕ) → FindsSheet canton bytes None → (c : RightSheet) → ¬ IsRight canton held bytes c
+none_right canton held bytes found c right = let e : None ≡ Some c = only_found canton held bytes None found c right in absurd (cc)
+
+pub none_recomputed : (canton : Canton) (bytes : List ℕ) → FindsSheet canton bytes None → (c : RightSheet) → ¬ IsRecomputed canton bytes c
+none_recomputed canton bytes found c is = let e : None ≡ Some c = found.every c is in absurd (cc)
+
+-- the right sheet is the one that follows
+only_this : (canton : Canton) (held : Option VoteTotals) (bytes : List ℕ) (r : RightSheet) → FindsSheet canton bytes (Some r) →
+    (c : RightSheet) → IsRight canton held bytes c → r ≡ c
+only_this canton held bytes r found c right = let e : Some r ≡ Some c = only_found canton held bytes (Some r) found c right in cc
+
+-- the text is not that of the sheet that follows
+pub other_text : (canton : Canton) (held : Option VoteTotals) (bytes expected : List ℕ) (r : RightSheet) → FindsSheet canton bytes (Some r) →
+    expected ≡ right_text r → bytes ≢ expected → (c : RightSheet) → ¬ IsRight canton held bytes c
+other_text canton held bytes expected r found printed differ c right =
+    differ (right.text ∙ (ap right_text (sym (only_this canton held bytes r found c right)) ∙ sym printed))
+
+pub differs_from : (canton : Canton) (bytes expected : List ℕ) (wrong : WrongLine) (r : RightSheet) → FindsSheet canton bytes (Some r) →
+    expected ≡ right_text r → bytes ≢ expected → (bytes ≢ expected → DiffersAt bytes expected wrong) → DiffersFromSheet canton bytes wrong
+differs_from canton bytes expected wrong r found printed differ at = record {
+  sheet = r;
+  recomputed = found.some;
+  other = λ e. differ (e ∙ sym printed);
+  line = subst (λ t. DiffersAt bytes t wrong) printed (at differ);
+}
+
+-- the votes are not those that are held
+pub other_votes : (canton : Canton) (held : Option VoteTotals) (bytes : List ℕ) (r : RightSheet) → FindsSheet canton bytes (Some r) →
+    ¬ IfSome held (λ h. r.sheet.totals.votes ≡ h.votes) → (c : RightSheet) → ¬ IsRight canton held bytes c
+other_votes canton held bytes r found not c right =
+    not (subst (λ (x : RightSheet). IfSome held (λ h. x.sheet.totals.votes ≡ h.votes)) (sym (only_this canton held bytes r found c right)) right.votes)
+
+-- the sheet that follows is right
+pub found_right : (canton : Canton) (held : Option VoteTotals) (bytes : List ℕ) (r : RightSheet) → FindsSheet canton bytes (Some r) → bytes ≡ right_text r →
+    IfSome held (λ h. r.sheet.totals.votes ≡ h.votes) → IsRight canton held bytes r
+found_right canton held bytes r found printed votes =
+    let is : IsRecomputed canton bytes r = found.some in
+    record {
+      desk = is.desk;
+      accepted = omega (arith, is.accepted, number_most (first_line bytes) 3);
+      same_setup = ap (λ t. t.canton) is.votes;
+      meets = is.meets;
+      votes = votes;
+      text = printed;
+    }

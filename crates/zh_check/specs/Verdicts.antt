@@ -1,0 +1,71 @@
+-- When a published sheet is right, and which of its lines is wrong where it is not.
+use Rattle.std.specs.Prelude.{◌≡◌, ◌≢◌, ℕ, ◌-◌, ◌^◌, ◌≤◌, IsTrue, ◌↔◌, Option, Some, IfSome, List, codes}
+use Rattle.zh_districts.specs.Canton.{Canton}
+use Rattle.zh_totals.specs.Totals.{VoteTotals}
+use Rattle.zh_sheet.specs.Given.{IsPublished, given_lists}
+use Rattle.zh_sheet_text.specs.SheetText.{sheet_text}
+use Rattle.zh_check.specs.Differences.{DiffersAt}
+use Rattle.zh_check.specs.Lines.{first_line, number_at, word_at}
+use Rattle.zh_check.specs.Reading.{column_divisors, group_divisors_read, row_divisors_read, seats_in_columns, seats_read, votes_read}
+use Rattle.zh_check.specs.declared.checked.RightSheet.{RightSheet}
+use Rattle.zh_check.specs.declared.checked.SheetVerdict.{SheetVerdict}
+use Rattle.zh_check.specs.declared.checked.SheetVerdict.TheVariants.{Differs, NoSheet, OtherVotes, Right}
+use Rattle.zh_check.specs.declared.checked.WrongLine.{WrongLine}
+
+abbrev pub right_text : RightSheet → List ℕ
+right_text c = sheet_text c.sheet c.desk c.is_final c.accepted
+
+-- the bytes are the text of a distribution of this set-up, of the votes that are held if there are any, for a desk from 1 to 8
+pub record IsRight (canton : Canton) (held : Option VoteTotals) (bytes : List ℕ) (c : RightSheet) : Type 0 where
+  pub desk : (1 ≤ c.desk) × (c.desk ≤ 8)
+  pub accepted : c.accepted ≤ 2 ^ 64 - 1
+  pub same_setup : c.sheet.totals.canton ≡ canton
+  pub meets : IsPublished c.sheet
+  pub votes : IfSome held (λ h. c.sheet.totals.votes ≡ h.votes)
+  pub text : bytes ≡ right_text c
+
+-- the sheet that follows from the first line, the votes, the divisors and the seats of the lists that the bytes show
+pub record IsRecomputed (canton : Canton) (bytes : List ℕ) (c : RightSheet) : Type 0 where
+  pub votes : c.sheet.totals ≡ record { canton = canton; votes = votes_read canton bytes }
+  pub lists : c.sheet.lower ≡ given_lists
+      (seats_in_columns canton (group_divisors_read canton bytes) (seats_read canton bytes))
+      (row_divisors_read canton bytes)
+      (column_divisors (group_divisors_read canton bytes))
+  pub meets : IsPublished c.sheet
+  pub desk : (1 ≤ c.desk) × (c.desk ≤ 8)
+  pub desk_read : c.desk ≡ number_at (first_line bytes) 0
+  pub is_final : IsTrue c.is_final ↔ word_at (first_line bytes) 2 ≡ codes "final"
+  pub accepted : c.accepted ≡ number_at (first_line bytes) 3
+
+-- it is found exactly where there is one
+pub record FindsSheet (canton : Canton) (bytes : List ℕ) (found : Option RightSheet) : Type 0 where
+  pub some : IfSome found (IsRecomputed canton bytes)
+  pub every : (c : RightSheet) → IsRecomputed canton bytes c → found ≡ Some c
+
+-- that sheet has another text, and the line is the first that differs
+pub record DiffersFromSheet (canton : Canton) (bytes : List ℕ) (wrong : WrongLine) : Type 0 where
+  pub sheet : RightSheet
+  pub recomputed : IsRecomputed canton bytes sheet
+  pub other : bytes ≢ right_text sheet
+  pub line : DiffersAt bytes (right_text sheet) wrong
+
+-- that sheet has this text, and its votes are not those that are held
+pub record HasOtherVotes (canton : Canton) (held : Option VoteTotals) (bytes : List ℕ) : Type 0 where
+  pub sheet : RightSheet
+  pub recomputed : IsRecomputed canton bytes sheet
+  pub text : bytes ≡ right_text sheet
+  pub votes : ¬ IfSome held (λ h. sheet.sheet.totals.votes ≡ h.votes)
+
+-- right where it is found right, and else right in no way
+abbrev pub IsRightExactly : Canton → Option VoteTotals → List ℕ → SheetVerdict → Type 0
+IsRightExactly canton held bytes (Right c) = IsRight canton held bytes c
+IsRightExactly canton held bytes (Differs wrong) = (c : RightSheet) → ¬ IsRight canton held bytes c
+IsRightExactly canton held bytes OtherVotes = (c : RightSheet) → ¬ IsRight canton held bytes c
+IsRightExactly canton held bytes NoSheet = (c : RightSheet) → ¬ IsRight canton held bytes c
+
+-- why it is not right
+abbrev pub IsReasonOf : Canton → Option VoteTotals → List ℕ → SheetVerdict → Type 0
+IsReasonOf canton held bytes (Right c) = IsRecomputed canton bytes c
+IsReasonOf canton held bytes (Differs wrong) = DiffersFromSheet canton bytes wrong
+IsReasonOf canton held bytes OtherVotes = HasOtherVotes canton held bytes
+IsReasonOf canton held bytes NoSheet = (c : RightSheet) → ¬ IsRecomputed canton bytes c

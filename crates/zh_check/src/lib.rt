@@ -1,0 +1,15 @@
+//! The check of a published sheet: whether it follows from its votes, and from those that are held.
+#![tactic(auto)]
+
+mod checked;
+mod checker;
+mod columns;
+mod differences;
+mod laws;
+mod lines;
+mod recomputed;
+mod values;
+
+pub use checked::{RightSheet, SheetVerdict, WrongLine};
+pub use checker::check;
+pub use laws::{made_sheet_is_right, right_sheets_agree};

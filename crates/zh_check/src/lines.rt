@@ -1,0 +1,130 @@
+//! A text line by line. What is read is compared later, so nothing is refused here.
+ghost use Rattle.std.specs.Prelude.{◌≡◌, ◌==◌, ◌-◌, ◌^◌, ◌∷◌, ◌↔◌, [], ℕ, IsTrue, min, position};
+ghost use Rattle.std.specs.List.{after_first, before_first};
+ghost use Rattle.zh_check.specs.Lines.{after_line, after_lines, digits_after, first_line, number_at, whole_line, word_at};
+
+use std::marker::Model;
+
+/// What is left of a text.
+#[derive(Drop)]
+pub(crate) struct Lines<'a> {
+    rest: &'a [u8],
+}
+
+impl<'a> Model for Lines<'a> {
+    ghost use Rattle.std.specs.Prelude.{List, ℕ};
+
+    ghost Value = { List ℕ };
+
+    ghost view = { λ lines. lines.rest.now };
+}
+
+/// The place of the first such byte.
+fn first_place(text: &[u8], byte: u8) -> Option<usize>
+    ensures { result ≡ position (λ b. b == byte) text.now }
+{
+    text.iter().position(|b| *b == byte)
+}
+
+/// The bytes before the first such byte, and those after it.
+fn split_first(text: &[u8], byte: u8) -> (&[u8], &[u8])
+    ensures before { result.0.now ≡ before_first (λ b. b == byte) text.now }
+    ensures after { result.1.now ≡ after_first (λ b. b == byte) text.now }
+{
+    match first_place(text, byte) {
+        Some(place) => (&text[..place], &text[place + 1..]),
+        None => (text, &[]),
+    }
+}
+
+/// The first line of a text with its end.
+fn with_end(text: &[u8]) -> &[u8]
+    ensures { result.now ≡ whole_line text.now }
+{
+    match first_place(text, b'\n') {
+        Some(place) => &text[..place + 1],
+        None => text,
+    }
+}
+
+impl<'a> Lines<'a> {
+    pub fn new(text: &'a [u8]) -> Lines<'a>
+        ensures { result ≡ text.now }
+    {
+        Lines { rest: text }
+    }
+
+    /// Whether there are no more bytes.
+    pub fn is_empty(&self) -> bool
+        ensures { IsTrue result ↔ self.now ≡ [] }
+    {
+        self.rest.is_empty()
+    }
+
+    /// The next line with its end, which stays there.
+    pub fn whole_line(&self) -> &'a [u8]
+        ensures { result.now ≡ whole_line self.now }
+    {
+        with_end(self.rest)
+    }
+
+    /// The next line, without its end; an empty one where there are no more.
+    pub fn next(&mut self) -> &'a [u8]
+        ensures line { result.now ≡ first_line self.old }
+        ensures rest { self.new ≡ after_line self.old }
+    {
+        let (line, rest) = split_first(self.rest, b'\n');
+        self.rest = rest;
+        line
+    }
+
+    /// Goes past so many lines.
+    pub fn skip(&mut self, count: u32)
+        ensures { self.new ≡ after_lines count self.old }
+    {
+        for _ in 0..count {
+            self.next();
+        }
+    }
+}
+
+/// The word at a place of a line, from 0.
+pub(crate) fn word_at(line: &[u8], place: u32) -> &[u8]
+    ensures { result.now ≡ word_at line.now place }
+{
+    let mut rest = line;
+    for _ in 0..place {
+        rest = split_first(rest, b' ').1;
+    }
+    split_first(rest, b' ').0
+}
+
+/// A number with one digit more after it, at most the greatest of 64 bits; other bytes are passed over.
+fn with_digit(number: u64, byte: u8) -> u64
+    ensures { (value : ℕ) → number ≡ min value (2 ^ 64 - 1) → result ≡ min (digits_after value (byte ∷ [])) (2 ^ 64 - 1) }
+{
+    if !byte.is_ascii_digit() {
+        return number;
+    }
+    number
+        .saturating_mul(10)
+        .saturating_add(u64::from(byte - b'0'))
+}
+
+/// The number that the digits of a word write.
+fn digits_in(word: &[u8]) -> u64
+    ensures { result ≡ min (digits_after 0 word.now) (2 ^ 64 - 1) }
+{
+    let mut number = 0;
+    for byte in word {
+        number = with_digit(number, *byte);
+    }
+    number
+}
+
+/// The number that the digits of the word at a place of a line write.
+pub(crate) fn number_at(line: &[u8], place: u32) -> u64
+    ensures { result ≡ number_at line.now place }
+{
+    digits_in(word_at(line, place))
+}
