@@ -1,0 +1,5 @@
+use Rattle.zh_held.proofs.OneHoldingLemmas.{one_holding}
+use Rattle.zh_held.proofs.laws.one_holding.Goals as goal
+
+pub returns : goal.returns
+returns c = one_holding

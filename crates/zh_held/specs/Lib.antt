@@ -1,0 +1,4 @@
+pub mod Rows
+pub mod Held
+pub mod Running
+pub mod Faults

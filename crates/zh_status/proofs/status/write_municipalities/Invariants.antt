@@ -1,0 +1,8 @@
+use Rattle.zh_tables.specs.Records.{PutsText}
+use Rattle.zh_tables.specs.Tables.{each_to, name_of_municipality}
+use Rattle.zh_status.specs.Progress.{progress_of}
+use Rattle.zh_status.specs.Status.{progress_row}
+use Rattle.zh_status.proofs.status.write_municipalities.Given as goal
+
+abbrev pub invariant-loop-place : goal.invariant-loop-place
+invariant-loop-place g l = PutsText g.W.Write.contents (each_to l.place (λ m. progress_row m (progress_of l.fn.count m) (name_of_municipality l.fn.count.canton m))) l.fn.writer l.writer

@@ -1,0 +1,8 @@
+use Rattle.std.proofs.Common.{◌≡◌, List, ℕ, IfOk, string_bytes, subst}
+use Rattle.zh_status.specs.Status.{summary, summary_of}
+use Rattle.zh_status.proofs.summary.summary_line.Goals as goal
+
+pub returns : goal.returns
+returns c =
+    let same : summary_of c.progress_within-progress.result c.accepted-accepted.result ≡ summary c.args.count.now = λ i. summary_of (c.progress_within-progress.ensures i) (c.accepted-accepted.ensures.accepted i) in
+    subst (λ (text : List ℕ). IfOk c.format.result (λ line. string_bytes line ≡ text)) same c.format.ensures.ok

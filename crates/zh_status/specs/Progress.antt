@@ -1,0 +1,72 @@
+-- How far the returns have come in: what is due is one return of each list that stands, in each municipality.
+use Rattle.std.specs.Prelude.{ℕ, ◌+◌, ◌*◌, ◌≤◌, ◌==◌, Bool, true, if◌then◌else◌, List, length, filter}
+use Rattle.std.specs.Prelude.{Option, Some, None, is_some, unwrap_or, count_by, sum_by}
+use Rattle.std.specs.List.{range_with_len}
+use Rattle.std.specs.FinSet as set
+use Rattle.zh_districts.specs.Canton.{Canton, constituency_of, stands}
+use Rattle.zh_returns.specs.Limits.{most_votes}
+use Rattle.zh_returns.specs.Tally.{Tally, held}
+use Rattle.zh_returns.specs.declared.entry.Entry.{Entry}
+use Rattle.zh_status.specs.declared.progress.Progress.{Progress}
+
+abbrev pub one_if : Bool → ℕ
+one_if holds = if holds then 1 else 0
+
+-- the votes of what is held, if anything is; a list that is withdrawn has none
+abbrev pub entry_votes : Option Entry → ℕ
+entry_votes None = 0
+entry_votes (Some entry) = unwrap_or entry.votes 0
+
+-- the numbers of the lists, and those of the municipalities
+abbrev pub lists : Canton → List ℕ
+lists canton = range_with_len 1 (length canton.groups)
+
+abbrev pub municipalities : Canton → List ℕ
+municipalities canton = range_with_len 1 (length canton.municipalities)
+
+-- how far a municipality is: a return is there if anything is held, a withdrawn list too
+abbrev pub progress_of : Tally → ℕ → Progress
+progress_of tally m = record {
+  held = count_by (λ list. is_some (held tally m list)) (lists tally.canton);
+  due = count_by (stands tally.canton (constituency_of tally.canton m)) (lists tally.canton);
+  votes = sum_by (λ list. entry_votes (held tally m list)) (lists tally.canton);
+  municipalities = 1;
+  closed = one_if (set.contains tally.closed m);
+}
+
+-- how far these municipalities are together
+abbrev pub progress_over : Tally → List ℕ → Progress
+progress_over tally ms = record {
+  held = sum_by (λ m. (progress_of tally m).held) ms;
+  due = sum_by (λ m. (progress_of tally m).due) ms;
+  votes = sum_by (λ m. (progress_of tally m).votes) ms;
+  municipalities = length ms;
+  closed = sum_by (λ m. (progress_of tally m).closed) ms;
+}
+
+-- whether a municipality lies in this constituency, or none is named
+abbrev pub is_within : Canton → Option ℕ → ℕ → Bool
+is_within canton None m = true
+is_within canton (Some d) m = constituency_of canton m == d
+
+-- the municipalities of a constituency, or where none is named those of the canton
+abbrev pub within : Canton → Option ℕ → List ℕ
+within canton constituency = filter (is_within canton constituency) (municipalities canton)
+
+-- two together
+abbrev pub both : Progress → Progress → Progress
+both a b = record {
+  held = a.held + b.held;
+  due = a.due + b.due;
+  votes = a.votes + b.votes;
+  municipalities = a.municipalities + b.municipalities;
+  closed = a.closed + b.closed;
+}
+
+-- no more than so many municipalities can have
+pub record AreFew (n : ℕ) (p : Progress) : Type 0 where
+  pub held : p.held ≤ 32 * n
+  pub due : p.due ≤ 32 * n
+  pub votes : p.votes ≤ 32 * most_votes * n
+  pub municipalities : p.municipalities ≤ n
+  pub closed : p.closed ≤ n

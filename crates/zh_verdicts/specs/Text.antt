@@ -1,0 +1,46 @@
+-- The text of a verdict: 10 ends a line.
+use Rattle.std.specs.Prelude.{ℕ, Bool, true, false, Option, Some, None, codes, decimal, List, [], ◌∷◌, ◌++◌}
+use Rattle.zh_verdicts.specs.declared.verdict.BadLine.{BadLine}
+use Rattle.zh_verdicts.specs.declared.verdict.Finding.{Finding}
+use Rattle.zh_verdicts.specs.declared.verdict.Finding.TheVariants.{Right, Wrong}
+use Rattle.zh_verdicts.specs.declared.verdict.SheetHead.{SheetHead}
+
+-- the votes are the sums of so many rows, or nothing was there to compare them with
+abbrev pub votes_line : Option ℕ → List ℕ
+votes_line None = codes "votes not compared\n"
+votes_line (Some rows) = codes "votes ok: the sums of " ++ decimal rows ++ codes " rows\n"
+
+-- that each part holds
+abbrev pub parts_text : Option ℕ → List ℕ
+parts_text held =
+    codes "form ok\n" ++ votes_line held ++ codes "seats ok\nparticipation ok\nvoters ok\ngroups ok\nlists ok\n"
+
+abbrev pub kind_part : Bool → List ℕ
+kind_part true = codes "not checked: final"
+kind_part false = codes "not checked: provisional"
+
+abbrev pub commands_part : ℕ → List ℕ
+commands_part accepted = codes ", commands " ++ decimal accepted
+
+abbrev pub desk_part : ℕ → List ℕ
+desk_part desk = codes ", desk " ++ decimal desk ++ 10 ∷ []
+
+-- what no check can tell
+abbrev pub unchecked_line : SheetHead → List ℕ
+unchecked_line head = kind_part head.is_final ++ commands_part head.accepted ++ desk_part head.desk
+
+-- what the sheet is worth, with the rows that were returned or without them
+abbrev pub worth_line : Option ℕ → List ℕ
+worth_line None = codes "sheet ok for these votes; that they were returned is not checked\n"
+worth_line (Some rows) = codes "sheet ok: no other seats follow from these votes\n"
+
+-- the line that is wrong, and what it should be
+abbrev pub wrong_text : BadLine → List ℕ
+wrong_text wrong =
+    codes "line " ++ decimal wrong.number ++ codes ": " ++ wrong.found.items ++ codes ", should be: " ++ wrong.should.items
+    ++ codes "\nsheet wrong\n"
+
+-- a verdict on a sheet, whose votes are the sums of so many rows, or were compared with none
+abbrev pub verdict_text : Option ℕ → Finding → List ℕ
+verdict_text held (Right head) = parts_text held ++ unchecked_line head ++ worth_line held
+verdict_text held (Wrong wrong) = wrong_text wrong
