@@ -56,7 +56,7 @@ documents:
 	@tests/documents
 
 shape:
-	@tests/shape.sh && tests/definitions --check
+	@tests/shape.sh && tests/definitions --check && tests/owed
 
 bench:
 	@bench/run

@@ -1,5 +1,6 @@
 #!/usr/bin/env python3
-"""Counts the shape of the crates: how their definitions are named, how long lines are, how often a clause is said.
+"""Counts the shape of the crates: how their definitions are named, how long lines are, how often a clause is said; and the
+words of the pages.
 
 The argument is the repository's folder. There, tests/shape/limits has the most that each count may be, and the crates
 that are not counted, and tests/shape/exceptions what is let through, under a line with its reason that ends with ':'.
@@ -15,6 +16,7 @@ them, or 'line FILE' for a file whose lines may be longer. One that nothing need
 - A parameter is explicit; implicit ones are counted apart.
 - The lines of a definition are those that are neither empty nor a comment.
 - A clause is all that stands between the braces of an `ensures`, with its name, whatever its lines.
+- A page is README.md or a file of docs/. Its words are what blanks part, as `wc -w` counts, tables and blocks included.
 
 The last line is 'N passed, M failed', by counts. The status is 1 if one failed.
 """
@@ -110,6 +112,8 @@ class Report:
         self.limits, self.exceptions, self.passed, self.failed = limits, exceptions, 0, 0
 
     def limit(self, title):
+        if title not in self.limits:
+            sys.exit(f"tests/shape/limits has no '{title}'")
         return int(self.limits[title])
 
     def count(self, title, number, shown=()):
@@ -180,6 +184,11 @@ def count_clauses(report, clauses):
     report.count("ensures clauses", sum(said.values()))
 
 
+def count_words(report, top):
+    for page in [*top.glob("README.md"), *sorted(top.glob("docs/*.md"))]:
+        report.count(f"words of {page.relative_to(top)}", len(page.read_text(encoding="utf-8").split()))
+
+
 def main(folder):
     top = Path(folder)
     tree = Tree(top)
@@ -198,6 +207,7 @@ def main(folder):
     count_lines(report, files)
     count_members(report, files)
     count_clauses(report, [it for it in tree.clauses if it.crate in counted])
+    count_words(report, top)
     print(f"{report.passed} passed, {report.failed} failed")
     return report.failed > 0
 
