@@ -35,8 +35,8 @@ Puts-join contents xs ys a b c first second = record {
   ready = second.ready;
 }
 
--- the texts of these numbers, and then that of one more
-pub Puts-push : {W : Type 0} (contents : W → Option (List ℕ)) (f : ℕ → List ℕ) (ns : List ℕ) (n : ℕ) (a b c : Writer W) → PutsText contents (flat_map f ns) a b → PutsText contents (f n) b c → PutsText contents (flat_map f (ns ++ n ∷ [])) a c
+-- the texts of these elements, and then that of one more
+pub Puts-push : {W X : Type 0} (contents : W → Option (List ℕ)) (f : X → List ℕ) (ns : List X) (n : X) (a b c : Writer W) → PutsText contents (flat_map f ns) a b → PutsText contents (f n) b c → PutsText contents (flat_map f (ns ++ n ∷ [])) a c
 Puts-push contents f ns n a b c first second =
     subst (λ (text : List ℕ). PutsText contents text a c) (flat_map_more f [] ns n) (Puts-join contents (flat_map f ns) (f n) a b c first second)
 

@@ -1,2 +1,3 @@
 pub mod Records
+pub mod Returns
 pub mod Tables

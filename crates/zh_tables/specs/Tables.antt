@@ -1,7 +1,7 @@
 -- The tables of a set-up. Constituencies, municipalities and groups are numbered from 1, and a list has the number of its group.
 use Rattle.std.specs.Prelude.{◌≡◌, ◌<◌, ◌≤◌, ℕ, ◌-◌, List, [], ◌∷◌, ◌++◌, length, slice_get, slice_index}
 use Rattle.std.specs.Prelude.{if◌then◌else◌, codes, decimal}
-use Rattle.std.specs.List.{flat_map, range_with_len}
+use Rattle.std.specs.List.{flat_map}
 use Rattle.std.specs.Option.{option_map_or}
 use Rattle.zh_divisors.specs.Fit.{IsTied}
 use Rattle.zh_districts.specs.Canton.{Canton, persons_of, constituency_of, stands}
@@ -12,8 +12,11 @@ use Rattle.zh_tables.specs.declared.fault.ListFault.{ListFault}
 use Rattle.zh_tables.specs.declared.fault.ListFault.TheVariants as faults
 use Rattle.zh_tables.specs.declared.records.RecordFault.{RecordFault}
 use Rattle.zh_tables.specs.declared.records.RecordFault.TheVariants as records
+use Rattle.zh_tables.specs.declared.table.Part.{Part}
 use Rattle.zh_tables.specs.declared.table.Table.{Table}
-use Rattle.zh_tables.specs.declared.table.Table.TheVariants.{Constituencies, Municipalities, Groups, Lists}
+use Rattle.zh_tables.specs.declared.table.Table.TheVariants.{Constituencies, Municipalities, Groups, Lists, Returns}
+use Rattle.zh_tables.specs.Returns.{HasPart, IsMissing, return_row, returns_due}
+pub use Rattle.zh_tables.specs.Returns.{each_to}
 
 abbrev pub name_of_constituency : Canton → ℕ → List ℕ
 name_of_constituency canton d = option_map_or (λ x. x.name) (slice_get canton.constituencies (d - 1)) []
@@ -30,6 +33,7 @@ header Constituencies = codes "number" ∷ codes "name" ∷ codes "persons" ∷ 
 header Municipalities = codes "number" ∷ codes "name" ∷ codes "constituency" ∷ []
 header Groups = codes "number" ∷ codes "name" ∷ []
 header Lists = codes "constituency" ∷ codes "list" ∷ codes "constituency_name" ∷ codes "list_name" ∷ []
+header (Returns part) = codes "municipality" ∷ codes "list" ∷ codes "number" ∷ codes "votes" ∷ []
 
 -- the line of a constituency that has these seats
 abbrev pub constituency_row : Canton → ℕ → ℕ → List ℕ
@@ -46,10 +50,6 @@ group_row canton g = record_text (decimal g ∷ name_of_group canton g ∷ [])
 abbrev pub list_row : Canton → ℕ → ℕ → List ℕ
 list_row canton d g =
     if stands canton d g then record_text (decimal d ∷ decimal g ∷ name_of_constituency canton d ∷ name_of_group canton g ∷ []) else []
-
--- what stands for each number from 1 to n, in order
-abbrev pub each_to : ℕ → (ℕ → List ℕ) → List ℕ
-each_to n text = flat_map text (range_with_len 1 n)
 
 abbrev pub constituency_rows : Canton → List ℕ → List ℕ
 constituency_rows canton seats =
@@ -69,6 +69,10 @@ lists_in canton d = each_to (length canton.groups) (list_row canton d)
 abbrev pub list_rows : Canton → List ℕ
 list_rows canton = each_to (length canton.constituencies) (lists_in canton)
 
+-- the returns that are due in a part of the set-up
+abbrev pub return_rows : Canton → Part → List ℕ
+return_rows canton part = flat_map return_row (returns_due canton part)
+
 -- the seats of the constituencies, of which each has one at least
 pub record HasSeats (canton : Canton) (seats : List ℕ) : Type 0 where
   pub are : AreSeats canton seats
@@ -80,6 +84,7 @@ AreLines canton Constituencies lines = (seats : List ℕ) × HasSeats canton sea
 AreLines canton Municipalities lines = lines ≡ municipality_rows canton
 AreLines canton Groups lines = lines ≡ group_rows canton
 AreLines canton Lists lines = lines ≡ list_rows canton
+AreLines canton (Returns part) lines = HasPart canton part × (lines ≡ return_rows canton part)
 
 -- the text of a table
 abbrev pub IsTableText : Canton → Table → List ℕ → Type 0
@@ -91,7 +96,8 @@ RecordedAs records.Memory e = e ≡ faults.Memory
 RecordedAs records.Write e = e ≡ faults.Write
 
 -- Why a table is not written: that of the constituencies where a seat is worth as much to two of them, or where the first
--- without a seat is this one. A fault of memory or of the writer is no matter of the table.
+-- without a seat is this one; that of the returns where the set-up does not have the part that they are asked of. A fault of
+-- memory or of the writer is no matter of the table.
 abbrev pub RefusesTable : Canton → Table → ListFault → Type 0
 RefusesTable canton table faults.Memory = Unit {0}
 RefusesTable canton table faults.Write = Unit {0}
@@ -99,4 +105,6 @@ RefusesTable canton table (faults.Seats refusals.Memory) = Unit {0}
 RefusesTable canton Constituencies (faults.Seats refusals.Tied) = IsTied (persons canton) canton.house
 RefusesTable canton Constituencies (faults.Seats (refusals.NoSeat d)) =
     (seats : List ℕ) × AreSeats canton seats × IsFirstWithout seats d
-RefusesTable canton table (faults.Seats refusal) = ⊥
+RefusesTable canton (Returns part) (faults.NoMunicipality m) = IsMissing canton part (faults.NoMunicipality m)
+RefusesTable canton (Returns part) (faults.NoConstituency d) = IsMissing canton part (faults.NoConstituency d)
+RefusesTable canton table fault = ⊥

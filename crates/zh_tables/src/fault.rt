@@ -6,6 +6,7 @@ ghost use Rattle.zh_tables.specs.Tables.{RecordedAs};
 ghost use Rattle.zh_tables.specs.declared.fault.ListFault.TheVariants as faults;
 
 use crate::records::RecordFault;
+use std::alloc::AllocError;
 use thiserror::Error;
 use zh_districts::SeatFault;
 
@@ -15,6 +16,12 @@ pub enum ListFault {
     /// The constituencies get no seats, or memory ran out while these were computed.
     #[error("{0}")]
     Seats(SeatFault),
+    /// The returns are asked of a municipality that the set-up does not have.
+    #[error("nomunicipality {0}")]
+    NoMunicipality(u32),
+    /// The returns are asked of a constituency that the set-up does not have.
+    #[error("noconstituency {0}")]
+    NoConstituency(u32),
     /// Memory ran out.
     #[error("memory")]
     Memory,
@@ -39,5 +46,13 @@ impl From<RecordFault> for ListFault {
             RecordFault::Memory => ListFault::Memory,
             RecordFault::Write => ListFault::Write,
         }
+    }
+}
+
+impl From<AllocError> for ListFault {
+    ghost from_gives = { λ _ fault. fault ≡ faults.Memory };
+
+    fn from(_: AllocError) -> Self {
+        ListFault::Memory
     }
 }

@@ -38,6 +38,15 @@ pub(crate) fn write_header<W: Write + Drop>(
             ];
             write_record(writer, &columns)
         }
+        Table::Returns(_) => {
+            let columns = [
+                b"municipality".as_slice(),
+                b"list".as_slice(),
+                number,
+                b"votes".as_slice(),
+            ];
+            write_record(writer, &columns)
+        }
     }
 }
 

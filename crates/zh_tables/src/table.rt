@@ -1,3 +1,14 @@
+/// The part of a set-up that a table is of.
+#[derive(Clone, Copy, Debug, PartialEq, Eq)]
+pub enum Part {
+    /// All of it.
+    Whole,
+    /// The municipality of this number.
+    Municipality(u32),
+    /// The municipalities of the constituency of this number.
+    Constituency(u32),
+}
+
 /// A table of a set-up.
 #[derive(Clone, Copy, Debug, PartialEq, Eq)]
 pub enum Table {
@@ -9,4 +20,6 @@ pub enum Table {
     Groups,
     /// Each list that stands: a group in a constituency.
     Lists,
+    /// The returns that are due in a part of the set-up, to be filled in and loaded.
+    Returns(Part),
 }

@@ -6,8 +6,10 @@ ghost use Rattle.zh_tables.specs.Records.{IsBetweenRecords, PutsText};
 ghost use Rattle.zh_tables.specs.Tables.{RefusesTable, IsTableText, constituency_rows, group_rows};
 ghost use Rattle.zh_tables.specs.Tables.{list_rows, lists_in, municipality_rows};
 
+use crate::due::returns_due;
 use crate::fault::ListFault;
 use crate::records::RecordFault;
+use crate::returns::write_returns;
 use crate::rows::{
     write_constituency, write_group, write_header, write_list_in, write_municipality,
 };
@@ -116,11 +118,18 @@ fn write_table<W: Write + Drop>(
             write_header(writer, table)?;
             Ok(write_lists(writer, setup)?)
         }
+        Table::Returns(part) => {
+            part.found_in(setup)?;
+            let due = returns_due(alloc, setup, part)?;
+            write_header(writer, table)?;
+            Ok(write_returns(writer, &due)?)
+        }
     }
 }
 
 /// Writes a table of the set-up: the names of its columns, and then a record for each of its rows, in order. It gives the
-/// writer back. After an error a front of the text may be written, and nothing where the constituencies get no seats.
+/// writer back. After an error a front of the text may be written, and nothing where the constituencies get no seats, or where
+/// the set-up does not have the part of which the returns are asked.
 pub fn write_list<W: Write + Drop>(
     alloc: Global,
     setup: &Setup,

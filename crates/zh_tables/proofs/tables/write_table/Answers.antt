@@ -1,6 +1,10 @@
-use Rattle.std.proofs.Common.{refl, subst, List, ℕ}
+use Rattle.std.proofs.Common.{refl, subst, List, ℕ, ◌∙◌}
+use Rattle.std.specs.List.{flat_map}
 use Rattle.zh_tables.specs.Records.{PutsText}
-use Rattle.zh_tables.specs.Tables.{constituency_rows, municipality_rows, group_rows, list_rows}
+use Rattle.zh_tables.specs.Tables.{constituency_rows, municipality_rows, group_rows, list_rows, return_rows}
+use Rattle.zh_tables.specs.Returns.{return_row}
+use Rattle.zh_tables.specs.declared.due.Due.{Due}
+use Rattle.zh_tables.specs.declared.table.Table.TheVariants.{Returns}
 use Rattle.zh_tables.proofs.TextLemmas.{table_written}
 use Rattle.zh_tables.proofs.tables.write_table.Goals as goal
 
@@ -27,3 +31,11 @@ pub returns-in_ok-write_lists-in-Lists-clause-written : goal.returns-in_ok-write
 returns-in_ok-write_lists-in-Lists-clause-written g c =
     table_written g.W.Write.contents c.args.setup.now c.args.table (list_rows c.args.setup.now) c.args.writer.now c.write_header-in-Lists.new.writer c.write_lists.new.writer (rw c.in-Lists.is refl)
     c.in_ok-write_header-in-Lists.ensures c.in_ok-write_lists-in-Lists.ensures
+
+pub returns-in_ok-write_returns-in-Returns-clause-written : goal.returns-in_ok-write_returns-in-Returns-clause-written
+returns-in_ok-write_returns-in-Returns-clause-written g c =
+    let rows = λ (due : List Due). PutsText g.W.Write.contents (flat_map return_row due) c.write_header-in-Returns.new.writer c.write_returns.new.writer in
+    rw c.in-Returns.is (table_written g.W.Write.contents c.args.setup.now (Returns c.in-Returns.part) (return_rows c.args.setup.now c.in-Returns.part) c.args.writer.now c.write_header-in-Returns.new.writer c.write_returns.new.writer
+    (c.in_ok-found_in-in-Returns.ensures, refl)
+    c.in_ok-write_header-in-Returns.ensures
+    (subst rows (c.deref.ensures.value ∙ c.in_ok-due-in-Returns.ensures) c.in_ok-write_returns-in-Returns.ensures))

@@ -1,0 +1,59 @@
+-- The returns that are due: one for each list that stands in the constituency of a municipality.
+use Rattle.std.specs.Prelude.{◌≡◌, ◌≤◌, ◌==◌, ℕ, Bool, true, false, List, [], ◌∷◌, length, nat_lt, if◌then◌else◌, codes, decimal}
+use Rattle.std.specs.List.{flat_map, range_with_len}
+use Rattle.zh_districts.specs.Canton.{Canton, constituency_of, stands}
+use Rattle.zh_tables.specs.Records.{record_text}
+use Rattle.zh_tables.specs.declared.due.Due.{Due}
+use Rattle.zh_tables.specs.declared.fault.ListFault.{ListFault}
+use Rattle.zh_tables.specs.declared.fault.ListFault.TheVariants as faults
+use Rattle.zh_tables.specs.declared.table.Part.{Part}
+use Rattle.zh_tables.specs.declared.table.Part.TheVariants as parts
+use Rattle.zh_tables.specs.declared.table.Table.{Table}
+use Rattle.zh_tables.specs.declared.table.Table.TheVariants.{Returns}
+
+-- what there is for each number from 1 to n, in order
+abbrev pub each_to : {A : Type 0} → ℕ → (ℕ → List A) → List A
+each_to n f = flat_map f (range_with_len 1 n)
+
+-- the return of a list in a municipality, if the list stands there
+abbrev pub due_of : Canton → ℕ → ℕ → List Due
+due_of canton m list = if stands canton (constituency_of canton m) list then record { municipality = m; list = list } ∷ [] else []
+
+-- those of a municipality, list by list
+abbrev pub returns_in : Canton → ℕ → List Due
+returns_in canton m = each_to (length canton.groups) (due_of canton m)
+
+-- whether a municipality is in this part of the set-up
+abbrev pub is_in : Canton → Part → ℕ → Bool
+is_in canton parts.Whole m = true
+is_in canton (parts.Municipality number) m = m == number
+is_in canton (parts.Constituency d) m = constituency_of canton m == d
+
+-- those of a municipality, if it is in this part
+abbrev pub returns_within : Canton → Part → ℕ → List Due
+returns_within canton part m = if is_in canton part m then returns_in canton m else []
+
+-- those of a part of the set-up, municipality by municipality
+abbrev pub returns_due : Canton → Part → List Due
+returns_due canton part = each_to (length canton.municipalities) (returns_within canton part)
+
+-- the line of a return: number 1, and its votes to be filled in
+abbrev pub return_row : Due → List ℕ
+return_row due = record_text (decimal due.municipality ∷ decimal due.list ∷ codes "1" ∷ [] ∷ [])
+
+-- whether a table has more returns than one loading takes
+abbrev pub exceeds_load : Canton → Table → Bool
+exceeds_load canton (Returns part) = nat_lt 1000 (length (returns_due canton part))
+exceeds_load canton table = false
+
+-- the set-up has this part
+abbrev pub HasPart : Canton → Part → Type 0
+HasPart canton parts.Whole = Unit {0}
+HasPart canton (parts.Municipality m) = (1 ≤ m) × (m ≤ length canton.municipalities)
+HasPart canton (parts.Constituency d) = (1 ≤ d) × (d ≤ length canton.constituencies)
+
+-- the fault says that the set-up does not have this part
+abbrev pub IsMissing : Canton → Part → ListFault → Type 0
+IsMissing canton (parts.Municipality m) fault = (fault ≡ faults.NoMunicipality m) × (HasPart canton (parts.Municipality m) → ⊥)
+IsMissing canton (parts.Constituency d) fault = (fault ≡ faults.NoConstituency d) × (HasPart canton (parts.Constituency d) → ⊥)
+IsMissing canton parts.Whole fault = ⊥

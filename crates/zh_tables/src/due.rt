@@ -1,0 +1,119 @@
+//! The returns that are due: one for each list that stands in the constituency of a municipality.
+
+ghost use Rattle.std.specs.Prelude.{◌≡◌, ◌≤◌, ◌++◌, length, IfOk, MatchResult, OnOk};
+ghost use Rattle.zh_tables.specs.Returns.{HasPart, IsMissing, due_of, exceeds_load, is_in, returns_due, returns_in};
+ghost use Rattle.zh_tables.specs.Returns.{returns_within};
+
+use crate::fault::ListFault;
+use crate::table::{Part, Table};
+use std::alloc::{AllocError, Global};
+use zh_districts::Setup;
+
+/// How many returns one loading takes.
+const MOST_LOADED: usize = 1_000;
+
+/// A return that is due.
+#[derive(Clone, Copy, Debug, PartialEq, Eq)]
+pub struct Due {
+    pub municipality: u32,
+    pub list: u32,
+}
+
+impl Part {
+    /// Whether a municipality is in this part.
+    fn has(self, setup: &Setup, municipality: u32) -> bool
+        requires from_one { 1 ≤ municipality }
+        requires there { municipality ≤ length setup.now.municipalities }
+        ensures { result ≡ is_in setup.now self municipality }
+    {
+        match self {
+            Part::Whole => true,
+            Part::Municipality(number) => municipality == number,
+            Part::Constituency(number) => setup.constituency_of(municipality) == number,
+        }
+    }
+
+    /// Whether the set-up has this part.
+    pub(crate) fn found_in(self, setup: &Setup) -> Result<(), ListFault>
+        ensures { MatchResult result (λ _. HasPart setup.now self) (IsMissing setup.now self) }
+    {
+        match self {
+            Part::Municipality(number) if !setup.has_municipality(number) => {
+                Err(ListFault::NoMunicipality(number))
+            }
+            Part::Constituency(number) if number == 0 || number > setup.constituencies() => {
+                Err(ListFault::NoConstituency(number))
+            }
+            _ => Ok(()),
+        }
+    }
+}
+
+/// Adds the return of a list in a municipality, if the list stands there.
+fn push_due(
+    setup: &Setup,
+    municipality: u32,
+    list: u32,
+    due: &mut Vec<Due>,
+) -> Result<(), AllocError>
+    requires from_one { 1 ≤ municipality }
+    requires there { municipality ≤ length setup.now.municipalities }
+    requires list_from_one { 1 ≤ list }
+    requires list_there { list ≤ length setup.now.groups }
+    ensures { OnOk result (due.new.items ≡ due.old.items ++ due_of setup.now municipality list) }
+{
+    if setup.stands(setup.constituency_of(municipality), list) {
+        due.push(Due { municipality, list })?;
+    }
+    Ok(())
+}
+
+/// Adds the returns that are due in a municipality.
+fn push_each_due(setup: &Setup, municipality: u32, due: &mut Vec<Due>) -> Result<(), AllocError>
+    requires from_one { 1 ≤ municipality }
+    requires there { municipality ≤ length setup.now.municipalities }
+    ensures { OnOk result (due.new.items ≡ due.old.items ++ returns_in setup.now municipality) }
+{
+    for place in 0..setup.groups() {
+        push_due(setup, municipality, place + 1, due)?;
+    }
+    Ok(())
+}
+
+/// Adds the returns that are due in a municipality, if it is in this part.
+fn push_each_within(
+    setup: &Setup,
+    part: Part,
+    municipality: u32,
+    due: &mut Vec<Due>,
+) -> Result<(), AllocError>
+    requires from_one { 1 ≤ municipality }
+    requires there { municipality ≤ length setup.now.municipalities }
+    ensures { OnOk result (due.new.items ≡ due.old.items ++ returns_within setup.now part municipality) }
+{
+    if !part.has(setup, municipality) {
+        return Ok(());
+    }
+    push_each_due(setup, municipality, due)
+}
+
+/// The returns that are due in a part of the set-up.
+pub(crate) fn returns_due(alloc: Global, setup: &Setup, part: Part) -> Result<Vec<Due>, AllocError>
+    ensures { IfOk result (λ due. due.items ≡ returns_due setup.now part) }
+{
+    let mut due = Vec::new(alloc);
+    for place in 0..setup.municipalities() {
+        push_each_within(setup, part, place + 1, &mut due)?;
+    }
+    Ok(due)
+}
+
+/// Whether a table has more returns than one loading takes.
+pub fn exceeds_load(alloc: Global, setup: &Setup, table: Table) -> Result<bool, AllocError>
+    ensures { IfOk result (λ exceeds. exceeds ≡ exceeds_load setup.now table) }
+{
+    match table {
+        Table::Returns(part) => Ok(returns_due(alloc, setup, part)?.len() > MOST_LOADED),
+        _ => Ok(false),
+    }
+}

@@ -1,0 +1,42 @@
+//! The table of the returns that are due.
+
+ghost use Rattle.std.specs.Prelude.{OnOk};
+ghost use Rattle.std.specs.List.{flat_map};
+ghost use Rattle.zh_tables.specs.Records.{IsBetweenRecords, PutsText};
+ghost use Rattle.zh_tables.specs.Returns.{return_row};
+
+use crate::due::Due;
+use crate::records::{RecordFault, write_record};
+use csv::Writer;
+use itoa::Buffer;
+use std::io::Write;
+
+/// Writes the record of a return: number 1, and its votes to be filled in.
+fn write_return<W: Write + Drop>(writer: &mut Writer<W>, due: &Due) -> Result<(), RecordFault>
+    requires { IsBetweenRecords writer.old }
+    ensures { OnOk result (PutsText W.contents (return_row due.now) writer.old writer.new) }
+{
+    let mut municipality = Buffer::new();
+    let mut list = Buffer::new();
+    let fields = [
+        municipality.format(due.municipality).as_bytes(),
+        list.format(due.list).as_bytes(),
+        b"1".as_slice(),
+        b"".as_slice(),
+    ];
+    write_record(writer, &fields)
+}
+
+/// Writes the record of each of these returns.
+pub(crate) fn write_returns<W: Write + Drop>(
+    writer: &mut Writer<W>,
+    returns: &[Due],
+) -> Result<(), RecordFault>
+    requires { IsBetweenRecords writer.old }
+    ensures { OnOk result (PutsText W.contents (flat_map return_row returns.now) writer.old writer.new) }
+{
+    for due in returns {
+        write_return(writer, due)?;
+    }
+    Ok(())
+}
