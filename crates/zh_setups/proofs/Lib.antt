@@ -1,7 +1,10 @@
 mod ArrayLemmas
 mod AsciiLemmas
 mod EachLemmas
+mod FoundLemmas
 mod KeyLemmas
+mod PlaceLemmas
+mod RangeLemmas
 mod RehearsalTextLemmas
 mod SetupLemmas
 mod SetupTextLemmas

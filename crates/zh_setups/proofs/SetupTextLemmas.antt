@@ -1,6 +1,6 @@
 -- What a text says, by what was made of it.
 use Rattle.std.proofs.Common.{◌≡◌, ◌≢◌, ℕ, ◌≤◌, true, leb, List, length, Some, None, Result, Ok, Err, refl, le-leb, inl, inr}
-use Rattle.std.specs.Prelude.{IfOk, IfErr, IsUtf8}
+use Rattle.std.specs.Prelude.{IfErr, IsUtf8}
 use Rattle.std.specs.Str.{is_utf8}
 use Rattle.std.proofs.lemmas.Bool.{cases_Bool}
 use Rattle.std.proofs.lemmas.Str.{is_utf8-from_IsUtf8, IsUtf8-from_is_utf8}
@@ -29,11 +29,7 @@ reading_of-none text short none =
       | inr is_none ↦ rw (fits, is_none) refl
     ]
 
--- what is returned is wanted, and so is a fault
-pub given_ok : (r wanted : Result Canton SetupFault) → Gives (λ s. s) r wanted → IfOk r (λ s. wanted ≡ Ok s)
-given_ok (Ok s) wanted h = h
-given_ok (Err fault) wanted h = tt
-
+-- a fault that is returned is wanted, unless memory ran out
 pub given_fault : (r wanted : Result Canton SetupFault) → Gives (λ s. s) r wanted → IfErr r (λ fault. fault ≢ Memory → wanted ≡ Err fault)
 given_fault (Ok s) wanted h = tt
 given_fault (Err Memory) wanted h = λ other. absurd (other refl)

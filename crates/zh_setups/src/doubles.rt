@@ -10,7 +10,7 @@ use std::alloc::{AllocError, Global};
 use std::collections::BTreeSet;
 use toml::{Table, Value};
 
-fn name_in(value: &Value) -> &str
+pub(crate) fn name_in(value: &Value) -> &str
     ensures { result.now ≡ name_in (view value.now) }
 {
     match value_of(value, "name") {
@@ -55,7 +55,7 @@ fn is_numbered_among(value: &Value, others: &[Value]) -> bool
     false
 }
 
-fn repeats_number(values: &[Value]) -> bool
+pub(crate) fn repeats_number(values: &[Value]) -> bool
     ensures { result ≡ repeats same_number (map view values.now) }
 {
     for (place, value) in values.iter().enumerate() {
@@ -66,7 +66,7 @@ fn repeats_number(values: &[Value]) -> bool
     false
 }
 
-fn stands_in(group: &Value) -> &[Value]
+pub(crate) fn stands_in(group: &Value) -> &[Value]
     ensures { map view result.now ≡ stands_in (view group.now) }
 {
     match value_of(group, "stands") {

@@ -47,7 +47,7 @@ pub fn rehearsal(alloc: Global) -> Result<Setup, AllocError>
 {
     match read_setup(alloc, TEXT.as_bytes()) {
         Ok(setup) => Ok(setup),
-        Err(fault) => match fault {
+        Err(refusal) => match refusal.fault {
             SetupFault::Memory => Err(AllocError),
             _ => unreachable!(),
         },

@@ -3,6 +3,7 @@
 ghost use Rattle.std.specs.Prelude.{◌≡◌};
 ghost use Rattle.zh_setups.specs.declared.fault.SetupFault.TheVariants.{Memory};
 
+use crate::place::FaultPlace;
 use std::alloc::{AllocError, AllocFailed};
 use thiserror::Error;
 
@@ -27,6 +28,14 @@ pub enum SetupFault {
     /// Two names of one kind are equal, or a group stands twice in one constituency.
     #[error("setup double")]
     Double,
+}
+
+/// The fault of a set-up text, and where the text has it, as far as that is known.
+#[derive(Clone, Copy, Debug, PartialEq, Eq, Error)]
+#[error("{fault}")]
+pub struct SetupRefusal {
+    pub fault: SetupFault,
+    pub place: Option<FaultPlace>,
 }
 
 impl From<AllocError> for SetupFault {

@@ -79,7 +79,7 @@ fn is_among(key: &str, keys: &[&str]) -> bool
     false
 }
 
-fn knows_keys(table: &Table, keys: &[&str]) -> bool
+pub(crate) fn knows_keys(table: &Table, keys: &[&str]) -> bool
     ensures { result ≡ knows_keys (map (λ k. k.now) keys.now) (table_view table.now) }
 {
     for (key, _) in table {
@@ -120,7 +120,7 @@ fn is_version_2(document: &Table) -> bool
 }
 
 /// Whether each key at the top may stand there.
-fn knows_document_keys(document: &Table) -> bool
+pub(crate) fn knows_document_keys(document: &Table) -> bool
     ensures { result ≡ knows_keys (known_keys (table_view document.now)) (table_view document.now) }
 {
     if is_version_2(document) {

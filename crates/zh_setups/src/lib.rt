@@ -1,15 +1,21 @@
 //! Set-ups that are read from a text in TOML.
 #![tactic(auto)]
 
+mod checks;
 mod document;
 mod document_parts;
 mod doubles;
 mod example;
 mod fault;
 mod keys;
+mod place;
+mod places;
+mod position;
 mod table;
 mod text;
 
 pub use example::rehearsal;
-pub use fault::SetupFault;
+pub use fault::{SetupFault, SetupRefusal};
+pub use place::{FaultPlace, Key, Kind};
+pub use position::Position;
 pub use text::read_setup;

@@ -1,33 +1,72 @@
 //! Reading a set-up text.
 
-ghost use Rattle.std.specs.Prelude.{◌≡◌, ◌≢◌, Ok, Err, IfOk, IfErr};
+ghost use Rattle.std.specs.Prelude.{◌≡◌, ◌≢◌, ◌≤◌, Ok, Err, IfOk, IfErr, IsSome, length};
+ghost use Rattle.toml.specs.View.{table_view};
 ghost use Rattle.zh_districts.specs.Canton.{IsCanton};
-ghost use Rattle.zh_setups.specs.SetupText.{reading_of, Describes};
+ghost use Rattle.zh_setups.specs.Document.{checked};
+ghost use Rattle.zh_setups.specs.Places.{fault_place};
+ghost use Rattle.zh_setups.specs.Refusals.{IsPlaced};
+ghost use Rattle.zh_setups.specs.SetupText.{reading_of, Describes, SetupOf};
 
 use crate::document::read_document;
-use crate::fault::SetupFault;
+use crate::fault::{SetupFault, SetupRefusal};
+use crate::place::FaultPlace;
+use crate::places::fault_place;
+use crate::position::position_after;
 use std::alloc::Global;
+use toml::Table;
 use zh_districts::Setup;
 
 const LONGEST: usize = 1_048_576;
 
+/// The set-up of a document, or its first fault and where it stands.
+fn read_placed(alloc: Global, document: &Table) -> Result<Setup, SetupRefusal>
+    ensures set_up { IfOk result (λ setup. checked (table_view document.now) ≡ Ok setup) }
+    ensures table { IfOk result (SetupOf (table_view document.now)) }
+    ensures limits { IfOk result IsCanton }
+    ensures fault { IfErr result (λ refusal. refusal.fault ≢ SetupFault.Memory → checked (table_view document.now) ≡ Err refusal.fault) }
+    ensures place { IfErr result (λ refusal. refusal.place ≡ fault_place refusal.fault (table_view document.now)) }
+    ensures placed { IfErr result (λ refusal. refusal.fault ≢ SetupFault.Memory → IsSome refusal.place) }
+{
+    match read_document(alloc, document) {
+        Ok(setup) => Ok(setup),
+        Err(fault) => Err(SetupRefusal {
+            fault,
+            place: fault_place(document, fault),
+        }),
+    }
+}
+
 /// The set-up of a text in TOML, as docs/FORMATS.md lays it out: the keys `version` (1 or 2), `house`, `constituency`,
 /// `municipality` and `group`, and with version 2 also `canton_quorum`, if there is one.
 ///
-/// The faults are looked for in the order of `SetupFault`, each over the whole document. Memory may come in place of
-/// any other answer, where an allocation was refused.
-pub fn read_setup(alloc: Global, text: &[u8]) -> Result<Setup, SetupFault>
+/// The faults are looked for in the order of `SetupFault`, each over the whole document; the refusal says where the text
+/// has it. Memory may come in place of any other answer, where an allocation was refused.
+pub fn read_setup(alloc: Global, text: &[u8]) -> Result<Setup, SetupRefusal>
     ensures set_up { IfOk result (λ setup. reading_of text.now ≡ Ok setup) }
     ensures table { IfOk result (Describes text.now) }
     ensures limits { IfOk result IsCanton }
-    ensures fault { IfErr result (λ fault. fault ≢ SetupFault.Memory → reading_of text.now ≡ Err fault) }
+    ensures fault { IfErr result (λ refusal. refusal.fault ≢ SetupFault.Memory → reading_of text.now ≡ Err refusal.fault) }
+    ensures place { IfErr result (IsPlaced text.now) }
+    ensures placed { IfErr result (λ refusal. refusal.fault ≢ SetupFault.Memory → length text.now ≤ 1048576 → IsSome refusal.place) }
 {
     if LONGEST < text.len() {
-        return Err(SetupFault::Text);
+        return Err(SetupRefusal {
+            fault: SetupFault::Text,
+            place: None,
+        });
     }
     match toml::table_from_slice(alloc, text) {
-        Ok(document) => read_document(alloc, &document),
-        Err(error) if error.is_memory() => Err(SetupFault::Memory),
-        Err(_) => Err(SetupFault::Text),
+        Ok(document) => read_placed(alloc, &document),
+        Err(error) => match error.span() {
+            Some(span) => Err(SetupRefusal {
+                fault: SetupFault::Text,
+                place: Some(FaultPlace::At(position_after(&text[..span.start]))),
+            }),
+            None => Err(SetupRefusal {
+                fault: SetupFault::Memory,
+                place: None,
+            }),
+        },
     }
 }

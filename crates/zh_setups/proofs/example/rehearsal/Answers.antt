@@ -11,4 +11,4 @@ returns-in-Ok c =
 pub unreachable-requires : goal.unreachable-requires
 unreachable-requires c =
     let text : c.as_bytes.result.now ≡ rehearsal_text = c.as_bytes.ensures.value in
-    is_no_fault c.in-Err.fault (ap reading_of (sym text) ∙ c.in-Err.ensures.fault c.in_default.not-Memory)
+    is_no_fault c.in-Err.refusal.fault (ap reading_of (sym text) ∙ c.in-Err.ensures.fault c.in_default.not-Memory)

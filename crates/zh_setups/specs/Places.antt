@@ -1,0 +1,140 @@
+-- Where a set-up text has its fault: the first key of which a check fails, at the top and then table by table.
+use Rattle.std.specs.Prelude.{◌+◌, ℕ, Bool, false, not, if◌then◌else◌, List, [], ◌∷◌, ◌++◌, length, min}
+use Rattle.std.specs.Prelude.{Option, Some, None, is_some, option_map, unwrap_or, codes}
+use Rattle.std.specs.Option.{option_map_or, option_or}
+use Rattle.std.specs.List.{list_all, list_any}
+use Rattle.toml.specs.Data.{Data, Members, get, get_member}
+use Rattle.zh_setups.specs.Keys.{constituency_keys, group_keys, known_keys, knows_keys, knows_keys_of}
+use Rattle.zh_setups.specs.Keys.{municipality_keys, tables_at}
+use Rattle.zh_setups.specs.Document.{◌>>=◌, name_of, number_within, quorum_of, repeats, same_name, same_number, stands_in}
+use Rattle.zh_setups.specs.Document.{values_at, values_of}
+use Rattle.zh_setups.specs.declared.fault.SetupFault.{SetupFault}
+use Rattle.zh_setups.specs.declared.fault.SetupFault.TheVariants as faults
+use Rattle.zh_setups.specs.declared.place.Key.{Key}
+use Rattle.zh_setups.specs.declared.place.Key.TheVariants as keys
+use Rattle.zh_setups.specs.declared.place.Kind.{Kind}
+use Rattle.zh_setups.specs.declared.place.Kind.TheVariants as kinds
+use Rattle.zh_setups.specs.declared.place.FaultPlace.{FaultPlace}
+use Rattle.zh_setups.specs.declared.place.FaultPlace.TheVariants as places
+
+-- the first key whose check fails
+abbrev pub first_failing : List (Key × Bool) → Option Key
+first_failing [] = None
+first_failing (check ∷ checks) = if check.1 then first_failing checks else Some check.0
+
+-- whether a key stands at the top, and whether one stands in a table
+abbrev pub at_top : List ℕ → Members → Bool
+at_top key document = is_some (get_member key document)
+
+abbrev pub in_table : List ℕ → Data → Bool
+in_table key value = is_some (get key value)
+
+-- whether the value at a key is a number within its limits, at the top and in a table
+abbrev pub number_at_top : List ℕ → ℕ → ℕ → Members → Bool
+number_at_top key low high document = is_some (get_member key document >>= number_within low high)
+
+abbrev pub number_in_table : List ℕ → ℕ → ℕ → Data → Bool
+number_in_table key low high value = is_some (get key value >>= number_within low high)
+
+-- whether a table has a name that is one
+abbrev pub is_named : Data → Bool
+is_named value = is_some (get (codes "name") value >>= name_of)
+
+-- whether these are numbers of constituencies, of which there are n
+abbrev pub are_within : ℕ → List Data → Bool
+are_within n values = list_all (λ value. is_some (number_within 1 n value)) values
+
+-- whether the numbers where a group stands are such
+abbrev pub stands_within : ℕ → Data → Bool
+stands_within n value = option_map_or (are_within n) (get (codes "stands") value >>= values_of) false
+
+-- the checks of a fault at the top
+abbrev pub top_checks : SetupFault → Members → List (Key × Bool)
+top_checks faults.Missing document =
+    (keys.Version, at_top (codes "version") document) ∷ (keys.House, at_top (codes "house") document)
+    ∷ (keys.Constituency, at_top (codes "constituency") document) ∷ (keys.Municipality, at_top (codes "municipality") document)
+    ∷ (keys.Group, at_top (codes "group") document) ∷ []
+top_checks faults.Range document =
+    (keys.Version, number_at_top (codes "version") 1 2 document) ∷ (keys.House, number_at_top (codes "house") 1 400 document)
+    ∷ (keys.Constituency, is_some (values_at (codes "constituency") 32 document))
+    ∷ (keys.Municipality, is_some (values_at (codes "municipality") 512 document))
+    ∷ (keys.Group, is_some (values_at (codes "group") 32 document))
+    ∷ (keys.CantonQuorum, is_some (quorum_of (get_member (codes "canton_quorum") document))) ∷ []
+top_checks faults.Unknown document = (keys.Other, knows_keys (known_keys document) document) ∷ []
+top_checks fault document = []
+
+-- whether a table has its key beside the name
+abbrev pub missing_check : Kind → Data → Key × Bool
+missing_check kinds.Constituency value = (keys.Persons, in_table (codes "persons") value)
+missing_check kinds.Municipality value = (keys.Constituency, in_table (codes "constituency") value)
+missing_check kinds.Group value = (keys.Stands, in_table (codes "stands") value)
+
+-- whether the value of a table beside its name is within its limits, where there are n constituencies
+abbrev pub range_check : Kind → ℕ → Data → Key × Bool
+range_check kinds.Constituency n value = (keys.Persons, number_in_table (codes "persons") 1 10000000 value)
+range_check kinds.Municipality n value = (keys.Constituency, number_in_table (codes "constituency") 1 n value)
+range_check kinds.Group n value = (keys.Stands, stands_within n value)
+
+-- whether a table has no other keys than its own
+abbrev pub has_own_keys : Kind → Data → Bool
+has_own_keys kinds.Constituency value = knows_keys_of constituency_keys value
+has_own_keys kinds.Municipality value = knows_keys_of municipality_keys value
+has_own_keys kinds.Group value = knows_keys_of group_keys value
+
+-- whether a group stands nowhere twice
+abbrev pub double_checks : Kind → Data → List (Key × Bool)
+double_checks kinds.Group value = (keys.Stands, not (repeats same_number (stands_in value))) ∷ []
+double_checks kind value = []
+
+-- the checks of a fault in a table, where there are n constituencies
+abbrev pub table_checks : SetupFault → Kind → ℕ → Data → List (Key × Bool)
+table_checks faults.Missing kind n value = (keys.Name, in_table (codes "name") value) ∷ missing_check kind value ∷ []
+table_checks faults.Range kind n value = (keys.Name, is_named value) ∷ range_check kind n value ∷ []
+table_checks faults.Unknown kind n value = (keys.Other, has_own_keys kind value) ∷ []
+table_checks faults.Double kind n value = double_checks kind value
+table_checks fault kind n value = []
+
+-- the first of these tables, numbered from here, that has such a key
+abbrev pub first_table : (Data → Option Key) → Kind → ℕ → List Data → Option FaultPlace
+first_table key kind number [] = None
+first_table key kind number (value ∷ values) =
+    option_map_or (λ found. Some (places.Table kind number found)) (key value) (first_table key kind (number + 1) values)
+
+-- the first of these tables, numbered from here, whose name one before it has
+abbrev pub first_namesake : Kind → ℕ → List Data → List Data → Option FaultPlace
+first_namesake kind number before [] = None
+first_namesake kind number before (value ∷ values) =
+    if list_any (same_name value) before then Some (places.Table kind number keys.Name)
+    else first_namesake kind (number + 1) (before ++ value ∷ []) values
+
+-- the first of these tables with a name that stands twice, if that is the fault
+abbrev pub namesake_of : SetupFault → Kind → List Data → Option FaultPlace
+namesake_of faults.Double kind values = first_namesake kind 1 [] values
+namesake_of fault kind values = None
+
+-- the values of the array at a key, if there is one
+abbrev pub values_under : List ℕ → Members → List Data
+values_under key document = unwrap_or (get_member key document >>= values_of) []
+
+-- how many constituencies there are, where there are not too many
+abbrev pub constituencies_in : Members → ℕ
+constituencies_in document = min (length (values_under (codes "constituency") document)) 32
+
+-- what is looked into for a fault: each value of an array, or of other faults than a range those of an array of tables
+abbrev pub looked_into : SetupFault → List ℕ → Members → List Data
+looked_into faults.Range key document = values_under key document
+looked_into fault key document = tables_at key document
+
+abbrev pub first_of : SetupFault → Kind → List ℕ → Members → Option FaultPlace
+first_of fault kind key document =
+    option_or (namesake_of fault kind (looked_into fault key document))
+    (first_table (λ value. first_failing (table_checks fault kind (constituencies_in document) value)) kind 1
+    (looked_into fault key document))
+
+-- the place of this fault in a document
+abbrev pub fault_place : SetupFault → Members → Option FaultPlace
+fault_place fault document =
+    option_or (option_map places.Top (first_failing (top_checks fault document)))
+    (option_or (first_of fault kinds.Constituency (codes "constituency") document)
+    (option_or (first_of fault kinds.Municipality (codes "municipality") document)
+    (first_of fault kinds.Group (codes "group") document)))

@@ -1,0 +1,207 @@
+//! The checks of a set-up text, key by key: the first that fails names the place of a fault.
+
+ghost use Rattle.std.specs.Prelude.{◌≡◌, map, is_some, codes};
+ghost use Rattle.toml.specs.Data.{get_member};
+ghost use Rattle.toml.specs.View.{view, table_view};
+ghost use Rattle.zh_setups.specs.Document.{quorum_of};
+ghost use Rattle.zh_setups.specs.Keys.{knows_keys_of};
+ghost use Rattle.zh_setups.specs.Places.{are_within, at_top, double_checks, first_failing, has_own_keys, in_table, missing_check};
+ghost use Rattle.zh_setups.specs.Places.{number_at_top, range_check, stands_within, table_checks, top_checks};
+
+use crate::doubles::{repeats_number, stands_in};
+use crate::fault::SetupFault;
+use crate::keys::{knows_document_keys, knows_keys};
+use crate::place::{Key, Kind};
+use crate::table::{name, number, number_at, value_at, value_of, values, values_at};
+use toml::{Table, Value};
+
+/// The first key whose check fails.
+fn first_failing(checks: &[(Key, bool)]) -> Option<Key>
+    ensures { result ≡ first_failing checks.now }
+{
+    for check in checks {
+        if !check.1 {
+            return Some(check.0);
+        }
+    }
+    None
+}
+
+fn at_top(document: &Table, key: &str) -> bool
+    ensures { result ≡ at_top key.now (table_view document.now) }
+{
+    value_at(document, key).is_some()
+}
+
+fn number_at_top(document: &Table, key: &str, low: u32, high: u32) -> bool
+    ensures { result ≡ number_at_top key.now low high (table_view document.now) }
+{
+    match value_at(document, key) {
+        Some(value) => number(value, low, high).is_some(),
+        None => false,
+    }
+}
+
+/// Whether a canton-wide quorum is within its limits, where there is one.
+fn quorum_passes(document: &Table) -> bool
+    ensures { result ≡ is_some (quorum_of (get_member (codes "canton_quorum") (table_view document.now))) }
+{
+    match value_at(document, "canton_quorum") {
+        Some(value) => number(value, 1, 49).is_some(),
+        None => true,
+    }
+}
+
+fn in_table(value: &Value, key: &str) -> bool
+    ensures { result ≡ in_table key.now (view value.now) }
+{
+    value_of(value, key).is_some()
+}
+
+fn are_within(values: &[Value], constituencies: u32) -> bool
+    ensures { result ≡ are_within constituencies (map view values.now) }
+{
+    for value in values {
+        if number(value, 1, constituencies).is_none() {
+            return false;
+        }
+    }
+    true
+}
+
+/// Whether the numbers where a group stands are those of constituencies.
+fn stands_within(group: &Value, constituencies: u32) -> bool
+    ensures { result ≡ stands_within constituencies (view group.now) }
+{
+    let Some(stands) = value_of(group, "stands") else {
+        return false;
+    };
+    match values(stands) {
+        Some(values) => are_within(values, constituencies),
+        None => false,
+    }
+}
+
+/// The key at the top that has this fault.
+pub(crate) fn top_key(document: &Table, fault: SetupFault) -> Option<Key>
+    ensures { result ≡ first_failing (top_checks fault (table_view document.now)) }
+{
+    match fault {
+        SetupFault::Missing => first_failing(&[
+            (Key::Version, at_top(document, "version")),
+            (Key::House, at_top(document, "house")),
+            (Key::Constituency, at_top(document, "constituency")),
+            (Key::Municipality, at_top(document, "municipality")),
+            (Key::Group, at_top(document, "group")),
+        ]),
+        SetupFault::Range => first_failing(&[
+            (Key::Version, number_at_top(document, "version", 1, 2)),
+            (Key::House, number_at_top(document, "house", 1, 400)),
+            (
+                Key::Constituency,
+                values_at(document, "constituency", 32).is_some(),
+            ),
+            (
+                Key::Municipality,
+                values_at(document, "municipality", 512).is_some(),
+            ),
+            (Key::Group, values_at(document, "group", 32).is_some()),
+            (Key::CantonQuorum, quorum_passes(document)),
+        ]),
+        SetupFault::Unknown => first_failing(&[(Key::Other, knows_document_keys(document))]),
+        _ => None,
+    }
+}
+
+/// Whether a value, if it is a table, has no other keys than these.
+fn knows_keys_of(value: &Value, keys: &[&str]) -> bool
+    ensures { result ≡ knows_keys_of (map (λ k. k.now) keys.now) (view value.now) }
+{
+    match value.as_table() {
+        Some(table) => knows_keys(table, keys),
+        None => true,
+    }
+}
+
+/// Whether a table has no other keys than its own.
+fn has_own_keys(value: &Value, kind: Kind) -> bool
+    ensures { result ≡ has_own_keys kind (view value.now) }
+{
+    match kind {
+        Kind::Constituency => knows_keys_of(value, &["name", "persons"]),
+        Kind::Municipality => knows_keys_of(value, &["name", "constituency"]),
+        Kind::Group => knows_keys_of(value, &["name", "stands"]),
+    }
+}
+
+/// Whether a table has its key beside the name, and that key.
+fn missing_check(value: &Value, kind: Kind) -> (Key, bool)
+    ensures { result ≡ missing_check kind (view value.now) }
+{
+    match kind {
+        Kind::Constituency => (Key::Persons, in_table(value, "persons")),
+        Kind::Municipality => (Key::Constituency, in_table(value, "constituency")),
+        Kind::Group => (Key::Stands, in_table(value, "stands")),
+    }
+}
+
+/// The key of a table that is missing.
+fn missing_key(value: &Value, kind: Kind) -> Option<Key>
+    ensures { result ≡ first_failing (table_checks SetupFault.Missing kind 0 (view value.now)) }
+{
+    let named = (Key::Name, in_table(value, "name"));
+    first_failing(&[named, missing_check(value, kind)])
+}
+
+/// Whether the value of a table beside its name is within its limits, and its key.
+fn range_check(value: &Value, kind: Kind, constituencies: u32) -> (Key, bool)
+    ensures { result ≡ range_check kind constituencies (view value.now) }
+{
+    match kind {
+        Kind::Constituency => (
+            Key::Persons,
+            number_at(value, "persons", 1, 10_000_000).is_some(),
+        ),
+        Kind::Municipality => (
+            Key::Constituency,
+            number_at(value, "constituency", 1, constituencies).is_some(),
+        ),
+        Kind::Group => (Key::Stands, stands_within(value, constituencies)),
+    }
+}
+
+/// The key of a table whose value is out of range.
+fn key_out_of_range(value: &Value, kind: Kind, constituencies: u32) -> Option<Key>
+    ensures { result ≡ first_failing (table_checks SetupFault.Range kind constituencies (view value.now)) }
+{
+    let named = (Key::Name, name(value).is_some());
+    first_failing(&[named, range_check(value, kind, constituencies)])
+}
+
+/// The key of a table whose value has something twice.
+fn key_of_double(value: &Value, kind: Kind) -> Option<Key>
+    ensures { result ≡ first_failing (double_checks kind (view value.now)) }
+{
+    match kind {
+        Kind::Group if repeats_number(stands_in(value)) => Some(Key::Stands),
+        _ => None,
+    }
+}
+
+/// The key in a table that has this fault.
+pub(crate) fn table_key(
+    value: &Value,
+    fault: SetupFault,
+    kind: Kind,
+    constituencies: u32,
+) -> Option<Key>
+    ensures { result ≡ first_failing (table_checks fault kind constituencies (view value.now)) }
+{
+    match fault {
+        SetupFault::Missing => missing_key(value, kind),
+        SetupFault::Range => key_out_of_range(value, kind, constituencies),
+        SetupFault::Unknown => first_failing(&[(Key::Other, has_own_keys(value, kind))]),
+        SetupFault::Double => key_of_double(value, kind),
+        _ => None,
+    }
+}
