@@ -1,5 +1,6 @@
 -- What clap read, as what the arguments ask for.
-use Rattle.std.proofs.Common.{◌≡◌, ◌≢◌, ◌∙◌, subst, ℕ, List, [], ◌∷◌, Option, Some, None, Bor, Bool, true, false, not, ◌&&◌, if◌then◌else◌, inl, inr, Decides, refl, sym, ap, option_map, unwrap_or, codes}
+use Rattle.std.proofs.Common.{◌≡◌, ◌≢◌, ◌∙◌, subst, ℕ, List, [], ◌∷◌, Option, Some, None, Bor, Bool, true, false, inl, inr, Decides, refl, sym, ap, option_map, unwrap_or, codes}
+use Rattle.std.specs.Option.{option_map_or}
 use Rattle.std.specs.Str.{bytes_eq}
 use Rattle.std.proofs.lemmas.Slice.Eq.{bytes_eq-Decides}
 use Rattle.clap.specs.Words.{App, Row, Text, HasMatchesOf, first_of, found_of, rows_of, first_value, is_simple, subcommand_name_of, subcommand_rows_of, subcommand_of}
@@ -13,12 +14,13 @@ use Rattle.clap.specs.declared.parser.matches.Found.{Found}
 use Rattle.std.specs.Box.{box_value}
 use Rattle.clap.specs.declared.parser.matches.ArgMatches.TheViews.{out-ArgMatches, out-SubCommand}
 use Rattle.clap.proofs.WalkLemmas.{first_value-rows}
-use Rattle.zh_arguments.specs.Arguments.{AsksFor, Names, NamesNoTable, command_in, names_table, name_of_table, path_in, refusals, table_refusals, zhcount}
+use Rattle.zh_arguments.specs.Arguments.{AsksFor, IsMisuse, Names, command_in, kind_by, misuse_of, refusals}
+use Rattle.zh_arguments.specs.Commands.{zhcount}
+use Rattle.zh_arguments.specs.Table.{path_in}
+use Rattle.zh_arguments.specs.declared.misuse.Misuse.{Misuse}
 use Rattle.zh_arguments.specs.declared.arguments.Task.{Task}
 use Rattle.zh_arguments.specs.declared.arguments.Task.TheVariants as tasks
-use Rattle.zh_arguments.specs.declared.arguments.Task.TheVariants.{Rehearse, Format, Run, Load, Export}
-use Rattle.zh_tables.specs.declared.table.Table.{Table}
-use Rattle.zh_tables.specs.declared.table.Table.TheVariants.{Constituencies, Municipalities, Groups, Lists}
+use Rattle.zh_arguments.specs.declared.arguments.Task.TheVariants.{Rehearse, Format, Run, Load, DryRun, Export}
 
 -- the path that was found, or else the empty text
 pub path_found : (found : Option (Bor (List ℕ))) (none path : Bor (List ℕ)) (f : Found) (name : Text)
@@ -55,69 +57,51 @@ mapped f g (Some x) = refl
 pub named : (m : ArgMatches) → subcommand_name_of m ≡ option_map (λ (p : Text × List Row). p.0) (subcommand_rows_of m)
 named m = mapped (λ b. (out-SubCommand (box_value b)).name.now) (λ b. rows_of (found_of (out-SubCommand (box_value b)).matches)) (out-ArgMatches m).subcommand
 
-equal : (a b : Text) → a ≡ b → bytes_eq a b ≡ true
+pub equal : (a b : Text) → a ≡ b → bytes_eq a b ≡ true
 equal a b same = (bytes_eq-Decides a b).1 same
 
-unequal : (a b : Text) → a ≢ b → bytes_eq a b ≡ false
+pub unequal : (a b : Text) → a ≢ b → bytes_eq a b ≡ false
 unequal a b differ = at (bytes_eq a b) (bytes_eq-Decides a b)
   where
     at : (r : Bool) → Decides r (a ≡ b) → r ≡ false
     at true d = absurd (differ (d.0 refl))
     at false d = refl
 
--- the name of a table is the name of a table
-known : (table : Table) → names_table (name_of_table table) ≡ true
-known Constituencies = refl
-known Municipalities = refl
-known Groups = refl
-known Lists = refl
+-- a command of a name that asks for no table, no view and no source
+other_name : (name other : Text) (rows : List Row) → name ≡ other → misuse_of (Some (other, rows)) ≡ None → misuse_of (Some (name, rows)) ≡ None
+other_name name other rows is none = subst (λ (n : Text). misuse_of (Some (n, rows)) ≡ None) (sym is) none
 
--- a name that no table has
-unknown : (text : Text) → ((table : Table) → text ≢ name_of_table table) → names_table text ≡ false
-unknown text none = rw (unequal text _ (none Constituencies), unequal text _ (none Municipalities), unequal text _ (none Groups), unequal text _ (none Lists)) refl
-
--- a command that lists what is no table is refused
-pub no_table : (name : Text) (rows : List Row) → name ≡ codes "list" → ((table : Table) → path_in (codes "of") rows ≢ name_of_table table) → NamesNoTable (Some (name, rows))
-no_table name rows list none = rw (equal name (codes "list") list, unknown (path_in (codes "of") rows) none) refl
-
-another : (name : Text) (rows : List Row) → name ≢ codes "list" → table_refusals (Some (name, rows)) ≡ []
-another name rows differs = rw (unequal name (codes "list") differs) refl
-
--- a command of another name
-other_name : (name other : Text) → bytes_eq other (codes "list") ≡ false → name ≡ other → name ≢ codes "list"
-other_name name other differs is list =
-    let same : bytes_eq other (codes "list") ≡ true = equal other (codes "list") (sym is ∙ list) in
-    cc
-
--- a task is not refused for its table
-pub not_refused : (given : Option (Text × List Row)) (task : Task) → Names given task → table_refusals given ≡ []
-not_refused None task asks = refl
-not_refused (Some (name, rows)) Rehearse asks = another name rows asks.4
-not_refused (Some (name, rows)) (Format paths) asks = another name rows (other_name name (codes "format") refl asks.0)
-not_refused (Some (name, rows)) (Run paths) asks = another name rows (other_name name (codes "run") refl asks.0)
-not_refused (Some (name, rows)) (Load paths csv) asks = another name rows (other_name name (codes "load") refl asks.0)
-not_refused (Some (name, rows)) (Export paths) asks = another name rows (other_name name (codes "export") refl asks.0)
-not_refused (Some (name, rows)) (tasks.List setup table) asks = rw (asks.2, known table) if_same
-  where
-    if_same : (if bytes_eq name (codes "list") && not true then kinds.InvalidValue ∷ [] else []) ≡ []
-    if_same = at (bytes_eq name (codes "list"))
-      where
-        at : (b : Bool) → (if b && not true then kinds.InvalidValue ∷ [] else []) ≡ []
-        at true = refl
-        at false = refl
+-- a command that asks for a task is not misused
+pub not_misused : (given : Option (Text × List Row)) (task : Task) → Names given task → misuse_of given ≡ None
+not_misused None task asks = refl
+not_misused (Some (name, rows)) Rehearse asks = rw (unequal name (codes "list") asks.4, unequal name (codes "status") asks.5, unequal name (codes "seats") asks.7) refl
+not_misused (Some (name, rows)) (Format paths) asks = other_name name (codes "format") rows asks.0 refl
+not_misused (Some (name, rows)) (Run paths) asks = other_name name (codes "run") rows asks.0 refl
+not_misused (Some (name, rows)) (Load paths csv) asks = other_name name (codes "load") rows asks.0 refl
+not_misused (Some (name, rows)) (DryRun paths csv) asks = other_name name (codes "load") rows asks.0 refl
+not_misused (Some (name, rows)) (Export paths) asks = other_name name (codes "export") rows asks.0 refl
+not_misused (Some (name, rows)) (tasks.Status paths view) asks = other_name name (codes "status") rows asks.0.0 (rw asks.1 refl)
+not_misused (Some (name, rows)) (tasks.Check paths) asks = other_name name (codes "check") rows asks.0 refl
+not_misused (Some (name, rows)) (tasks.Seats paths is_final layout) asks = other_name name (codes "seats") rows asks.0.0 (rw asks.1 refl)
+not_misused (Some (name, rows)) (tasks.SheetSeats setup sheet layout) asks = other_name name (codes "seats") rows asks.0 (rw asks.1 refl)
+not_misused (Some (name, rows)) (tasks.List setup table) asks = other_name name (codes "list") rows asks.0 (rw asks.2 refl)
 
 either : (first next : Kinds) (e : Error) → HasKind first e → HasKind (or_else first next) e
 either [] next e (inl memory) = inl memory
 either [] next e (inr none) = absurd none
 either (k ∷ ks) next e has = has
 
+-- what a command is refused for
+abbrev misuse_kinds : Option (Text × List Row) → Kinds
+misuse_kinds given = option_map_or (λ misuse. kind_by misuse ∷ []) (misuse_of given) []
+
 -- what clap refuses, and what is refused of what it takes
 pub refused : (a : App) (arguments : List Text) (e : Error) → a ≡ zhcount → (is_simple_and_free a ≡ true → HasKind (fault_of a arguments) e) → HasKind (refusals arguments) e
 unfolding refusals
 refused a arguments e is kinds =
-    either (fault_of zhcount arguments) (table_refusals (command_in arguments)) e (subst (λ (app : App). HasKind (fault_of app arguments) e) is (kinds (ap is_simple_and_free is ∙ zhcount_is_free)))
+    either (fault_of zhcount arguments) (misuse_kinds (command_in arguments)) e (subst (λ (app : App). HasKind (fault_of app arguments) e) is (kinds (ap is_simple_and_free is ∙ zhcount_is_free)))
 
-taken : (a : App) (arguments : List Text) → a ≡ zhcount → (is_simple_and_free a ≡ true → fault_of a arguments ≡ []) → refusals arguments ≡ table_refusals (command_in arguments)
+taken : (a : App) (arguments : List Text) → a ≡ zhcount → (is_simple_and_free a ≡ true → fault_of a arguments ≡ []) → refusals arguments ≡ misuse_kinds (command_in arguments)
 unfolding refusals
 taken a arguments is kinds =
     let none : fault_of zhcount arguments ≡ [] = ap (λ (app : App). fault_of app arguments) (sym is) ∙ kinds (ap is_simple_and_free is ∙ zhcount_is_free) in
@@ -125,19 +109,15 @@ taken a arguments is kinds =
 
 -- a task that was read
 pub asked : (a : App) (arguments : List Text) (task : Task) → a ≡ zhcount → (is_simple_and_free a ≡ true → fault_of a arguments ≡ []) → Names (command_in arguments) task → AsksFor arguments task
-asked a arguments task is kinds asks = (taken a arguments is kinds ∙ not_refused (command_in arguments) task asks, asks)
+asked a arguments task is kinds asks =
+    (taken a arguments is kinds ∙ ap (λ (m : Option Misuse). option_map_or (λ misuse. kind_by misuse ∷ []) m []) (not_misused (command_in arguments) task asks), asks)
 
--- a table that is not one
-pub refused_table : (a : App) (arguments : List Text) (e : Error) → a ≡ zhcount → (is_simple_and_free a ≡ true → fault_of a arguments ≡ []) → NamesNoTable (command_in arguments) → kind_of e ≡ kinds.InvalidValue → HasKind (refusals arguments) e
-refused_table a arguments e is kinds none kind = rw (taken a arguments is kinds ∙ none) (inr (inl kind))
+-- a command that was misused
+pub refused_misuse : (a : App) (arguments : List Text) (e : Error) (misuse : Misuse) → a ≡ zhcount → (is_simple_and_free a ≡ true → fault_of a arguments ≡ []) → IsMisuse (command_in arguments) misuse → kind_of e ≡ kind_by misuse → HasKind (refusals arguments) e
+refused_misuse a arguments e misuse is kinds misused kind =
+    let all : refusals arguments ≡ kind_by misuse ∷ [] = taken a arguments is kinds ∙ ap (λ (m : Option Misuse). option_map_or (λ misuse. kind_by misuse ∷ []) m []) misused in
+    subst (λ (ks : Kinds). HasKind ks e) (sym all) (inr (inl kind))
 
 -- memory is no matter of the arguments
 pub out_of_memory : (arguments : List Text) (e : Error) → kind_of e ≡ kinds.OutOfMemory → HasKind (refusals arguments) e
 out_of_memory arguments e memory = inl memory
-
--- a name that is that of none of the four
-pub none_named : (text : Text) → text ≢ codes "constituencies" → text ≢ codes "municipalities" → text ≢ codes "groups" → text ≢ codes "lists" → (table : Table) → text ≢ name_of_table table
-none_named text a b c d Constituencies = a
-none_named text a b c d Municipalities = b
-none_named text a b c d Groups = c
-none_named text a b c d Lists = d

@@ -1,1 +1,5 @@
 pub mod Arguments
+pub mod Commands
+pub mod Seats
+pub mod Table
+pub mod View

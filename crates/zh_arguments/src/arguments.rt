@@ -1,15 +1,22 @@
 //! The arguments of the program.
 
-ghost use Rattle.std.specs.Prelude.{◌≡◌, IfOk, MatchOption, codes, false, map, option_map};
+ghost use Rattle.std.specs.Prelude.{◌≡◌, IfOk, MatchResult, codes, map, option_map};
 ghost use Rattle.std.specs.String.{string_bytes};
-ghost use Rattle.clap.specs.Words.{App, app_of, found_of, kind_of, rows_of, rule_of, with_subcommand};
-ghost use Rattle.zh_arguments.specs.Arguments.{ArePaths, IsCommand, MayName, Names, NamesNoTable, ReadsArguments};
-ghost use Rattle.zh_arguments.specs.Arguments.{argument_rule, bare, command_for, list_command, load_command};
-ghost use Rattle.zh_arguments.specs.Arguments.{name_of_table, path_in, zhcount};
+ghost use Rattle.clap.specs.Words.{found_of, kind_of, rows_of};
+ghost use Rattle.zh_arguments.specs.Arguments.{ArePaths, IsMisuse, Names, ReadsArguments, kind_by};
+ghost use Rattle.zh_arguments.specs.Table.{path_in};
 
+use crate::check::{CheckPaths, check_paths_in};
+use crate::commands::zhcount;
+use crate::load::load_in;
+use crate::misuse::Misuse;
+use crate::seats::{Layout, seats_in};
+use crate::table::table_in;
+use crate::view::view_in;
 use clap::error::ErrorKind;
-use clap::{Arg, ArgMatches, Command, Error};
+use clap::{ArgMatches, Error};
 use std::alloc::{AllocError, Global};
+use zh_status::View;
 use zh_tables::Table;
 
 /// The files of the set-up and the disk of a task.
@@ -31,135 +38,52 @@ pub enum Task<'a> {
     /// Serve on the disk.
     Run(Paths<'a>),
     /// Load the returns of a CSV file as one batch.
-    Load { paths: Paths<'a>, csv: &'a str },
+    Load {
+        paths: Paths<'a>,
+        csv: &'a str,
+    },
+    /// Say what a load of that file would do, and store nothing.
+    DryRun {
+        paths: Paths<'a>,
+        csv: &'a str,
+    },
     /// Write what is held as CSV.
     Export(Paths<'a>),
+    /// Write how far the returns have come in.
+    Status {
+        paths: Paths<'a>,
+        view: View,
+    },
     /// Write a table of the set-up as CSV.
-    List { setup: &'a str, table: Table },
-}
-
-/// A value that has to be given after `--name`.
-fn argument<'a>(alloc: Global, name: &'a str, value: &'a str, help: &'a str) -> Arg<'a>
-    ensures rule { rule_of result ≡ argument_rule name.now }
-    ensures local { result.global ≡ false }
-{
-    Arg::new(alloc, name)
-        .long(name)
-        .required(true)
-        .value_name(value)
-        .help(help)
-}
-
-/// The path of the set-up.
-fn setup_path<'a>(alloc: Global) -> Arg<'a>
-    ensures rule { rule_of result ≡ argument_rule (codes "setup") }
-    ensures local { result.global ≡ false }
-{
-    argument(
-        alloc,
-        "setup",
-        "FILE",
-        "The set-up of the election, in TOML",
-    )
-}
-
-/// A command that needs a set-up and a disk.
-fn command_for<'a>(alloc: Global, name: &'a str, about: &'a str) -> Result<Command<'a>, AllocError>
-    ensures { IfOk result (λ command. IsCommand command (command_for name.now)) }
-{
-    Command::new(alloc, name)
-        .about(about)
-        .arg(setup_path(alloc))?
-        .arg(argument(alloc, "disk", "FILE", "The disk that the count is kept on"))
-}
-
-/// The command that needs a CSV file too.
-fn load_command<'a>(alloc: Global) -> Result<Command<'a>, AllocError>
-    ensures { IfOk result (λ command. IsCommand command load_command) }
-{
-    command_for(alloc, "load", "Load the returns of a CSV file as one batch")?.arg(argument(
-        alloc,
-        "csv",
-        "FILE",
-        "The CSV file, with a record for each return",
-    ))
-}
-
-/// The command that needs a set-up and a table.
-fn list_command<'a>(alloc: Global) -> Result<Command<'a>, AllocError>
-    ensures { IfOk result (λ command. IsCommand command list_command) }
-{
-    Command::new(alloc, "list")
-        .about("Write a table of the set-up to the standard output, as CSV")
-        .arg(setup_path(alloc))?
-        .arg(argument(
-            alloc,
-            "of",
-            "TABLE",
-            "constituencies, municipalities, groups or lists",
-        ))
-}
-
-/// The program before it has commands.
-fn bare<'a>(alloc: Global) -> Result<Command<'a>, AllocError>
-    ensures { IfOk result (λ command. app_of command ≡ bare) }
-{
-    let program = Command::new(alloc, "zhcount").bin_name("zhcount")?;
-    Ok(
-        program.no_binary_name(true).about(
-            "The count office of a cantonal parliament. Without a command: a rehearsal that keeps nothing.",
-        ),
-    )
-}
-
-/// The program with one more command, where both could be made.
-fn with<'a>(
-    program: Result<Command<'a>, AllocError>,
-    command: Result<Command<'a>, AllocError>,
-) -> Result<Command<'a>, AllocError>
-    ensures { (one two : App) → IfOk program.entry (λ p. app_of p ≡ one)
-        → IfOk command.entry (λ c. IsCommand c two)
-        → IfOk result (λ both. app_of both ≡ with_subcommand one two.top) }
-{
-    program?.subcommand(command?)
-}
-
-/// The arguments that the program takes.
-fn zhcount<'a>(alloc: Global) -> Result<Command<'a>, AllocError>
-    ensures { IfOk result (λ command. app_of command ≡ zhcount) }
-{
-    let format = command_for(
-        alloc,
-        "format",
-        "Make a disk on which nothing has been returned yet",
-    );
-    let run = command_for(
-        alloc,
-        "run",
-        "Answer the lines of the standard input, and keep the count on the disk",
-    );
-    let load = load_command(alloc);
-    let export = command_for(
-        alloc,
-        "export",
-        "Write what is held to the standard output, as CSV",
-    );
-    let list = list_command(alloc);
-    with(
-        with(with(with(with(bare(alloc), format), run), load), export),
-        list,
-    )
+    List {
+        setup: &'a str,
+        table: Table,
+    },
+    /// Check a published sheet.
+    Check(CheckPaths<'a>),
+    /// Write the seats of the count on the disk.
+    Seats {
+        paths: Paths<'a>,
+        is_final: bool,
+        layout: Layout,
+    },
+    /// Write the seats of a published sheet.
+    SheetSeats {
+        setup: &'a str,
+        sheet: &'a str,
+        layout: Layout,
+    },
 }
 
 /// The path of the set-up that was given. Each command requires it, so it is not left out.
-fn setup_in<'a>(given: &ArgMatches<'a>) -> &'a str
+pub(crate) fn setup_in<'a>(given: &ArgMatches<'a>) -> &'a str
     ensures { result.now ≡ path_in (codes "setup") (rows_of (found_of given.now)) }
 {
     given.get_str("setup").unwrap_or("")
 }
 
 /// The paths that were given. The command requires both, so none of them is left out.
-fn paths_in<'a>(given: &ArgMatches<'a>) -> Paths<'a>
+pub(crate) fn paths_in<'a>(given: &ArgMatches<'a>) -> Paths<'a>
     ensures { ArePaths (rows_of (found_of given.now)) result }
 {
     Paths {
@@ -168,70 +92,62 @@ fn paths_in<'a>(given: &ArgMatches<'a>) -> Paths<'a>
     }
 }
 
-/// The path of the CSV file, which the command requires too.
-fn csv_in<'a>(given: &ArgMatches<'a>) -> &'a str
-    ensures { result.now ≡ path_in (codes "csv") (rows_of (found_of given.now)) }
-{
-    given.get_str("csv").unwrap_or("")
-}
-
-/// The table that is named, if it is one.
-fn table_in(given: &ArgMatches<'_>) -> Option<Table>
-    ensures { MayName (path_in (codes "of") (rows_of (found_of given.now))) result }
-{
-    match given.get_str("of").unwrap_or("") {
-        "constituencies" => Some(Table::Constituencies),
-        "municipalities" => Some(Table::Municipalities),
-        "groups" => Some(Table::Groups),
-        "lists" => Some(Table::Lists),
-        _ => None,
-    }
-}
-
-/// The task that the command of this name asks for, with what was given to it. There is none where the table that is to be
-/// listed is not one.
-fn named_task<'a>(name: &'a str, given: &ArgMatches<'a>) -> Option<Task<'a>>
-    ensures { MatchOption result (NamesNoTable (Some (name.now, rows_of (found_of given.now))))
-        (Names (Some (name.now, rows_of (found_of given.now)))) }
+/// The task that the command of this name asks for, with what was given to it, or how the command was misused.
+fn named_task<'a>(name: &'a str, given: &ArgMatches<'a>) -> Result<Task<'a>, Misuse>
+    ensures { MatchResult result (Names (Some (name.now, rows_of (found_of given.now))))
+        (IsMisuse (Some (name.now, rows_of (found_of given.now)))) }
 {
     let task = match name {
         "format" => Task::Format(paths_in(given)),
         "run" => Task::Run(paths_in(given)),
-        "load" => Task::Load {
-            paths: paths_in(given),
-            csv: csv_in(given),
-        },
+        "load" => load_in(given),
         "export" => Task::Export(paths_in(given)),
         "list" => Task::List {
             setup: setup_in(given),
-            table: table_in(given)?,
+            table: table_in(given).ok_or(Misuse::Table)?,
         },
+        "status" => Task::Status {
+            paths: paths_in(given),
+            view: view_in(given).ok_or(Misuse::Flags)?,
+        },
+        "check" => Task::Check(check_paths_in(given)),
+        "seats" => seats_in(given).ok_or(Misuse::Source)?,
         _ => Task::Rehearse,
     };
-    Some(task)
+    Ok(task)
 }
 
 /// The task that a command asks for. Without a command it is the rehearsal.
-fn task_for<'a>(command: Option<(&'a str, &ArgMatches<'a>)>) -> Option<Task<'a>>
-    ensures { MatchOption result
-        (NamesNoTable (option_map (λ given. (given.0.now, rows_of (found_of given.1.now))) command.entry))
-        (Names (option_map (λ given. (given.0.now, rows_of (found_of given.1.now))) command.entry)) }
+fn task_for<'a>(command: Option<(&'a str, &ArgMatches<'a>)>) -> Result<Task<'a>, Misuse>
+    ensures { MatchResult result
+        (Names (option_map (λ given. (given.0.now, rows_of (found_of given.1.now))) command.entry))
+        (IsMisuse (option_map (λ given. (given.0.now, rows_of (found_of given.1.now))) command.entry)) }
 {
     match command {
         Some((name, given)) => named_task(name, given),
-        None => Some(Task::Rehearse),
+        None => Ok(Task::Rehearse),
     }
 }
 
-/// The refusal of a table that is not one.
-fn no_table(alloc: Global) -> Result<Error, AllocError>
-    ensures { IfOk result (λ error. kind_of error ≡ ErrorKind.InvalidValue) }
+/// The refusal of a command that was misused.
+fn refusal(alloc: Global, misuse: Misuse) -> Result<Error, AllocError>
+    ensures { IfOk result (λ error. kind_of error ≡ kind_by misuse) }
 {
     let mut program = zhcount(alloc)?;
-    program.error(
-        ErrorKind::InvalidValue,
-        "'--of' takes constituencies, municipalities, groups or lists",
-    )
+    match misuse {
+        Misuse::Table => program.error(
+            ErrorKind::InvalidValue,
+            "'--of' takes constituencies, municipalities, groups, lists or returns; returns may be of one --municipality or --constituency",
+        ),
+        Misuse::Flags => program.error(
+            ErrorKind::ArgumentConflict,
+            "'--constituencies' cannot be used with '--missing'",
+        ),
+        Misuse::Source => program.error(
+            ErrorKind::ArgumentConflict,
+            "'seats' takes '--disk', with '--final' or without, or else '--sheet'",
+        ),
+    }
 }
 
 /// What the arguments ask for; the program's name is not among them.
@@ -242,7 +158,7 @@ pub fn read_arguments<'a>(alloc: Global, arguments: &'a [String]) -> Result<Task
 {
     let matches = zhcount(alloc)?.try_get_matches_from(arguments)?;
     match task_for(matches.subcommand()) {
-        Some(task) => Ok(task),
-        None => Err(no_table(alloc)?),
+        Ok(task) => Ok(task),
+        Err(misuse) => Err(refusal(alloc, misuse)?),
     }
 }

@@ -2,5 +2,14 @@
 #![tactic(auto)]
 
 mod arguments;
+mod check;
+mod commands;
+mod load;
+mod misuse;
+mod seats;
+mod table;
+mod view;
 
 pub use arguments::{Paths, Task, read_arguments};
+pub use check::CheckPaths;
+pub use seats::Layout;

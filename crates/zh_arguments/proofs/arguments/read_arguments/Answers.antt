@@ -2,8 +2,8 @@ use Rattle.std.proofs.Common.{rules, inl, map, List, Option, subst, ◌∙◌}
 use Rattle.std.specs.String.{string_bytes}
 use Rattle.std.proofs.lemmas.Result.{err_from_is_err_and}
 use Rattle.clap.specs.Words.{app_of, found_of, rows_of, subcommand_rows_of, Row, Text}
-use Rattle.zh_arguments.specs.Arguments.{Names, NamesNoTable}
-use Rattle.zh_arguments.proofs.ArgumentLemmas.{asked, refused, refused_table, command_read, named, parts}
+use Rattle.zh_arguments.specs.Arguments.{IsMisuse, Names}
+use Rattle.zh_arguments.proofs.ArgumentLemmas.{asked, refused, refused_misuse, command_read, named, parts}
 use Rattle.zh_arguments.proofs.arguments.read_arguments.Goals as goal
 
 pub returns-in_err-matches : goal.returns-in_err-matches
@@ -16,14 +16,14 @@ returns-in_err-zhcount c =
     let p = err_from_is_err_and c.from_residual.result c.from_residual.ensures.1 in
     rw p.1 (inl p.2)
 
-pub returns-in-Some : goal.returns-in-Some
-returns-in-Some c =
+pub returns-in-Ok : goal.returns-in-Ok
+returns-in-Ok c =
     let arguments = map string_bytes c.args.arguments.now in
     let app = app_of c.in_ok-zhcount.field-0 in
     let read = command_read app arguments c.in_ok-matches.matches c.in_ok-zhcount.ensures c.in_ok-matches.ensures.matches in
     let given = parts (λ p. p.0.now) (λ p. rows_of (found_of p.1.now)) c.subcommand.result (subcommand_rows_of c.in_ok-matches.matches) (c.subcommand.ensures.name ∙ named c.in_ok-matches.matches) c.subcommand.ensures.rows in
-    asked app arguments c.in-Some.task c.in_ok-zhcount.ensures c.in_ok-matches.ensures.kinds
-    (subst (λ (o : Option (Text × List Row)). Names o c.in-Some.task) (given ∙ read) c.in-Some.ensures)
+    asked app arguments c.in-Ok.task c.in_ok-zhcount.ensures c.in_ok-matches.ensures.kinds
+    (subst (λ (o : Option (Text × List Row)). Names o c.in-Ok.task) (given ∙ read) c.in-Ok.ensures)
 
 pub returns : goal.returns
 returns c =
@@ -31,5 +31,5 @@ returns c =
     let app = app_of c.in_ok-zhcount.field-0 in
     let read = command_read app arguments c.in_ok-matches.matches c.in_ok-zhcount.ensures c.in_ok-matches.ensures.matches in
     let given = parts (λ p. p.0.now) (λ p. rows_of (found_of p.1.now)) c.subcommand.result (subcommand_rows_of c.in_ok-matches.matches) (c.subcommand.ensures.name ∙ named c.in_ok-matches.matches) c.subcommand.ensures.rows in
-    refused_table app arguments c.in_ok-no_table-in-None.field-0 c.in_ok-zhcount.ensures c.in_ok-matches.ensures.kinds
-    (subst (λ (o : Option (Text × List Row)). NamesNoTable o) (given ∙ read) c.in-None.ensures) c.in_ok-no_table-in-None.ensures
+    refused_misuse app arguments c.in_ok-refusal-in-Err.field-0 c.in-Err.misuse c.in_ok-zhcount.ensures c.in_ok-matches.ensures.kinds
+    (subst (λ (o : Option (Text × List Row)). IsMisuse o c.in-Err.misuse) (given ∙ read) c.in-Err.ensures) c.in_ok-refusal-in-Err.ensures

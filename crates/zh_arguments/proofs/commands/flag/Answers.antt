@@ -1,0 +1,5 @@
+use Rattle.std.proofs.Common.{rules}
+use Rattle.zh_arguments.proofs.commands.flag.Goals as goal
+
+pub returns : goal.returns
+returns c = (search rules, search rules)

@@ -1,0 +1,48 @@
+-- The table that arguments name.
+use Rattle.std.specs.Prelude.{◌^◌, ℕ, List, [], ◌∷◌, Option, Some, None, ◌&&◌, if◌then◌else◌, nat_lt, find, decimal, codes}
+use Rattle.std.specs.Prelude.{unwrap_or, option_and_then, option_map}
+use Rattle.std.specs.Str.{bytes_eq}
+use Rattle.std.specs.Str.Parse.{digits_value}
+use Rattle.clap.specs.Words.{Row, Text, first_of}
+use Rattle.zh_tables.specs.declared.table.Part.{Part}
+use Rattle.zh_tables.specs.declared.table.Part.TheVariants.{Whole, Municipality, Constituency}
+use Rattle.zh_tables.specs.declared.table.Table.{Table}
+use Rattle.zh_tables.specs.declared.table.Table.TheVariants.{Constituencies, Municipalities, Groups, Lists, Returns}
+
+-- the path that was given after `--name`; clap sees to it that there is one
+abbrev pub path_in : Text → List Row → Text
+path_in name rows = unwrap_or (first_of name rows) []
+
+-- the number below 2 ^ 32 with this numeral, which has no sign and no leading 0
+abbrev pub number_in : Text → Option ℕ
+number_in text = let n = digits_value 10 text in if nat_lt n (2 ^ 32) && bytes_eq text (decimal n) then Some n else None
+
+-- the part of the set-up that is given by the number of a municipality or that of a constituency, or all of it
+abbrev pub part_of : Option Text → Option Text → Option Part
+part_of None None = Some Whole
+part_of (Some m) None = option_map Municipality (number_in m)
+part_of None (Some d) = option_map Constituency (number_in d)
+part_of (Some m) (Some d) = None
+
+-- the name of a table
+abbrev pub name_of_table : Table → Text
+name_of_table Constituencies = codes "constituencies"
+name_of_table Municipalities = codes "municipalities"
+name_of_table Groups = codes "groups"
+name_of_table Lists = codes "lists"
+name_of_table (Returns part) = codes "returns"
+
+-- the tables of a part; only the returns are of another part than the whole
+abbrev pub tables_for : Part → List Table
+tables_for Whole = Constituencies ∷ Municipalities ∷ Groups ∷ Lists ∷ Returns Whole ∷ []
+tables_for part = Returns part ∷ []
+
+-- the table of this name and part, or none where no table has it
+abbrev pub table_named : Text → Part → Option Table
+table_named name part = find (λ table. bytes_eq name (name_of_table table)) (tables_for part)
+
+-- the table that is named, or none where it is not one
+abbrev pub table_in : List Row → Option Table
+table_in rows =
+    option_and_then (table_named (path_in (codes "of") rows))
+    (part_of (first_of (codes "municipality") rows) (first_of (codes "constituency") rows))

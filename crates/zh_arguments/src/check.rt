@@ -1,0 +1,46 @@
+//! The arguments of a check.
+
+ghost use Rattle.std.specs.Prelude.{IfOk};
+ghost use Rattle.clap.specs.Words.{found_of, rows_of};
+ghost use Rattle.zh_arguments.specs.Arguments.{AreCheckPaths};
+ghost use Rattle.zh_arguments.specs.Commands.{IsCommand, check_command};
+
+use crate::arguments::setup_in;
+use crate::commands::{argument, option, setup_path};
+use clap::{ArgMatches, Command};
+use std::alloc::{AllocError, Global};
+
+/// The files of the set-up, of a published sheet, and of the export that it is compared with, if there is one.
+#[derive(Clone, Copy)]
+pub struct CheckPaths<'a> {
+    pub setup: &'a str,
+    pub sheet: &'a str,
+    pub held: Option<&'a str>,
+}
+
+/// The command that needs a set-up and a sheet, and may have an export.
+pub(crate) fn check_command<'a>(alloc: Global) -> Result<Command<'a>, AllocError>
+    ensures { IfOk result (λ command. IsCommand command check_command) }
+{
+    Command::new(alloc, "check")
+        .about("Check whether the seats of a published sheet follow from its votes")
+        .arg(setup_path(alloc))?
+        .arg(argument(alloc, "sheet", "FILE", "The sheet"))?
+        .arg(option(
+            alloc,
+            "held",
+            "FILE",
+            "The export of the same count, whose sums are compared with the votes",
+        ))
+}
+
+/// The paths of a check. The command requires the first two; an export may be left out.
+pub(crate) fn check_paths_in<'a>(given: &ArgMatches<'a>) -> CheckPaths<'a>
+    ensures { AreCheckPaths (rows_of (found_of given.now)) result }
+{
+    CheckPaths {
+        setup: setup_in(given),
+        sheet: given.get_str("sheet").unwrap_or(""),
+        held: given.get_str("held"),
+    }
+}

@@ -1,0 +1,51 @@
+//! The arguments of a load.
+
+ghost use Rattle.std.specs.Prelude.{◌≡◌, IfOk, codes};
+ghost use Rattle.clap.specs.Words.{found_of, rows_of};
+ghost use Rattle.zh_arguments.specs.Arguments.{Names};
+ghost use Rattle.zh_arguments.specs.Commands.{IsCommand, load_command};
+ghost use Rattle.zh_arguments.specs.Table.{path_in};
+
+use crate::arguments::{Task, paths_in};
+use crate::commands::{argument, command_for, flag};
+use crate::view::has_flag;
+use clap::{ArgMatches, Command};
+use std::alloc::{AllocError, Global};
+
+/// The command that needs a CSV file too, and may have a flag.
+pub(crate) fn load_command<'a>(alloc: Global) -> Result<Command<'a>, AllocError>
+    ensures { IfOk result (λ command. IsCommand command load_command) }
+{
+    command_for(alloc, "load", "Load the returns of a CSV file as one batch")?
+        .arg(argument(
+            alloc,
+            "csv",
+            "FILE",
+            "The CSV file, with a record for each return",
+        ))?
+        .arg(flag(
+            alloc,
+            "dry-run",
+            "Say what a load would do, and store nothing",
+        ))
+}
+
+/// The path of the CSV file, which the command requires.
+fn csv_in<'a>(given: &ArgMatches<'a>) -> &'a str
+    ensures { result.now ≡ path_in (codes "csv") (rows_of (found_of given.now)) }
+{
+    given.get_str("csv").unwrap_or("")
+}
+
+/// The task of a load, or of a dry run.
+pub(crate) fn load_in<'a>(given: &ArgMatches<'a>) -> Task<'a>
+    ensures { Names (Some (codes "load", rows_of (found_of given.now))) result }
+{
+    let paths = paths_in(given);
+    let csv = csv_in(given);
+    if has_flag(given, "dry-run") {
+        Task::DryRun { paths, csv }
+    } else {
+        Task::Load { paths, csv }
+    }
+}

@@ -1,0 +1,70 @@
+//! The table that arguments name.
+
+ghost use Rattle.std.specs.Prelude.{◌≡◌, IfOk, codes, option_map};
+ghost use Rattle.clap.specs.Words.{found_of, rows_of};
+ghost use Rattle.zh_arguments.specs.Commands.{IsCommand, list_command};
+ghost use Rattle.zh_arguments.specs.Table.{number_in, part_of, table_in, table_named};
+
+use crate::commands::{argument, option, setup_path};
+use clap::{ArgMatches, Command};
+use std::alloc::{AllocError, Global};
+use zh_commands::numeral;
+use zh_tables::{Part, Table};
+
+/// The command that needs a set-up and a table, and for some a part of the set-up.
+pub(crate) fn list_command<'a>(alloc: Global) -> Result<Command<'a>, AllocError>
+    ensures { IfOk result (λ command. IsCommand command list_command) }
+{
+    Command::new(alloc, "list")
+        .about("Write a table of the set-up to the standard output, as CSV")
+        .arg(setup_path(alloc))?
+        .arg(argument(
+            alloc,
+            "of",
+            "TABLE",
+            "constituencies, municipalities, groups, lists or returns",
+        ))?
+        .arg(option(alloc, "municipality", "M", "Its returns alone"))?
+        .arg(option(alloc, "constituency", "D", "Its returns alone"))
+}
+
+/// The number with this numeral.
+fn number_in(text: &str) -> Option<u32>
+    ensures { result ≡ number_in text.now }
+{
+    numeral(text.as_bytes())
+}
+
+/// The part of the set-up that is given by the number of a municipality or that of a constituency, or all of it.
+fn part_of(municipality: Option<&str>, constituency: Option<&str>) -> Option<Part>
+    ensures { result ≡ part_of (option_map (λ s. s.now) municipality.entry) (option_map (λ s. s.now) constituency.entry) }
+{
+    match (municipality, constituency) {
+        (None, None) => Some(Part::Whole),
+        (Some(number), None) => Some(Part::Municipality(number_in(number)?)),
+        (None, Some(number)) => Some(Part::Constituency(number_in(number)?)),
+        (Some(_), Some(_)) => None,
+    }
+}
+
+/// The table of this name, if there is one. Only the returns are of a part.
+fn table_named(name: &str, part: Part) -> Option<Table>
+    ensures { result ≡ table_named name.now part }
+{
+    match (name, part) {
+        ("returns", part) => Some(Table::Returns(part)),
+        ("constituencies", Part::Whole) => Some(Table::Constituencies),
+        ("municipalities", Part::Whole) => Some(Table::Municipalities),
+        ("groups", Part::Whole) => Some(Table::Groups),
+        ("lists", Part::Whole) => Some(Table::Lists),
+        _ => None,
+    }
+}
+
+/// The table that is named, if it is one.
+pub(crate) fn table_in(given: &ArgMatches<'_>) -> Option<Table>
+    ensures { result ≡ table_in (rows_of (found_of given.now)) }
+{
+    let part = part_of(given.get_str("municipality"), given.get_str("constituency"))?;
+    table_named(given.get_str("of").unwrap_or(""), part)
+}

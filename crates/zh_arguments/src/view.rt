@@ -1,0 +1,53 @@
+//! The view that flags ask for.
+
+ghost use Rattle.std.specs.Prelude.{◌≡◌, IfOk, codes};
+ghost use Rattle.clap.specs.Words.{found_of, rows_of};
+ghost use Rattle.zh_arguments.specs.Commands.{IsCommand, status_command};
+ghost use Rattle.zh_arguments.specs.View.{has_flag, view_in, view_of};
+
+use crate::commands::{command_for, flag};
+use clap::{ArgMatches, Command};
+use std::alloc::{AllocError, Global};
+use zh_status::View;
+
+/// The command that may have one of two flags.
+pub(crate) fn status_command<'a>(alloc: Global) -> Result<Command<'a>, AllocError>
+    ensures { IfOk result (λ command. IsCommand command status_command) }
+{
+    command_for(alloc, "status", "Write how far the returns have come in")?
+        .arg(flag(
+            alloc,
+            "constituencies",
+            "By constituency, not by municipality",
+        ))?
+        .arg(flag(alloc, "missing", "Each return that is not there"))
+}
+
+/// Whether a flag was given. clap writes `true` or `false` as its value.
+pub(crate) fn has_flag(given: &ArgMatches<'_>, name: &str) -> bool
+    ensures { result ≡ has_flag name.now (rows_of (found_of given.now)) }
+{
+    given.get_str(name).unwrap_or("") == "true"
+}
+
+/// The view that these flags ask for, if they are not both given.
+fn view_of(constituencies: bool, missing: bool) -> Option<View>
+    ensures { result ≡ view_of constituencies missing }
+{
+    match (constituencies, missing) {
+        (false, false) => Some(View::Municipalities),
+        (true, false) => Some(View::Constituencies),
+        (false, true) => Some(View::Missing),
+        (true, true) => None,
+    }
+}
+
+/// The view that is asked for, if it is one.
+pub(crate) fn view_in(given: &ArgMatches<'_>) -> Option<View>
+    ensures { result ≡ view_in (rows_of (found_of given.now)) }
+{
+    view_of(
+        has_flag(given, "constituencies"),
+        has_flag(given, "missing"),
+    )
+}
