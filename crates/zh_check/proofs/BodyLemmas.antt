@@ -1,53 +1,19 @@
 -- The lines of a sheet, word by word.
-use Rattle.std.proofs.Common.{◌≡◌, ℕ, zero, suc, ◌-◌, ◌^◌, ◌<◌, ◌≤◌, Bool, true, cond, All, List, [], ◌∷◌, ◌++◌, min, refl, sym, ap, ◌∙◌, arith, decimal, map, append_assoc, slice_index, slice_get}
-use Rattle.std.specs.Prelude.{codes, IsTrue}
-use Rattle.std.specs.List.{list_all}
+use Rattle.std.proofs.Common.{◌≡◌, ℕ, ◌-◌, ◌^◌, ◌<◌, ◌≤◌, Bool, cond, List, [], ◌∷◌, ◌++◌, refl, sym, ap, ◌∙◌, arith, decimal, append_assoc, slice_index, slice_get}
+use Rattle.std.specs.Prelude.{codes}
 use Rattle.std.specs.Option.{option_map_or}
-use Rattle.std.proofs.lemmas.Bool.{and_parts, leb-true}
-use Rattle.std.proofs.lemmas.List.Elements.{All-append, All-cons, All-head, All-nil, All-tail}
-use Rattle.std.proofs.Math.Nat.{min-eq_left}
-use Rattle.zh_districts.specs.Canton.{Constituency, Group, IsCanton, is_name, is_printable, persons_of}
+use Rattle.std.proofs.lemmas.List.Elements.{All-append, All-cons}
+use Rattle.zh_districts.specs.Canton.{Constituency, Group, IsCanton, persons_of}
 use Rattle.zh_sheet.specs.Distribution.{Distribution}
 use Rattle.zh_sheet.specs.Readings.{column_of, list_seats, takes_part}
 use Rattle.zh_sheet_text.specs.SheetText.{constituency_line, divisor_text, group_line, list_line}
 use Rattle.zh_upper.specs.VoterNumbers.{voter_number}
 use Rattle.zh_totals.specs.Totals.{constituency_votes, votes_in}
-use Rattle.zh_check.specs.Lines.{digits_after, number_at, word_at}
+use Rattle.zh_check.specs.Lines.{number_at, word_at}
 use Rattle.zh_check.proofs.Divisors.{divisor_or_0}
-use Rattle.zh_check.proofs.SeamLemmas.{AreWords, IsPlain, IsWord, joined, joined_end, joined_plain, no_word, word_before, word_last, word_past, word_plain}
+use Rattle.zh_check.proofs.NameLemmas.{named_plain, number_of}
+use Rattle.zh_check.proofs.SeamLemmas.{AreWords, IsPlain, IsWord, joined, joined_end, joined_plain, word_before, word_last, word_past, word_plain}
 use Rattle.zh_check.proofs.WordLemmas.{by_test, decimal_or_dash, decimal_word, divisor_or_dash, divisor_word, kind_word, read-decimal, read-divisor, read-divisor_or_dash, yes_or_no_word}
-
--- the number of a word
-pub number_of : (line word : List ℕ) (place n : ℕ) → word_at line place ≡ word → digits_after 0 word ≡ n → n < 2 ^ 64 → number_at line place ≡ n
-unfolding number_at
-number_of line word place n at value small =
-    ap (λ w. min (digits_after 0 w) (2 ^ 64 - 1)) at ∙ (ap (λ v. min v (2 ^ 64 - 1)) value ∙ min-eq_left (omega (arith, small)))
-
-pub no_number : (n : ℕ) → number_at [] n ≡ 0
-no_number n = number_of [] [] n 0 (no_word n) refl (omega arith)
-
--- names have no control characters
-printable : (name : List ℕ) → list_all is_printable name ≡ true → IsPlain name
-printable [] e = All-nil (λ b. 32 ≤ b)
-printable (b ∷ name) e =
-    let parts = and_parts (is_printable b) (list_all is_printable name) e in
-    let high = and_parts _ _ parts.0 in
-    All-cons (λ b. 32 ≤ b) b name (leb-true 32 b high.0) (printable name parts.1)
-
-name_plain : (name : List ℕ) → IsTrue (is_name name) → IsPlain name
-name_plain name is = printable name (and_parts _ _ (and_parts _ _ is).1).1
-
-constituency_plain : (xs : List Constituency) (k : ℕ) → All (λ name. IsTrue (is_name name)) (map (λ x. x.name) xs) →
-    IsPlain (option_map_or (λ c. c.name) (slice_get xs k) [])
-constituency_plain [] k rule = All-nil (λ b. 32 ≤ b)
-constituency_plain (x ∷ xs) zero rule = name_plain x.name (All-head (λ name. IsTrue (is_name name)) x.name (map (λ x. x.name) xs) rule)
-constituency_plain (x ∷ xs) (suc k) rule = constituency_plain xs k (All-tail (λ name. IsTrue (is_name name)) x.name (map (λ x. x.name) xs) rule)
-
-group_plain : (xs : List Group) (k : ℕ) → All (λ name. IsTrue (is_name name)) (map (λ x. x.name) xs) →
-    IsPlain (option_map_or (λ c. c.name) (slice_get xs k) [])
-group_plain [] k rule = All-nil (λ b. 32 ≤ b)
-group_plain (x ∷ xs) zero rule = name_plain x.name (All-head (λ name. IsTrue (is_name name)) x.name (map (λ x. x.name) xs) rule)
-group_plain (x ∷ xs) (suc k) rule = group_plain xs k (All-tail (λ name. IsTrue (is_name name)) x.name (map (λ x. x.name) xs) rule)
 
 -- the first line
 abbrev pub kind : Bool → List ℕ
@@ -134,7 +100,7 @@ constituency_body_plain x canton d =
     joined_plain (constituency_words x d) (divisor_text m ++ 32 ∷ constituency_name x d) (are_constituency_words x d)
     (All-append (λ b. 32 ≤ b) (divisor_text m) (32 ∷ constituency_name x d) (word_plain (divisor_text m) (divisor_word m))
     (All-cons (λ b. 32 ≤ b) 32 (constituency_name x d) (omega arith)
-    (constituency_plain x.totals.canton.constituencies (d - 1) canton.constituency_names.rule)))
+    (named_plain (λ (c : Constituency). c.name) x.totals.canton.constituencies (d - 1) canton.constituency_names.rule)))
 
 pub constituency_divisor : (x : Distribution) (d : ℕ) → slice_index x.lower.divisors.of_rows (d - 1) < 2 ^ 64 →
     number_at (constituency_body x d) 9 ≡ slice_index x.lower.divisors.of_rows (d - 1)
@@ -207,7 +173,7 @@ group_body_plain x canton g =
     let divisor : List ℕ = divisor_word_of x g in
     joined_plain (group_words x g) (divisor ++ 32 ∷ group_name x g) (are_group_words x g)
     (All-append (λ b. 32 ≤ b) divisor (32 ∷ group_name x g) (word_plain divisor (is_divisor_word x g))
-    (All-cons (λ b. 32 ≤ b) 32 (group_name x g) (omega arith) (group_plain x.totals.canton.groups (g - 1) canton.group_names.rule)))
+    (All-cons (λ b. 32 ≤ b) 32 (group_name x g) (omega arith) (named_plain (λ (c : Group). c.name) x.totals.canton.groups (g - 1) canton.group_names.rule)))
 
 pub group_body_divisor : (x : Distribution) (g : ℕ) → divisor_or_0 x g < 2 ^ 64 → number_at (group_body x g) 9 ≡ divisor_or_0 x g
 group_body_divisor x g small =

@@ -16,7 +16,8 @@ use Rattle.zh_totals.specs.Totals.{place_in, votes_in}
 use Rattle.zh_totals.proofs.CallerLemmas.{group_most}
 use Rattle.zh_check.specs.Lines.{lines_where, number_at}
 use Rattle.zh_check.specs.Reading.{column_divisors, divisors_in, group_divisors_read, text_of_lists, row_divisors_read, seats_in_columns, seats_on, seats_read, standing, votes_on, votes_read}
-use Rattle.zh_check.proofs.BodyLemmas.{constituency_body, constituency_body_plain, constituency_divisor, constituency_is, group_body, group_body_divisor, group_body_plain, group_is, kind, list_body, list_body_seats, list_body_votes, no_number}
+use Rattle.zh_check.proofs.BodyLemmas.{constituency_body, constituency_body_plain, constituency_divisor, constituency_is, group_body, group_body_divisor, group_body_plain, group_is, kind, list_body, list_body_seats, list_body_votes}
+use Rattle.zh_check.proofs.NameLemmas.{no_number}
 use Rattle.zh_check.proofs.ColumnLemmas.{divisor_at_place, divisor_none, group_count, positives-divisors, seated_divisor}
 use Rattle.zh_check.proofs.Divisors.{divisor_or_0, group_divisors}
 use Rattle.zh_check.proofs.ListLemmas.{all_seats, all_seats_are, all_votes_are}

@@ -1,48 +1,24 @@
 -- What is recomputed of a text, and what is right.
-use Rattle.std.proofs.Common.{◌≡◌, ◌≢◌, ℕ, zero, suc, ◌-◌, ◌*◌, ◌^◌, ◌≤◌, Bool, true, false, List, [], ◌∷◌, length, min, Option, Some, None, refl, sym, ap, ◌∙◌, subst, arith, mul_comm}
+use Rattle.std.proofs.Common.{◌≡◌, ◌≢◌, ℕ, ◌-◌, ◌^◌, ◌≤◌, Bool, true, false, List, length, Option, Some, None, refl, sym, ap, ◌∙◌, subst, arith}
 use Rattle.std.specs.Prelude.{IfSome, codes, ◌↔◌}
-use Rattle.std.specs.List.{range_with_len}
-use Rattle.std.proofs.lemmas.List.{length-map}
-use Rattle.std.proofs.lemmas.List.FromFn.{length-range_with_len}
-use Rattle.zh_districts.specs.Canton.{Canton, stands}
+use Rattle.zh_districts.specs.Canton.{Canton}
 use Rattle.zh_matrices.specs.SeatMatrix.{SeatMatrix}
-use Rattle.zh_records.proofs.CallerLemmas.{HasWidth, length-blocks}
 use Rattle.zh_sheet.specs.Distribution.{Distribution}
 use Rattle.zh_sheet.specs.Given.{IsGiven, IsPublished, given_lists}
 use Rattle.zh_totals.specs.Totals.{AreTotals, VoteTotals}
-use Rattle.zh_check.specs.Lines.{after_if, after_line, first_line, first_lines, lines_where, number_at, word_at}
-use Rattle.zh_check.specs.Reading.{column_divisors, divisors_in, group_divisors_read, text_of_lists, row_divisors_read, seats_in_columns, seats_read, standing, standing_in, votes_read}
+use Rattle.zh_check.specs.Lines.{first_line, number_at, word_at}
+use Rattle.zh_check.specs.Reading.{column_divisors, group_divisors_read, row_divisors_read, seats_in_columns, seats_read, votes_read}
+use Rattle.zh_check.specs.Others.{IsOtherVotes}
+use Rattle.zh_check.specs.declared.checked.OtherVotes.{OtherVotes}
 use Rattle.zh_check.specs.Differences.{DiffersAt}
-use Rattle.zh_check.specs.Verdicts.{DiffersFromSheet, FindsSheet, IsRecomputed, IsRight, right_text}
+use Rattle.zh_check.specs.Verdicts.{DiffersFromSheet, FindsSheet, FollowsNone, IsReasonOf, IsRecomputed, IsRight, IsRightExactly, IsWhyNone, right_text}
+use Rattle.zh_check.specs.declared.checked.SheetVerdict.{SheetVerdict}
+use Rattle.zh_check.specs.declared.checked.SheetVerdict.TheVariants as verdicts
 use Rattle.zh_check.specs.declared.checked.WrongLine.{WrongLine}
 use Rattle.zh_check.specs.declared.checked.RightSheet.{RightSheet}
 use Rattle.zh_check.proofs.BodyLemmas.{head_accepted, head_desk, head_kind, kind}
 use Rattle.zh_check.proofs.ReadLemmas.{head_read}
 use Rattle.zh_check.proofs.SheetLemmas.{final_word, lower_is, votes_are}
-
--- how much is read
-length-first_lines : (n : ℕ) (text : List ℕ) → length (first_lines n text) ≡ n
-length-first_lines zero text = refl
-length-first_lines (suc n) text = ap suc (length-first_lines n (after_line text))
-
-length-lines_where : (flags : List Bool) (text : List ℕ) → length (lines_where flags text) ≡ length flags
-length-lines_where [] text = refl
-length-lines_where (flag ∷ flags) text = ap suc (length-lines_where flags (after_if flag text))
-
-pub length-divisors : (n : ℕ) (text : List ℕ) → length (divisors_in n text) ≡ n
-length-divisors n text = length-map (first_lines n text) (λ line. number_at line 9) ∙ length-first_lines n text
-
-length-standing : (canton : Canton) → length (standing canton) ≡ length canton.constituencies * length canton.groups
-length-standing canton =
-    let m : ℕ = length canton.constituencies in
-    let n : ℕ = length canton.groups in
-    let wide : HasWidth (standing_in canton) n = record { at = λ d. length-map (range_with_len 1 n) (stands canton d) ∙ length-range_with_len 1 n } in
-    length-blocks (standing_in canton) n wide (range_with_len 1 m) ∙ ap (λ k. n * k) (length-range_with_len 1 m) ∙ mul_comm n m
-
-pub length-seats : (canton : Canton) (text : List ℕ) → length (seats_read canton text) ≡ length canton.constituencies * length canton.groups
-length-seats canton text =
-    length-map (lines_where (standing canton) (text_of_lists canton text)) (λ line. min (number_at line 8) 400)
-    ∙ (length-lines_where (standing canton) (text_of_lists canton text) ∙ length-standing canton)
 
 -- the totals and the lists of a text
 abbrev pub totals_in : Canton → List ℕ → VoteTotals
@@ -151,11 +127,29 @@ pub only_found : (canton : Canton) (held : Option VoteTotals) (bytes : List ℕ)
 only_found canton held bytes found is c right = is.every c (right_recomputed canton held bytes c right)
 
 -- no sheet follows
-pub none_right : (canton : Canton) (held : Option VoteTotals) (bytes : List ℕ) → FindsSheet canton bytes None → (c : RightSheet) → ¬ IsRight canton held bytes c
+none_right : (canton : Canton) (held : Option VoteTotals) (bytes : List ℕ) → FindsSheet canton bytes None → (c : RightSheet) → ¬ IsRight canton held bytes c
 none_right canton held bytes found c right = let e : None ≡ Some c = only_found canton held bytes None found c right in absurd (cc)
 
-pub none_recomputed : (canton : Canton) (bytes : List ℕ) → FindsSheet canton bytes None → (c : RightSheet) → ¬ IsRecomputed canton bytes c
+none_recomputed : (canton : Canton) (bytes : List ℕ) → FindsSheet canton bytes None → FollowsNone canton bytes
 none_recomputed canton bytes found c is = let e : None ≡ Some c = found.every c is in absurd (cc)
+
+pub why_exactly : (canton : Canton) (held : Option VoteTotals) (bytes : List ℕ) (verdict : SheetVerdict) → FindsSheet canton bytes None →
+    IsWhyNone canton bytes verdict → IsRightExactly canton held bytes verdict
+why_exactly canton held bytes (verdicts.Right c) found why = absurd why
+why_exactly canton held bytes (verdicts.Differs wrong) found why = absurd why
+why_exactly canton held bytes (verdicts.OtherVotes other) found why = absurd why
+why_exactly canton held bytes (verdicts.OffList off) found why = none_right canton held bytes found
+why_exactly canton held bytes (verdicts.OffTotal off) found why = none_right canton held bytes found
+why_exactly canton held bytes verdicts.NoSheet found why = none_right canton held bytes found
+
+pub why_reason : (canton : Canton) (held : Option VoteTotals) (bytes : List ℕ) (verdict : SheetVerdict) → FindsSheet canton bytes None →
+    IsWhyNone canton bytes verdict → IsReasonOf canton held bytes verdict
+why_reason canton held bytes (verdicts.Right c) found why = absurd why
+why_reason canton held bytes (verdicts.Differs wrong) found why = absurd why
+why_reason canton held bytes (verdicts.OtherVotes other) found why = absurd why
+why_reason canton held bytes (verdicts.OffList off) found why = (none_recomputed canton bytes found, why)
+why_reason canton held bytes (verdicts.OffTotal off) found why = (none_recomputed canton bytes found, why.0, why.1)
+why_reason canton held bytes verdicts.NoSheet found why = (none_recomputed canton bytes found, why.0, why.1)
 
 -- the right sheet is the one that follows
 only_this : (canton : Canton) (held : Option VoteTotals) (bytes : List ℕ) (r : RightSheet) → FindsSheet canton bytes (Some r) →
@@ -182,6 +176,23 @@ pub other_votes : (canton : Canton) (held : Option VoteTotals) (bytes : List ℕ
     ¬ IfSome held (λ h. r.sheet.totals.votes ≡ h.votes) → (c : RightSheet) → ¬ IsRight canton held bytes c
 other_votes canton held bytes r found not c right =
     not (subst (λ (x : RightSheet). IfSome held (λ h. x.sheet.totals.votes ≡ h.votes)) (sym (only_this canton held bytes r found c right)) right.votes)
+
+pub not_held : (r : RightSheet) (held : Option VoteTotals) (h : VoteTotals) → held ≡ Some h → r.sheet.totals.votes ≢ h.votes →
+    ¬ IfSome held (λ h. r.sheet.totals.votes ≡ h.votes)
+not_held r held h is differ same = differ (subst (λ f. IfSome f (λ h. r.sheet.totals.votes ≡ h.votes)) is same)
+
+pub list_held : (canton : Canton) (bytes : List ℕ) (r : RightSheet) (held : Option VoteTotals) (h : VoteTotals) (votes theirs : List ℕ) (other : OtherVotes) →
+    held ≡ Some h → votes ≡ r.sheet.totals.votes → theirs ≡ h.votes → votes ≢ theirs →
+    (length theirs ≡ length votes → votes ≢ theirs → IsOtherVotes canton bytes votes theirs other) →
+    IfSome held (λ h. length h.votes ≡ length r.sheet.totals.votes → IsOtherVotes canton bytes r.sheet.totals.votes h.votes other)
+list_held canton bytes r held h votes theirs other is votes_are theirs_are differ each =
+    let those = subst (λ t. length t ≡ length votes → IsOtherVotes canton bytes votes t other) theirs_are (λ same. each same differ) in
+    let here = subst (λ v. length h.votes ≡ length v → IsOtherVotes canton bytes v h.votes other) votes_are those in
+    subst (λ f. IfSome f (λ h. length h.votes ≡ length r.sheet.totals.votes → IsOtherVotes canton bytes r.sheet.totals.votes h.votes other)) (sym is) here
+
+pub is_held : (r : RightSheet) (held : Option VoteTotals) (h : VoteTotals) → held ≡ Some h → r.sheet.totals.votes ≡ h.votes →
+    IfSome held (λ h. r.sheet.totals.votes ≡ h.votes)
+is_held r held h is same = subst (λ f. IfSome f (λ h. r.sheet.totals.votes ≡ h.votes)) (sym is) same
 
 -- the sheet that follows is right
 pub found_right : (canton : Canton) (held : Option VoteTotals) (bytes : List ℕ) (r : RightSheet) → FindsSheet canton bytes (Some r) → bytes ≡ right_text r →

@@ -1,4 +1,7 @@
+pub mod Cells
 pub mod Differences
 pub mod Lines
+pub mod Others
 pub mod Reading
+pub mod Totals
 pub mod Verdicts

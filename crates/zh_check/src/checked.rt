@@ -21,6 +21,57 @@ pub struct WrongLine {
     pub should: Vec<u8>,
 }
 
+/// What the votes of a list over both of its divisors come to.
+#[derive(Clone, Copy, Debug, PartialEq, Eq)]
+pub enum ListQuotient {
+    /// They round to this number.
+    RoundsTo(u128),
+    /// They lie on a half.
+    OnHalf,
+    /// One of the divisors is missing.
+    NoDivisor,
+}
+
+/// A list whose seats do not follow from its votes and its divisors.
+#[derive(Drop)]
+pub struct OffList {
+    /// The number of its line, from 1.
+    pub line: u64,
+    /// The line as it stands, without its end.
+    pub found: Vec<u8>,
+    pub votes: u64,
+    /// The divisor of its constituency in millionths, 0 where there is none.
+    pub row_divisor: u64,
+    /// The divisor of its group in millionths, 0 where there is none.
+    pub column_divisor: u64,
+    /// What the votes over both divisors come to.
+    pub quotient: ListQuotient,
+}
+
+/// A constituency or a group whose lists have other seats together than it has.
+#[derive(Drop)]
+pub struct OffTotal {
+    /// The number of its line, from 1.
+    pub line: u64,
+    /// The line as it stands, without its end.
+    pub found: Vec<u8>,
+    /// The seats of its lists together.
+    pub seats: u32,
+    /// Its seats: those of a constituency follow from the persons, those of a group from the votes.
+    pub total: u32,
+}
+
+/// A list whose votes are not those that are held.
+#[derive(Drop)]
+pub struct OtherVotes {
+    /// The number of its line, from 1, or of that of its constituency where it does not stand.
+    pub line: u64,
+    /// The line as it stands, without its end.
+    pub found: Vec<u8>,
+    /// The votes that are held.
+    pub held: u64,
+}
+
 /// What a check comes to.
 #[derive(Drop)]
 pub enum SheetVerdict<'s> {
@@ -29,9 +80,15 @@ pub enum SheetVerdict<'s> {
     /// A sheet follows from the votes, the divisors and the seats of the lists that it shows, and this is the first line that
     /// differs from that sheet.
     Differs(WrongLine),
-    /// It is right for its own votes, which are not those that are held.
-    OtherVotes,
-    /// No sheet follows from the votes, the divisors and the seats of the lists that it shows: a quotient does not round to its
-    /// seats or lies on a half, a total is not met, or they are no votes or divisors.
+    /// It is right for its own votes, which are not those that are held, and this is the first list whose votes are not.
+    OtherVotes(OtherVotes),
+    /// No sheet follows from the votes, the divisors and the seats of the lists that it shows, and this is the first list whose
+    /// seats do not follow from its votes and its divisors.
+    OffList(OffList),
+    /// No sheet follows, though the seats of each list do, and this is the first constituency, or else the first group, whose
+    /// lists have other seats together than it has.
+    OffTotal(OffTotal),
+    /// No sheet follows, though the seats of each list do and no total is known that they do not meet: there is no desk of this
+    /// number, no seats follow from the votes, or divisors are not those of the constituencies and groups with seats.
     NoSheet,
 }

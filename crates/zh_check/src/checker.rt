@@ -1,10 +1,12 @@
 //! The check of a sheet: it is recomputed from what only its text can know, printed, and compared.
-ghost use Rattle.std.specs.Prelude.{◌≡◌, ◌↔◌, IfOk, IfSome, IsTrue};
+ghost use Rattle.std.specs.Prelude.{◌≡◌, ◌↔◌, IfOk, IsTrue};
 ghost use Rattle.std.specs.Option.{option_copied};
 ghost use Rattle.zh_check.specs.Verdicts.{IsReasonOf, IsRightExactly};
 
 use crate::checked::{RightSheet, SheetVerdict};
 use crate::differences::first_difference;
+use crate::others::other_votes;
+use crate::reasons::why_none;
 use crate::recomputed::{recomputed, text_of};
 use std::alloc::{AllocError, Global};
 use zh_districts::Setup;
@@ -17,14 +19,11 @@ fn is_same(text: &[u8], expected: &[u8]) -> bool
     text == expected
 }
 
-/// Whether a sheet has the votes that are held, if there are any.
-fn has_votes(right: &RightSheet<'_>, held: Option<&Totals<'_>>) -> bool
-    ensures { IsTrue result ↔ IfSome (option_copied held.entry) (λ h. right.now.sheet.totals.votes ≡ h.votes) }
+/// Whether a sheet has the votes that are held.
+fn has_votes(right: &RightSheet<'_>, held: &Totals<'_>) -> bool
+    ensures { IsTrue result ↔ right.now.sheet.totals.votes ≡ held.now.votes }
 {
-    match held {
-        Some(held) => right.sheet.totals().all() == held.all(),
-        None => true,
-    }
+    right.sheet.totals().all() == held.all()
 }
 
 /// Whether these bytes are a sheet of this set-up, and of the votes that are held, if there are any: those of this set-up.
@@ -41,14 +40,19 @@ pub fn check<'s>(
     ensures reason { IfOk result (IsReasonOf setup.now (option_copied held.entry) text.now) }
 {
     let Some(right) = recomputed(alloc, setup, text)? else {
-        return Ok(SheetVerdict::NoSheet);
+        return why_none(alloc, setup, text);
     };
     let expected = text_of(alloc, &right)?;
     if !is_same(text, &expected) {
         return Ok(SheetVerdict::Differs(first_difference(alloc, text, &expected)?));
     }
+    let Some(held) = held else {
+        return Ok(SheetVerdict::Right(right));
+    };
     if !has_votes(&right, held) {
-        return Ok(SheetVerdict::OtherVotes);
+        let votes = right.sheet.totals().all();
+        let other = other_votes(alloc, setup, text, votes, held.all())?;
+        return Ok(SheetVerdict::OtherVotes(other));
     }
     Ok(SheetVerdict::Right(right))
 }

@@ -1,15 +1,23 @@
 //! The check of a published sheet: whether it follows from its votes, and from those that are held.
 #![tactic(auto)]
 
+mod cells;
 mod checked;
 mod checker;
 mod columns;
 mod differences;
 mod laws;
 mod lines;
+mod others;
+mod places;
+mod reasons;
 mod recomputed;
+mod targets;
+mod totals;
 mod values;
 
-pub use checked::{RightSheet, SheetVerdict, WrongLine};
+pub use checked::{
+    ListQuotient, OffList, OffTotal, OtherVotes, RightSheet, SheetVerdict, WrongLine,
+};
 pub use checker::check;
 pub use laws::{made_sheet_is_right, right_sheets_agree};

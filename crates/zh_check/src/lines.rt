@@ -1,8 +1,9 @@
 //! A text line by line. What is read is compared later, so nothing is refused here.
-ghost use Rattle.std.specs.Prelude.{◌≡◌, ◌==◌, ◌-◌, ◌^◌, ◌∷◌, ◌↔◌, [], ℕ, IsTrue, min, position};
+ghost use Rattle.std.specs.Prelude.{◌≡◌, ◌==◌, ◌-◌, ◌^◌, ◌∷◌, ◌↔◌, [], ℕ, IfOk, IsTrue, min, position};
 ghost use Rattle.std.specs.List.{after_first, before_first};
 ghost use Rattle.zh_check.specs.Lines.{after_line, after_lines, digits_after, first_line, number_at, whole_line, word_at};
 
+use std::alloc::{AllocError, Global};
 use std::marker::Model;
 
 /// What is left of a text.
@@ -86,6 +87,15 @@ impl<'a> Lines<'a> {
             self.next();
         }
     }
+}
+
+/// The line after so many others, without its end.
+pub(crate) fn line_after(alloc: Global, text: &[u8], before: u32) -> Result<Vec<u8>, AllocError>
+    ensures { IfOk result (λ line. line.items ≡ first_line (after_lines before text.now)) }
+{
+    let mut lines = Lines::new(text);
+    lines.skip(before);
+    Vec::from_slice(alloc, lines.next())
 }
 
 /// The word at a place of a line, from 0.

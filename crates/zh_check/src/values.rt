@@ -52,7 +52,7 @@ fn head_in(line: &[u8]) -> Head
 }
 
 /// How many lines stand between the first line and the constituencies.
-fn lines_above(setup: &Setup) -> u32
+pub(crate) fn lines_above(setup: &Setup) -> u32
     ensures { result ≡ lines_above setup.now }
 {
     match setup.canton_quorum() {

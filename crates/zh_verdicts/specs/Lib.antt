@@ -1,1 +1,4 @@
+pub mod Right
+pub mod Wrong
+pub mod Quotient
 pub mod Text

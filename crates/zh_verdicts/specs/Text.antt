@@ -1,46 +1,36 @@
--- The text of a verdict: 10 ends a line.
-use Rattle.std.specs.Prelude.{ℕ, Bool, true, false, Option, Some, None, codes, decimal, List, [], ◌∷◌, ◌++◌}
-use Rattle.zh_verdicts.specs.declared.verdict.BadLine.{BadLine}
-use Rattle.zh_verdicts.specs.declared.verdict.Finding.{Finding}
-use Rattle.zh_verdicts.specs.declared.verdict.Finding.TheVariants.{Right, Wrong}
-use Rattle.zh_verdicts.specs.declared.verdict.SheetHead.{SheetHead}
+-- The text of a verdict.
+use Rattle.std.specs.Prelude.{ℕ, Option, codes, List, ◌++◌}
+use Rattle.zh_check.specs.declared.checked.SheetVerdict.{SheetVerdict}
+use Rattle.zh_check.specs.declared.checked.SheetVerdict.TheVariants.{Right, Differs, OffList, OffTotal, OtherVotes, NoSheet}
+use Rattle.zh_check.specs.declared.checked.OffList as off_lists
+use Rattle.zh_check.specs.declared.checked.OffTotal as off_totals
+use Rattle.zh_check.specs.declared.checked.OtherVotes as others
+use Rattle.zh_check.specs.declared.checked.WrongLine.{WrongLine}
+use Rattle.zh_verdicts.specs.Quotient.{off_text}
+use Rattle.zh_verdicts.specs.Right.{right_verdict}
+use Rattle.zh_verdicts.specs.Wrong.{differs_text, held_text, total_text}
 
--- the votes are the sums of so many rows, or nothing was there to compare them with
-abbrev pub votes_line : Option ℕ → List ℕ
-votes_line None = codes "votes not compared\n"
-votes_line (Some rows) = codes "votes ok: the sums of " ++ decimal rows ++ codes " rows\n"
+-- a line that is wrong, and that the sheet is
+abbrev pub wrong_text : WrongLine → List ℕ
+wrong_text wrong = differs_text wrong ++ codes "sheet wrong\n"
 
--- that each part holds
-abbrev pub parts_text : Option ℕ → List ℕ
-parts_text held =
-    codes "form ok\n" ++ votes_line held ++ codes "seats ok\nparticipation ok\nvoters ok\ngroups ok\nlists ok\n"
+-- a list whose seats do not follow, and that the sheet is wrong
+abbrev pub off_list_text : off_lists.OffList → List ℕ
+off_list_text off = off_text off ++ codes "sheet wrong\n"
 
-abbrev pub kind_part : Bool → List ℕ
-kind_part true = codes "not checked: final"
-kind_part false = codes "not checked: provisional"
+-- a total that is not met, and that the sheet is wrong
+abbrev pub off_total_text : off_totals.OffTotal → List ℕ
+off_total_text off = total_text off ++ codes "sheet wrong\n"
 
-abbrev pub commands_part : ℕ → List ℕ
-commands_part accepted = codes ", commands " ++ decimal accepted
+-- a list whose votes are not those held, and that the sheet is wrong
+abbrev pub other_votes_text : others.OtherVotes → List ℕ
+other_votes_text other = held_text other ++ codes "sheet wrong\n"
 
-abbrev pub desk_part : ℕ → List ℕ
-desk_part desk = codes ", desk " ++ decimal desk ++ 10 ∷ []
-
--- what no check can tell
-abbrev pub unchecked_line : SheetHead → List ℕ
-unchecked_line head = kind_part head.is_final ++ commands_part head.accepted ++ desk_part head.desk
-
--- what the sheet is worth, with the rows that were returned or without them
-abbrev pub worth_line : Option ℕ → List ℕ
-worth_line None = codes "sheet ok for these votes; that they were returned is not checked\n"
-worth_line (Some rows) = codes "sheet ok: no other seats follow from these votes\n"
-
--- the line that is wrong, and what it should be
-abbrev pub wrong_text : BadLine → List ℕ
-wrong_text wrong =
-    codes "line " ++ decimal wrong.number ++ codes ": " ++ wrong.found.items ++ codes ", should be: " ++ wrong.should.items
-    ++ codes "\nsheet wrong\n"
-
--- a verdict on a sheet, whose votes are the sums of so many rows, or were compared with none
-abbrev pub verdict_text : Option ℕ → Finding → List ℕ
-verdict_text held (Right head) = parts_text held ++ unchecked_line head ++ worth_line held
-verdict_text held (Wrong wrong) = wrong_text wrong
+-- the verdict on a sheet, whose votes were compared with the sums of so many rows, or with none
+abbrev pub verdict_text : Option ℕ → SheetVerdict → List ℕ
+verdict_text held (Right right) = right_verdict held right
+verdict_text held (Differs wrong) = wrong_text wrong
+verdict_text held (OffList off) = off_list_text off
+verdict_text held (OffTotal off) = off_total_text off
+verdict_text held (OtherVotes other) = other_votes_text other
+verdict_text held NoSheet = codes "no sheet follows from these votes, divisors and seats\nsheet wrong\n"

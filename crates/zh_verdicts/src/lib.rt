@@ -1,9 +1,10 @@
-//! What a check of a sheet finds, and its text.
+//! The text of the verdict on a published sheet.
 #![tactic(auto)]
 
+mod quotient;
+mod right;
 mod text;
-mod verdict;
 mod writer;
+mod wrong;
 
-pub use verdict::{BadLine, Finding, SheetHead};
 pub use writer::{VerdictFault, write_verdict};

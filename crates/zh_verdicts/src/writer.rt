@@ -6,10 +6,10 @@ ghost use Rattle.zh_verdicts.specs.Text.{verdict_text};
 ghost use Rattle.zh_verdicts.specs.declared.writer.VerdictFault.{VerdictFault};
 
 use crate::text::verdict_text;
-use crate::verdict::Finding;
 use std::alloc::{AllocError, Global};
 use std::io::Write;
 use thiserror::Error;
+use zh_check::SheetVerdict;
 use zh_commands::{WriteFault, put};
 
 /// Why a verdict is not written to its end.
@@ -48,7 +48,7 @@ impl From<WriteFault> for VerdictFault {
 /// Writes the text of a verdict. Where the writer fails a front of it is written, never all.
 pub fn write_verdict<W: Write>(
     alloc: Global,
-    verdict: &Finding,
+    verdict: &SheetVerdict<'_>,
     held: Option<u32>,
     out: &mut W,
 ) -> Result<(), VerdictFault>

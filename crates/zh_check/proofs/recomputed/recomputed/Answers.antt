@@ -4,7 +4,8 @@ use Rattle.zh_sheet.specs.Given.{IsGiven, given_lists}
 use Rattle.zh_totals.specs.GivenVotes.{AreTotalsOf}
 use Rattle.zh_totals.specs.Totals.{VoteTotals}
 use Rattle.zh_check.specs.Reading.{column_divisors, seats_in_columns, text_of_groups}
-use Rattle.zh_check.proofs.VerdictLemmas.{length-divisors, length-seats, no_desk, no_sheet, no_totals, one_sheet, same_lists}
+use Rattle.zh_check.proofs.SizeLemmas.{length-divisors, length-seats}
+use Rattle.zh_check.proofs.VerdictLemmas.{no_desk, no_sheet, no_totals, one_sheet, same_lists}
 use Rattle.zh_check.proofs.recomputed.recomputed.Goals as goal
 
 pub seats_in_columns-requires-clause-divisors : goal.seats_in_columns-requires-clause-divisors

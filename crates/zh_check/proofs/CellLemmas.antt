@@ -1,0 +1,203 @@
+-- Quotients that round, and cells of a table of lists.
+use Rattle.std.proofs.Common.{◌≡◌, ℕ, zero, suc, ◌+◌, ◌-◌, ◌*◌, ◌/◌, ◌%◌, ◌<◌, ◌≤◌, Bool, true, false, List, length, get_or, sym, ap, ◌∙◌, inl, inr, arith, mul_comm, subst}
+use Rattle.std.specs.Prelude.{◌↔◌}
+use Rattle.std.specs.List.{range_with_len}
+use Rattle.std.proofs.lemmas.Bool.{cases_lt}
+use Rattle.std.proofs.lemmas.List.{get_or-map, length-map}
+use Rattle.std.proofs.lemmas.List.FromFn.{get_or-range_with_len, length-range_with_len}
+use Rattle.std.proofs.lemmas.List.Sums.{count_by_more_no, count_by_more_yes}
+use Rattle.std.proofs.Math.Nat.{div-add-mod', mul-le-mul_left, mul-le-mul_right}
+use Rattle.zh_districts.specs.Canton.{Canton, stands}
+use Rattle.zh_divisors.specs.Rounding.{Rounds}
+use Rattle.zh_matrices.proofs.CallerLemmas.{column_of, row_of}
+use Rattle.zh_records.proofs.CallerLemmas.{HasWidth, in_block}
+use Rattle.zh_check.specs.Cells.{DoFollowAt, DoSeatsFollow, LiesOnHalf, line_of_list}
+use Rattle.zh_check.specs.Reading.{group_divisors_read, row_divisors_read, seats_read, standing, standing_in, votes_read}
+use Rattle.zh_check.proofs.SizeLemmas.{length-standing, length-votes}
+
+-- a number times 2 s - 1, where s is positive
+below_twice : (s p n : ℕ) → (1 ≤ s → 2 * (s * p) < 2 * n + p) → 1 ≤ s → (2 * s - 1) * p < 2 * n
+below_twice zero p n lt some = absurd (omega (arith, some))
+below_twice (suc s) p n lt some =
+    let odd : 2 * suc s - 1 ≡ 2 * s + 1 = omega arith in
+    let less : 2 * (suc s * p) < 2 * n + p = lt some in
+    rw odd (omega (arith, less))
+
+twice_below : (s p n : ℕ) → 1 ≤ s → (2 * s - 1) * p < 2 * n → 2 * (s * p) < 2 * n + p
+twice_below zero p n some lt = absurd (omega (arith, some))
+twice_below (suc s) p n some lt =
+    let odd : 2 * suc s - 1 ≡ 2 * s + 1 = omega arith in
+    let less : (2 * s + 1) * p < 2 * n = rw odd at lt in
+    omega (arith, less)
+
+-- a quotient rounds to what it is nearest to
+pub rounds_down : (n p w r : ℕ) → n ≡ w * p + r → 2 * r < p → Rounds n p w
+rounds_down n p w r is lt = record {
+  below_upper = omega (arith, is, lt);
+  above_lower = below_twice w p n (λ some. omega (arith, is, lt));
+}
+
+pub rounds_up : (n p w r : ℕ) → n ≡ w * p + r → r < p → p < 2 * r → Rounds n p (w + 1)
+rounds_up n p w r is small lt = record {
+  below_upper = omega (arith, is, small);
+  above_lower = below_twice (w + 1) p n (λ some. omega (arith, is, small, lt));
+}
+
+pub on_half : (n p w r : ℕ) → n ≡ w * p + r → 2 * r ≡ p → 0 < p → LiesOnHalf n p
+on_half n p w r is same positive = record { positive = positive; whole = w; half = omega (arith, is, same) }
+
+-- to one number only, and to none on a half
+between : (a b p : ℕ) → 2 * (a * p) < (2 * b + 1) * p + p → a ≤ b
+between a b p lt = elim (cases_lt b a) [
+  | inr le ↦ le
+  | inl more ↦
+      let k : ℕ = a - (b + 1) in
+      let is : a ≡ b + 1 + k = omega (arith, more) in
+      let apart : 2 * ((b + 1 + k) * p) < (2 * b + 1) * p + p = rw is at lt in
+      absurd (omega (arith, apart))
+]
+
+lower_of : (n p s : ℕ) → Rounds n p s → 2 * (s * p) < 2 * n + p
+lower_of n p s is = elim (cases_lt 0 s) [
+  | inl some ↦ twice_below s p n (omega (arith, some)) (is.above_lower (omega (arith, some)))
+  | inr none ↦
+      let zero_is : s ≡ 0 = omega (arith, none) in
+      let above : 2 * n < (2 * s + 1) * p = is.below_upper in
+      let none_of : (2 * s + 1) * p ≡ (2 * 0 + 1) * p = ap (λ k. (2 * k + 1) * p) zero_is in
+      let nothing : s * p ≡ 0 * p = ap (λ k. k * p) zero_is in
+      omega (arith, above, none_of, nothing)
+]
+
+at_most : (n p s t : ℕ) → Rounds n p s → Rounds n p t → s ≤ t
+at_most n p s t S T = between s t p (omega (arith, lower_of n p s S, T.below_upper))
+
+pub one_rounding : (n p s t : ℕ) → Rounds n p s → Rounds n p t → s ≡ t
+one_rounding n p s t S T = omega (arith, at_most n p s t S T, at_most n p t s T S)
+
+pub half_not : (n p s : ℕ) → LiesOnHalf n p → ¬ Rounds n p s
+half_not n p s half S =
+    let w : ℕ = half.whole in
+    let low : s ≤ w = between s w p (omega (arith, lower_of n p s S, half.half)) in
+    let high : w + 1 ≤ s = between (w + 1) s p (omega (arith, half.half, S.below_upper)) in
+    omega (arith, low, high)
+
+pub divisor_not : (n p s : ℕ) → p ≡ 0 → ¬ Rounds n p s
+divisor_not n p s none S =
+    let above : 2 * n < (2 * s + 1) * p = S.below_upper in
+    let nothing : (2 * s + 1) * p ≡ (2 * s + 1) * 0 = ap (λ q. (2 * s + 1) * q) none in
+    omega (arith, above, nothing)
+
+-- so the seats follow exactly if they are that number
+pub follow_to : (votes row column seats s : ℕ) → Rounds (votes * (1000000 * 1000000)) (row * column) s → (s ≡ seats) ↔ DoSeatsFollow votes row column seats
+follow_to votes row column seats s is =
+    let n : ℕ = votes * (1000000 * 1000000) in (
+      λ same. record {
+        none = λ no. let product : row * column ≡ 0 = ap (λ c. row * c) no ∙ omega arith in absurd (divisor_not n (row * column) s product is);
+        rounds = λ some. rw (← same) is;
+      },
+      λ follow. elim (cases_lt 0 column) [
+        | inl some ↦ one_rounding n (row * column) s seats is (follow.rounds some)
+        | inr none ↦
+            let no : column ≡ 0 = omega (arith, none) in
+            let product : row * column ≡ 0 = ap (λ c. row * c) no ∙ omega arith in
+            absurd (divisor_not n (row * column) s product is)
+      ],
+    )
+
+pub follow_half : (votes row column seats : ℕ) → LiesOnHalf (votes * (1000000 * 1000000)) (row * column) → ¬ DoSeatsFollow votes row column seats
+follow_half votes row column seats half follow = elim (cases_lt 0 column) [
+  | inl some ↦ half_not (votes * (1000000 * 1000000)) (row * column) seats half (follow.rounds some)
+  | inr none ↦
+      let no : column ≡ 0 = omega (arith, none) in
+      let product : row * column ≡ 0 = ap (λ c. row * c) no ∙ omega arith in
+      omega (arith, half.positive, product)
+]
+
+pub follow_none : (votes row column seats : ℕ) → row * column ≡ 0 → (column ≡ 0) × (seats ≡ 0) ↔ DoSeatsFollow votes row column seats
+follow_none votes row column seats product = (
+  λ both. record { none = λ no. both.1; rounds = λ some. absurd (omega (arith, both.0, some)) },
+  λ follow. elim (cases_lt 0 column) [
+    | inl some ↦ absurd (divisor_not (votes * (1000000 * 1000000)) (row * column) seats product (follow.rounds some))
+    | inr none ↦ let no : column ≡ 0 = omega (arith, none) in (no, follow.none no)
+  ],
+)
+
+-- whether the list at a place stands
+pub standing_at : (canton : Canton) (k : ℕ) → k < length canton.constituencies * length canton.groups →
+    get_or (standing canton) k false ≡ stands canton (k / length canton.groups + 1) (k % length canton.groups + 1)
+standing_at canton k lt =
+    let m : ℕ = length canton.constituencies in
+    let n : ℕ = length canton.groups in
+    let d : ℕ = k / n in
+    let g : ℕ = k % n in
+    let wide : HasWidth (standing_in canton) n = record { at = λ d. length-map (range_with_len 1 n) (stands canton d) ∙ length-range_with_len 1 n } in
+    let turned : k ≡ n * d + g = omega (arith, div-add-mod' k n, mul_comm d n) in
+    let row : get_or (range_with_len 1 m) d 0 ≡ d + 1 = get_or-range_with_len 1 m d 0 (row_of m n k lt) ∙ omega arith in
+    let column : get_or (range_with_len 1 n) g 0 ≡ g + 1 = get_or-range_with_len 1 n g 0 (column_of m n k lt) ∙ omega arith in
+    ap (λ p. get_or (standing canton) p false) turned
+    ∙ (in_block (standing_in canton) n wide (range_with_len 1 m) d g 0 false (omega (arith, row_of m n k lt, length-range_with_len 1 m)) (column_of m n k lt)
+    ∙ (ap (λ e. get_or (standing_in canton e) g false) row
+    ∙ (get_or-map (stands canton (d + 1)) (range_with_len 1 n) g 0 false (omega (arith, column_of m n k lt, length-range_with_len 1 n))
+    ∙ ap (stands canton (d + 1)) column)))
+
+-- the line of the next list
+pub next_line_stands : (canton : Canton) (k : ℕ) → k < length canton.constituencies * length canton.groups → get_or (standing canton) k false ≡ true →
+    line_of_list canton (k + 1) ≡ line_of_list canton k + 1
+next_line_stands canton k lt here =
+    let more = count_by_more_yes (λ (s : Bool). s) (standing canton) k false (omega (arith, lt, length-standing canton)) here in
+    omega (arith, more)
+
+pub next_line_hidden : (canton : Canton) (k : ℕ) → k < length canton.constituencies * length canton.groups → get_or (standing canton) k false ≡ false →
+    line_of_list canton (k + 1) ≡ line_of_list canton k
+next_line_hidden canton k lt away =
+    let same = count_by_more_no (λ (s : Bool). s) (standing canton) k false (omega (arith, lt, length-standing canton)) away in
+    omega (arith, same)
+
+-- a place that is read
+pub place_there : (canton : Canton) (text items : List ℕ) (len place : ℕ) → items ≡ votes_read canton text → len ≡ length items → place < len →
+    place < length canton.constituencies * length canton.groups
+place_there canton text items len place read is lt = omega (arith, is, ap length read, length-votes canton text, lt)
+
+pub few_places : (m n k : ℕ) → m ≤ 32 → n ≤ 32 → k < m * n → k < 1024
+few_places m n k few_rows few_columns lt =
+    let wide : m * n ≤ m * 32 = mul-le-mul_left m few_columns in
+    let high : m * 32 ≤ 32 * 32 = mul-le-mul_right 32 few_rows in
+    omega (arith, lt, wide, high)
+
+-- whether the list there stands, by a number of groups
+pub stands_here : (canton : Canton) (k groups : ℕ) (b : Bool) → groups ≡ length canton.groups → k < length canton.constituencies * length canton.groups →
+    b ≡ stands canton (k / groups + 1) (k % groups + 1) → get_or (standing canton) k false ≡ b
+stands_here canton k groups b same lt is =
+    standing_at canton k lt ∙ (ap (λ n. stands canton (k / n + 1) (k % n + 1)) (sym same) ∙ sym is)
+
+-- a list that does not stand follows in any case
+pub hidden_follows : (canton : Canton) (text : List ℕ) (k : ℕ) → get_or (standing canton) k false ≡ false → DoFollowAt canton text k
+hidden_follows canton text k away here = absurd (cc)
+
+-- one list more whose seats follow
+pub one_more : (canton : Canton) (text : List ℕ) (place : ℕ) → ((k : ℕ) → k < place → DoFollowAt canton text k) → DoFollowAt canton text place →
+    (k : ℕ) → k < place + 1 → DoFollowAt canton text k
+one_more canton text place before here k lt = elim (cases_lt k place) [
+  | inl less ↦ before k less
+  | inr last ↦ let at : k ≡ place = omega (arith, last, lt) in subst (λ j. DoFollowAt canton text j) (sym at) here
+]
+
+-- what is read at a place
+pub follow_read : (canton : Canton) (text votes rows columns seats : List ℕ) (k groups : ℕ) → votes ≡ votes_read canton text → rows ≡ row_divisors_read canton text →
+    columns ≡ group_divisors_read canton text → seats ≡ seats_read canton text → groups ≡ length canton.groups →
+    DoSeatsFollow (get_or votes k 0) (get_or rows (k / groups) 0) (get_or columns (k % groups) 0) (get_or seats k 0) →
+    DoSeatsFollow (get_or (votes_read canton text) k 0) (get_or (row_divisors_read canton text) (k / length canton.groups) 0)
+    (get_or (group_divisors_read canton text) (k % length canton.groups) 0) (get_or (seats_read canton text) k 0)
+follow_read canton text votes rows columns seats k groups v r c s g is =
+    rw (← v, ← r, ← c, ← s, ← g) is
+
+pub read_follow : (canton : Canton) (text votes rows columns seats : List ℕ) (k groups : ℕ) → votes ≡ votes_read canton text → rows ≡ row_divisors_read canton text →
+    columns ≡ group_divisors_read canton text → seats ≡ seats_read canton text → groups ≡ length canton.groups →
+    DoSeatsFollow (get_or (votes_read canton text) k 0) (get_or (row_divisors_read canton text) (k / length canton.groups) 0)
+    (get_or (group_divisors_read canton text) (k % length canton.groups) 0) (get_or (seats_read canton text) k 0) →
+    DoSeatsFollow (get_or votes k 0) (get_or rows (k / groups) 0) (get_or columns (k % groups) 0) (get_or seats k 0)
+read_follow canton text votes rows columns seats k groups v r c s g is =
+    rw (v, r, c, s, g) is
+
+pub off_follows : (result : Bool) (P : Type 0) → (result ≡ true) ↔ P → result ≡ false → ¬ P
+off_follows result P both off p = let on : result ≡ true = both.1 p in absurd (cc)

@@ -1,0 +1,111 @@
+-- Sums of the seats of lists, by constituency and by group.
+use Rattle.std.proofs.Common.{◌≡◌, ◌≢◌, ℕ, ◌+◌, ◌*◌, ◌<◌, ◌≤◌, All, Bool, List, [], ◌∷◌, length, get_or, min, Option, Some, None, Err, refl, inl, inr, sym, ap, ◌∙◌, arith}
+use Rattle.std.proofs.lemmas.List.Elements.{All-cons, All-nil}
+use Rattle.std.proofs.Math.Nat.{mul-le-mul_right}
+use Rattle.zh_districts.specs.Canton.{Canton}
+use Rattle.zh_divisors.proofs.CallerLemmas.{sum_to-ext}
+use Rattle.zh_divisors.specs.Shares.{Apportionment}
+use Rattle.zh_quorum.specs.Quorum.{AreParticipating}
+use Rattle.zh_totals.specs.Totals.{VoteTotals}
+use Rattle.zh_upper.specs.UpperSeats.{AreTied, HasNoGroup, HasNoVoters, IsReportedWhere}
+use Rattle.zh_upper.specs.VoterNumbers.{AreVoterSums}
+use Rattle.zh_upper.specs.declared.fault.UpperFault.{UpperFault}
+use Rattle.zh_upper.specs.declared.fault.UpperFault.TheVariants as faults
+use Rattle.zh_check.specs.Lines.{after_lines, first_line, lines_where, number_at}
+use Rattle.zh_check.specs.Reading.{lines_above, seats_on, seats_read, standing, text_of_lists}
+use Rattle.zh_check.specs.Totals.{AreConstituencySeats, AreGroupSeats, AreMet, FindsOffAmong, FindsOffTotal, HaveNoGroupSeats, IsOffAmong, IsSaid, IsUnmet, constituency_sum, group_sum, spaced_sum, totals_read}
+use Rattle.zh_check.specs.declared.checked.OffTotal.{OffTotal}
+use Rattle.zh_check.specs.declared.totals.Unmet.{Unmet}
+
+-- few seats are read
+few_on : (lines : List (List ℕ)) → All (λ s. s ≤ 400) (seats_on lines)
+few_on [] = All-nil (λ s. s ≤ 400)
+few_on (line ∷ lines) = All-cons (λ s. s ≤ 400) (min (number_at line 8) 400) (seats_on lines) (omega arith) (few_on lines)
+
+pub few_read : (canton : Canton) (text : List ℕ) → All (λ s. s ≤ 400) (seats_read canton text)
+few_read canton text = few_on (lines_where (standing canton) (text_of_lists canton text))
+
+-- the places of a row and of a column
+pub row_there : (m n d g : ℕ) → d < m → g < n → d * n + g * 1 < m * n
+row_there m n d g there within =
+    let next : (d + 1) * n ≤ m * n = mul-le-mul_right n (omega (arith, there)) in
+    omega (arith, next, within)
+
+pub column_there : (m n g d : ℕ) → g < n → d < m → g * 1 + d * n < m * n
+column_there m n g d within there =
+    let next : (d + 1) * n ≤ m * n = mul-le-mul_right n (omega (arith, there)) in
+    omega (arith, next, within)
+
+-- the sums that are taken
+pub row_sum : (canton : Canton) (text seats : List ℕ) (groups : ℕ) → seats ≡ seats_read canton text → groups ≡ length canton.groups → (d : ℕ) →
+    spaced_sum seats (d * groups) groups 1 ≡ constituency_sum canton text d
+row_sum canton text seats groups read same d =
+    ap (λ n. spaced_sum seats (d * n) n 1) same
+    ∙ sum_to-ext (length canton.groups) (λ k. get_or seats (d * length canton.groups + k * 1) 0) (λ g. get_or (seats_read canton text) (d * length canton.groups + g) 0)
+    (λ k lt. let place : d * length canton.groups + k * 1 ≡ d * length canton.groups + k = omega arith in
+    ap (λ p. get_or seats p 0) place ∙ ap (λ xs. get_or xs (d * length canton.groups + k) 0) read)
+
+pub column_sum : (canton : Canton) (text seats : List ℕ) (rows columns : ℕ) → seats ≡ seats_read canton text → rows ≡ length canton.constituencies →
+    columns ≡ length canton.groups → (g : ℕ) → spaced_sum seats (g * 1) rows columns ≡ group_sum canton text g
+column_sum canton text seats rows columns read same_rows same g =
+    ap (λ n. spaced_sum seats (g * 1) rows n) same
+    ∙ (ap (λ m. spaced_sum seats (g * 1) m (length canton.groups)) same_rows
+    ∙ sum_to-ext (length canton.constituencies) (λ k. get_or seats (g * 1 + k * length canton.groups) 0) (λ d. get_or (seats_read canton text) (d * length canton.groups + g) 0)
+    (λ k lt. let place : g * 1 + k * length canton.groups ≡ k * length canton.groups + g = omega arith in
+    ap (λ p. get_or seats p 0) place ∙ ap (λ xs. get_or xs (k * length canton.groups + g) 0) read))
+
+-- so these sums are met, or this is the first that is not
+pub all_met : (sum their : ℕ → ℕ) (totals : List ℕ) → ((k : ℕ) → sum k ≡ their k) → AreMet sum totals → AreMet their totals
+all_met sum their totals same met k lt = sym (same k) ∙ met k lt
+
+pub off_among : (sum their : ℕ → ℕ) (totals text : List ℕ) (before line : ℕ) (unmet : Unmet) (off : OffTotal) → ((k : ℕ) → sum k ≡ their k) →
+    IsUnmet sum totals unmet → line ≡ before + unmet.place → IsSaid text line unmet.seats (get_or totals unmet.place 0) off → IsOffAmong their totals text before off
+off_among sum their totals text before line unmet off same is at said = record {
+  place = unmet.place;
+  first = record {
+    there = is.first.there;
+    unmet = λ e. is.first.unmet (same unmet.place ∙ e);
+    before = λ k lt. sym (same k) ∙ is.first.before k lt;
+  };
+  said = record {
+    line = said.line ∙ ap (λ n. n + 1) at;
+    found = said.found ∙ ap (λ n. first_line (after_lines n text)) at;
+    seats = said.seats ∙ (is.seats ∙ same unmet.place);
+    total = said.total;
+  };
+}
+
+-- why no seats of the groups follow
+pub no_group_seats : (totals : VoteTotals) (seats : List ℕ) (taking : List Bool) (voters : List ℕ) (fault : UpperFault) → AreParticipating totals taking →
+    AreVoterSums totals seats voters → fault ≢ faults.Memory → IsReportedWhere {Seats = Apportionment} (Err fault) faults.NoGroup (HasNoGroup taking) →
+    IsReportedWhere {Seats = Apportionment} (Err fault) faults.NoVoters (HasNoVoters voters taking) →
+    IsReportedWhere {Seats = Apportionment} (Err fault) faults.Tied (AreTied voters taking totals.canton.house) → HaveNoGroupSeats totals seats
+no_group_seats totals seats taking voters faults.Memory part sums other group some tied = absurd (other refl)
+no_group_seats totals seats taking voters faults.NoGroup part sums other group some tied =
+    record { taking = taking; voters = voters; participation = part; sums = sums; reason = inl (group.only refl) }
+no_group_seats totals seats taking voters faults.NoVoters part sums other group some tied =
+    record { taking = taking; voters = voters; participation = part; sums = sums; reason = inr (inl (some.only refl)) }
+no_group_seats totals seats taking voters faults.Tied part sums other group some tied =
+    record { taking = taking; voters = voters; participation = part; sums = sums; reason = inr (inr (tied.only refl)) }
+
+-- the totals of the constituencies are met, and then those of the groups or not
+pub groups_found : (canton : Canton) (text rows upper : List ℕ) (found : Option OffTotal) → AreConstituencySeats canton rows →
+    AreGroupSeats (totals_read canton text) rows upper → AreMet (constituency_sum canton text) rows →
+    FindsOffAmong (group_sum canton text) upper text (1 + lines_above canton + length canton.constituencies) found → FindsOffTotal canton text found
+groups_found canton text rows upper None have groups met all =
+    inr (record { seats = rows; follow = have; met = met; groups = inr (inr (record { upper = upper; follow = groups; met = all })) })
+groups_found canton text rows upper (Some off) have groups met is =
+    inr (record {
+      targets = record {
+        seats = rows;
+        taking = groups.taking;
+        voters = groups.voters;
+        upper = upper;
+        constituencies = record { in_proportion = have.in_proportion; each = have.each };
+        participation = groups.participation;
+        sums = groups.sums;
+        groups = groups.groups;
+      };
+      constituencies = met;
+      first = is;
+    })

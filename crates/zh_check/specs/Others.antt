@@ -1,0 +1,34 @@
+-- The first list whose votes are not those that are held.
+use Rattle.std.specs.Prelude.{◌≡◌, ◌≢◌, ℕ, false, if◌then◌else◌, ◌+◌, ◌/◌, ◌<◌, List, length, slice_index, slice_index_or}
+use Rattle.zh_districts.specs.Canton.{Canton}
+use Rattle.zh_check.specs.Cells.{line_of_list}
+use Rattle.zh_check.specs.Lines.{after_lines, first_line}
+use Rattle.zh_check.specs.Reading.{lines_above, standing}
+use Rattle.zh_check.specs.declared.checked.OtherVotes.{OtherVotes}
+
+-- the number of the line that shows the votes of the list at a place: its own, or that of its constituency where it does not stand
+abbrev pub line_of_votes : Canton → ℕ → ℕ
+line_of_votes canton place =
+    if slice_index_or (standing canton) place false then line_of_list canton place
+    else 2 + lines_above canton + place / length canton.groups
+
+-- the votes at this place are others, and at each before it they are the same
+pub record IsFirstOther (votes held : List ℕ) (place : ℕ) : Type 0 where
+  pub there : place < length votes
+  pub also_held : place < length held
+  pub other : slice_index votes place ≢ slice_index held place
+  pub before : (k : ℕ) → k < place → slice_index votes k ≡ slice_index held k
+
+-- what is said of them: the line after so many others, and the votes that are held
+pub record IsOther (text : List ℕ) (before votes : ℕ) (other : OtherVotes) : Type 0 where
+  pub line : other.line ≡ before + 1
+  pub found : other.found.items ≡ first_line (after_lines before text)
+  pub held : other.held ≡ votes
+
+-- the first list whose votes are others
+pub record IsOtherVotes (canton : Canton) (text votes held : List ℕ) (other : OtherVotes) : Type 0 where
+  pub place : ℕ
+  pub first : IsFirstOther votes held place
+  pub before : ℕ
+  pub line : line_of_votes canton place ≡ before + 1
+  pub said : IsOther text before (slice_index held place) other

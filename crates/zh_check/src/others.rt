@@ -1,0 +1,52 @@
+//! The first list whose votes are not those that are held.
+ghost use Rattle.std.specs.Prelude.{◌≡◌, ◌≢◌, ◌+◌, ◌*◌, IfOk, IfNone, IfSome, length};
+ghost use Rattle.zh_check.specs.Lines.{after_lines, first_line};
+ghost use Rattle.zh_check.specs.Others.{IsFirstOther, IsOther, IsOtherVotes};
+
+use crate::checked::OtherVotes;
+use crate::lines::line_after;
+use crate::places::lines_before;
+use std::alloc::{AllocError, Global};
+use zh_districts::Setup;
+
+/// The place of the first of these votes that are not those held.
+fn first_other(votes: &[u64], held: &[u64]) -> Option<usize>
+    ensures first { IfSome result (IsFirstOther votes.now held.now) }
+    ensures none { IfNone result (length held.now ≡ length votes.now → votes.now ≡ held.now) }
+{
+    for place in 0..votes.len().min(held.len()) {
+        if votes[place] != held[place] {
+            return Some(place);
+        }
+    }
+    None
+}
+
+/// What is said of the votes on the line after so many others.
+fn other_after(alloc: Global, text: &[u8], before: u32, held: u64) -> Result<OtherVotes, AllocError>
+    ensures { IfOk result (IsOther text.now before held) }
+{
+    Ok(OtherVotes {
+        line: u64::from(before) + 1,
+        found: line_after(alloc, text, before)?,
+        held,
+    })
+}
+
+/// The first list whose votes are not those held. If these are not of this set-up, so that there may be none, the first line.
+pub(crate) fn other_votes(
+    alloc: Global,
+    setup: &Setup,
+    text: &[u8],
+    votes: &[u64],
+    held: &[u64],
+) -> Result<OtherVotes, AllocError>
+    requires { length votes.now ≡ length setup.now.constituencies * length setup.now.groups }
+    ensures { IfOk result (λ other. length held.now ≡ length votes.now → votes.now ≢ held.now →
+        IsOtherVotes setup.now text.now votes.now held.now other) }
+{
+    match first_other(votes, held) {
+        Some(place) => other_after(alloc, text, lines_before(setup, place), held[place]),
+        None => other_after(alloc, text, 0, 0),
+    }
+}

@@ -1,0 +1,36 @@
+-- The quotient of a list whose seats do not follow, as a verdict shows it.
+use Rattle.std.specs.Prelude.{ℕ, ◌-◌, ◌*◌, ◌/◌, ◌%◌, ◌==◌, Bool, if◌then◌else◌, codes, decimal, List, [], ◌++◌, length, replicate}
+use Rattle.zh_sheet_text.specs.SheetText.{divisor_text}
+use Rattle.zh_check.specs.declared.checked.OffList.{OffList}
+use Rattle.zh_check.specs.declared.checked.ListQuotient.{ListQuotient}
+use Rattle.zh_check.specs.declared.checked.ListQuotient.TheVariants.{NoDivisor, OnHalf, RoundsTo}
+use Rattle.zh_verdicts.specs.Wrong.{wrong_line}
+
+-- a number of so many digits, zeros in front; 48 is the digit 0
+abbrev pub padded : ℕ → ℕ → List ℕ
+padded digits number = replicate (digits - length (decimal number)) 48 ++ decimal number
+
+-- a number of thousandths, with two dots where more digits follow
+abbrev pub cut_off : ℕ → Bool → List ℕ
+cut_off thousandths is_exact =
+    decimal (thousandths / 1000) ++ codes "." ++ padded 3 (thousandths % 1000) ++ (if is_exact then [] else codes "..")
+
+-- votes over two divisors in millionths, and what they come to
+abbrev pub quotient_text : ℕ → ℕ → ℕ → List ℕ
+quotient_text votes row column =
+    let thousandths = votes * 1000000000000000 in
+    if row * column == 0 then codes "a divisor is missing"
+    else (decimal votes ++ codes " / (" ++ divisor_text row ++ codes " x " ++ divisor_text column ++ codes ")" ++ codes " = "
+    ++ cut_off (thousandths / (row * column)) (thousandths % (row * column) == 0))
+
+-- what it rounds to, if there is a quotient
+abbrev pub rounding_text : ListQuotient → List ℕ
+rounding_text (RoundsTo seats) = codes " rounds to " ++ decimal seats
+rounding_text OnHalf = codes " lies on a half"
+rounding_text NoDivisor = []
+
+-- the line of a list whose seats do not follow, with its quotient
+abbrev pub off_text : OffList → List ℕ
+off_text off =
+    wrong_line off.line off.found.items ++ codes ": " ++ quotient_text off.votes off.row_divisor off.column_divisor
+    ++ rounding_text off.quotient ++ codes "\n"

@@ -1,0 +1,114 @@
+//! The quotient of a list whose seats do not follow.
+
+ghost use Rattle.std.specs.Prelude.{◌≡◌, ◌≤◌, ◌++◌, codes, decimal, OnOk};
+ghost use Rattle.zh_sheet_text.specs.SheetText.{divisor_text};
+ghost use Rattle.zh_verdicts.specs.Quotient.{cut_off, off_text, padded, quotient_text, rounding_text};
+
+use crate::right::push_number;
+use crate::wrong::push_wrong_line;
+use itoa::Buffer;
+use std::alloc::AllocError;
+use zh_check::{ListQuotient, OffList};
+
+/// Puts a number of so many digits at the end, zeros in front.
+fn push_padded(text: &mut Vec<u8>, number: u64, digits: usize) -> Result<(), AllocError>
+    requires { digits ≤ 6 }
+    ensures { OnOk result (text.new.items ≡ text.old.items ++ padded digits number) }
+{
+    let zeros = [b'0'; 6];
+    let mut buffer = Buffer::new();
+    let written = buffer.format(number).as_bytes();
+    text.extend_from_slice(&zeros[..digits.saturating_sub(written.len())])?;
+    text.extend_from_slice(written)
+}
+
+/// Puts a divisor in millionths at the end, with six digits after the dot.
+fn push_divisor(text: &mut Vec<u8>, millionths: u64) -> Result<(), AllocError>
+    ensures { OnOk result (text.new.items ≡ text.old.items ++ divisor_text millionths) }
+{
+    push_number(text, millionths / 1_000_000)?;
+    text.extend_from_slice(b".")?;
+    push_padded(text, millionths % 1_000_000, 6)
+}
+
+/// Puts a number that may be wide at the end.
+fn push_wide(text: &mut Vec<u8>, number: u128) -> Result<(), AllocError>
+    ensures { OnOk result (text.new.items ≡ text.old.items ++ decimal number) }
+{
+    text.extend_from_slice(Buffer::new().format(number).as_bytes())
+}
+
+/// Puts a number of thousandths at the end, with two dots where more digits follow.
+fn push_cut_off(text: &mut Vec<u8>, thousandths: u128, is_exact: bool) -> Result<(), AllocError>
+    ensures { OnOk result (text.new.items ≡ text.old.items ++ cut_off thousandths is_exact) }
+{
+    push_wide(text, thousandths / 1000)?;
+    text.extend_from_slice(b".")?;
+    push_padded(text, (thousandths % 1000) as u64, 3)?;
+    if is_exact {
+        return Ok(());
+    }
+    text.extend_from_slice(b"..")
+}
+
+/// Puts the votes over both divisors, which are in millionths, at the end.
+fn push_division(
+    text: &mut Vec<u8>,
+    votes: u64,
+    row_divisor: u64,
+    column_divisor: u64,
+) -> Result<(), AllocError>
+    ensures { OnOk result (text.new.items ≡ text.old.items
+        ++ (decimal votes ++ codes " / (" ++ divisor_text row_divisor ++ codes " x " ++ divisor_text column_divisor ++ codes ")")) }
+{
+    push_number(text, votes)?;
+    text.extend_from_slice(b" / (")?;
+    push_divisor(text, row_divisor)?;
+    text.extend_from_slice(b" x ")?;
+    push_divisor(text, column_divisor)?;
+    text.extend_from_slice(b")")
+}
+
+/// Puts the votes over both divisors, and what they come to, at the end.
+fn push_quotient(
+    text: &mut Vec<u8>,
+    votes: u64,
+    row_divisor: u64,
+    column_divisor: u64,
+) -> Result<(), AllocError>
+    ensures { OnOk result (text.new.items ≡ text.old.items ++ quotient_text votes row_divisor column_divisor) }
+{
+    let product = u128::from(row_divisor) * u128::from(column_divisor);
+    if product == 0 {
+        return text.extend_from_slice(b"a divisor is missing");
+    }
+    let thousandths = u128::from(votes) * 1_000_000_000_000_000;
+    push_division(text, votes, row_divisor, column_divisor)?;
+    text.extend_from_slice(b" = ")?;
+    push_cut_off(text, thousandths / product, thousandths % product == 0)
+}
+
+/// Puts what a quotient rounds to at the end, if there is one.
+fn push_rounding(text: &mut Vec<u8>, quotient: ListQuotient) -> Result<(), AllocError>
+    ensures { OnOk result (text.new.items ≡ text.old.items ++ rounding_text quotient) }
+{
+    match quotient {
+        ListQuotient::RoundsTo(seats) => {
+            text.extend_from_slice(b" rounds to ")?;
+            push_wide(text, seats)
+        }
+        ListQuotient::OnHalf => text.extend_from_slice(b" lies on a half"),
+        ListQuotient::NoDivisor => Ok(()),
+    }
+}
+
+/// Puts the line of a list whose seats do not follow at the end, with its quotient.
+pub(crate) fn push_off(text: &mut Vec<u8>, off: &OffList) -> Result<(), AllocError>
+    ensures { OnOk result (text.new.items ≡ text.old.items ++ off_text off.now) }
+{
+    push_wrong_line(text, off.line, &off.found)?;
+    text.extend_from_slice(b": ")?;
+    push_quotient(text, off.votes, off.row_divisor, off.column_divisor)?;
+    push_rounding(text, off.quotient)?;
+    text.extend_from_slice(b"\n")
+}

@@ -1,0 +1,99 @@
+//! The lines of a sheet that is right.
+
+ghost use Rattle.std.specs.Prelude.{◌≡◌, ◌++◌, decimal, OnOk};
+ghost use Rattle.zh_verdicts.specs.Right.{commands_part, desk_part, kind_part, parts_text, right_verdict, unchecked_line};
+ghost use Rattle.zh_verdicts.specs.Right.{votes_line, worth_line};
+
+use itoa::Buffer;
+use std::alloc::AllocError;
+use zh_check::RightSheet;
+
+/// Puts a number at the end of a text.
+pub(crate) fn push_number(text: &mut Vec<u8>, number: u64) -> Result<(), AllocError>
+    ensures { OnOk result (text.new.items ≡ text.old.items ++ decimal number) }
+{
+    text.extend_from_slice(Buffer::new().format(number).as_bytes())
+}
+
+/// Puts the line that the votes hold at the end.
+fn push_votes(text: &mut Vec<u8>, held: Option<u32>) -> Result<(), AllocError>
+    ensures { OnOk result (text.new.items ≡ text.old.items ++ votes_line held) }
+{
+    let Some(rows) = held else {
+        return text.extend_from_slice(b"votes not compared\n");
+    };
+    text.extend_from_slice(b"votes ok: the sums of ")?;
+    push_number(text, u64::from(rows))?;
+    text.extend_from_slice(b" rows\n")
+}
+
+/// Puts that each part holds at the end.
+fn push_parts(text: &mut Vec<u8>, held: Option<u32>) -> Result<(), AllocError>
+    ensures { OnOk result (text.new.items ≡ text.old.items ++ parts_text held) }
+{
+    text.extend_from_slice(b"form ok\n")?;
+    push_votes(text, held)?;
+    text.extend_from_slice(b"seats ok\nparticipation ok\nvoters ok\ngroups ok\nlists ok\n")
+}
+
+/// Puts whether a sheet is final at the end.
+fn push_kind(text: &mut Vec<u8>, is_final: bool) -> Result<(), AllocError>
+    ensures { OnOk result (text.new.items ≡ text.old.items ++ kind_part is_final) }
+{
+    if is_final {
+        text.extend_from_slice(b"not checked: final")
+    } else {
+        text.extend_from_slice(b"not checked: provisional")
+    }
+}
+
+/// Puts how many commands were accepted at the end.
+fn push_commands(text: &mut Vec<u8>, accepted: u64) -> Result<(), AllocError>
+    ensures { OnOk result (text.new.items ≡ text.old.items ++ commands_part accepted) }
+{
+    text.extend_from_slice(b", commands ")?;
+    push_number(text, accepted)
+}
+
+/// Puts the desk at the end.
+fn push_desk(text: &mut Vec<u8>, desk: u8) -> Result<(), AllocError>
+    ensures { OnOk result (text.new.items ≡ text.old.items ++ desk_part desk) }
+{
+    text.extend_from_slice(b", desk ")?;
+    push_number(text, u64::from(desk))?;
+    text.extend_from_slice(b"\n")
+}
+
+/// Puts what no check can tell at the end.
+fn push_unchecked(text: &mut Vec<u8>, right: &RightSheet<'_>) -> Result<(), AllocError>
+    ensures { OnOk result (text.new.items ≡ text.old.items ++ unchecked_line right.now) }
+{
+    push_kind(text, right.is_final)?;
+    push_commands(text, right.accepted)?;
+    push_desk(text, right.desk)
+}
+
+/// Puts what the sheet is worth at the end.
+fn push_worth(text: &mut Vec<u8>, held: Option<u32>) -> Result<(), AllocError>
+    ensures { OnOk result (text.new.items ≡ text.old.items ++ worth_line held) }
+{
+    match held {
+        Some(_) => text.extend_from_slice(b"sheet ok: no other seats follow from these votes\n"),
+        None => text.extend_from_slice(
+            b"sheet ok for these votes; that they were returned is not checked\n",
+        ),
+    }
+}
+
+/// Puts the lines of a sheet that is right at the end: that each part holds, what no check can tell, and what it is worth.
+pub(crate) fn push_right(
+    text: &mut Vec<u8>,
+    right: &RightSheet<'_>,
+    held: Option<u32>,
+) -> Result<(), AllocError>
+    ensures { OnOk result (text.new.items ≡ text.old.items ++ right_verdict held right.now) }
+{
+    push_parts(text, held)?;
+    push_unchecked(text, right)?;
+    push_worth(text, held)
+}
