@@ -100,10 +100,10 @@ module _ (canton : Canton) (rows : List Row) (row : Row) (others : List Row) (ar
   is_fit : unfit canton row ≡ None
   is_fit = subst (λ (r : Row). unfit canton r ≡ None) (at_seam rows row others row) (are.fit (length rows) row within)
 
-  readable_there : IsReadable row
+  pub readable_there : IsReadable row
   readable_there = subst IsReadable (at_seam rows row others row) (all_readable canton _ are (length rows) row within)
 
-  no_fault : fault_after canton rows row ≡ None
+  pub no_fault : fault_after canton rows row ≡ None
   no_fault = rw is_fit (rw (own_key, room) refl)
 
 -- so no record of one of them stops a text

@@ -1,6 +1,6 @@
 //! A batch read from a text.
 
-ghost use Rattle.std.specs.Prelude.{◌≡◌, ◌≢◌, List, ◌++◌, ◌∷◌, [], ℕ, Some, IfOk, IfErr, IsErrOf, OnOk, true};
+ghost use Rattle.std.specs.Prelude.{◌≡◌, ◌≢◌, List, ◌++◌, ◌∷◌, [], ℕ, Some, None, IfOk, IfErr, IsErrOf, OnOk, OnErr, true};
 ghost use Rattle.zh_csv.specs.declared.fault.LoadFault.{LoadFault};
 ghost use Rattle.zh_csv.specs.Load.{fault_after, names, Loads, AreLoaded, IsReadable};
 ghost use Rattle.zh_csv.specs.Noted.{has_failed, inner_reader};
@@ -17,10 +17,11 @@ use zh_desks::{Batch, unfit};
 use zh_districts::Setup;
 use zh_records::{MOST_ROWS, Row};
 
-/// Puts a row after those of a batch.
-fn hold(setup: &Setup, batch: &mut Batch, row: Row) -> Result<(), LoadFault>
+/// Puts a row after those of a batch. Where it cannot follow them, or memory is refused, the batch is as before.
+pub fn hold(setup: &Setup, batch: &mut Batch, row: Row) -> Result<(), LoadFault>
     requires { IsReadable row }
-    ensures held { OnOk result (batch.new ≡ batch.old ++ row ∷ []) }
+    ensures held { OnOk result ((batch.new ≡ batch.old ++ row ∷ []) × (fault_after setup.now batch.old row ≡ None)) }
+    ensures kept { OnErr result (batch.new ≡ batch.old) }
     ensures loaded { AreLoaded setup.now batch.old → OnOk result (AreLoaded setup.now batch.new) }
     ensures refused { IfErr result (λ fault. fault ≢ LoadFault.Memory → fault_after setup.now batch.old row ≡ Some fault) }
 {

@@ -60,8 +60,8 @@ fn row_in(record: &ByteRecord) -> Option<Row>
     if row.number == 0 { None } else { Some(row) }
 }
 
-/// The row of a record.
-pub(crate) fn row_of(record: &ByteRecord) -> Result<Row, LoadFault>
+/// The row of a record, or why it is none.
+pub fn row_of(record: &ByteRecord) -> Result<Row, LoadFault>
     ensures { MatchResult result
         (λ row. IsReadable row × (fields_of «record».now ≡ fields row))
         (IsUnread (fields_of «record».now)) }

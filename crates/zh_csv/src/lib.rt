@@ -9,10 +9,10 @@ mod laws;
 mod noted_reader;
 mod records;
 
-pub use batch_reader::read_batch;
+pub use batch_reader::{hold, read_batch};
 pub use export::write_count;
 pub use fault::LoadFault;
-pub use fields::{FIELDS, field, is_names};
+pub use fields::{FIELDS, field, is_names, row_of};
 pub use laws::{few_records, one_loading};
 pub use noted_reader::NotedReader;
 pub use records::{next_record, reader_of};

@@ -10,6 +10,7 @@ mod partial_line;
 mod service;
 
 pub use laws::{law_nights, stretches, undisturbed};
+pub use load::load_refusal;
 pub use office::Office;
 pub use service::ServeFault;
 pub use zh_answers::Answer;

@@ -21,7 +21,7 @@ use zh_disk::Disk;
 const NO_DESK: u8 = 0;
 
 /// The name under which a text is refused.
-fn load_refusal(fault: LoadFault) -> Refusal
+pub fn load_refusal(fault: LoadFault) -> Refusal
     ensures { result ≡ load_refusal fault }
 {
     match fault {

@@ -38,10 +38,10 @@ pub loop-preserved : goal.loop-preserved
 loop-preserved g c =
     let row = rw c.in_ok-row_of.was at c.row_of.ensures in
     record {
-      count = omega (arith, ap length c.in_ok-hold.ensures.held, length_push c.loop.batch c.in_ok-row_of.field-0, c.loop.invariant.count);
+      count = omega (arith, ap length c.in_ok-hold.ensures.held.0, length_push c.loop.batch c.in_ok-row_of.field-0, c.loop.invariant.count);
       loaded = c.in_ok-hold.ensures.loaded c.loop.invariant.loaded;
       read = λ text has.
           let found : c.in_ok-next_record.field-0 ≡ true = search rules in
           let next = rw (c.in_ok-next_record.was, found) at (c.next_record.ensures text (names ∷ map fields c.loop.batch) (c.loop.invariant.read text has)) in
-          given_more g.R.Read.remaining text c.loop.batch (fields_of c.next_record.new.record) c.in_ok-row_of.field-0 c.hold.new.batch c.next_record.new.reader row.1 c.in_ok-hold.ensures.held next;
+          given_more g.R.Read.remaining text c.loop.batch (fields_of c.next_record.new.record) c.in_ok-row_of.field-0 c.hold.new.batch c.next_record.new.reader row.1 c.in_ok-hold.ensures.held.0 next;
     }

@@ -1,0 +1,18 @@
+-- What the crates above may use.
+use Rattle.std.proofs.Common.{List, ℕ, [], Option, refl, inl}
+use Rattle.csv.specs.Reading.{Reached, strip_bom}
+use Rattle.csv.specs.declared.parser.State.TheVariants as states
+use Rattle.zh_returns.specs.Tally.{Tally}
+use Rattle.zh_judgements.specs.Findings.{begun}
+use Rattle.zh_judgements.specs.Judged.{IsBrokenOff}
+use Rattle.zh_judgements.specs.Text.{finding_lines}
+use Rattle.zh_judgements.proofs.FrontLemmas.{none_written}
+
+-- a text of which no record was judged
+pub nothing_judged : (tally : Tally) (IsText : List ℕ → Type 0) (w : Option (List ℕ)) → IsBrokenOff tally IsText w w
+unfolding Reached
+nothing_judged tally IsText w = record {
+  records = [];
+  first = λ bytes is. (states.StartRecord, strip_bom bytes, (refl, refl));
+  written = inl (none_written w (finding_lines (begun tally [])));
+}

@@ -1,0 +1,9 @@
+mod AnyLemmas
+pub mod CallerLemmas
+mod FindingLemmas
+mod FrontLemmas
+mod JudgedLemmas
+mod LineLemmas
+mod LoadedLemmas
+mod ReaderLemmas
+mod RowLemmas

@@ -1,0 +1,12 @@
+use Rattle.std.proofs.Common.{◌≤◌, ◌+◌, [], ◌∷◌}
+use Rattle.zh_csv.specs.Records.{Record}
+use Rattle.zh_judgements.specs.Judged.{IsAfter}
+use Rattle.zh_judgements.proofs.JudgedLemmas.{HasJudged}
+use Rattle.zh_judgements.proofs.text.judge_others.Given as goal
+
+abbrev pub invariant-loop-number : goal.invariant-loop-number
+invariant-loop-number g l = record {
+  within : l.progress.counts.refused ≤ l.progress.counts.records;
+  few : l.progress.counts.records + 1 ≤ l.number;
+  judged : (first : Record) → IsAfter l.fn.count (first ∷ []) l.fn.progress → HasJudged g.R.Read.remaining l.fn.count first l.fn.reader l.reader (g.W.Write.contents l.fn.out) (g.W.Write.contents l.out) l.number l.progress;
+}

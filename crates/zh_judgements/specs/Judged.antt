@@ -1,0 +1,74 @@
+-- What the judging of a text leaves.
+use Rattle.std.specs.Prelude.{◌≡◌, ◌⊎◌, ◌≤◌, ℕ, List, [], ◌∷◌, drop, length, take, Option, Some, Result, Ok, Err, true}
+use Rattle.std.specs.Io.KnownBytes.{Appends}
+use Rattle.csv.specs.Reading.{default_config, Ready, source_of}
+use Rattle.csv.specs.Reading.{reader_config, reader_trim, reader_state, is_flexible}
+use Rattle.csv.specs.declared.reader.Reader.{Reader}
+use Rattle.csv.specs.declared.reader.Trim.TheVariants as trims
+use Rattle.zh_returns.specs.Tally.{Tally}
+use Rattle.zh_csv.specs.Records.{Record, AreAll, AreFirst, LeavesAfter}
+use Rattle.zh_judgements.specs.Findings.{begun, counts_of, findings, findings_from, forecast_of, rows_kept}
+use Rattle.zh_judgements.specs.Text.{finding_lines, judgement_text}
+use Rattle.zh_judgements.specs.declared.fault.JudgementFault.{JudgementFault}
+use Rattle.zh_judgements.specs.declared.judgement.Forecast.{Forecast}
+use Rattle.zh_judgements.specs.declared.progress.Progress.{Progress}
+
+-- a reader that gave these records of a text, each as long as it is, and gives the next one
+pub record HasGiven {R : Type 0} (remaining : R → Option (List ℕ)) (text : List ℕ) (records : List Record)
+    (reader : Reader R) : Type 0 where
+  pub config : reader_config reader ≡ default_config
+  pub trim : reader_trim reader ≡ trims.None
+  pub flexible : is_flexible reader ≡ true
+  pub ready : Ready reader
+  pub rest : List ℕ
+  pub source : source_of remaining reader ≡ Some rest
+  pub leaves : LeavesAfter text records (reader_state reader) rest
+
+-- what is kept after the first records of a text
+pub record IsAfter (tally : Tally) (records : List Record) (progress : Progress) : Type 0 where
+  pub rows : progress.rows ≡ rows_kept tally.canton [] (drop 1 records)
+  pub counts : progress.counts ≡ counts_of (begun tally records)
+
+-- a front of a text, or all of it, is written
+abbrev pub WritesUpTo : Option (List ℕ) → Option (List ℕ) → List ℕ → Type 0
+WritesUpTo writer writer' text = (front : ℕ) × (front ≤ length text) × Appends writer writer' (take front text)
+
+-- these are all the records of a text of which this is known, or the first of them
+abbrev pub AreAllOf : (List ℕ → Type 0) → List Record → Type 0
+AreAllOf IsText records = (bytes : List ℕ) → IsText bytes → AreAll bytes records
+
+abbrev pub AreFirstOf : (List ℕ → Type 0) → List Record → Type 0
+AreFirstOf IsText records = (bytes : List ℕ) → IsText bytes → AreFirst bytes records
+
+-- all of it is written
+pub record IsJudged (tally : Tally) (IsText : List ℕ → Type 0) (writer writer' : Option (List ℕ)) (forecast : Forecast) : Type 0 where
+  pub records : List Record
+  pub all : AreAllOf IsText records
+  pub written : Appends writer writer' (judgement_text tally records)
+  pub comes_to : forecast ≡ forecast_of (findings tally records)
+
+-- of the lines on the first records of the text a front is written; or on all of them a front of the whole
+pub record IsBrokenOff (tally : Tally) (IsText : List ℕ → Type 0) (writer writer' : Option (List ℕ)) : Type 0 where
+  pub records : List Record
+  pub first : AreFirstOf IsText records
+  pub written : WritesUpTo writer writer' (finding_lines (begun tally records))
+      ⊎ (AreAllOf IsText records × WritesUpTo writer writer' (judgement_text tally records))
+
+-- what the judging of a text, of which this is known, has written with this result
+abbrev pub Judges : Tally → (List ℕ → Type 0) → Option (List ℕ) → Option (List ℕ) → Result Forecast JudgementFault → Type 0
+Judges tally IsText writer writer' (Ok forecast) = IsJudged tally IsText writer writer' forecast
+Judges tally IsText writer writer' (Err fault) = IsBrokenOff tally IsText writer writer'
+
+-- all records after the first are judged
+pub record AreJudged (tally : Tally) (first : Record) (IsText : List ℕ → Type 0) (writer writer' : Option (List ℕ))
+    (progress : Progress) : Type 0 where
+  pub others : List Record
+  pub all : AreAllOf IsText (first ∷ others)
+  pub written : Appends writer writer' (finding_lines (findings_from tally 2 [] others))
+  pub after : IsAfter tally (first ∷ others) progress
+
+-- some of them, and a front of the lines on these is written
+pub record AreBrokenOff (tally : Tally) (first : Record) (IsText : List ℕ → Type 0) (writer writer' : Option (List ℕ)) : Type 0 where
+  pub others : List Record
+  pub front : AreFirstOf IsText (first ∷ others)
+  pub written : WritesUpTo writer writer' (finding_lines (findings_from tally 2 [] others))

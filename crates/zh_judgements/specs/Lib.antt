@@ -1,0 +1,5 @@
+pub mod Rows
+pub mod Findings
+pub mod Text
+pub mod Judged
+pub mod Answered

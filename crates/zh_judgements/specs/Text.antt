@@ -1,0 +1,53 @@
+-- What is written of the records of a text: a line for each that is refused, and then what a loading would come to. 10 ends a
+-- line, 32 is the space, 44 the comma, 63 the question mark.
+use Rattle.std.specs.Prelude.{ℕ, ◌==◌, ◌||◌, nat_lt, if◌then◌else◌, List, [], ◌∷◌, ◌++◌, drop, map, codes, decimal}
+use Rattle.std.specs.List.{flat_map}
+use Rattle.zh_commands.specs.Replies.{answer}
+use Rattle.zh_commands.specs.declared.replies.Reply.TheVariants as replies
+use Rattle.zh_commands.specs.declared.replies.Refusal.{Refusal}
+use Rattle.zh_csv.specs.Records.{Record}
+use Rattle.zh_returns.specs.Tally.{Tally}
+use Rattle.zh_judgements.specs.Findings.{Finding, findings, forecast_of}
+use Rattle.zh_judgements.specs.declared.judgement.Forecast.{Forecast}
+use Rattle.zh_judgements.specs.declared.judgement.Forecast.TheVariants as forecasts
+use Rattle.zh_judgements.specs.declared.judgement.Judgement.{Judgement}
+use Rattle.zh_judgements.specs.declared.judgement.Judgement.TheVariants.{Refused}
+
+-- a control byte stands as a question mark
+abbrev pub printable : ℕ → ℕ
+printable byte = if nat_lt byte 32 || (byte == 127) then 63 else byte
+
+-- fields, a comma before each
+abbrev pub after_commas : Record → List ℕ
+after_commas fields = flat_map (λ field. 44 ∷ map printable field) fields
+
+-- fields, a comma between each two
+abbrev pub joined : Record → List ℕ
+joined fields = drop 1 (after_commas fields)
+
+-- a record that is refused: the number of its row, its fields, and the refusal as a reply has it
+abbrev pub refused_line : ℕ → Record → Refusal → List ℕ
+refused_line number fields refusal =
+    codes "row " ++ decimal number ++ codes ": " ++ joined fields ++ 32 ∷ answer (replies.Refused refusal) ++ 10 ∷ []
+
+-- any record: only one that is refused has a line
+abbrev pub line_by : ℕ → Record → Judgement → List ℕ
+line_by number fields (Refused refusal) = refused_line number fields refusal
+line_by number fields judgement = []
+
+abbrev pub line_of : Finding → List ℕ
+line_of finding = line_by finding.number finding.fields finding.judgement
+
+abbrev pub finding_lines : List Finding → List ℕ
+finding_lines found = flat_map line_of found
+
+-- the last line
+abbrev pub forecast_text : Forecast → List ℕ
+forecast_text forecasts.Stores = codes "would store\n"
+forecast_text forecasts.Same = codes "same\n"
+forecast_text (forecasts.Refused refused records) =
+    codes "refused " ++ decimal refused ++ codes " of " ++ decimal records ++ codes " records\n"
+
+-- the whole text on the records of a text
+abbrev pub judgement_text : Tally → List Record → List ℕ
+judgement_text tally records = finding_lines (findings tally records) ++ forecast_text (forecast_of (findings tally records))

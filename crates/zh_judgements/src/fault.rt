@@ -1,0 +1,41 @@
+//! Why a text is not judged to its end.
+
+ghost use Rattle.std.specs.Prelude.{◌≡◌};
+ghost use Rattle.zh_judgements.specs.declared.fault.JudgementFault.TheVariants.{Memory, Write};
+
+use std::alloc::AllocError;
+use thiserror::Error;
+use zh_commands::WriteFault;
+
+/// Why a text is not judged to its end.
+#[derive(Clone, Copy, Debug, PartialEq, Eq, Error)]
+pub enum JudgementFault {
+    /// Memory ran out.
+    #[error("memory")]
+    Memory,
+    /// The reader failed.
+    #[error("read")]
+    Read,
+    /// The text has 4,294,967,294 records or more.
+    #[error("turns")]
+    Turns,
+    /// The writer failed, or took no byte.
+    #[error("write")]
+    Write,
+}
+
+impl From<AllocError> for JudgementFault {
+    ghost from_gives = { λ _ fault. fault ≡ Memory };
+
+    fn from(_: AllocError) -> JudgementFault {
+        JudgementFault::Memory
+    }
+}
+
+impl From<WriteFault> for JudgementFault {
+    ghost from_gives = { λ _ fault. fault ≡ Write };
+
+    fn from(_: WriteFault) -> JudgementFault {
+        JudgementFault::Write
+    }
+}

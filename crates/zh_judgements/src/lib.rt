@@ -1,0 +1,15 @@
+//! A text of returns judged against a count, record by record, with nothing stored.
+#![tactic(auto)]
+
+mod fault;
+mod judgement;
+mod laws;
+mod line;
+mod progress;
+mod reader;
+mod text;
+
+pub use fault::JudgementFault;
+pub use judgement::{Forecast, Judgement};
+pub use laws::forecast_is_kept;
+pub use text::write_judgement;

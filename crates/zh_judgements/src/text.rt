@@ -1,0 +1,128 @@
+//! A text judged record by record.
+
+ghost use Rattle.std.specs.Prelude.{◌≡◌, ◌≤◌, ◌∷◌, [], ℕ, List, Some, IfOk, IsErrOf, MatchResult, OnErr, OnOk, true};
+ghost use Rattle.std.specs.Io.KnownBytes.{Appends};
+ghost use Rattle.csv.specs.Records.{fields_of};
+ghost use Rattle.zh_csv.specs.Noted.{has_failed, inner_reader};
+ghost use Rattle.zh_csv.specs.Records.{Record};
+ghost use Rattle.zh_returns.specs.Tally.{Tally};
+ghost use Rattle.zh_judgements.specs.Findings.{findings, forecast_by, forecast_of};
+ghost use Rattle.zh_judgements.specs.Judged.{AreBrokenOff, AreJudged, HasGiven, IsAfter, Judges, WritesUpTo};
+ghost use Rattle.zh_judgements.specs.Text.{forecast_text, judgement_text};
+
+use crate::fault::JudgementFault;
+use crate::judgement::{Counts, Forecast};
+use crate::line::forecast_line;
+use crate::progress::Progress;
+use crate::reader::{next_record, reader_of};
+use csv::{ByteRecord, Reader};
+use std::alloc::Global;
+use std::io::{Read, Write};
+use zh_commands::put;
+use zh_csv::NotedReader;
+use zh_returns::Count;
+
+/// Judges the records that follow the first.
+fn judge_others<R: Read, W: Write>(
+    alloc: Global,
+    count: &Count<'_>,
+    reader: &mut Reader<R>,
+    record: &mut ByteRecord,
+    progress: &mut Progress,
+    out: &mut W,
+) -> Result<(), JudgementFault>
+    requires within { progress.old.counts.refused ≤ progress.old.counts.records }
+    requires few { progress.old.counts.records ≤ 1 }
+    ensures { (first : Record) → IsAfter count.now (first ∷ []) progress.old → MatchResult result
+        (λ _. AreJudged count.now first (λ bytes. HasGiven R.remaining bytes (first ∷ []) reader.old)
+        (W.contents out.old) (W.contents out.new) progress.new)
+        (λ _. AreBrokenOff count.now first (λ bytes. HasGiven R.remaining bytes (first ∷ []) reader.old)
+        (W.contents out.old) (W.contents out.new)) }
+{
+    for number in 2..u32::MAX {
+        if !next_record(reader, record)? {
+            return Ok(());
+        }
+        progress.take(alloc, count, number, record, out)?;
+    }
+    Err(JudgementFault::Turns)
+}
+
+/// Writes what a loading would come to.
+fn write_forecast<W: Write>(
+    alloc: Global,
+    counts: &Counts,
+    out: &mut W,
+) -> Result<Forecast, JudgementFault>
+    ensures comes_to { IfOk result (λ forecast. forecast ≡ forecast_by counts.now) }
+    ensures all { OnOk result (Appends (W.contents out.old) (W.contents out.new) (forecast_text (forecast_by counts.now))) }
+    ensures front { OnErr result (WritesUpTo (W.contents out.old) (W.contents out.new) (forecast_text (forecast_by counts.now))) }
+{
+    let forecast = counts.forecast();
+    let line = forecast_line(alloc, forecast)?;
+    put(out, &line)?;
+    Ok(forecast)
+}
+
+/// Judges a text that has no record.
+fn judge_none<W: Write>(alloc: Global, out: &mut W) -> Result<Forecast, JudgementFault>
+    ensures { (tally : Tally) → MatchResult result
+        (λ forecast. Appends (W.contents out.old) (W.contents out.new) (judgement_text tally [])
+        × (forecast ≡ forecast_of (findings tally [])))
+        (λ _. WritesUpTo (W.contents out.old) (W.contents out.new) (judgement_text tally [])) }
+{
+    let progress = Progress::begin(alloc, &ByteRecord::new(alloc), out)?;
+    write_forecast(alloc, &progress.counts, out)
+}
+
+/// Judges a text whose first record was read.
+fn judge_all<R: Read, W: Write>(
+    alloc: Global,
+    count: &Count<'_>,
+    reader: &mut Reader<R>,
+    record: &mut ByteRecord,
+    out: &mut W,
+) -> Result<Forecast, JudgementFault>
+    ensures { Judges count.now (λ bytes. HasGiven R.remaining bytes (fields_of record.old ∷ []) reader.old)
+        (W.contents out.old) (W.contents out.new) result }
+{
+    let mut progress = Progress::begin(alloc, record, out)?;
+    judge_others(alloc, count, reader, record, &mut progress, out)?;
+    write_forecast(alloc, &progress.counts, out)
+}
+
+/// Judges the records of a text.
+fn judge_records<R: Read + Drop, W: Write>(
+    alloc: Global,
+    count: &Count<'_>,
+    text: R,
+    out: &mut W,
+) -> Result<Forecast, JudgementFault>
+    ensures { Judges count.now (λ bytes. R.remaining text ≡ Some bytes) (W.contents out.old) (W.contents out.new) result }
+{
+    let mut reader = reader_of(alloc, text);
+    let mut record = ByteRecord::new(alloc);
+    if !next_record(&mut reader, &mut record)? {
+        return judge_none(alloc, out);
+    }
+    judge_all(alloc, count, &mut reader, &mut record, out)
+}
+
+/// Judges the records of a text as they would be loaded into this count, writes a line for each that would be refused, and
+/// then what a loading would come to. It holds one record at a time, and the rows that none may repeat, 1,000 at most.
+pub fn write_judgement<R: Read, W: Write>(
+    alloc: Global,
+    count: &Count<'_>,
+    text: &mut NotedReader<R>,
+    out: &mut W,
+) -> Result<Forecast, JudgementFault>
+    ensures judges { Judges count.now (λ bytes. R.remaining (inner_reader text.old) ≡ Some bytes)
+        (W.contents out.old) (W.contents out.new) result }
+    ensures read { IsErrOf result JudgementFault.Read → has_failed text.new ≡ true }
+{
+    match judge_records(alloc, count, &mut *text, out) {
+        // A read that fails is noted, so here it was memory that was refused.
+        Err(JudgementFault::Read) if !text.has_failed() => Err(JudgementFault::Memory),
+        judged => judged,
+    }
+}
