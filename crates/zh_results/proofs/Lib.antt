@@ -1,0 +1,3 @@
+mod RefusalLemmas
+mod ReplyLemmas
+mod VerdictLemmas

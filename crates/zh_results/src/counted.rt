@@ -1,0 +1,114 @@
+//! The seats by a count.
+
+ghost use Rattle.std.specs.Prelude.{◌≡◌, Bool, IfErr, IfOk, MatchOption};
+ghost use Rattle.zh_answers.specs.Sheets.{AreClosed, IsFirstOpen, MayGive, MayGiveFor, sheet_refusal};
+ghost use Rattle.zh_totals.specs.Counting.{totals_of};
+ghost use Rattle.zh_sheet.specs.Made.{IsMade};
+ghost use Rattle.zh_results.specs.Results.{IsReasonFor, MayAnswerAs, answer_of, refusal_answer};
+
+use crate::outcome::{MarkedSheet, NoSeats};
+use std::alloc::Global;
+use zh_commands::Refusal;
+use zh_returns::{Count, Reason};
+use zh_seats::Mark;
+use zh_sheet::{SheetFault, explain, make};
+use zh_totals::Totals;
+
+/// The lowest municipality that is open.
+fn first_open(count: &Count<'_>) -> Option<u32>
+    ensures { MatchOption result (AreClosed count.now) (IsFirstOpen count.now) }
+{
+    for municipality in 1..=count.setup().municipalities() {
+        if !count.closed(municipality) {
+            return Some(municipality);
+        }
+    }
+    None
+}
+
+/// The name under which a sheet is refused.
+fn refusal_of(fault: SheetFault) -> Refusal
+    ensures { result ≡ sheet_refusal fault }
+{
+    match fault {
+        SheetFault::Memory => Refusal::Memory,
+        SheetFault::TiedSeats => Refusal::TiedSeats,
+        SheetFault::NoSeat(constituency) => Refusal::NoSeat(constituency),
+        SheetFault::NoGroup => Refusal::NoGroup,
+        SheetFault::NoVoters => Refusal::NoVoters,
+        SheetFault::TiedUpper => Refusal::TiedUpper,
+        SheetFault::NoVotes(constituency) => Refusal::NoVotes(constituency),
+        SheetFault::TiedLower(constituency, group) => Refusal::TiedLower(constituency, group),
+        SheetFault::Exhausted => Refusal::Exhausted,
+    }
+}
+
+/// Why there is no sheet of these totals, whose making ended so.
+fn why_none(alloc: Global, totals: &Totals<'_>, fault: SheetFault) -> NoSeats
+    requires { IsMade totals.now (Err fault) }
+    ensures answer { (is_final : Bool) → MayGiveFor totals.now is_final (refusal_answer result) }
+    ensures reason { IsReasonFor totals.now result }
+{
+    match fault {
+        SheetFault::Exhausted => match explain(alloc, totals) {
+            Ok(reason) => NoSeats::Exhausted(reason),
+            Err(_) => NoSeats::Refused(Refusal::Memory),
+        },
+        _ => NoSeats::Refused(refusal_of(fault)),
+    }
+}
+
+/// The seats by these totals, or why there are none.
+fn seats_by_totals<'s>(
+    alloc: Global,
+    totals: &Totals<'s>,
+    mark: Mark,
+) -> Result<MarkedSheet<'s>, NoSeats>
+    ensures answer { MayGiveFor totals.now mark.is_final (answer_of result) }
+    ensures mark { IfOk result (λ seats. seats.mark ≡ mark) }
+    ensures reason { IfErr result (IsReasonFor totals.now) }
+{
+    match make(alloc, totals) {
+        Ok(sheet) => Ok(MarkedSheet { sheet, mark }),
+        Err(fault) => Err(why_none(alloc, totals, fault)),
+    }
+}
+
+/// The seats by a count, or why there are none.
+fn seats_of_count<'s>(
+    alloc: Global,
+    count: &Count<'s>,
+    mark: Mark,
+) -> Result<MarkedSheet<'s>, NoSeats>
+    ensures answer { MayGive count.now mark.is_final (answer_of result) }
+    ensures mark { IfOk result (λ seats. seats.mark ≡ mark) }
+    ensures reason { IfErr result (IsReasonFor (totals_of count.now)) }
+{
+    match Totals::of(alloc, count) {
+        Ok(totals) => seats_by_totals(alloc, &totals, mark),
+        Err(_) => Err(NoSeats::Refused(Refusal::Memory)),
+    }
+}
+
+/// The seats by a count, as its line `sheet` is answered, or those that are final, as its line `final` is; or why there are
+/// none.
+pub fn seats_by_count<'s>(
+    alloc: Global,
+    count: &Count<'s>,
+    is_final: bool,
+) -> Result<MarkedSheet<'s>, NoSeats>
+    ensures answer { MayAnswerAs count.now is_final (answer_of result) }
+    ensures mark { IfOk result (λ seats. seats.mark ≡ record { is_final = is_final; accepted = count.now.accepted }) }
+    ensures reason { IfErr result (IsReasonFor (totals_of count.now)) }
+{
+    let open = if is_final { first_open(count) } else { None };
+    if let Some(municipality) = open {
+        let reason = Reason::NotClosed(municipality);
+        return Err(NoSeats::Refused(Refusal::Judged(reason)));
+    }
+    let mark = Mark {
+        is_final,
+        accepted: count.accepted(),
+    };
+    seats_of_count(alloc, count, mark)
+}

@@ -1,0 +1,109 @@
+//! What is reported where there are no seats.
+
+ghost use Rattle.std.specs.Prelude.{◌≡◌, ◌≤◌, ◌++◌, ◌∷◌, [], IfOk, OnOk, codes, decimal, length};
+ghost use Rattle.zh_tables.specs.Tables.{each_to};
+ghost use Rattle.zh_results.specs.Texts.{number_if_among, reason_text, refusal_line, refusal_text};
+
+use crate::outcome::NoSeats;
+use itoa::Buffer;
+use std::alloc::{AllocError, Global};
+use zh_commands::{Refusal, Reply, write_reply};
+use zh_districts::Setup;
+use zh_reasons::MarkedRows;
+use zh_sheet::ExhaustedReason;
+
+/// Puts these bytes at the end.
+fn push_bytes(out: &mut Vec<u8>, bytes: &[u8]) -> Result<(), AllocError>
+    ensures { OnOk result (out.new.items ≡ out.old.items ++ bytes.now) }
+{
+    out.extend_from_slice(bytes)
+}
+
+/// Puts the line of a refusal at the end.
+fn push_refusal(out: &mut Vec<u8>, refusal: Refusal) -> Result<(), AllocError>
+    ensures { OnOk result (out.new.items ≡ out.old.items ++ refusal_line refusal) }
+{
+    let mut reply = [0; 64];
+    let length = write_reply(0, &Reply::Refused(refusal), &mut reply);
+    push_bytes(out, b"zhcount: ")?;
+    push_bytes(out, &reply[2..length])
+}
+
+/// Puts a space and a number at the end.
+fn push_number(out: &mut Vec<u8>, number: u32) -> Result<(), AllocError>
+    ensures { OnOk result (out.new.items ≡ out.old.items ++ (32 ∷ decimal number)) }
+{
+    out.push(b' ')?;
+    out.extend_from_slice(Buffer::new().format(number).as_bytes())
+}
+
+/// Puts the number of a constituency at the end, if it is marked.
+fn push_if_marked(
+    out: &mut Vec<u8>,
+    marked: &MarkedRows,
+    constituency: u32,
+) -> Result<(), AllocError>
+    requires from_one { 1 ≤ constituency }
+    requires most { constituency ≤ 32 }
+    ensures { OnOk result (out.new.items ≡ out.old.items ++ number_if_among marked.now constituency) }
+{
+    if marked.contains(constituency) {
+        push_number(out, constituency)
+    } else {
+        Ok(())
+    }
+}
+
+/// Puts the constituencies that are marked at the end.
+fn push_marked(out: &mut Vec<u8>, setup: &Setup, marked: &MarkedRows) -> Result<(), AllocError>
+    ensures { OnOk result (out.new.items ≡ out.old.items
+        ++ each_to (length setup.now.constituencies) (number_if_among marked.now)) }
+{
+    for place in 0..setup.constituencies() {
+        push_if_marked(out, marked, place + 1)?;
+    }
+    Ok(())
+}
+
+/// Puts the constituency and the group of a near tie at the end.
+fn push_near_tie(out: &mut Vec<u8>, constituency: u32, group: u32) -> Result<(), AllocError>
+    ensures { OnOk result (out.new.items
+        ≡ out.old.items ++ (codes "nearly tied" ++ 32 ∷ decimal constituency ++ 32 ∷ decimal group)) }
+{
+    push_bytes(out, b"nearly tied")?;
+    push_number(out, constituency)?;
+    push_number(out, group)
+}
+
+/// Puts a reason at the end.
+fn push_reason(out: &mut Vec<u8>, setup: &Setup, reason: &ExhaustedReason) -> Result<(), AllocError>
+    ensures { OnOk result (out.new.items ≡ out.old.items ++ reason_text setup.now reason.now) }
+{
+    match reason {
+        ExhaustedReason::Impossible(marked) => {
+            push_bytes(out, b"impossible")?;
+            push_marked(out, setup, marked)
+        }
+        ExhaustedReason::NearlyTied(constituency, group) => {
+            push_near_tie(out, *constituency, *group)
+        }
+        ExhaustedReason::Undecided => push_bytes(out, b"undecided"),
+    }
+}
+
+/// What is reported of why there are no seats: the refusal in a line; and of an exhausted search its reason in another.
+pub fn refusal_text(alloc: Global, setup: &Setup, why: &NoSeats) -> Result<Vec<u8>, AllocError>
+    ensures { IfOk result (λ text. text.items ≡ refusal_text setup.now why.now) }
+{
+    let mut out = Vec::new(alloc);
+    match why {
+        NoSeats::Refused(refusal) => push_refusal(&mut out, *refusal)?,
+        NoSeats::Exhausted(reason) => {
+            push_refusal(&mut out, Refusal::Exhausted)?;
+            push_reason(&mut out, setup, reason)?;
+            out.push(b'\n')?;
+        }
+        NoSeats::Wrong => push_bytes(&mut out, b"zhcount: sheet wrong\n")?,
+    }
+    Ok(out)
+}

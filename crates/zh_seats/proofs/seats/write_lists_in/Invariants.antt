@@ -1,0 +1,7 @@
+use Rattle.zh_tables.specs.Records.{PutsText}
+use Rattle.zh_tables.specs.Tables.{each_to}
+use Rattle.zh_seats.specs.Lists.{standing_row}
+use Rattle.zh_seats.proofs.seats.write_lists_in.Given as goal
+
+abbrev pub invariant-loop-place : goal.invariant-loop-place
+invariant-loop-place g l = PutsText g.W.Write.contents (each_to l.place (standing_row l.fn.sheet l.fn.mark l.fn.constituency)) l.fn.writer l.writer

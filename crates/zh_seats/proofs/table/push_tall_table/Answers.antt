@@ -1,0 +1,18 @@
+use Rattle.std.proofs.Common.{ap, arith, length, ◌++◌, ◌∙◌, ◌≡◌, ℕ}
+use Rattle.zh_tables.specs.Tables.{each_to}
+use Rattle.zh_seats.specs.Table.{tall_lines}
+use Rattle.zh_seats.specs.declared.cells.Line.TheVariants.{Constituency, Total}
+use Rattle.zh_seats.proofs.TextLemmas.{put_last, put_next}
+use Rattle.zh_seats.proofs.table.push_tall_table.Goals as goal
+
+pub loop-place-preserved : goal.loop-place-preserved
+loop-place-preserved c =
+    put_next (λ d. tall_lines c.args.sheet.now (Constituency d)) c.args.out.now.items c.loop-place.out.items c.push_tall_lines.new.out.items c.loop-place.place c.loop-place.invariant c.in_ok-push_tall_lines.ensures
+
+pub returns : goal.returns
+returns c =
+    let x = c.args.sheet.now in
+    let lines = λ (n : ℕ). each_to n (λ d. tall_lines x (Constituency d)) in
+    let last : c.loop-place.place ≡ length x.totals.canton.constituencies = omega (arith, c.constituencies-place-end.ensures.count, ap (λ t. length t.constituencies) c.setup.ensures.setup) in
+    put_last c.push_tall_lines-2.result c.args.out.now.items c.loop-place.out.items c.push_tall_lines-2.new.out.items (lines (length x.totals.canton.constituencies)) (tall_lines x Total)
+    (c.loop-place.invariant ∙ ap (λ (n : ℕ). c.args.out.now.items ++ lines n) last) c.push_tall_lines-2.ensures
