@@ -12,5 +12,6 @@ mod EmptyLemmas
 mod ConductLemmas
 mod ServedLemmas
 mod LoadedLemmas
+mod PartLemmas
 mod PromiseLemmas
 mod ExcludeLemmas

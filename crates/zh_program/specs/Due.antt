@@ -1,11 +1,11 @@
 -- Which exchanges a task is due, and what it writes of them.
-use Rattle.std.specs.Prelude.{◌≡◌, ◌≢◌, ◌⊎◌, ◌<◌, ℕ, List, [], ◌∷◌, ◌++◌, flat_map, length, map, take, Option, Some, None, Result}
+use Rattle.std.specs.Prelude.{◌≡◌, ◌≢◌, ◌⊎◌, ◌<◌, ℕ, List, [], ◌∷◌, ◌++◌, flat_map, length, map, take, Option, Some, Result}
 use Rattle.std.specs.Io.KnownBytes.{Appends, Consumes, IsAtEnd, Keeps}
 use Rattle.zh_records.specs.declared.row.Row.{Row}
 use Rattle.zh_csv.specs.declared.fault.LoadFault.{LoadFault}
 use Rattle.zh_office.specs.Text.{ended_lines, lines_of}
 use Rattle.zh_arguments.specs.declared.arguments.Task.{Task}
-use Rattle.zh_arguments.specs.declared.arguments.Task.TheVariants.{Format, Run, Load, Export}
+use Rattle.zh_arguments.specs.declared.arguments.Task.TheVariants.{Run, Load}
 use Rattle.zh_world.specs.declared.world.World.{World}
 use Rattle.zh_tasks.specs.World.{Known}
 use Rattle.zh_program.specs.Exchanges.{Exchange, line_in, text_of}
@@ -40,14 +40,6 @@ pub record AnswerText (known writer writer' : Option (List ℕ)) (status : ℕ) 
   pub loaded : ((exchanges ≡ []) × (status ≢ 0))
       ⊎ ((x : Exchange) × (loaded : Result (List Row) LoadFault) × (exchanges ≡ x ∷ []) × (x.given ≡ text bytes loaded))
   pub written : Appends writer writer' (flat_map text_of exchanges) ⊎ ((status ≢ 0) × IsCutShort writer writer' exchanges)
-
--- the path of the disk of a task
-abbrev pub disk_path : Task → Option (List ℕ)
-disk_path (Format paths) = Some paths.disk.now
-disk_path (Run paths) = Some paths.disk.now
-disk_path (Load paths csv) = Some paths.disk.now
-disk_path (Export paths) = Some paths.disk.now
-disk_path task = None
 
 module _ {I O E F T D R : Type 0} where
   -- these are the exchanges of a task that takes the one world to the other: only a run and a load have some

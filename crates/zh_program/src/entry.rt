@@ -18,6 +18,14 @@ use zh_arguments::read_arguments;
 use zh_tasks::{TaskFault, carry_out};
 use zh_world::{Ended, Files, World};
 
+/// Reports a fault, and on a second line its place, if that is known.
+fn report<E: Write>(fault: TaskFault, faults: &mut E) {
+    let _ = writeln!(faults, "zhcount: {fault}");
+    if let Some(place) = fault.place() {
+        let _ = writeln!(faults, "{place}");
+    }
+}
+
 /// The status of a task that ended so. A fault is reported, but of a file that was refused the reply says enough.
 fn end<E: Write>(ended: Result<(), TaskFault>, faults: &mut E) -> u8
     ensures status { MatchResult ended (λ _. (result ≡ 0) × (faults.new ≡ faults.old)) (λ _. result ≡ 1) }
@@ -27,7 +35,7 @@ fn end<E: Write>(ended: Result<(), TaskFault>, faults: &mut E) -> u8
         Ok(()) => 0,
         Err(TaskFault::Refused) => 1,
         Err(fault) => {
-            let _ = writeln!(faults, "zhcount: {fault}");
+            report(fault, faults);
             1
         }
     }

@@ -1,3 +1,5 @@
+mod CheckLemmas
+mod DryRunLemmas
 mod ExportLemmas
 mod FormatLemmas
 mod KeptLemmas
@@ -5,6 +7,8 @@ mod ListLemmas
 mod LoadLemmas
 mod RehearseLemmas
 mod RunLemmas
+mod SeatsLemmas
 mod SetupLemmas
 mod StartLemmas
 mod WorldLemmas
+mod StatusLemmas

@@ -1,8 +1,8 @@
 -- The writing of a table of the set-up.
-use Rattle.std.proofs.Common.{◌≡◌, ◌∙◌, sym, subst, ℕ, List, [], ◌++◌, Option, Some, Ok, Err, refl}
+use Rattle.std.proofs.Common.{◌≡◌, subst, ℕ, List, [], ◌++◌, Option, Some, Err}
 use Rattle.std.specs.Io.KnownBytes.{Appends}
 use Rattle.zh_districts.specs.Canton.{Canton}
-use Rattle.zh_tables.specs.Tables.{IsTableText, RefusesTable}
+use Rattle.zh_tables.specs.Tables.{RefusesTable}
 use Rattle.zh_tables.specs.declared.fault.ListFault.{ListFault}
 use Rattle.zh_tables.specs.declared.fault.ListFault.TheVariants as lists
 use Rattle.zh_tables.specs.declared.table.Table.{Table}
@@ -13,6 +13,8 @@ use Rattle.zh_tasks.specs.declared.fault.TaskFault.{TaskFault}
 pub not_made : (U : Type 0) (w w' : Option (List ℕ)) (canton : Canton) (table : Table) (fault : ListFault) (e : TaskFault)
     → RefusedAs fault e → RefusesTable canton table fault → U → Lists U w w' canton table (Err e)
 not_made U w w' canton table (lists.Seats refusal) e is refuses unwritten = rw is ((unwritten, refuses))
+not_made U w w' canton table (lists.NoMunicipality m) e is refuses unwritten = rw is ((unwritten, refuses))
+not_made U w w' canton table (lists.NoConstituency d) e is refuses unwritten = rw is ((unwritten, refuses))
 not_made U w w' canton table lists.Memory e is refuses unwritten = rw is unwritten
 not_made U w w' canton table lists.Write e is refuses unwritten = rw is unwritten
 

@@ -1,5 +1,5 @@
 -- The office of a rehearsal.
-use Rattle.std.proofs.Common.{◌≡◌, ◌∙◌, ◌<◌, ◌≤◌, ℕ, List, length, take, Option, Result, Ok, Err, OnErr, OnOk, refl, sym, ap, subst, arith, IsTrue}
+use Rattle.std.proofs.Common.{◌≡◌, ◌∙◌, ◌<◌, ℕ, List, length, take, Option, Result, Ok, Err, OnErr, OnOk, refl, sym, ap, subst, arith, IsTrue}
 use Rattle.std.proofs.lemmas.List.{take_all}
 use Rattle.std.specs.Io.KnownBytes.{Appends}
 use Rattle.zh_districts.specs.Canton.{Canton}

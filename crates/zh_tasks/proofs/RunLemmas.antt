@@ -1,5 +1,5 @@
 -- What serving has done, by how it ended.
-use Rattle.std.proofs.Common.{◌≡◌, ℕ, List, Option, Result, Ok, Err, IsErrOf, IsTrue, subst}
+use Rattle.std.proofs.Common.{◌≡◌, ℕ, List, Option, Result, Ok, Err, IsErrOf, subst}
 use Rattle.zh_districts.specs.Canton.{Canton}
 use Rattle.zh_disk.specs.History.{History}
 use Rattle.zh_ledger.specs.declared.fault.OpenFault.{OpenFault}

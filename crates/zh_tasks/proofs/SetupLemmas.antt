@@ -1,5 +1,6 @@
 -- A set-up, and the text that it is read from.
-use Rattle.std.proofs.Common.{◌≡◌, ◌<◌, ◌≤◌, ◌∙◌, ℕ, List, [], ◌++◌, length, take, Bool, true, false, Option, Some, None, Result, Ok, Err, IfSome, IfOk, refl, sym, ap, subst, arith, nat_le, ⊎_elim, cond, ◌&&◌}
+use Rattle.std.proofs.Common.{◌≡◌, ◌≢◌, ◌<◌, ◌≤◌, ◌∙◌, ℕ, List, [], ◌++◌, length, take, Bool, true, false, Option, Some, None, Result, Ok, Err, IfSome, IfOk, refl, sym, ap, subst, arith, nat_le, ⊎_elim, cond, ◌&&◌, inl, inr}
+use Rattle.std.proofs.lemmas.Bool.{cases_lt}
 use Rattle.std.proofs.lemmas.Bool.Decides.{leb_tells}
 use Rattle.std.proofs.lemmas.List.{length-take, take_all}
 use Rattle.std.specs.Option.{option_map}
@@ -7,8 +8,10 @@ use Rattle.zh_districts.specs.Canton.{Canton, IsCanton}
 use Rattle.std.specs.Str.{is_utf8}
 use Rattle.zh_setups.specs.SetupText.{reading_of}
 use Rattle.zh_setups.specs.declared.fault.SetupFault.{SetupFault}
-use Rattle.zh_setups.specs.declared.fault.SetupFault.TheVariants.{Text}
-use Rattle.zh_tasks.specs.OnDisk.{IsEarly, IsOfSetup}
+use Rattle.zh_setups.specs.declared.fault.SetupFault.TheVariants.{Memory, Text}
+use Rattle.zh_setups.specs.declared.fault.SetupRefusal.{SetupRefusal}
+use Rattle.zh_setups.specs.Refusals.{IsPlaced}
+use Rattle.zh_tasks.specs.OnDisk.{IsEarly, IsOfSetup, RefusesSetup}
 use Rattle.zh_tasks.specs.World.{IsFrontAt, IsSetupAt}
 use Rattle.zh_tasks.specs.declared.fault.TaskFault.{TaskFault}
 use Rattle.zh_tasks.specs.declared.fault.TaskFault.TheVariants as faults
@@ -52,8 +55,38 @@ setup_read known front text (Ok canton) is same reading limits = setup_known kno
 setup_read known front text (Err fault) is same reading limits = tt
 
 -- a fault of the set-up comes before a task has a disk
-pub is_early : (fault : TaskFault) → IsOfSetup fault → IsEarly fault
-is_early faults.SetupFile is = tt
-is_early (faults.Setup fault) is = tt
-is_early faults.Memory is = tt
-is_early fault is = absurd is
+pub is_early : (text : Option (List ℕ)) (fault : TaskFault) → IsOfSetup text fault → IsEarly text fault
+is_early text faults.SetupFile is = tt
+is_early text (faults.Setup refusal) is = is
+is_early text faults.Memory is = tt
+is_early text fault is = absurd is
+
+-- a front that is cut off stands for no set-up, and so does its text
+cut : (all front : List ℕ) → front ≡ take 1048577 all → 1048576 < length all → (reading_of front ≡ Err Text) × (reading_of all ≡ Err Text) × (1048576 < length front)
+cut all front is long =
+    let many : 1048576 < length front = omega (arith, length-take 1048577 all, ap length is) in
+    (unless (nat_le (length front) 1048576) (is_utf8 front) _ (Err Text) (not_short (length front) many), unless (nat_le (length all) 1048576) (is_utf8 all) _ (Err Text) (not_short (length all) long), many)
+  where
+    not_short : (n : ℕ) → 1048576 < n → nat_le n 1048576 ≡ false
+    not_short n long = ⊎_elim (λ (h : (nat_le n 1048576 ≡ true) × (n ≤ 1048576)). absurd (omega arith)) (λ (h : (nat_le n 1048576 ≡ false) × (1048576 < n)). h.0) (leb_tells n 1048576)
+
+placed_long : (all front : List ℕ) (refusal : SetupRefusal) → 1048576 < length all → 1048576 < length front → IsPlaced front refusal → IsPlaced all refusal
+placed_long all front refusal long many placed = elim placed [
+  | inl memory ↦ inl memory
+  | inr known ↦ elim known [
+    | inl too_long ↦ inr (inl (long, too_long.1))
+    | inr short ↦ absurd (omega (arith, short.0, many))
+  ]
+]
+
+-- what refuses the front of a text that was read refuses the text
+pub setup_refused : (known : Option (List ℕ)) (front text : List ℕ) (refusal : SetupRefusal) → IsFrontAt known front → text ≡ front → (refusal.fault ≢ Memory → reading_of text ≡ Err refusal.fault) → IsPlaced text refusal → RefusesSetup known refusal
+setup_refused None front text refusal is same fault placed = tt
+setup_refused (Some all) front text refusal is same fault placed = elim (cases_lt 1048576 (length all)) [
+  | inl long ↦
+      let parts = cut all text (same ∙ is) long in
+      (λ other. parts.1 ∙ sym parts.0 ∙ fault other, placed_long all text refusal long parts.2 placed)
+  | inr short ↦
+      let whole : text ≡ all = same ∙ is ∙ take_all 1048577 all (omega arith) in
+      (λ other. subst (λ (l : List ℕ). reading_of l ≡ Err refusal.fault) whole (fault other), subst (λ (l : List ℕ). IsPlaced l refusal) whole placed)
+]

@@ -1,5 +1,5 @@
 -- How an office begins on the disk that it was opened from.
-use Rattle.std.proofs.Common.{◌≡◌, ◌≤◌, ℕ, List, Result, Ok, Err, IfErr, IsTrue, sym, ap, subst, arith}
+use Rattle.std.proofs.Common.{◌≡◌, ℕ, List, Result, Ok, Err, IfErr, IsTrue, sym, ap, subst, arith}
 use Rattle.zh_districts.specs.Canton.{Canton}
 use Rattle.zh_desks.specs.Batches.{no_batches}
 use Rattle.zh_disk.specs.History.{History, HasRisen}

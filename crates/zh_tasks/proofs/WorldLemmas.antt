@@ -1,5 +1,5 @@
 -- The calls that were made of files before a task has its disk.
-use Rattle.std.proofs.Common.{◌≡◌, ◌≤◌, ◌+◌, ◌∙◌, ℕ, List, Option, ap, subst, sym, arith}
+use Rattle.std.proofs.Common.{◌≡◌, ◌∙◌, ℕ, List, Option, subst, sym, arith}
 use Rattle.zh_world.specs.Files.{IsCallOfFiles}
 use Rattle.zh_world.specs.declared.files.Files.{Ghosts as Files}
 use Rattle.zh_world.specs.declared.files.FileFault.{FileFault}
@@ -24,8 +24,8 @@ pub known_before : {F : Type 0} (at : F → List ℕ → Option (List ℕ)) (old
 known_before at old mid path P same by = subst (λ (f : List ℕ → Option (List ℕ)). P (f path)) same by
 
 -- a fault of opening the disk is early
-pub found_early : (fault : FileFault) (e : TaskFault) → FoundAs fault e → IsEarly e
-found_early of_files.Memory e is = subst IsEarly (sym is) tt
-found_early of_files.Device e is = subst IsEarly (sym is) tt
-found_early of_files.Size e is = subst IsEarly (sym is) tt
-found_early of_files.Busy e is = subst IsEarly (sym is) tt
+pub found_early : (text : Option (List ℕ)) (fault : FileFault) (e : TaskFault) → FoundAs fault e → IsEarly text e
+found_early text of_files.Memory e is = subst (IsEarly text) (sym is) tt
+found_early text of_files.Device e is = subst (IsEarly text) (sym is) tt
+found_early text of_files.Size e is = subst (IsEarly text) (sym is) tt
+found_early text of_files.Busy e is = subst (IsEarly text) (sym is) tt

@@ -1,10 +1,15 @@
+pub mod Check
 pub mod World
 pub mod OnDisk
 pub mod Opened
 pub mod Format
 pub mod Run
 pub mod Load
+pub mod DryRun
 pub mod Export
 pub mod Rehearse
 pub mod Tasks
 pub mod List
+pub mod Status
+pub mod Seats
+pub mod SheetSeats

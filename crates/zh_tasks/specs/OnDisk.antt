@@ -1,7 +1,12 @@
 -- What a task on a disk leaves of a world.
-use Rattle.std.specs.Prelude.{◌≡◌, ◌≤◌, ◌+◌, ◌⊎◌, ℕ, List, Option, Some, None, Result, IsErrAnd}
+use Rattle.std.specs.Prelude.{◌≡◌, ◌≢◌, ◌≤◌, ◌+◌, ◌⊎◌, ℕ, List, Option, Some, None, Result, Err, IsErrAnd}
 use Rattle.zh_arguments.specs.declared.arguments.Paths.{Paths}
 use Rattle.zh_districts.specs.Canton.{Canton}
+use Rattle.zh_setups.specs.Refusals.{IsPlaced}
+use Rattle.zh_setups.specs.SetupText.{reading_of}
+use Rattle.zh_setups.specs.declared.fault.SetupFault.TheVariants.{Memory}
+use Rattle.zh_setups.specs.declared.fault.SetupRefusal.{SetupRefusal}
+use Rattle.zh_setups.specs.declared.place.FaultPlace.{FaultPlace}
 use Rattle.zh_world.specs.declared.files.FileFault.{FileFault}
 use Rattle.zh_world.specs.declared.files.FileFault.TheVariants as of_files
 use Rattle.zh_world.specs.declared.world.World.{World}
@@ -10,22 +15,32 @@ use Rattle.zh_world.specs.declared.world.Ended.{Ended}
 use Rattle.zh_tasks.specs.declared.fault.TaskFault.{TaskFault}
 use Rattle.zh_tasks.specs.declared.fault.TaskFault.TheVariants as faults
 
--- the fault is one of memory or of the set-up, which come before all else
-abbrev pub IsOfSetup : TaskFault → Type 0
-IsOfSetup faults.SetupFile = Unit {0}
-IsOfSetup (faults.Setup fault) = Unit {0}
-IsOfSetup faults.Memory = Unit {0}
-IsOfSetup fault = ⊥
+-- this refuses the set-up in a text, if the text is known: the text has this fault, unless memory ran out, and has it there
+abbrev pub RefusesSetup : Option (List ℕ) → SetupRefusal → Type 0
+RefusesSetup None refusal = Unit {0}
+RefusesSetup (Some text) refusal = (refusal.fault ≢ Memory → reading_of text ≡ Err refusal.fault) × IsPlaced text refusal
 
--- the fault is one of memory, of the set-up or of opening the disk, which come before a task has a disk
-abbrev pub IsEarly : TaskFault → Type 0
-IsEarly faults.SetupFile = Unit {0}
-IsEarly (faults.Setup fault) = Unit {0}
-IsEarly faults.Device = Unit {0}
-IsEarly faults.Busy = Unit {0}
-IsEarly faults.Size = Unit {0}
-IsEarly faults.Memory = Unit {0}
-IsEarly fault = ⊥
+-- the place that a fault names
+abbrev pub named_place : TaskFault → Option FaultPlace
+named_place (faults.Setup refusal) = refusal.place
+named_place fault = None
+
+-- the fault is one of memory or of the set-up in this text, which come before all else
+abbrev pub IsOfSetup : Option (List ℕ) → TaskFault → Type 0
+IsOfSetup text faults.SetupFile = Unit {0}
+IsOfSetup text (faults.Setup refusal) = RefusesSetup text refusal
+IsOfSetup text faults.Memory = Unit {0}
+IsOfSetup text fault = ⊥
+
+-- the fault is one of memory, of the set-up in this text or of opening the disk, which come before a task has a disk
+abbrev pub IsEarly : Option (List ℕ) → TaskFault → Type 0
+IsEarly text faults.SetupFile = Unit {0}
+IsEarly text (faults.Setup refusal) = RefusesSetup text refusal
+IsEarly text faults.Device = Unit {0}
+IsEarly text faults.Busy = Unit {0}
+IsEarly text faults.Size = Unit {0}
+IsEarly text faults.Memory = Unit {0}
+IsEarly text fault = ⊥
 
 -- the fault of files that give no disk, as the task's
 abbrev pub FoundAs : FileFault → TaskFault → Type 0
@@ -44,9 +59,9 @@ module _ {F T D R : Type 0} where
 
 module _ {I O E F T D R : Type 0} where
   -- no disk was opened, and nothing was read from the input or written
-  pub record EndsEarly (sight : Sight F T D R) (old new : World I O E F)
+  pub record EndsEarly (sight : Sight F T D R) (paths : Paths) (old new : World I O E F)
       (ended : Ended (Result (Unit {0}) TaskFault) D) : Type 0 where
-    pub early : IsErrAnd ended.result IsEarly
+    pub early : IsErrAnd ended.result (IsEarly (sight.files.text_at old.files paths.setup.now))
     pub none : ended.used ≡ None
     pub rest : new ≡ record old { files = new.files }
     pub counted : sight.files.calls new.files ≤ sight.files.calls old.files + 2
@@ -68,5 +83,5 @@ module _ {I O E F T D R : Type 0} where
       → (Canton → World I O E F × D → World I O E F × D → Result (Unit {0}) TaskFault → Type 0)
       → Ended (Result (Unit {0}) TaskFault) D → Type 0
   UsesDisk sight paths old new Does ended =
-      EndsEarly sight old new ended
+      EndsEarly sight paths old new ended
       ⊎ HasUsed sight paths old new (λ canton before after. Does canton before after ended.result) ended.used

@@ -1,5 +1,5 @@
 -- What a rehearsal does.
-use Rattle.std.specs.Prelude.{◌≡◌, ◌≤◌, ℕ, false, List, length, take, Option, None, Result, Ok, Err, IsTrue, codes, ◌++◌, ◌∷◌, []}
+use Rattle.std.specs.Prelude.{◌≡◌, ◌≤◌, ℕ, false, List, length, take, Option, None, Result, Err, IsTrue, codes, ◌++◌, ◌∷◌, []}
 use Rattle.std.specs.Io.KnownBytes.{Appends}
 use Rattle.zh_setups.specs.Rehearsal.{rehearsal}
 use Rattle.zh_returns.specs.Tally.{empty}

@@ -4,9 +4,11 @@ use std::alloc::AllocError;
 use thiserror::Error;
 use zh_commands::WriteFault;
 use zh_districts::SeatFault;
+use zh_held::HeldFault;
 use zh_office::{OpenFault, ServeFault};
-use zh_setups::SetupFault;
+use zh_setups::{FaultPlace, SetupRefusal};
 use zh_tables::{ListFault, RecordFault};
+use zh_verdicts::VerdictFault;
 use zh_world::FileFault;
 
 /// The fault of a task, in the order of the manual. Its text is what the program reports after its name.
@@ -16,7 +18,7 @@ pub enum TaskFault {
     #[error("setup file")]
     SetupFile,
     #[error("{0}")]
-    Setup(SetupFault),
+    Setup(SetupRefusal),
     /// The disk could not be opened, made or formatted.
     #[error("disk device")]
     Device,
@@ -35,9 +37,24 @@ pub enum TaskFault {
     /// The CSV file could not be opened, or its first bytes could not be read.
     #[error("csv file")]
     CsvFile,
+    /// The file of the sheet could not be read.
+    #[error("sheet file")]
+    SheetFile,
+    /// The file of the export could not be read.
+    #[error("held file")]
+    HeldFile,
+    /// A record of the export is refused.
+    #[error("held {0}")]
+    Held(HeldFault),
     /// The constituencies get no seats.
     #[error("{0}")]
     Seats(SeatFault),
+    /// The set-up has no municipality of this number.
+    #[error("nomunicipality {0}")]
+    NoMunicipality(u32),
+    /// The set-up has no constituency of this number.
+    #[error("noconstituency {0}")]
+    NoConstituency(u32),
     #[error("memory")]
     Memory,
     #[error("{0}")]
@@ -53,6 +70,21 @@ pub enum TaskFault {
     Refused,
 }
 
+impl TaskFault {
+    ghost use Rattle.std.specs.Prelude.{◌≡◌};
+    ghost use Rattle.zh_tasks.specs.OnDisk.{named_place};
+
+    /// Where it was met, as far as that is known.
+    pub fn place(&self) -> Option<FaultPlace>
+        ensures { result ≡ named_place self.now }
+    {
+        match self {
+            TaskFault::Setup(refusal) => refusal.place,
+            _ => None,
+        }
+    }
+}
+
 impl From<AllocError> for TaskFault {
     ghost use Rattle.std.specs.Prelude.{◌≡◌};
     ghost use Rattle.zh_tasks.specs.declared.fault.TaskFault.TheVariants as faults;
@@ -61,17 +93,6 @@ impl From<AllocError> for TaskFault {
 
     fn from(_: AllocError) -> Self {
         TaskFault::Memory
-    }
-}
-
-impl From<SetupFault> for TaskFault {
-    ghost use Rattle.std.specs.Prelude.{◌≡◌};
-    ghost use Rattle.zh_tasks.specs.declared.fault.TaskFault.TheVariants as faults;
-
-    ghost from_gives = { λ fault e. e ≡ faults.Setup fault };
-
-    fn from(fault: SetupFault) -> Self {
-        TaskFault::Setup(fault)
     }
 }
 
@@ -156,8 +177,23 @@ impl From<ListFault> for TaskFault {
     fn from(fault: ListFault) -> Self {
         match fault {
             ListFault::Seats(refusal) => TaskFault::Seats(refusal),
+            ListFault::NoMunicipality(number) => TaskFault::NoMunicipality(number),
+            ListFault::NoConstituency(number) => TaskFault::NoConstituency(number),
             // The text is made in memory, where nothing else can fail.
             ListFault::Memory | ListFault::Write => TaskFault::Memory,
+        }
+    }
+}
+
+impl From<VerdictFault> for TaskFault {
+    ghost use Rattle.zh_tasks.specs.Check.{VerdictFaultAs};
+
+    ghost from_gives = { VerdictFaultAs };
+
+    fn from(fault: VerdictFault) -> Self {
+        match fault {
+            VerdictFault::Memory => TaskFault::Memory,
+            VerdictFault::Write => TaskFault::Write,
         }
     }
 }

@@ -1,6 +1,9 @@
-//! The tasks of the program `zhcount` in a world: a rehearsal, formatting, serving, loading and exporting.
+//! The tasks of the program `zhcount` in a world: a rehearsal, formatting, serving, loading or what a loading would do, exporting,
+//! checking a published sheet, and showing the seats and how far the returns have come in.
 #![tactic(auto)]
 
+mod check;
+mod dry_run;
 mod export;
 mod fault;
 mod format;
@@ -10,14 +13,20 @@ mod load;
 mod on_disk;
 mod rehearse;
 mod run;
+mod seats;
 mod setup;
+mod sheet_seats;
+mod status;
 mod task;
 
+pub use dry_run::DryRun;
 pub use export::Export;
 pub use fault::TaskFault;
 pub use format::{FormatDisk, format_blank};
-pub use laws::kept_commands;
+pub use laws::{kept_commands, whole_file_is_checked};
 pub use load::Load;
 pub use on_disk::Middle;
 pub use run::{Run, serve_on};
+pub use seats::Seats;
+pub use status::Status;
 pub use task::carry_out;

@@ -1,7 +1,8 @@
 //! Writing a table of the set-up as CSV.
 
 ghost use Rattle.std.specs.Prelude.{◌≡◌};
-ghost use Rattle.zh_tasks.specs.List.{Listed, Lists, WithSetup};
+ghost use Rattle.zh_tasks.specs.List.{Advises, Listed, Lists, SaysIf, WithSetup, advice};
+ghost use Rattle.zh_tasks.specs.Rehearse.{WritesSome};
 ghost use Rattle.zh_tasks.specs.World.{AreCalls, known};
 
 use crate::fault::TaskFault;
@@ -10,37 +11,56 @@ use std::alloc::Global;
 use std::io::{Read, Write};
 use zh_commands::put;
 use zh_districts::Setup;
-use zh_tables::{Table, write_list};
+use zh_tables::{Table, exceeds_load, write_list};
 use zh_world::{Ended, Files, World};
 
+/// Says how to split a table of more returns than one loading takes. Where that can't be written the table stands all the same.
+fn advise<E: Write>(exceeds: bool, faults: &mut E)
+    ensures { SaysIf exceeds (WritesSome (E.contents faults.old) (E.contents faults.new) advice) (faults.new ≡ faults.old) }
+{
+    if !exceeds {
+        return;
+    }
+    let _ = put(
+        faults,
+        b"zhcount: more than 1,000 returns, to be split by --constituency or --municipality\n",
+    );
+}
+
 /// Writes a table of a set-up.
-fn list_of<O: Write>(
+fn list_of<O: Write, E: Write>(
     alloc: Global,
     setup: &Setup,
     table: Table,
     out: &mut O,
+    faults: &mut E,
 ) -> Result<(), TaskFault>
-    ensures { Lists (out.new ≡ out.old) (O.contents out.old) (O.contents out.new) setup.now table result }
+    ensures lists { Lists (out.new ≡ out.old) (O.contents out.old) (O.contents out.new) setup.now table result }
+    ensures advises { Advises (faults.new ≡ faults.old) (E.contents faults.old) (E.contents faults.new) setup.now table result }
 {
     let text = write_list(alloc, setup, table, Vec::new(alloc))?;
+    let exceeds = exceeds_load(alloc, setup, table)?;
     put(out, &text)?;
+    advise(exceeds, faults);
     Ok(())
 }
 
 /// Writes a table of the set-up whose text stands at this path.
-fn list_at<O: Write, F: Files>(
+fn list_at<O: Write, E: Write, F: Files>(
     alloc: Global,
     path: &str,
     table: Table,
     files: &mut F,
     out: &mut O,
+    faults: &mut E,
 ) -> Result<(), TaskFault>
     ensures call { AreCalls F.Files 1 files.old files.new }
-    ensures lists { WithSetup (F.text_at files.old path.now) (out.new ≡ out.old)
-        (λ canton. Lists (out.new ≡ out.old) (O.contents out.old) (O.contents out.new) canton table) result }
+    ensures lists { WithSetup (F.text_at files.old path.now) ((out.new ≡ out.old) × (faults.new ≡ faults.old))
+        (λ canton end. Lists (out.new ≡ out.old) (O.contents out.old) (O.contents out.new) canton table end
+        × Advises (faults.new ≡ faults.old) (E.contents faults.old) (E.contents faults.new) canton table end) result }
 {
     let setup = setup_at(alloc, files, path)?;
-    list_of(alloc, &setup, table, out)
+    list_of(alloc, &setup, table, out, faults)
 }
 
 /// Writes a table of the set-up. No disk is opened.
@@ -53,7 +73,14 @@ pub(crate) fn list<I: Read, O: Write, E: Write, F: Files>(
     ensures { Listed (known I.Read O.Write E.Write F.Files F.Disk.Disk) path.now table world.old world.new result }
 {
     Ended {
-        result: list_at(alloc, path, table, &mut world.files, &mut world.output),
+        result: list_at(
+            alloc,
+            path,
+            table,
+            &mut world.files,
+            &mut world.output,
+            &mut world.faults,
+        ),
         used: None,
     }
 }

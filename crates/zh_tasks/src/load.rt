@@ -19,7 +19,7 @@ use zh_office::{NotedReader, Office};
 use zh_world::{Files, World};
 
 /// The text at this path, with its first bytes read.
-fn text_at<F: Files>(
+pub(crate) fn text_at<F: Files>(
     alloc: Global,
     files: &mut F,
     path: &str,

@@ -32,7 +32,7 @@ fn begin<F: Files>(
 ) -> Result<(Setup, F::Disk), TaskFault>
     ensures began { IfOk result (Began (finding F.Files F.Disk.Disk) paths.entry files.old files.new) }
     ensures counted { F.calls files.new ≤ F.calls files.old + 2 }
-    ensures early { IfErr result IsEarly }
+    ensures early { IfErr result (IsEarly (F.text_at files.old paths.entry.setup.now)) }
 {
     let setup = setup_at(alloc, files, paths.setup)?;
     let disk = files.disk(right, paths.disk)?;
@@ -48,7 +48,7 @@ fn begin_made<F: Files>(
 ) -> Result<(Setup, F::Disk), TaskFault>
     ensures began { IfOk result (Began (making F.Files F.Disk.Disk) paths.entry files.old files.new) }
     ensures counted { F.calls files.new ≤ F.calls files.old + 2 }
-    ensures early { IfErr result IsEarly }
+    ensures early { IfErr result (IsEarly (F.text_at files.old paths.entry.setup.now)) }
 {
     let setup = setup_at(alloc, files, paths.setup)?;
     let disk = files.disk_or_make(right, paths.disk)?;

@@ -19,7 +19,7 @@ const LONGEST_READ: u64 = 1_048_577;
 fn front_of_text<F: Files>(alloc: Global, files: &mut F, path: &str) -> Result<Vec<u8>, TaskFault>
     ensures call { IsCallOfFiles F.text_at F.disk_at F.calls files.old files.new }
     ensures front { IfOk result (λ text. IsFrontAt (F.text_at files.old path.now) text.items) }
-    ensures fault { IfErr result IsOfSetup }
+    ensures fault { IfErr result (IsOfSetup (F.text_at files.old path.now)) }
 {
     let Ok(file) = files.text(path) else {
         return Err(TaskFault::SetupFile);
@@ -40,11 +40,11 @@ pub(crate) fn setup_at<F: Files>(
 ) -> Result<Setup, TaskFault>
     ensures call { IsCallOfFiles F.text_at F.disk_at F.calls files.old files.new }
     ensures setup { IfOk result (IsSetupAt (F.text_at files.old path.now)) }
-    ensures fault { IfErr result IsOfSetup }
+    ensures fault { IfErr result (IsOfSetup (F.text_at files.old path.now)) }
 {
     let text = front_of_text(alloc, files, path)?;
     match read_setup(alloc, &text) {
         Ok(setup) => Ok(setup),
-        Err(fault) => Err(TaskFault::Setup(fault)),
+        Err(refusal) => Err(TaskFault::Setup(refusal)),
     }
 }

@@ -3,6 +3,8 @@
 ghost use Rattle.zh_tasks.specs.Tasks.{Does};
 ghost use Rattle.zh_tasks.specs.World.{known};
 
+use crate::check::check_sheet;
+use crate::dry_run::DryRun;
 use crate::export::Export;
 use crate::fault::TaskFault;
 use crate::format::FormatDisk;
@@ -11,6 +13,9 @@ use crate::load::Load;
 use crate::on_disk::{on_disk, on_made_disk};
 use crate::rehearse::rehearse;
 use crate::run::Run;
+use crate::seats::Seats;
+use crate::sheet_seats::{SheetPaths, sheet_seats};
+use crate::status::Status;
 use std::alloc::Global;
 use std::io::{Read, Write};
 use zh_arguments::Task;
@@ -32,7 +37,27 @@ pub fn carry_out<I: Read, O: Write, E: Write, F: Files>(
         Task::Format(paths) => on_made_disk(alloc, paths, right, world, &FormatDisk),
         Task::Run(paths) => on_disk(alloc, paths, right, world, &Run),
         Task::Load { paths, csv } => on_disk(alloc, paths, right, world, &Load { csv }),
+        Task::DryRun { paths, csv } => on_disk(alloc, paths, right, world, &DryRun { csv }),
         Task::Export(paths) => on_disk(alloc, paths, right, world, &Export),
+        Task::Status { paths, view } => on_disk(alloc, paths, right, world, &Status { view }),
         Task::List { setup, table } => list(alloc, setup, table, world),
+        Task::Check(paths) => check_sheet(alloc, paths, world),
+        Task::Seats {
+            paths,
+            is_final,
+            layout,
+        } => on_disk(alloc, paths, right, world, &Seats { is_final, layout }),
+        Task::SheetSeats {
+            setup,
+            sheet,
+            layout,
+        } => {
+            let paths = SheetPaths {
+                setup,
+                sheet,
+                layout,
+            };
+            sheet_seats(alloc, paths, world)
+        }
     }
 }

@@ -1,5 +1,4 @@
-use Rattle.std.proofs.Common.{rules, refl, ◌≡◌, ◌≤◌, ◌+◌, Err, arith, Option, List, ℕ}
-use Rattle.std.specs.Io.KnownBytes.{Keeps}
+use Rattle.std.proofs.Common.{rules, refl, ◌≡◌, Err, arith}
 use Rattle.zh_ledger.specs.Submissions.{on_disk}
 use Rattle.zh_tasks.specs.Load.{LoadsText, LoadsFile}
 use Rattle.zh_tasks.specs.Opened.{IsFrom, IsThis}

@@ -14,4 +14,4 @@ returns-clause-began g c = record {
 pub returns-in_err-setup-clause-early : goal.returns-in_err-setup-clause-early
 returns-in_err-setup-clause-early g c =
     let is : c.from_residual.result ≡ Err c.in_err-setup.field-0.0 = search rules in
-    rw is (is_early c.in_err-setup.field-0.0 c.in_err-setup.ensures.fault)
+    rw is (is_early (g.F.Files.text_at c.args.files.now c.args.paths.setup.now) c.in_err-setup.field-0.0 c.in_err-setup.ensures.fault)

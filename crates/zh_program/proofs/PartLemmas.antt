@@ -1,0 +1,188 @@
+-- What a task on a disk has done, by the task.
+use Rattle.std.proofs.Common.{◌≡◌, ◌≢◌, ◌⊎◌, inl, inr, ⊎_elim, ℕ, List, [], Option, Some, None, Bool, Result, Err, Ok, OnOk, IsTrue, refl, ◌∙◌, ap, subst}
+use Rattle.std.specs.Borrow.{Bor}
+use Rattle.std.specs.Io.KnownBytes.{Keeps as KeepsBytes}
+use Rattle.zh_disk.specs.Disk.{Trail, fresh_trail}
+use Rattle.zh_disk.specs.History.{History}
+use Rattle.zh_districts.specs.Canton.{Canton, IsCanton}
+use Rattle.zh_returns.specs.Tally.{Tally}
+use Rattle.zh_ledger.specs.Opening.{Opening}
+use Rattle.zh_ledger.specs.Stands.{Holds}
+use Rattle.zh_ledger.specs.Submissions.{OnDisk}
+use Rattle.zh_ledger.specs.declared.fault.OpenFault.{OpenFault}
+use Rattle.zh_office.specs.Office.{Office}
+use Rattle.zh_status.specs.declared.view.View.{View}
+use Rattle.zh_arguments.specs.declared.arguments.Paths.{Paths}
+use Rattle.zh_arguments.specs.declared.arguments.Task.{Task}
+use Rattle.zh_arguments.specs.declared.arguments.Task.TheVariants as tasks
+use Rattle.zh_arguments.specs.declared.arguments.Task.TheVariants.{Format, Run, Load, Export}
+use Rattle.zh_world.specs.Files.{Begins, BeginsOrIsMade}
+use Rattle.zh_world.specs.declared.world.World.{World}
+use Rattle.zh_office.specs.declared.service.ServeFault.TheVariants as serving
+use Rattle.zh_tasks.specs.DryRun.{DryRuns, HasDryRun}
+use Rattle.zh_tasks.specs.Export.{Exported, Exports}
+use Rattle.zh_tasks.specs.Format.{Formatted, FormatsBlank}
+use Rattle.zh_tasks.specs.Load.{HasLoaded, LoadsFile, LoadsText}
+use Rattle.zh_tasks.specs.Opened.{IsFrom, IsOnlyOpened, WithOffice}
+use Rattle.zh_tasks.specs.Run.{Ran, Serves, streams_of}
+use Rattle.zh_arguments.specs.declared.seats.Layout.{Layout}
+use Rattle.zh_tasks.specs.Seats.{HasShownSeats, ShowsSeats}
+use Rattle.zh_tasks.specs.Status.{Shown, Shows}
+use Rattle.zh_tasks.specs.World.{IsSetupAt, Known}
+use Rattle.zh_tasks.specs.declared.fault.TaskFault.{TaskFault}
+use Rattle.zh_tasks.specs.declared.fault.TaskFault.TheVariants as faults
+use Rattle.zh_program.specs.Due.{AreOfTask}
+use Rattle.zh_program.specs.Exchanges.{Exchange}
+use Rattle.zh_program.specs.Stopped.{MakesEmpty}
+use Rattle.zh_program.proofs.ConductLemmas.{Keeps, nothing_given, opened_keeps, refused_keeps, unchanged_keeps}
+use Rattle.zh_program.proofs.EmptyLemmas.{formatted_left, not_formatted}
+use Rattle.zh_program.proofs.LoadedLemmas.{HasAnswered, load_done, refused_answered}
+use Rattle.zh_program.proofs.ServedLemmas.{HasServed, refused_done, serve_done}
+
+pub setup_limits : (known : Option (List ℕ)) (canton : Canton) → IsSetupAt known canton → IsCanton canton
+setup_limits None canton is = is
+setup_limits (Some text) canton is = is.0
+
+-- what is so where the task was done
+where_done : {X : Type 0} (status : ℕ) (result : Result (Unit {0}) TaskFault) → ((fault : TaskFault) → result ≡ Err fault → status ≢ 0) → OnOk result X → status ≡ 0 → X
+where_done status (Ok done) failed by zero = by
+where_done status (Err fault) failed by zero = absurd (failed fault refl zero)
+
+-- what is done with an office, or where none was opened
+by_office : {X : Type 0} (canton : Canton) (first last : History) (nothing : Type 0) (Does : (OnDisk Office → OnDisk Office → Type 0) → Result (Unit {0}) TaskFault → Type 0) (result : Result (Unit {0}) TaskFault)
+    → WithOffice canton first last nothing Does result
+    → ((fault : OpenFault) → result ≡ Err (faults.Open fault) → nothing → Opening canton first last (Err fault) → X) → (Does (IsFrom canton first last) result → X) → X
+by_office canton first last nothing Does (Err (faults.Open fault)) by refused opened = refused fault refl by.0 by.1
+by_office canton first last nothing Does (Ok done) by refused opened = opened by
+by_office canton first last nothing Does (Err fault) by refused opened = opened by
+
+-- of an export nothing is written but the count
+only_opened : (unwritten : Type 0) (w w' : Option (List ℕ)) (Spans : OnDisk Office → OnDisk Office → Type 0) (result : Result (Unit {0}) TaskFault) → Exports unwritten w w' Spans result → IsOnlyOpened Spans
+only_opened unwritten w w' Spans (Ok done) (start, from, written) = (start, from)
+only_opened unwritten w w' Spans (Err faults.Write) (start, from, part) = (start, from)
+only_opened unwritten w w' Spans (Err faults.Memory) (same, by) = by
+only_opened unwritten w w' Spans (Err fault) by = absurd by
+
+-- nor is anything given to an office by a dry run
+only_judged : (text w w' : Option (List ℕ)) (Spans : OnDisk Office → OnDisk Office → Type 0) (result : Result (Unit {0}) TaskFault) → DryRuns text w w' Spans result → IsOnlyOpened Spans
+only_judged text w w' Spans (Ok done) (forecast, other, has) = (has.start, has.spans)
+only_judged text w w' Spans (Err faults.Refused) (refused, records, has) = (has.start, has.spans)
+only_judged text w w' Spans (Err faults.Memory) by = (by.start, by.spans)
+only_judged text w w' Spans (Err faults.CsvFile) by = (by.start, by.spans)
+only_judged text w w' Spans (Err (faults.Serve serving.Turns)) by = (by.start, by.spans)
+only_judged text w w' Spans (Err faults.Write) by = (by.start, by.spans)
+only_judged text w w' Spans (Err fault) by = absurd by
+
+-- nor of a view
+only_shown : {I O E F T D R : Type 0} (of : Known I O E F T D R) (view : View) (old new : World I O E F) (Spans : OnDisk Office → OnDisk Office → Type 0) (result : Result (Unit {0}) TaskFault) → Shows of view old new Spans result → IsOnlyOpened Spans
+only_shown of view old new Spans (Ok done) (start, from, written, said) = (start, from)
+only_shown of view old new Spans (Err faults.Write) (start, from, part, unsaid) = (start, from)
+only_shown of view old new Spans (Err faults.Memory) (same, by) = by
+only_shown of view old new Spans (Err fault) by = absurd by
+
+pub known_fresh : (known : Option (List ℕ)) (first : History) (bytes : List ℕ) → Begins known first → known ≡ Some bytes → first.trail ≡ fresh_trail bytes
+known_fresh None first bytes begins is = absurd cc
+known_fresh (Some xs) first bytes begins is = let same : xs ≡ bytes = cc in begins.trail ∙ ap fresh_trail same
+
+-- a disk that may have been made began with these bytes, or with what it was filled with
+pub known_made : (known : Option (List ℕ)) (first : History) (bytes : List ℕ) → BeginsOrIsMade known first → IsTrue first.honest → known ≡ Some bytes
+    → (first.trail ≡ fresh_trail bytes) ⊎ ((bytes ≡ []) × (first.trail ≡ fresh_trail first.trail.now.bytes))
+known_made None first bytes begins honest is = absurd cc
+known_made (Some xs) first bytes begins honest is =
+    let same : xs ≡ bytes = cc in
+    subst (λ (b : List ℕ). (first.trail ≡ fresh_trail b) ⊎ ((b ≡ []) × (first.trail ≡ fresh_trail first.trail.now.bytes))) same (begins.trail honest)
+
+-- no count stands in no bytes
+pub none_held : (tally : Tally) (bytes : List ℕ) → bytes ≡ [] → Holds tally bytes → ⊥
+none_held tally bytes is holds = let gate : ◌≡◌ {A = ℕ} 0 165 = (subst (Holds tally) is holds).clean.framed.gate in absurd cc
+
+module _ {I O E F T D R : Type 0} (of : Known I O E F T D R) where
+  -- the exchanges of a task, which were due, and what is kept of a disk that began with the one history and has the other
+  pub record HasDone (task : Task) (old after : World I O E F) (status : ℕ) (canton : Canton) (first last : History) : Type 0 where
+    pub exchanges : List Exchange
+    pub opened : Trail
+    pub due : AreOfTask of task old after status exchanges
+    pub kept : Keeps canton first last opened exchanges
+
+  module _ (old after : World I O E F) (files : F) (first last : D) (canton : Canton) (limits : IsCanton canton) (status : ℕ) (result : Result (Unit {0}) TaskFault) (failed : (fault : TaskFault) → result ≡ Err fault → status ≢ 0) where
+    abbrev pub begun : History
+    begun = of.disks.history first
+
+    abbrev pub ended : History
+    ended = of.disks.history last
+
+    served : (paths : Paths) → HasServed (streams_of of old) (streams_of of after) status canton limits begun ended → HasDone (Run paths) old after status canton begun ended
+    served paths by = record { exchanges = by.exchanges; opened = by.opened; due = by.due; kept = by.kept }
+
+    pub run_part : (paths : Paths) → Ran of canton (record old { files = files }, first) (after, last) result → HasDone (Run paths) old after status canton begun ended
+    run_part paths ran =
+        by_office canton begun ended ((after.input ≡ old.input) × (after.output ≡ old.output)) (Serves (streams_of of old) (streams_of of after)) result ran.served
+        (λ fault is nothing opening. served paths (refused_done (streams_of of old) (streams_of of after) status canton limits begun ended fault (failed (faults.Open fault) is)
+        (ap of.readers.remaining nothing.0) (ap of.writers.contents nothing.1) opening))
+        (λ serves. served paths (serve_done (streams_of of old) (streams_of of after) status canton limits begun ended result failed serves))
+
+    pub load_part : (paths : Paths) (csv : Bor (List ℕ)) → of.files.text_at files ≡ of.files.text_at old.files → HasLoaded of csv.now canton (record old { files = files }, first) (after, last) result → HasDone (Load paths csv) old after status canton begun ended
+    load_part paths csv texts by =
+        let w = of.writers.contents old.output in
+        let w' = of.writers.contents after.output in
+        let known = of.files.text_at old.files csv.now in
+        let read : KeepsBytes known by.text = subst (λ (at : List ℕ → Option (List ℕ)). KeepsBytes (at csv.now) by.text) texts by.read in
+        let answered : HasAnswered known by.text w w' read status canton limits begun ended → HasDone (Load paths csv) old after status canton begun ended = λ a. record { exchanges = a.exchanges; opened = a.opened; due = a.due; kept = a.kept } in
+        by_office canton begun ended (after ≡ record old { files = files }) (LoadsFile (after.output ≡ old.output) (LoadsText by.text w w')) result by.loaded
+        (λ fault is nothing opening. answered (refused_answered known by.text w w' read status canton limits begun ended fault (failed (faults.Open fault) is) (ap (λ (world : World I O E F). of.writers.contents world.output) nothing) opening))
+        (λ loads. answered (load_done known by.text w w' read status canton limits begun ended (after.output ≡ old.output) (λ same. ap of.writers.contents same) result failed loads))
+
+    -- an office was opened and nothing was given to it, or none was
+    only_part : (task : Task) → AreOfTask of task old after status [] → (nothing : Type 0) (Does : (OnDisk Office → OnDisk Office → Type 0) → Result (Unit {0}) TaskFault → Type 0) → (Does (IsFrom canton begun ended) result → IsOnlyOpened (IsFrom canton begun ended))
+        → WithOffice canton begun ended nothing Does result → HasDone task old after status canton begun ended
+    only_part task none nothing Does only by =
+        by_office canton begun ended nothing Does result by
+        (λ fault is nothing opening. record { exchanges = []; opened = ended.trail; due = none; kept = refused_keeps canton begun ended fault limits opening })
+        (λ does.
+        let opens = only does in
+        record { exchanges = []; opened = opens.0.history.trail; due = none; kept = opened_keeps canton begun ended opens.0 opens.0 [] limits opens.1 (nothing_given opens.0) })
+
+    pub export_part : (paths : Paths) → Exported of canton (record old { files = files }, first) (after, last) result → HasDone (Export paths) old after status canton begun ended
+    export_part paths by =
+        only_part (Export paths) refl (after.output ≡ old.output) (Exports (after.output ≡ old.output) (of.writers.contents old.output) (of.writers.contents after.output))
+        (only_opened (after.output ≡ old.output) (of.writers.contents old.output) (of.writers.contents after.output) (IsFrom canton begun ended) result) by.written
+
+    pub dry_part : (paths : Paths) (csv : Bor (List ℕ)) → HasDryRun of csv.now canton (record old { files = files }, first) (after, last) result → HasDone (tasks.DryRun paths csv) old after status canton begun ended
+    dry_part paths csv by =
+        only_part (tasks.DryRun paths csv) refl (after ≡ record old { files = files }) (DryRuns by.text (of.writers.contents old.output) (of.writers.contents after.output))
+        (only_judged by.text (of.writers.contents old.output) (of.writers.contents after.output) (IsFrom canton begun ended) result) by.judged
+
+    pub status_part : (paths : Paths) (view : View) → Shown of view canton (record old { files = files }, first) (after, last) result → HasDone (tasks.Status paths view) old after status canton begun ended
+    status_part paths view by =
+        only_part (tasks.Status paths view) refl (after ≡ record old { files = files }) (Shows of view (record old { files = files }) after)
+        (only_shown of view (record old { files = files }) after (IsFrom canton begun ended) result) by.shown
+
+    pub seats_part : (paths : Paths) (is_final : Bool) (layout : Layout) → HasShownSeats of (record { is_final = is_final; layout = layout }) canton (record old { files = files }, first) (after, last) result → HasDone (tasks.Seats paths is_final layout) old after status canton begun ended
+    seats_part paths is_final layout by =
+        only_part (tasks.Seats paths is_final layout) refl (after ≡ record old { files = files }) (ShowsSeats of (record { is_final = is_final; layout = layout }) (record old { files = files }) after)
+        (λ shows. (shows.0, shows.1)) by.shown
+
+    pub format_part : (paths : Paths) → Formatted of canton (record old { files = files }, first) (after, last) result → HasDone (Format paths) old after status canton begun ended
+    format_part paths by = record {
+      exchanges = [];
+      opened = ended.trail;
+      due = refl;
+      kept = unchanged_keeps canton begun ended (λ honest bytes fresh tally own holds.
+          not_formatted canton tally bytes result ended.trail holds (subst (λ (t : Trail). FormatsBlank canton result t ended.trail) fresh (by.call.did honest)));
+    }
+
+    pub made_empty : Formatted of canton (record old { files = files }, first) (after, last) result → (known : Option (List ℕ)) → BeginsOrIsMade known begun → IsTrue ended.honest → (bytes : List ℕ) → known ≡ Some bytes → MakesEmpty bytes status ended.trail
+    made_empty by known begins honest bytes is = ⊎_elim
+        (λ fresh. made bytes (inl refl) fresh)
+        (λ filled. made begun.trail.now.bytes (inr filled.0) filled.1)
+        (known_made known begun bytes begins (by.call.kept honest) is)
+      where
+        made : (at_first : List ℕ) → (at_first ≡ bytes) ⊎ (bytes ≡ []) → begun.trail ≡ fresh_trail at_first → MakesEmpty bytes status ended.trail
+        made at_first began fresh = record {
+          first = at_first;
+          began = began;
+          canton = canton;
+          limits = limits;
+          moments = formatted_left canton limits at_first result ended.trail (subst (λ (t : Trail). FormatsBlank canton result t ended.trail) fresh (by.call.did honest));
+          made = λ zero. where_done status result failed (by.call.did honest).formatted zero;
+        }

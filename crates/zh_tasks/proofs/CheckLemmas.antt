@@ -1,0 +1,73 @@
+-- What a check reads, and what it answers.
+use Rattle.std.proofs.Common.{◌≡◌, ◌∙◌, ◌++◌, ◌≤◌, ◌+◌, ℕ, List, [], length, take, Option, Some, None, Ok, Err, IfSome, refl, ap, arith, option_map}
+use Rattle.std.proofs.lemmas.List.{length-take, take_all}
+use Rattle.zh_csv.specs.declared.fault.LoadFault.{LoadFault}
+use Rattle.zh_csv.specs.declared.fault.LoadFault.TheVariants as loads
+use Rattle.zh_districts.specs.Canton.{Canton}
+use Rattle.zh_held.specs.Faults.{named}
+use Rattle.zh_held.specs.Held.{IsHolding}
+use Rattle.zh_held.specs.declared.held_reader.HeldSums.{HeldSums}
+use Rattle.zh_returns.specs.declared.verdict.Reason.TheVariants as reasons
+use Rattle.zh_check.specs.declared.checked.SheetVerdict.{SheetVerdict}
+use Rattle.zh_verdicts.specs.declared.writer.VerdictFault.{VerdictFault}
+use Rattle.zh_verdicts.specs.declared.writer.VerdictFault.TheVariants as of_verdict
+use Rattle.zh_world.specs.declared.files.Files.{Ghosts as Files}
+use Rattle.zh_tasks.specs.World.{AreCalls}
+use Rattle.zh_tasks.specs.Load.{WritesPart}
+use Rattle.zh_tasks.specs.Check.{Answers, AreSumsAt, ComesTo, HeldFaultAs, Inputs, IsOfHeld, IsSheetAt, VerdictFaultAs, check_text}
+use Rattle.zh_tasks.specs.declared.fault.TaskFault.{TaskFault}
+use Rattle.zh_tasks.specs.declared.fault.TaskFault.TheVariants as faults
+
+front_of : (all front before text : List ℕ) → text ≡ before ++ front → before ≡ [] → front ≡ take 280065 all → text ≡ take 280065 all
+front_of all front before text is none cut = is ∙ ap (λ (l : List ℕ). l ++ front) none ∙ cut
+
+-- the bytes that were read are the first of the sheet
+pub sheet_known : (known read : Option (List ℕ)) (limit : ℕ) (before text : List ℕ) → read ≡ known → limit ≡ 280065 → before ≡ [] → IfSome (option_map (take limit) read) (λ xs. text ≡ before ++ xs) → IsSheetAt known text
+sheet_known None read limit before text is at_most none front = tt
+sheet_known (Some all) (Some xs) limit before text is at_most none front =
+    let same : xs ≡ all = cc in
+    front_of all (take limit xs) before text front none (ap (λ (n : ℕ). take n xs) at_most ∙ ap (take 280065) same)
+sheet_known (Some all) None limit before text is at_most none front = absurd cc
+
+-- a fault of no record, and of no read
+pub other_fault : (why : LoadFault) → named why ≡ None → (why ≡ loads.Read → ⊥) → why ≡ loads.Memory
+other_fault loads.Csv none read = absurd (cc none)
+other_fault loads.Syntax none read = absurd (cc none)
+other_fault (loads.Judged reasons.Municipality) none read = absurd (cc none)
+other_fault (loads.Judged reasons.List) none read = absurd (cc none)
+other_fault (loads.Judged reason) none read = absurd (cc none)
+other_fault (loads.Row fault) none read = absurd (cc none)
+other_fault loads.Memory none read = refl
+other_fault loads.Read none read = absurd (read refl)
+
+-- the sums that were read are those of the export, where its bytes are known
+pub sums_known : (known : Option (List ℕ)) (canton : Canton) (sums : HeldSums) → IsHolding canton (λ bytes. known ≡ Some bytes) (Ok sums) → AreSumsAt known canton sums
+sums_known None canton sums held = held.sums
+sums_known (Some text) canton sums held = held.known text refl
+
+-- and so is what is wrong with it
+pub wrong_known : (known : Option (List ℕ)) (canton : Canton) (why : LoadFault) (fault : TaskFault) → IsHolding canton (λ bytes. known ≡ Some bytes) (Err why) → HeldFaultAs why fault → IsOfHeld known canton fault
+wrong_known known canton why faults.HeldFile held is = tt
+wrong_known known canton why faults.Memory held is = tt
+wrong_known None canton why (faults.Held record_fault) held is = tt
+wrong_known (Some text) canton why (faults.Held record_fault) held is = (why, is, held.known text refl)
+wrong_known known canton why fault held is = absurd is
+
+-- a verdict that is not written to its end
+pub not_written : (U : Type 0) (w w' : Option (List ℕ)) (inputs : Inputs) (verdict : SheetVerdict) (fault : VerdictFault) (e : TaskFault)
+    → VerdictFaultAs fault e → ComesTo inputs verdict → (fault ≡ of_verdict.Write → WritesPart w w' (check_text inputs verdict)) → (fault ≡ of_verdict.Memory → U)
+    → Answers U w w' inputs (Err e)
+not_written U w w' inputs verdict of_verdict.Memory e is comes part unwritten = rw is (unwritten refl)
+not_written U w w' inputs verdict of_verdict.Write e is comes part unwritten = rw is ((verdict, comes, part refl))
+
+-- calls after calls
+pub calls_after : {F T D R : Type 0} (files : Files F T D R) (n m : ℕ) (old mid new : F) → AreCalls files n old mid → AreCalls files m mid new → AreCalls files (n + m) old new
+calls_after files n m old mid new one other = record {
+  counted = omega (arith, one.counted, other.counted);
+  texts = other.texts ∙ one.texts;
+  disks = other.disks ∙ one.disks;
+}
+
+-- a front that is shorter than what was asked for is the whole
+pub front_is_whole : (text : List ℕ) → length (take 280065 text) ≤ 280064 → take 280065 text ≡ text
+front_is_whole text short = take_all 280065 text (omega (arith, length-take 280065 text, short))

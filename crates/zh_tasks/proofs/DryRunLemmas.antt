@@ -1,0 +1,63 @@
+-- What a dry run has done, by how it ended.
+use Rattle.std.proofs.Common.{◌≡◌, ◌≢◌, ℕ, List, Option, Some, Result, Ok, Err, IfErr, subst, sym, refl}
+use Rattle.zh_judgements.specs.Judged.{IsBrokenOff, IsJudged, Judges}
+use Rattle.zh_judgements.specs.declared.fault.JudgementFault.{JudgementFault}
+use Rattle.zh_judgements.specs.declared.fault.JudgementFault.TheVariants as judging
+use Rattle.zh_judgements.specs.declared.judgement.Forecast.{Forecast}
+use Rattle.zh_judgements.specs.declared.judgement.Forecast.TheVariants as forecasts
+use Rattle.zh_judgements.proofs.CallerLemmas.{nothing_judged}
+use Rattle.zh_ledger.specs.Submissions.{OnDisk}
+use Rattle.zh_office.specs.Office.{Office}
+use Rattle.zh_office.specs.declared.service.ServeFault.TheVariants as serving
+use Rattle.zh_tasks.specs.DryRun.{BreaksOffJudging, DryRuns, HasForecast, JudgedAs}
+use Rattle.zh_tasks.specs.Load.{IsUnreadable}
+use Rattle.zh_tasks.specs.Opened.{IsOfDevice}
+use Rattle.zh_tasks.specs.declared.fault.TaskFault.{TaskFault}
+use Rattle.zh_tasks.specs.declared.fault.TaskFault.TheVariants as faults
+
+module _ (text w w' : Option (List ℕ)) (Spans : OnDisk Office → OnDisk Office → Type 0) (start : OnDisk Office) (spans : Spans start start) where
+  breaks : IsBrokenOff start.holder.ledger.tally (λ bytes. text ≡ Some bytes) w w' → BreaksOffJudging text w w' Spans
+  breaks broken = record { start = start; spans = spans; broken = broken }
+
+  -- the judging was broken off
+  pub broken_runs : (fault : JudgementFault) (e : TaskFault) → JudgedAs fault e → IsBrokenOff start.holder.ledger.tally (λ bytes. text ≡ Some bytes) w w' → DryRuns text w w' Spans (Err e)
+  broken_runs judging.Memory e is broken = rw is (breaks broken)
+  broken_runs judging.Read e is broken = rw is (breaks broken)
+  broken_runs judging.Turns e is broken = rw is (breaks broken)
+  broken_runs judging.Write e is broken = rw is (breaks broken)
+
+  pub forecasts_of : (forecast : Forecast) → IsJudged start.holder.ledger.tally (λ bytes. text ≡ Some bytes) w w' forecast → HasForecast text w w' Spans forecast
+  forecasts_of forecast judged = record { start = start; spans = spans; judged = judged }
+
+-- the file gives no text
+pub unread_runs : (text w : Option (List ℕ)) (Spans : OnDisk Office → OnDisk Office → Type 0) (start : OnDisk Office) → Spans start start → (fault : TaskFault) → IsUnreadable fault → DryRuns text w w Spans (Err fault)
+unread_runs text w Spans start spans faults.CsvFile is = record { start = start; spans = spans; broken = nothing_judged start.holder.ledger.tally (λ bytes. text ≡ Some bytes) w }
+unread_runs text w Spans start spans faults.Memory is = record { start = start; spans = spans; broken = nothing_judged start.holder.ledger.tally (λ bytes. text ≡ Some bytes) w }
+unread_runs text w Spans start spans fault is = absurd is
+
+-- the same of an office that began in another way too
+module _ (text w w' : Option (List ℕ)) (Spans Spans' : OnDisk Office → OnDisk Office → Type 0) (turn : (start end : OnDisk Office) → Spans start end → Spans' start end) where
+  forecast_as : (forecast : Forecast) → HasForecast text w w' Spans forecast → HasForecast text w w' Spans' forecast
+  forecast_as forecast by = record { start = by.start; spans = turn by.start by.start by.spans; judged = by.judged }
+
+  breaks_as : BreaksOffJudging text w w' Spans → BreaksOffJudging text w w' Spans'
+  breaks_as by = record { start = by.start; spans = turn by.start by.start by.spans; broken = by.broken }
+
+  pub dry_runs_as : (result : Result (Unit {0}) TaskFault) → DryRuns text w w' Spans result → DryRuns text w w' Spans' result
+  dry_runs_as (Ok done) (forecast, taken, by) = (forecast, taken, forecast_as forecast by)
+  dry_runs_as (Err faults.Refused) (refused, records, by) = (refused, records, forecast_as (forecasts.Refused refused records) by)
+  dry_runs_as (Err faults.Memory) by = breaks_as by
+  dry_runs_as (Err faults.CsvFile) by = breaks_as by
+  dry_runs_as (Err (faults.Serve serving.Turns)) by = breaks_as by
+  dry_runs_as (Err faults.Write) by = breaks_as by
+  dry_runs_as (Err fault) by = absurd by
+
+-- it does not report the device
+pub dry_run_calm : (text w w' : Option (List ℕ)) (Spans : OnDisk Office → OnDisk Office → Type 0) (result : Result (Unit {0}) TaskFault) → DryRuns text w w' Spans result → IfErr result (λ fault. IsOfDevice fault → ⊥)
+dry_run_calm text w w' Spans (Ok done) by = tt
+dry_run_calm text w w' Spans (Err faults.Refused) by = λ is. is
+dry_run_calm text w w' Spans (Err faults.Memory) by = λ is. is
+dry_run_calm text w w' Spans (Err faults.CsvFile) by = λ is. is
+dry_run_calm text w w' Spans (Err (faults.Serve serving.Turns)) by = λ is. is
+dry_run_calm text w w' Spans (Err faults.Write) by = λ is. is
+dry_run_calm text w w' Spans (Err fault) by = absurd by

@@ -1,0 +1,40 @@
+use Rattle.std.proofs.Common.{◌≡◌, ◌∙◌, ◌+◌, ℕ, List, Option, sym, subst, inl, arith, lit≤}
+use Rattle.std.specs.Option.{option_copied}
+use Rattle.zh_held.specs.declared.held_reader.HeldSums.{HeldSums}
+use Rattle.zh_tasks.specs.Check.{AreSumsIfNamed, Inputs, IsSheetAt, held_path}
+use Rattle.zh_tasks.proofs.CheckLemmas.{calls_after}
+use Rattle.zh_tasks.proofs.WorldLemmas.{known_before, two_calls}
+use Rattle.zh_tasks.proofs.check.check_files.Goals as goal
+
+pub returns-in_err-sheet-clause-calls : goal.returns-in_err-sheet-clause-calls
+returns-in_err-sheet-clause-calls g c = (2, lit≤ tt, two_calls g.F.Files _ _ _ c.setup_at.ensures.call c.sheet_at.ensures.call)
+
+pub returns-in_err-held-clause-calls : goal.returns-in_err-held-clause-calls
+returns-in_err-held-clause-calls g c =
+    let more = c.held_if_named.ensures.calls in (
+      2 + more.0,
+      omega (arith, more.1),
+      calls_after g.F.Files 2 more.0 _ _ _ (two_calls g.F.Files _ _ _ c.setup_at.ensures.call c.sheet_at.ensures.call) more.2,
+    )
+
+pub returns-clause-calls : goal.returns-clause-calls
+returns-clause-calls g c =
+    let more = c.held_if_named.ensures.calls in (
+      2 + more.0,
+      omega (arith, more.1),
+      calls_after g.F.Files 2 more.0 _ _ _ (two_calls g.F.Files _ _ _ c.setup_at.ensures.call c.sheet_at.ensures.call) more.2,
+    )
+
+pub returns-clause-checks : goal.returns-clause-checks
+returns-clause-checks g c =
+    let at = g.F.Files.text_at in
+    let canton = c.in_ok-setup.setup in
+    let inputs : Inputs = record { canton = canton; sheet = c.deref.result.now; held = option_copied c.as_ref.result } in
+    let sheet : IsSheetAt (at c.args.files.now c.args.paths.sheet.now) c.deref.result.now =
+    subst (λ (t : List ℕ). IsSheetAt (at c.args.files.now c.args.paths.sheet.now) t) (sym c.deref.ensures.value)
+    (known_before at c.args.files.now c.setup_at.new.files c.args.paths.sheet.now (λ known. IsSheetAt known c.in_ok-sheet.sheet.items) c.setup_at.ensures.call.texts c.in_ok-sheet.ensures.sheet) in
+    let texts : at c.sheet_at.new.files ≡ at c.args.files.now = c.sheet_at.ensures.call.texts ∙ c.setup_at.ensures.call.texts in
+    let held : AreSumsIfNamed (at c.args.files.now) canton (held_path c.args.paths) (option_copied c.as_ref.result) =
+    subst (λ (h : Option HeldSums). AreSumsIfNamed (at c.args.files.now) canton (held_path c.args.paths) h) (sym c.as_ref.ensures.value)
+    (subst (λ (f : List ℕ → Option (List ℕ)). AreSumsIfNamed f canton (held_path c.args.paths) c.in_ok-held.held) texts c.in_ok-held.ensures.held) in
+    inl (inputs, record { setup = c.in_ok-setup.ensures.setup; sheet = sheet; held = held }, c.answer.ensures)

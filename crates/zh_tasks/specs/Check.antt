@@ -1,0 +1,154 @@
+-- What the check of a published sheet does.
+use Rattle.std.specs.Prelude.{◌≡◌, ◌≢◌, ◌≤◌, ℕ, List, take, Option, Some, None, Result, Ok, Err, IsErrAnd, option_map, ◌⊎◌}
+use Rattle.std.specs.Io.KnownBytes.{Appends}
+use Rattle.zh_arguments.specs.declared.check.CheckPaths.{CheckPaths}
+use Rattle.zh_check.specs.Verdicts.{IsReasonOf, IsRightExactly}
+use Rattle.zh_check.specs.declared.checked.RightSheet.{RightSheet}
+use Rattle.zh_check.specs.declared.checked.SheetVerdict.{SheetVerdict}
+use Rattle.zh_check.specs.declared.checked.SheetVerdict.TheVariants.{Right}
+use Rattle.zh_csv.specs.declared.fault.LoadFault.{LoadFault}
+use Rattle.zh_csv.specs.declared.fault.LoadFault.TheVariants as loads
+use Rattle.zh_districts.specs.Canton.{Canton}
+use Rattle.zh_totals.specs.Totals.{VoteTotals}
+use Rattle.zh_held.specs.Faults.{named}
+use Rattle.zh_held.specs.Held.{AddsUp, AreHeldIn, AreSums}
+use Rattle.zh_held.specs.declared.fault.HeldFault.{HeldFault}
+use Rattle.zh_held.specs.declared.held_reader.HeldSums.{HeldSums}
+use Rattle.zh_held.specs.declared.row.HeldRow.{HeldRow}
+use Rattle.zh_verdicts.specs.Text.{verdict_text}
+use Rattle.zh_verdicts.specs.declared.writer.VerdictFault.{VerdictFault}
+use Rattle.zh_verdicts.specs.declared.writer.VerdictFault.TheVariants as of_verdict
+use Rattle.zh_world.specs.declared.world.Ended.{Ended}
+use Rattle.zh_world.specs.declared.world.World.{World}
+use Rattle.zh_tasks.specs.World.{AreCalls, IsSetupAt, Known}
+use Rattle.zh_tasks.specs.Load.{WritesPart}
+use Rattle.zh_tasks.specs.OnDisk.{IsOfSetup}
+use Rattle.zh_tasks.specs.declared.fault.TaskFault.{TaskFault}
+use Rattle.zh_tasks.specs.declared.fault.TaskFault.TheVariants as faults
+
+-- the fault of a verdict that is not written, as the task's
+abbrev pub VerdictFaultAs : VerdictFault → TaskFault → Type 0
+VerdictFaultAs of_verdict.Memory e = e ≡ faults.Memory
+VerdictFaultAs of_verdict.Write e = e ≡ faults.Write
+
+-- these are the first bytes of a sheet, one more than the longest has, where that is known
+abbrev pub IsSheetAt : Option (List ℕ) → List ℕ → Type 0
+IsSheetAt None front = Unit {0}
+IsSheetAt (Some text) front = front ≡ take 280065 text
+
+-- these are the sums of rows of this set-up: of those of this export, where it is known
+abbrev pub AreSumsAt : Option (List ℕ) → Canton → HeldSums → Type 0
+AreSumsAt None canton sums = (rows : List HeldRow) × AreSums canton rows sums
+AreSumsAt (Some text) canton sums = AreHeldIn canton text sums
+
+-- this is wrong with a record of an export, where that is known
+abbrev pub IsBadRecordAt : Option (List ℕ) → Canton → HeldFault → Type 0
+IsBadRecordAt None canton fault = Unit {0}
+IsBadRecordAt (Some text) canton fault = (why : LoadFault) × (named why ≡ Some fault) × AddsUp canton text (Err why)
+
+-- the fault of an export, as the task's
+abbrev pub HeldFaultAs : LoadFault → TaskFault → Type 0
+HeldFaultAs why (faults.Held fault) = named why ≡ Some fault
+HeldFaultAs why faults.HeldFile = why ≡ loads.Read
+HeldFaultAs why faults.Memory = why ≡ loads.Memory
+HeldFaultAs why fault = ⊥
+
+-- the file gives no sheet
+abbrev pub IsOfSheet : TaskFault → Type 0
+IsOfSheet faults.SheetFile = Unit {0}
+IsOfSheet faults.Memory = Unit {0}
+IsOfSheet fault = ⊥
+
+-- the file gives no sums
+abbrev pub IsOfHeld : Option (List ℕ) → Canton → TaskFault → Type 0
+IsOfHeld known canton faults.HeldFile = Unit {0}
+IsOfHeld known canton faults.Memory = Unit {0}
+IsOfHeld known canton (faults.Held fault) = IsBadRecordAt known canton fault
+IsOfHeld known canton fault = ⊥
+
+-- the sums that were read are those of the export at this path, or none where there is none
+abbrev pub AreSumsIfNamed : (List ℕ → Option (List ℕ)) → Canton → Option (List ℕ) → Option HeldSums → Type 0
+AreSumsIfNamed text_at canton None None = Unit {0}
+AreSumsIfNamed text_at canton (Some path) (Some sums) = AreSumsAt (text_at path) canton sums
+AreSumsIfNamed text_at canton path held = ⊥
+
+-- the file of the export, where there is one, gives no sums
+abbrev pub IsOfHeldAt : (List ℕ → Option (List ℕ)) → Canton → Option (List ℕ) → TaskFault → Type 0
+IsOfHeldAt text_at canton None fault = ⊥
+IsOfHeldAt text_at canton (Some path) fault = IsOfHeld (text_at path) canton fault
+
+-- the path of an export, where one is named
+abbrev pub held_path : CheckPaths → Option (List ℕ)
+held_path paths = option_map (λ path. path.now) paths.held
+
+-- what a check was given: a set-up, a sheet, and the sums of an export or none
+pub record Inputs : Type 0 where
+  pub canton : Canton
+  pub sheet : List ℕ
+  pub held : Option HeldSums
+
+-- they were read from the texts at these paths
+pub record AreInputs (text_at : List ℕ → Option (List ℕ)) (paths : CheckPaths) (inputs : Inputs) : Type 0 where
+  pub setup : IsSetupAt (text_at paths.setup.now) inputs.canton
+  pub sheet : IsSheetAt (text_at paths.sheet.now) inputs.sheet
+  pub held : AreSumsIfNamed text_at inputs.canton (held_path paths) inputs.held
+
+-- the set-up was read, and the file of the sheet gives none
+pub record LacksSheet (text_at : List ℕ → Option (List ℕ)) (paths : CheckPaths) (fault : TaskFault) : Type 0 where
+  pub canton : Canton
+  pub setup : IsSetupAt (text_at paths.setup.now) canton
+  pub none : IsOfSheet fault
+
+-- the set-up and the sheet were read, and the file of the export gives no sums
+pub record LacksSums (text_at : List ℕ → Option (List ℕ)) (paths : CheckPaths) (fault : TaskFault) : Type 0 where
+  pub canton : Canton
+  pub sheet : List ℕ
+  pub setup : IsSetupAt (text_at paths.setup.now) canton
+  pub front : IsSheetAt (text_at paths.sheet.now) sheet
+  pub none : IsOfHeldAt text_at canton (held_path paths) fault
+
+-- the first of the texts that gives nothing, with this fault
+abbrev pub LacksInputs : (List ℕ → Option (List ℕ)) → CheckPaths → TaskFault → Type 0
+LacksInputs text_at paths fault =
+    IsOfSetup (text_at paths.setup.now) fault ⊎ (LacksSheet text_at paths fault ⊎ LacksSums text_at paths fault)
+
+-- the totals of the export, where there is one
+abbrev pub totals_held : Inputs → Option VoteTotals
+totals_held inputs = option_map (λ sums. sums.totals) inputs.held
+
+-- what the check of it comes to: right exactly if it is, and else why it is not
+pub record ComesTo (inputs : Inputs) (verdict : SheetVerdict) : Type 0 where
+  pub exactly : IsRightExactly inputs.canton (totals_held inputs) inputs.sheet verdict
+  pub reason : IsReasonOf inputs.canton (totals_held inputs) inputs.sheet verdict
+
+abbrev pub check_text : Inputs → SheetVerdict → List ℕ
+check_text inputs verdict = verdict_text (option_map (λ sums. sums.rows) inputs.held) verdict
+
+-- a check that ended so has written the verdict on what it was given: all of it, a front of it, or nothing
+abbrev pub Answers : Type 0 → Option (List ℕ) → Option (List ℕ) → Inputs → Result (Unit {0}) TaskFault → Type 0
+Answers unwritten w w' inputs (Ok done) =
+    (right : RightSheet) × ComesTo inputs (Right right) × Appends w w' (check_text inputs (Right right))
+Answers unwritten w w' inputs (Err faults.Refused) =
+    (verdict : SheetVerdict) × ComesTo inputs verdict × ((right : RightSheet) → verdict ≢ Right right)
+    × Appends w w' (check_text inputs verdict)
+Answers unwritten w w' inputs (Err faults.Write) =
+    (verdict : SheetVerdict) × ComesTo inputs verdict × WritesPart w w' (check_text inputs verdict)
+Answers unwritten w w' inputs (Err faults.Memory) = unwritten
+Answers unwritten w w' inputs (Err fault) = ⊥
+
+-- all was read and this was answered; or something was not read, and nothing was written
+abbrev pub Checks : Type 0 → (Inputs → Type 0) → (Inputs → Type 0) → Type 0 → Type 0
+Checks unwritten Is Answered Unread = ((inputs : Inputs) × Is inputs × Answered inputs) ⊎ (unwritten × Unread)
+
+module _ {I O E F T D R : Type 0} where
+  -- The check of the sheet at a path: the texts at the paths of its arguments are read, a call of the files for each, and
+  -- nothing else is. Then the verdict is written. No disk is used.
+  pub record Checked (of : Known I O E F T D R) (paths : CheckPaths) (old new : World I O E F)
+      (ended : Ended (Result (Unit {0}) TaskFault) D) : Type 0 where
+    pub none : ended.used ≡ None
+    pub rest : new ≡ record old { output = new.output; files = new.files }
+    pub calls : (n : ℕ) × (n ≤ 3) × AreCalls of.files n old.files new.files
+    pub checks : Checks (new.output ≡ old.output) (AreInputs (of.files.text_at old.files) paths)
+        (λ inputs. Answers (new.output ≡ old.output) (of.writers.contents old.output) (of.writers.contents new.output) inputs
+        ended.result)
+        (IsErrAnd ended.result (LacksInputs (of.files.text_at old.files) paths))

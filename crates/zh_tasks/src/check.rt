@@ -1,0 +1,168 @@
+//! Checking a published sheet.
+
+ghost use Rattle.std.specs.Prelude.{◌≡◌, ◌≤◌, ℕ, IfErr, IfOk, IsErrAnd, option_map};
+ghost use Rattle.std.specs.Option.{option_copied};
+ghost use Rattle.zh_world.specs.Files.{IsCallOfFiles};
+ghost use Rattle.zh_tasks.specs.Check.{Answers, AreSumsAt, AreSumsIfNamed, Checked, Checks, HeldFaultAs};
+ghost use Rattle.zh_tasks.specs.Check.{AreInputs, IsOfHeld, IsOfHeldAt, IsOfSheet, IsSheetAt, LacksInputs};
+ghost use Rattle.zh_tasks.specs.World.{AreCalls, known};
+
+use crate::fault::TaskFault;
+use crate::setup::setup_at;
+use std::alloc::Global;
+use std::io::{ErrorKind, Read, Write};
+use zh_arguments::CheckPaths;
+use zh_check::{SheetVerdict, check};
+use zh_csv::{LoadFault, NotedReader};
+use zh_districts::Setup;
+use zh_held::{HeldFault, HeldSums, read_held};
+use zh_totals::Totals;
+use zh_verdicts::write_verdict;
+use zh_world::{Ended, Files, World};
+
+/// How many bytes of a sheet's file are read at most: one more than a sheet may have, so that a longer one is noticed.
+const LONGEST_READ: u64 = 280_065;
+
+/// The front of the sheet at this path.
+pub(crate) fn sheet_at<F: Files>(
+    alloc: Global,
+    files: &mut F,
+    path: &str,
+) -> Result<Vec<u8>, TaskFault>
+    ensures call { IsCallOfFiles F.text_at F.disk_at F.calls files.old files.new }
+    ensures sheet { IfOk result (λ text. IsSheetAt (F.text_at files.old path.now) text.items) }
+    ensures fault { IfErr result IsOfSheet }
+{
+    let Ok(file) = files.text(path) else {
+        return Err(TaskFault::SheetFile);
+    };
+    let mut text = Vec::new(alloc);
+    match file.take(LONGEST_READ).read_to_end(&mut text) {
+        Ok(_) => Ok(text),
+        Err(error) if error.kind() == ErrorKind::OutOfMemory => Err(TaskFault::Memory),
+        Err(_) => Err(TaskFault::SheetFile),
+    }
+}
+
+/// The fault of an export, as the task's.
+fn held_fault(fault: LoadFault) -> TaskFault
+    ensures { HeldFaultAs fault result }
+{
+    match HeldFault::of(fault) {
+        Some(fault) => TaskFault::Held(fault),
+        None if fault == LoadFault::Read => TaskFault::HeldFile,
+        None => TaskFault::Memory,
+    }
+}
+
+/// The sums of the export at this path.
+fn held_at<'s, F: Files>(
+    alloc: Global,
+    files: &mut F,
+    setup: &'s Setup,
+    path: &str,
+) -> Result<HeldSums<'s>, TaskFault>
+    ensures call { IsCallOfFiles F.text_at F.disk_at F.calls files.old files.new }
+    ensures sums { IfOk result (AreSumsAt (F.text_at files.old path.now) setup.now) }
+    ensures fault { IfErr result (IsOfHeld (F.text_at files.old path.now) setup.now) }
+{
+    let Ok(file) = files.text(path) else {
+        return Err(TaskFault::HeldFile);
+    };
+    let mut text = NotedReader::new(file);
+    match read_held(alloc, setup, &mut text) {
+        Ok(sums) => Ok(sums),
+        Err(fault) => Err(held_fault(fault)),
+    }
+}
+
+/// The sums of the export, where there is one.
+fn held_if_named<'s, F: Files>(
+    alloc: Global,
+    files: &mut F,
+    setup: &'s Setup,
+    path: Option<&str>,
+) -> Result<Option<HeldSums<'s>>, TaskFault>
+    ensures calls { (n : ℕ) × (n ≤ 1) × AreCalls F.Files n files.old files.new }
+    ensures held { IfOk result (AreSumsIfNamed (F.text_at files.old) setup.now (option_map (λ p. p.now) path.entry)) }
+    ensures fault { IfErr result (IsOfHeldAt (F.text_at files.old) setup.now (option_map (λ p. p.now) path.entry)) }
+{
+    match path {
+        Some(path) => {
+            let sums = held_at(alloc, files, setup, path)?;
+            Ok(Some(sums))
+        }
+        None => Ok(None),
+    }
+}
+
+/// The sums of an export, where there is one.
+fn totals_in<'a, 's>(held: Option<&'a HeldSums<'s>>) -> Option<&'a Totals<'s>>
+    ensures { option_copied result ≡ option_map (λ sums. sums.totals) (option_copied held.entry) }
+{
+    match held {
+        Some(sums) => Some(&sums.totals),
+        None => None,
+    }
+}
+
+/// How many rows it has.
+fn rows_in(held: Option<&HeldSums<'_>>) -> Option<u32>
+    ensures { result ≡ option_map (λ sums. sums.rows) (option_copied held.entry) }
+{
+    match held {
+        Some(sums) => Some(sums.rows),
+        None => None,
+    }
+}
+
+/// Checks a sheet, and writes the verdict on it.
+fn answer<O: Write>(
+    alloc: Global,
+    setup: &Setup,
+    sheet: &[u8],
+    held: Option<&HeldSums<'_>>,
+    out: &mut O,
+) -> Result<(), TaskFault>
+    ensures { Answers (out.new ≡ out.old) (O.contents out.old) (O.contents out.new)
+        (record { canton = setup.now; sheet = sheet.now; held = option_copied held.entry }) result }
+{
+    let verdict = check(alloc, setup, sheet, totals_in(held))?;
+    write_verdict(alloc, &verdict, rows_in(held), out)?;
+    match verdict {
+        SheetVerdict::Right(_) => Ok(()),
+        _ => Err(TaskFault::Refused),
+    }
+}
+
+/// Reads the files, and then checks and answers.
+fn check_files<O: Write, F: Files>(
+    alloc: Global,
+    paths: CheckPaths<'_>,
+    files: &mut F,
+    out: &mut O,
+) -> Result<(), TaskFault>
+    ensures calls { (n : ℕ) × (n ≤ 3) × AreCalls F.Files n files.old files.new }
+    ensures checks { Checks (out.new ≡ out.old) (AreInputs (F.text_at files.old) paths.entry)
+        (λ inputs. Answers (out.new ≡ out.old) (O.contents out.old) (O.contents out.new) inputs result)
+        (IsErrAnd result (LacksInputs (F.text_at files.old) paths.entry)) }
+{
+    let setup = setup_at(alloc, files, paths.setup)?;
+    let sheet = sheet_at(alloc, files, paths.sheet)?;
+    let held = held_if_named(alloc, files, &setup, paths.held)?;
+    answer(alloc, &setup, &sheet, held.as_ref(), out)
+}
+
+/// Checks the sheet at a path, and uses no disk.
+pub(crate) fn check_sheet<I: Read, O: Write, E: Write, F: Files>(
+    alloc: Global,
+    paths: CheckPaths<'_>,
+    world: &mut World<I, O, E, F>,
+) -> Ended<Result<(), TaskFault>, F::Disk>
+    ensures { Checked (known I.Read O.Write E.Write F.Files F.Disk.Disk) paths.entry world.old world.new result }
+{
+    Ended {
+        result: check_files(alloc, paths, &mut world.files, &mut world.output),
+        used: None,
+    }
+}
