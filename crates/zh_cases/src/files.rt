@@ -33,13 +33,23 @@ fn append(rt: &HostRuntime, name: &str, bytes: &[u8]) -> Result<&'static str, Fa
     save(rt, name, &all)
 }
 
+/// One side of a change: `\n` stands for LF there, and `\r` for CR.
+fn side(rt: &HostRuntime, text: &str) -> Result<String, Fault> {
+    let text = text.trim().replace(rt.alloc(), "\\n", "\n")?;
+    let text = text.as_str().replace(rt.alloc(), "\\r", "\r")?;
+    Ok(text)
+}
+
 /// Writes a file with another's text, where `OLD => NEW` puts the new in the place of the old.
 fn replace(rt: &HostRuntime, from: &str, to: &str, change: &str) -> Result<&'static str, Fault> {
     let Some((old, new)) = change.split_once("=>") else {
         return Err(Fault::Text("a change is OLD => NEW"));
     };
+    let (old, new) = (side(rt, old)?, side(rt, new)?);
     let text = fs::read_to_string(rt, from)?;
-    let text = text.as_str().replace(rt.alloc(), old.trim(), new.trim())?;
+    let text = text
+        .as_str()
+        .replace(rt.alloc(), old.as_str(), new.as_str())?;
     save(rt, to, text.as_str().as_bytes())
 }
 

@@ -108,6 +108,8 @@ struct Given {
     input: Vec<u8>,
     setup: FolderText,
     csv: FolderText,
+    sheet: FolderText,
+    held: FolderText,
     /// The image of the disk of the case.
     image: Vec<u8>,
 }
@@ -146,7 +148,12 @@ fn run_on_given(
     given: &Given,
     passes: Passes,
 ) -> Result<String, Fault> {
-    let texts = [given.setup.lend(), given.csv.lend()];
+    let texts = [
+        given.setup.lend(),
+        given.csv.lend(),
+        given.sheet.lend(),
+        given.held.lend(),
+    ];
     let disks = [Named {
         path: DISK,
         bytes: &given.image,
@@ -173,6 +180,8 @@ pub(crate) fn run_within(
         input: input_in(rt, input.trim())?,
         setup: FolderText::read(rt, &arguments, "--setup")?,
         csv: FolderText::read(rt, &arguments, "--csv")?,
+        sheet: FolderText::read(rt, &arguments, "--sheet")?,
+        held: FolderText::read(rt, &arguments, "--held")?,
         image: fixture.image()?,
         arguments,
     };

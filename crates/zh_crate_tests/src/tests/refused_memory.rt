@@ -9,7 +9,7 @@ use zh_disk::{Disk, DiskFault, MemoryDisk, Stop};
 use zh_districts::{SeatFault, Setup, seats, setup_bytes};
 use zh_quorum::participating;
 use zh_returns::Count;
-use zh_setups::{SetupFault, read_setup, rehearsal};
+use zh_setups::{SetupFault, SetupRefusal, read_setup, rehearsal};
 use zh_sheet::{ExhaustedReason, SheetFault, explain};
 use zh_totals::Totals;
 use zh_upper::{UpperFault, upper, voters};
@@ -81,7 +81,12 @@ fn see_seats(rt: &impl Abort, alloc: Global, setup: &Setup) -> Result<(), Fail> 
 fn a_set_up_is_read(rt: HostRuntime) -> Result<(), Fail> {
     let text = TEXT.as_bytes();
     let setup = match read_setup(rt.alloc(), text) {
-        Err(SetupFault::Memory) => read_setup(rt.alloc(), text)?,
+        Err(
+            SetupRefusal {
+                fault: SetupFault::Memory,
+                ..
+            },
+        ) => read_setup(rt.alloc(), text)?,
         setup => setup?,
     };
     see_bytes(&rt, rt.alloc(), &setup)?;
