@@ -26,7 +26,7 @@ whole_tree() {
     printf '%s\n' '| Name | Sentence |' '|---|---|' '| `total n`, `half` | a |' '| `IsHigh` | b |' '' \
         '## The headline' '' '`crates/zh_high/specs/High.antt`' '' '| Name | Sentence |' '|---|---|' '| `IsHigh` | a |' '' \
         '`crates/zh_low/specs/Low.antt`' '' '| Name | Sentence |' '|---|---|' '| `total n`, `half` | a |' '' \
-        'See `wrong.edit`, `zh_low`, `crates/zh_low/src/lib.rt`, [this](PROVED.md).' '' \
+        'See `wrong.edit`, `zh_low`, `crates/zh_low/src/lib.rt`, [this](PROVED.md), [that](PROVED.md#zh_high).' '' \
         '## The other files' '' '`crates/zh_low/specs`' '' '- `Low.antt`: a number' > docs/DEFINITIONS.md
     : > README.md
     cd - > /dev/null || exit 2
@@ -77,6 +77,8 @@ wrong "one that the headline does not reach" docs/DEFINITIONS.md '18s/`half`/`ha
 wrong "one that it reaches no more" crates/zh_low/specs/Low.antt 's/= half n/= n/' "the headline does not reach zh_low.specs.Low.half"
 wrong "a file that is gone" docs/DEFINITIONS.md 's/src.lib.rt/src\/main.rt/' "there is no crates/zh_low/src/main.rt"
 wrong "a link that leads nowhere" docs/DEFINITIONS.md 's/(PROVED.md)/(OTHER.md)/' "there is no OTHER.md"
+wrong "a link to a heading that is not there" docs/DEFINITIONS.md 's/(PROVED.md)/(PROVED.md#zh_high-2)/' "there is no PROVED.md#zh_high-2"
+wrong "a link to a heading of the page that is not there" docs/DEFINITIONS.md 's/(PROVED.md)/(#the-headlines)/' "there is no #the-headlines"
 wrong "a file that the other part leaves out" docs/DEFINITIONS.md 's/^- `Low.antt`: /- /' "nothing is said of crates/zh_low/specs/Low.antt"
 wrong "a file of which nothing is left" docs/DEFINITIONS.md 's/^- `Low.antt`/- `Low.antt`, `High.antt`/;s/zh_low.specs`$/zh_high\/specs`/' \
     "nothing of crates/zh_high/specs/High.antt is left to be said"

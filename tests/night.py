@@ -1,6 +1,6 @@
 #!/usr/bin/env python3
-"""Nights of examples/canton: each answer of the program is that of the manual (examples/canton/office.py), and each sheet that of
-a calculation in exact fractions (tests/page/model.py). ZHCOUNT is the program's path; if it is not set,
+"""Nights of examples/canton: each answer and status of the program is that of the manual (examples/canton/office.py), and each
+sheet that of a calculation in exact fractions (tests/page/model.py). ZHCOUNT is the program's path; if it is not set,
 crates/zhcount/out/zhcount. The last line is 'N passed, M failed'."""
 import os
 import pathlib
@@ -62,27 +62,59 @@ def totals(word, sheet):
     return [(int(seats), None if divisor == "-" else int(divisor.replace(".", ""))) for seats, divisor in rows]
 
 
+class Night:
+    """A night that the program had in this folder, beside what the manual says of it."""
+
+    def __init__(self, room, seed):
+        self.room, self.office = room, offices.Office(cantons.Canton(cantons.Chance(seed)))
+        self.found, self.answers, self.sheets = [], 0, 0
+        copied = (room / "evening.status").read_text()
+        commands = int(re.search(r"(\d+) commands$", copied)[1])
+        least, status = self.compare("evening", commands)
+        if commands < least or copied != status:
+            self.found.append(f"the status of the copy: {copied}")
+        self.compare_status("stop")
+        self.office.stop()
+        self.compare("night")
+        self.compare_status("night")
+
+    def compare(self, part, copied=None):
+        """Compares the answers of a part. How many commands half of them had, and the status after as many as a copy has."""
+        lines = (self.room / part).read_text().splitlines()
+        given = answers_of((self.room / f"{part}.answers").read_text())
+        if len(lines) != len(given):
+            self.found.append(f"{part}: {len(lines)} lines and {len(given)} answers")
+        at_half, at_copy = 0, ""
+        for count, (line, answer) in enumerate(zip(lines, given), 1):
+            self.compare_answer(line, answer)
+            if count == len(lines) - len(lines) // 2:
+                at_half = self.office.commands
+            if self.office.commands == copied and not at_copy:
+                at_copy = self.office.status()
+        return at_half, at_copy
+
+    def compare_answer(self, line, answer):
+        wanted = self.office.answer(line)
+        is_sheet = " sheet " in wanted
+        fault = sheet_fault(self.office, answer) if is_sheet and answer.count("\n") > 1 else ""
+        if answer.split("\n")[0] != wanted or fault:
+            self.found.append(f"{line}: {answer.splitlines()[0]}, and not {wanted} {fault}")
+        self.answers, self.sheets = self.answers + 1, self.sheets + is_sheet
+
+    def compare_status(self, name):
+        status, wanted = (self.room / f"{name}.status").read_text(), self.office.status()
+        if status != wanted:
+            self.found.append(f"the status {name}: {status}, and not {wanted}")
+
+
 def faults(room, seed):
     """What is wrong in the night of a seed, and the number of its answers and of its sheets."""
     ran = subprocess.run([TOP / "examples" / "canton" / "run", str(seed)], stdin=subprocess.DEVNULL, stdout=subprocess.PIPE,
                          stderr=subprocess.STDOUT, text=True, env={**os.environ, "KEEP": str(room)})
     if ran.returncode:
         return [ran.stdout], 0, 0
-    office, found, answers, sheets = offices.Office(cantons.Canton(cantons.Chance(seed))), [], 0, 0
-    for part in ("evening", "night"):
-        lines = (room / part).read_text().splitlines()
-        given = answers_of((room / f"{part}.answers").read_text())
-        if len(lines) != len(given):
-            found.append(f"{part}: {len(lines)} lines and {len(given)} answers")
-        for line, answer in zip(lines, given):
-            wanted = office.answer(line)
-            is_sheet = " sheet " in wanted
-            fault = sheet_fault(office, answer) if is_sheet and answer.count("\n") > 1 else ""
-            if answer.split("\n")[0] != wanted or fault:
-                found.append(f"{line}: {answer.splitlines()[0]}, and not {wanted} {fault}")
-            answers, sheets = answers + 1, sheets + is_sheet
-        office.stop()
-    return found, answers, sheets
+    night_of = Night(room, seed)
+    return night_of.found, night_of.answers, night_of.sheets
 
 
 def main():

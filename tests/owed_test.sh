@@ -13,7 +13,7 @@ owed() {
     mkdir "$room/tests"
     cp tests/owed "$room/tests"
     cp -r docs "$room"
-    for crate in arguments commands disk journal ledger office records returns setups sheet_text snapshot tasks; do
+    for crate in arguments commands disk held journal ledger office records returns setups sheet_text snapshot tables tasks; do
         mkdir -p "$room/crates/zh_$crate"
         cp -r "crates/zh_$crate/src" "$room/crates/zh_$crate"
     done
@@ -36,6 +36,10 @@ owed "a refusal without a row" 1 'docs/MANUAL.md has no row of `batchopen` (refu
 sed -i '/^| `batchopen` |/d' docs/MANUAL.md
 END
 
+owed "a refusal without an item" 1 'docs/FORMATS.md has no row of `batchopen` (refusal)' << 'END'
+sed -i '/^[0-9]*[.] `batchopen`:/d' docs/FORMATS.md
+END
+
 owed "a refusal that is new" 1 'docs/FORMATS.md has no row of `muddle` (refusal)' << 'END'
 sed -i 's/b"stale"/b"muddle"/' crates/zh_commands/src/reply_writer.rt
 END
@@ -48,8 +52,16 @@ owed "a fault without a row" 1 'docs/FORMATS.md has no row of `disk inuse` (faul
 sed -i '/^| `disk inuse` |/d' docs/FORMATS.md
 END
 
+owed "a fault of rows held without a row" 1 'docs/MANUAL.md has no row of `held twice` (fault of rows held)' << 'END'
+sed -i 's/, `held twice`//' docs/MANUAL.md
+END
+
 owed "a task that is new" 1 'docs/MANUAL.md does not say `purge` (task)' << 'END'
 sed -i 's/"export" => Task/"purge" => Task/' crates/zh_arguments/src/arguments.rt
+END
+
+owed "a flag that is new" 1 'docs/FORMATS.md does not say `--urgent` (argument)' << 'END'
+sed -i 's/"missing"/"urgent"/' crates/zh_arguments/src/*.rt
 END
 
 owed "an argument that is not said" 1 'docs/FORMATS.md does not say `--csv` (argument)' << 'END'
@@ -66,6 +78,10 @@ END
 
 owed "a limit that changed" 1 "docs/MANUAL.md does not say 130 in 'Limits', LONGEST of zh_commands/src/parser.rt" << 'END'
 sed -i 's/LONGEST: usize = 120/LONGEST: usize = 130/' crates/zh_commands/src/parser.rt
+END
+
+owed "a number of a set-up that changed" 1 "docs/FORMATS.md does not say 450, a number of a set-up in zh_setups/src/*.rt" << 'END'
+sed -i 's/"house", 1, 400/"house", 1, 450/' crates/zh_setups/src/document.rt
 END
 
 owed "a constant that is gone" 1 "crates/zh_disk/src/disk.rt has no constant DISK_LENGTH any more" << 'END'

@@ -36,7 +36,7 @@ exec 9<> never  # nothing is ever written to it
 readonly DISK=1118720 JOURNAL=332032 PAGE=256
 
 # The functions of the checks, by subject.
-for subject in checks program tasks streams lists two_programs volume memory kills kinds; do
+for subject in checks program tasks streams lists dry_runs statuses two_programs copies sheets seats volume memory kills kinds; do
     . "$here/$subject.sh" || exit 1
 done
 
@@ -44,6 +44,7 @@ check "format and run make a disk, and nothing beside it" a_night
 check "the sheet of an election whose seats are known" known_election
 check "format leaves a disk that is in use" in_use
 check "a disk of another set-up is refused" another_setup
+check "a fault of the set-up names its place" places_of_faults
 check "a blank disk and a damaged one are refused" blank_and_damaged
 check "without arguments: a rehearsal" no_arguments
 check "arguments that ask for nothing: status 2" refused_arguments
@@ -53,13 +54,29 @@ check "standard input closed: the fault is read, and the disk is untouched" clos
 check "standard error closed: run serves, and a fault leaves the disk untouched" closed_error
 check "all streams closed: the disk is untouched" all_closed
 check "format makes a disk with streams closed" closed_format
-check "the four tables of a set-up" all_tables
+check "four tables of a set-up" all_tables
 check "a table while run has the disk" table_beside_a_run
 check "a table with its output closed or full: the fault is write" unwritten_tables
 check "a table of a set-up that is not there" missing_setup
 check "no table of constituencies without seats" seats_without_a_table
+check "the returns are listed, filled in and loaded" returns_filled_in
+check "more returns than one loading takes" returns_to_be_split
+check "what a load would do" forecasts
+check "what it would do while run has the disk" dry_run_beside_a_run
+check "a forecast with its output closed or full: the fault is write" unwritten_forecast
+check "how far the returns have come in" status_of_a_disk
+check "how far they are while run has the disk" status_beside_a_run
+check "a status with its output closed or full: the fault is write" unwritten_status
+check "a sheet is checked, with the rows held and without" checked_sheets
+check "a sheet that was spoilt is wrong" spoilt_sheets
+check "a sheet or an export that can't be read" unreadable_sheets
+check "a verdict with the output closed or full: the fault is write" unwritten_verdict
+check "the seats by a count, and by its sheet" seats_of_both
+check "the seats while run has the disk" seats_beside_a_run
+check "seats with the output closed or full: the fault is write" unwritten_seats
 check "a second program ends with disk busy, and the first goes on" second_program
 check "two programs at once, 20 times" two_at_once
+check "copies while run has the disk" copies_beside_a_run
 check "run on a full volume keeps what it acknowledged" full_run
 check "the disk full, then the output: the fault is write" full_disk_and_output
 check "format on a full volume can be done again" full_format

@@ -1,4 +1,5 @@
 """What the office answers, by docs/MANUAL.md: a second opinion, written from its words alone. It computes no seats."""
+from canton import CONSTITUENCIES
 
 
 class Office:
@@ -100,6 +101,19 @@ class Office:
             if municipality not in self.closed:
                 return f"refused notclosed {municipality}"
         return f"sheet final {self.commands}"
+
+    def status(self):
+        """What `status --constituencies` writes, with its last line."""
+        rows, canton = ["number,held,due,state,votes,name"], self.canton
+        for d, name in enumerate(CONSTITUENCIES, 1):
+            within = [m for m in canton.municipalities() if canton.constituency_of[m - 1] == d]
+            held = [votes or 0 for (m, _), (_, votes) in self.held.items() if m in within]
+            state = "closed" if self.closed.issuperset(within) else "open"
+            rows.append(f"{d},{len(held)},{sum(len(canton.lists_in(m)) for m in within)},{state},{sum(held)},{name}")
+        due = sum(len(canton.lists_in(m)) for m in canton.municipalities())
+        rows.append(f"{len(self.held)} of {due} returns, {len(self.closed)} of {len(canton.names)} municipalities closed, "
+                    f"{self.commands} commands")
+        return "\n".join(rows) + "\n"
 
     def stop(self):
         """After a stop no desk has a batch."""

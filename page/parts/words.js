@@ -3,10 +3,10 @@ const WORDS = {
   title: ['Check a published sheet', 'Ein veröffentlichtes Resultatblatt nachrechnen'],
   opinion: [
     'This page is a second opinion. It was written from the published rules alone, and not from the office’s program; '
-    + 'nothing about it is proved. The proved check is {command}. It needs no network, and what you open stays on this device.',
+    + 'nothing about it is proved. The proved check is {command}. The page needs no network, and what you open stays on this device.',
     'Diese Seite ist eine zweite Meinung. Sie ist allein nach den veröffentlichten Regeln geschrieben und nicht nach dem '
-    + 'Programm der Auszählung; nichts an ihr ist bewiesen. Die bewiesene Prüfung ist {command}. Sie braucht kein Netz, und '
-    + 'was Sie öffnen, bleibt auf diesem Gerät.'],
+    + 'Programm der Auszählung; nichts an ihr ist bewiesen. Die bewiesene Prüfung ist {command}. Die Seite braucht kein Netz, '
+    + 'und was Sie öffnen, bleibt auf diesem Gerät.'],
   language: ['Language', 'Sprache'],
   // Files
   files: ['Files', 'Dateien'],
@@ -129,8 +129,8 @@ const WORDS = {
   mark: ['it begins with a byte order mark (BOM), which a program put there',
     'sie beginnt mit einer Bytereihenfolge-Marke (BOM), die ein Programm hinzugefügt hat'],
   cut: ['the sheet is cut off here; next comes: {form}', 'das Blatt bricht hier ab; es folgt: {form}'],
-  cutWithin: ['the sheet is cut off within this line, or its line end is missing: {form}',
-    'das Blatt bricht in dieser Zeile ab, oder ihr Zeilenende fehlt: {form}'],
+  cutWithin: ['the sheet is cut off within this line, or its line end is missing; expected: {form}',
+    'das Blatt bricht in dieser Zeile ab, oder ihr Zeilenende fehlt; erwartet: {form}'],
   carriageReturn: ['it ends in a carriage return (CR LF), as a download can add; the sheet itself has LF alone',
     'sie endet mit einem Wagenrücklauf (CR LF), wie ihn ein Download hinzufügen kann; das Blatt selbst hat nur LF'],
   early: ['the sheet ends too early; expected: {form}', 'das Blatt endet zu früh; erwartet: {form}'],

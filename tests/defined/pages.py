@@ -175,14 +175,36 @@ def names_in_part(path, title):
 
 
 def files_in_part(path, title):
-    """The files of specs that the items of a part name before their colon, each with its line and under its crate's."""
+    """The files of specs that a part names, in whole or before the colon of an item below its crate's, each with its line."""
     found, folder = {}, None
     for number, line in lines_in_part(path, title):
+        found |= {it: number for it in re.findall(r"`(crates/\w+/specs/\w+\.antt)`", line)}
         if crate := re.match(r"`(crates/\w+/specs)`", line):
             folder = crate.group(1)
         elif folder and line.startswith("- "):
             found |= {f"{folder}/{it}": number for it in re.findall(r"`(\w+\.antt)`", line.split(": ")[0])}
     return found
+
+
+def anchors_in(path):
+    """What links may name in a page: its headings in lower case, without marks, with a dash for each blank; a heading that
+    comes again gets a number."""
+    found, in_block = {}, False
+    for line in path.read_text().splitlines():
+        in_block ^= line.lstrip().startswith("```")
+        if line.startswith("#") and not in_block:
+            anchor = re.sub(r"[^\w -]", "", line.lstrip("#").strip().lower()).replace(" ", "-")
+            again = found[anchor] = found.get(anchor, -1) + 1
+            if again:
+                found[f"{anchor}-{again}"] = 0
+    return found
+
+
+def is_link(link, path):
+    """Whether the file of a link is there, and has the heading that the link may name."""
+    file, _, anchor = link.partition("#")
+    target = path.parent / file if file else path
+    return target.exists() and (not anchor or anchor in anchors_in(target))
 
 
 def cited_things(path, tree):
@@ -195,8 +217,8 @@ def cited_things(path, tree):
             in_block = not in_block
         if in_block or line.startswith("    "):
             continue
-        for link in re.findall(r"\]\(([^)#:]+)(?:#[^)]*)?\)", line):
-            yield number, link, (path.parent / link).exists()
+        for link in re.findall(r"\]\(([^):]+)\)", line):
+            yield number, link, is_link(link, path)
         for word in re.findall(r"`([^`\s]+)`", line):
             known = is_known(word, path, tree, methods)
             if known is not None:

@@ -84,6 +84,20 @@ class Page:
         files += [("held.csv", held)] if held is not None else []
         return self.open().choose(*files)
 
+    def states(self, sheets, setup=None, held=None):
+        """The state after each of these sheets, with one set-up and rows held: they are shown one after the other, and not
+        chosen, which takes longer."""
+        return self.open().driver.execute_script("""
+            const [sheets, setup, held] = arguments;
+            const file = (name, text) => opened(name, new TextEncoder().encode(text));
+            takeFiles([['setup.toml', setup], ['held.csv', held]].filter(([, text]) => text !== null).map((it) => file(...it)));
+            return sheets.map((sheet) => {
+              Object.assign(files, { sheet: file('sheet.txt', sheet), before: null });
+              show();
+              return document.body.dataset.state;
+            });
+        """, sheets, setup, held)
+
     def wait(self, condition):
         """Waits until this script returns true."""
         self.until(lambda: self.driver.execute_script(condition))

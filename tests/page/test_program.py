@@ -2,6 +2,7 @@
 crates/zhcount/out/zhcount. As long as FORMATS names no task `check` there is nothing to compare."""
 import os
 import pathlib
+import random
 import re
 import subprocess
 import tempfile
@@ -14,6 +15,8 @@ from case import EXAMPLE, EXAMPLE_SETUP, Case
 
 PROGRAM = os.environ.get("ZHCOUNT") or str(browser.TOP / "crates" / "zhcount" / "out" / "zhcount")
 STANDS = "`check --setup" in (browser.TOP / "docs" / "FORMATS.md").read_text()
+# So many changes of each larger sheet, from this seed. Of the smallest all are taken.
+SAMPLE, SEED = 20, 2027
 
 
 def verdict(*files):
@@ -26,45 +29,60 @@ def verdict(*files):
                 path.write_bytes(content.encode())
                 arguments += [f"--{name}", str(path)]
         ran = subprocess.run([PROGRAM, "check", *arguments], stdin=subprocess.DEVNULL, stdout=subprocess.PIPE,
-                             stderr=subprocess.PIPE, text=True)
+                             stderr=subprocess.PIPE)
     if ran.returncode == 0:
         return "right"
-    if ran.returncode == 1 and ran.stdout.endswith("sheet wrong\n"):
+    if ran.returncode == 1 and ran.stdout.endswith(b"sheet wrong\n"):
         return "wrong"
     raise AssertionError(f"status {ran.returncode}: {ran.stdout}{ran.stderr}")
 
 
 def changes(sheet):
-    """A sheet with each line left out, and twice there, each number changed by one, and other ends."""
+    """A sheet with each line left out, twice there, or after the next one, each number changed, a group in or out, and
+    other ends."""
     lines = sheet.splitlines(keepends=True)
     for at, line in enumerate(lines):
-        for put in ("", line + line):
-            yield "".join(lines[:at] + [put] + lines[at + 1:])
+        after = "".join(lines[at + 1:at + 2])
+        for put in ("", line + line, after + line):
+            yield "".join(lines[:at] + [put] + lines[at + 1 + (put == after + line):])
         for number in re.finditer(r"\d+", line):
-            for change in (-1, 1):
-                put = f"{line[:number.start()]}{int(number[0]) + change}{line[number.end():]}"
-                yield "".join(lines[:at] + [put] + lines[at + 1:])
+            for put in (int(number[0]) - 1, int(number[0]) + 1, 0, f"0{number[0]}", 2**64, "-"):
+                yield "".join(lines[:at] + [f"{line[:number.start()]}{put}{line[number.end():]}"] + lines[at + 1:])
+        for old, new in ((" yes ", " no "), (" no ", " yes "), (" - ", " 0 "), (" - ", " 1.000000 ")):
+            for place in re.finditer(old, line):
+                yield "".join(lines[:at] + [line[:place.start()] + new + line[place.end():]] + lines[at + 1:])
     yield from (sheet[:-1], sheet + "\n", sheet + sheet, sheet.replace("\n", "\r\n"), "\ufeff" + sheet, "")
 
 
 @unittest.skipUnless(STANDS, "FORMATS names no task check")
 class Program(Case):
-    def same(self, *files):
-        page = self.page.sheet(*files)
-        with self.subTest(files[0][:200]):
-            self.assertEqual(page.state(), verdict(*files))
+    def same(self, texts, *others):
+        """The page and the program say the same of each of these sheets, with one set-up, and perhaps the rows held."""
+        for text, state in zip(texts, self.page.states(texts, *others), strict=True):
+            with self.subTest(text[:400]):
+                self.assertEqual(state, verdict(text, *others))
 
     def test_each_sheet_of_the_repository(self):
         for _, sheet, setup, held in sheets.all_sheets():
-            self.same(sheet, setup, None)
+            self.same([sheet], setup)
             if held is not None:
-                self.same(sheet, setup, held)
+                self.same([sheet], setup, held)
 
     def test_each_change_of_a_sheet(self):
-        for sheet in changes(EXAMPLE):
-            self.same(sheet, EXAMPLE_SETUP)
+        self.same(list(changes(EXAMPLE)), EXAMPLE_SETUP)
+
+    def test_changes_of_other_sheets(self):
+        chance = random.Random(SEED)
+        few = model.Election(10, [1000], [[600, 370, 30]])
+        for sheet, setup, held in [(few.sheet(), few.setup(), few.held())] + [found[1:] for found in sheets.all_sheets()]:
+            self.same(chance.sample(list(changes(sheet)), SAMPLE), setup, held)
+
+    def test_rows_held(self):
+        election = model.Election(10, [5000, 3000, 2000], [[525, 300, 175], [240, 330, 30], [90, 60, 50]])
+        rows = election.held()
+        for held in (rows, rows.replace("525", "526"), rows.replace("3,3,1,50", "3,3,2,withdrawn"), rows.replace("1,1,1,525\n", "")):
+            self.same([EXAMPLE], EXAMPLE_SETUP, held)
 
     def test_a_forged_quorum(self):
         election = model.made_up(3, 6, 5, 60)
-        for part in (None, [True] * 3 + [False, True]):
-            self.same(election.sheet(part=part), election.setup(), election.held())
+        self.same([election.sheet(), election.sheet(part=[True] * 3 + [False, True])], election.setup(), election.held())

@@ -40,7 +40,7 @@ unwritten_tables() {
 
 missing_setup() {
     local table
-    for table in constituencies municipalities groups lists; do
+    for table in constituencies municipalities groups lists returns; do
         ends 1 "setup file" "" list none.toml "$table"
     done
     same "what was made" "" "$(ls none.toml 2> /dev/null)"
@@ -52,4 +52,39 @@ seats_without_a_table() {
     sed 's/^house = 10/house = 1/' "$setup" > few.toml
     ends 1 "noseat 2" "" list few.toml constituencies
     ends 0 "" $'number,name\n1,A\n2,B\n3,C' list few.toml groups
+}
+
+# The table of returns with its last column filled in.
+returns_filled_in() {
+    new_disk d
+    list "$setup" returns > due.csv 2> faults
+    same "the status of the returns" 0 $?
+    same "what is said of few returns" "" "$(cat faults)"
+    sed '2,$s/$/7/' due.csv > filled.csv
+    ends 0 "" "stored 1" load d filled.csv
+    ends 1 "" "refused syntax" load d due.csv
+    ends 0 "" "$(cat filled.csv)" export_csv d
+}
+
+# A set-up of so many municipalities in constituency 1, where the two first groups stand.
+two_lists_in() {
+    local m
+    sed '/^\[\[municipality/,/^\[\[group/d; /^name = "A"$/,$d' "$setup"
+    for ((m = 1; m <= $1; m++)); do
+        printf '[[municipality]]\nname = "%s"\nconstituency = 1\n' "$m"
+    done
+    printf '[[group]]\nname = "A"\nstands = [1]\n[[group]]\nname = "B"\nstands = [1]\n'
+}
+
+# A loading takes 1,000 rows.
+returns_to_be_split() {
+    two_lists_in 500 > thousand.toml
+    two_lists_in 501 > more.toml
+    list thousand.toml returns > due.csv 2> faults
+    same "the lines of 1,000 returns" 1001 "$(wc -l < due.csv)"
+    same "what is said of 1,000 returns" "" "$(cat faults)"
+    list more.toml returns > due.csv 2> faults
+    same "the status of 1,002 returns" 0 $?
+    same "the lines of 1,002 returns" 1003 "$(wc -l < due.csv)"
+    same "what is said of 1,002 returns" "zhcount: more than 1,000 returns, to be split by --constituency or --municipality" "$(cat faults)"
 }

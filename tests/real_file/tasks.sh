@@ -40,6 +40,29 @@ another_setup() {
     same_bytes d before
 }
 
+# misplaced EDIT FAULT PLACE: a set-up with this edit is refused with this fault and its place, and the disk d is untouched.
+misplaced() {
+    sed "$1" "$setup" > bad.toml
+    ends 1 "$2"$'\n'"$3" "" timeout 20 "$program" run --setup bad.toml --disk d < /dev/null
+    ends 1 "$2"$'\n'"$3" "" timeout 20 "$program" list --setup bad.toml --of groups
+    same_bytes d before
+}
+
+places_of_faults() {
+    new_disk d
+    cp d before
+    misplaced '/^house = 10$/d' "setup missing" house
+    misplaced '/^persons = 3000$/d' "setup missing" "constituency 2, persons"
+    misplaced '/^name = "C"$/a colour = 1' "setup unknown" "group 3, another key"
+    misplaced 's/^house = 10$/house = 401/' "setup range" house
+    misplaced 's/^persons = 2000$/persons = 0/' "setup range" "constituency 3, persons"
+    misplaced 's/^name = "M"$/name = "N"/' "setup double" "municipality 2, name"
+    sed 's/^name = "Mitte"$/name = Mitte/' "$setup" > bad.toml
+    timeout 20 "$program" run --setup bad.toml --disk d < /dev/null 2> faults
+    same "the status of no TOML" 1 $?
+    same "the fault of no TOML" $'zhcount: setup text\nline 7' "$(sed 's/, column [0-9]*$//' faults)"
+}
+
 blank_and_damaged() {
     rm -f d
     truncate -s $DISK d

@@ -59,7 +59,7 @@ new_disk_over() {
 
 # In as much memory as the program can be loaded in, but not run, the fault is memory, and the disk is as it was.
 little_memory() {
-    local kibibytes status fault refused=0
+    local kibibytes status fault refused=0 has_loader=
     new_disk d
     cp d before
     echo "1 show 1 1" > lines
@@ -72,7 +72,14 @@ little_memory() {
         case $status in
             0) break ;;
             1) refused=$((refused + 1)) fault=$(cat faults) ;;
-            127) continue ;; # it could not be loaded
+            127) # it could not be loaded
+                has_loader=yes
+                continue
+                ;;
+            139) # nor could the loader: the system ends such a program before its first step
+                [ "$has_loader" ] || continue
+                fault="status $status"
+                ;;
             *) fault="status $status" ;;
         esac
         same "the fault in $kibibytes KiB" "zhcount: memory" "$fault"

@@ -1,0 +1,55 @@
+# The seats, by a count or by a sheet.
+
+seats() { timeout 20 "$program" seats --setup "$setup" "$@"; }
+
+# The election of FORMATS, on a new disk, and its sheet.
+elected() {
+    new_disk d
+    printf '%s\n' municipality,list,number,votes 1,1,1,525 1,2,1,300 1,3,1,175 2,1,1,240 2,2,1,330 2,3,1,30 3,1,1,90 3,2,1,60 3,3,1,50 > good.csv
+    ends 0 "" "stored 1" load d good.csv
+    echo "1 sheet" > lines
+    run d < lines > sheet
+}
+
+seats_of_both() {
+    local table=$'provisional, 1 commands\n         A    B    C  total\nNord     3    1    1      5\nMitte    1    2    0      3\nWest     1    1    0      2\ntotal    5    4    1     10'
+    new_disk d
+    ends 1 "refused nogroup" "" seats --disk d
+    elected
+    cp d before
+    ends 0 "" "$table" seats --disk d --table
+    ends 0 "" "$table" seats --sheet sheet --table
+    seats --disk d > by_count
+    seats --sheet sheet > by_sheet
+    same_bytes by_count by_sheet
+    same "the records" 10 "$(wc -l < by_count)"
+    ends 1 "refused notclosed 1" "" seats --disk d --final
+    same_bytes d before
+    sed 's/house 10/house 11/' sheet > wrong
+    ends 1 "sheet wrong" "" seats --sheet wrong
+    ends 1 "sheet file" "" seats --sheet missing
+    serves d $'1 close 1\n1 close 2\n1 close 3' $'1 stored 2\n1 stored 3\n1 stored 4'
+    seats --disk d --final > replies
+    same "the records that are final" 9 "$(grep -c ,final,4, replies)"
+}
+
+seats_beside_a_run() {
+    elected
+    start
+    returns 1 2 2 >&8
+    await_lines first.out 1
+    ends 1 "disk busy" "" seats --disk d
+    ends 0 "" "$(seats --sheet sheet)" seats --sheet sheet
+    exec 8>&-
+    wait $first
+    same "the status of run" 0 $?
+}
+
+unwritten_seats() {
+    elected
+    ends 1 write "" closed '>&-' seats --disk d
+    ends 1 write "" closed '>&-' seats --sheet sheet --table
+    seats --disk d > /dev/full 2> faults
+    same "the status with a full output" 1 $?
+    same "the fault with a full output" "zhcount: write" "$(cat faults)"
+}
