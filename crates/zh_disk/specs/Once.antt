@@ -4,24 +4,24 @@ use Rattle.zh_disk.specs.declared.disk.DiskFault.{DiskFault}
 use Rattle.zh_disk.specs.declared.disk.Disk.{Ghosts}
 use Rattle.zh_disk.specs.declared.once.OnceDisk.{OnceDisk}
 use Rattle.zh_disk.specs.History.{History, failures_after}
-use Rattle.zh_disk.specs.Fuse.{inside, calls_left, fuse_failures, fuse_history, one_fewer, IsOneCall}
+use Rattle.zh_disk.specs.Failing.{inside, calls_left, failures_met, failing_history, one_fewer, IsOneCall}
 
 module _ {D : Type 0} {g : Ghosts D} where
   -- the disk inside
   abbrev pub disk_inside : OnceDisk D g → D
-  disk_inside d = inside d.fuse
+  disk_inside d = inside d.failing
 
   -- how many calls pass before the one that fails, and nothing once it has failed
   abbrev pub calls_before : OnceDisk D g → Option ℕ
-  calls_before d = calls_left d.fuse
+  calls_before d = calls_left d.failing
 
   -- how often it has failed
   abbrev pub once_failures : OnceDisk D g → ℕ
-  once_failures d = fuse_failures d.fuse
+  once_failures d = failures_met d.failing
 
   -- that of the disk inside, but for the failures, which it counts itself
   abbrev pub once_history : OnceDisk D g → History
-  once_history d = fuse_history g.history d.fuse
+  once_history d = failing_history g.history d.failing
 
   -- A call of a disk that fails once. The one after those that pass fails, and does this to the disk
   -- inside; every other one is one call of the disk inside. Each that fails is counted once.

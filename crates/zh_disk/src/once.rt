@@ -3,16 +3,16 @@ ghost use Rattle.std.specs.Prelude.{◌≡◌, ◌+◌, ◌≤◌, true, length,
 ghost use Rattle.zh_disk.specs.declared.disk.TheConstants.{DISK_LENGTH};
 ghost use Rattle.zh_disk.specs.Disk.{Reads, Writes, Syncs};
 ghost use Rattle.zh_disk.specs.History.{Call};
-ghost use Rattle.zh_disk.specs.Fuse.{fails_once};
+ghost use Rattle.zh_disk.specs.Failing.{fails_once};
 
 use crate::disk::{DISK_LENGTH, Disk, DiskFault};
-use crate::fuse::FuseDisk;
+use crate::failing::FailingDisk;
 
 /// A disk that hands each call on to the disk inside, but for one, which fails.
 #[derive(Drop)]
 pub struct OnceDisk<D: Disk + Drop> {
-    fuse: FuseDisk<D>,
-    ghost once: { fails_once fuse ≡ true },
+    failing: FailingDisk<D>,
+    ghost once: { fails_once failing ≡ true },
 }
 
 impl<D: Disk + Drop> OnceDisk<D> {
@@ -26,7 +26,7 @@ impl<D: Disk + Drop> OnceDisk<D> {
         ensures failures { once_failures result ≡ 0 }
     {
         OnceDisk {
-            fuse: FuseDisk::once(inner, calls),
+            failing: FailingDisk::once(inner, calls),
         }
     }
 
@@ -34,12 +34,12 @@ impl<D: Disk + Drop> OnceDisk<D> {
     pub fn into_inner(self) -> D
         ensures { result ≡ disk_inside self }
     {
-        self.fuse.into_inner()
+        self.failing.into_inner()
     }
 }
 
 impl<D: Disk + Drop> Disk for OnceDisk<D> {
-    ghost use Rattle.zh_disk.specs.Fuse.{IsSame, ReachesWrite};
+    ghost use Rattle.zh_disk.specs.Failing.{IsSame, ReachesWrite};
     ghost use Rattle.zh_disk.specs.Once.{disk_inside, once_history, FailsOnce};
 
     ghost history = { once_history };
@@ -56,7 +56,7 @@ impl<D: Disk + Drop> Disk for OnceDisk<D> {
             (once_history self.old) (once_history self.new) result }
         ensures once { FailsOnce IsSame self.old self.new result }
     {
-        self.fuse.read_at(at, into)
+        self.failing.read_at(at, into)
     }
 
     fn write_at(&mut self, at: u64, from: &[u8]) -> Result<(), DiskFault>
@@ -64,13 +64,13 @@ impl<D: Disk + Drop> Disk for OnceDisk<D> {
         ensures call { Call is_err (Writes at from.now) (once_history self.old) (once_history self.new) result }
         ensures once { FailsOnce (ReachesWrite D.history at from.now) self.old self.new result }
     {
-        self.fuse.write_at(at, from)
+        self.failing.write_at(at, from)
     }
 
     fn sync(&mut self) -> Result<(), DiskFault>
         ensures call { Call is_err Syncs (once_history self.old) (once_history self.new) result }
         ensures once { FailsOnce IsSame self.old self.new result }
     {
-        self.fuse.sync()
+        self.failing.sync()
     }
 }

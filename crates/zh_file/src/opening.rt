@@ -24,8 +24,9 @@ pub fn open<S: Start>(rt: &HostRuntime, path: &str, start: S) -> Result<FileDisk
     ensures whole { IfOk result IsWhole }
 {
     // What is no disk is left alone: the lock makes a file that is missing, and one beside it.
-    if length_at(rt, path)? != DISK_LENGTH {
-        return Err(OpenFault::Size);
+    let length = length_at(rt, path)?;
+    if length != DISK_LENGTH {
+        return Err(OpenFault::Size(length));
     }
     let file = lock(rt, path, start)?;
     Stored::start(file)
@@ -47,7 +48,7 @@ pub fn open_or_make<S: Start>(
     make(rt, path)?;
     let length = length_at(rt, path)?;
     if length != 0 && length != DISK_LENGTH {
-        return Err(OpenFault::Size);
+        return Err(OpenFault::Size(length));
     }
     let mut file = lock(rt, path, start)?;
     fill(&mut file)?;

@@ -55,8 +55,9 @@ impl<D: File + Drop> Stored<D> {
         ensures failures { IfOk result (λ d. (stored_history d).failures ≡ D.faults file) }
         ensures whole { IfOk result (λ d. is_over d ≡ false) }
     {
-        if file.len()? as u64 != DISK_LENGTH {
-            return Err(OpenFault::Size);
+        let length = file.len()? as u64;
+        if length != DISK_LENGTH {
+            return Err(OpenFault::Size(length));
         }
         Ok(Stored {
             held: HeldFile {

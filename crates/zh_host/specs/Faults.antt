@@ -8,5 +8,5 @@ use Rattle.zh_world.specs.declared.files.FileFault.TheVariants as faults
 abbrev pub fault_of : OpenFault → FileFault
 fault_of opening.Memory = faults.Memory
 fault_of opening.Device = faults.Device
-fault_of opening.Size = faults.Size
+fault_of (opening.Size length) = faults.Size length
 fault_of opening.Busy = faults.Busy

@@ -38,7 +38,7 @@ fn fault_of(fault: OpenFault) -> FileFault
     match fault {
         OpenFault::Memory => FileFault::Memory,
         OpenFault::Device => FileFault::Device,
-        OpenFault::Size => FileFault::Size,
+        OpenFault::Size(length) => FileFault::Size(length),
         OpenFault::Busy => FileFault::Busy,
     }
 }

@@ -1,7 +1,9 @@
-//! Where a set-up text has its fault, and how that is spelled.
+//! Where a set-up text has its fault.
+
+ghost use Rattle.std.specs.Prelude.{◌≡◌, ◌≤◌, length};
+ghost use Rattle.zh_setups.specs.PlaceNames.{key_name, kind_name};
 
 use crate::position::Position;
-use std::fmt;
 
 /// A key of a set-up text.
 #[derive(Clone, Copy, Debug, PartialEq, Eq)]
@@ -19,9 +21,13 @@ pub enum Key {
     Other,
 }
 
-impl fmt::Display for Key {
-    fn fmt<W: fmt::Write>(&self, f: &mut fmt::Formatter<W>) -> fmt::Result {
-        f.write_str(match self {
+impl Key {
+    /// Its name, as a text spells it. One that should not be there is `another key`.
+    pub fn as_str(&self) -> &'static str
+        ensures name { result.now ≡ key_name self.now }
+        ensures short { length result.now ≤ 13 }
+    {
+        match self {
             Key::Version => "version",
             Key::House => "house",
             Key::CantonQuorum => "canton_quorum",
@@ -32,7 +38,7 @@ impl fmt::Display for Key {
             Key::Persons => "persons",
             Key::Stands => "stands",
             Key::Other => "another key",
-        })
+        }
     }
 }
 
@@ -44,13 +50,17 @@ pub enum Kind {
     Group,
 }
 
-impl fmt::Display for Kind {
-    fn fmt<W: fmt::Write>(&self, f: &mut fmt::Formatter<W>) -> fmt::Result {
-        f.write_str(match self {
+impl Kind {
+    /// The name of its tables.
+    pub fn as_str(&self) -> &'static str
+        ensures name { result.now ≡ kind_name self.now }
+        ensures short { length result.now ≤ 12 }
+    {
+        match self {
             Kind::Constituency => "constituency",
             Kind::Municipality => "municipality",
             Kind::Group => "group",
-        })
+        }
     }
 }
 
@@ -62,14 +72,4 @@ pub enum FaultPlace {
     Top(Key),
     /// A key in a table. Tables of a kind are numbered from 1.
     Table { kind: Kind, number: usize, key: Key },
-}
-
-impl fmt::Display for FaultPlace {
-    fn fmt<W: fmt::Write>(&self, f: &mut fmt::Formatter<W>) -> fmt::Result {
-        match self {
-            FaultPlace::At(position) => write!(f, "{position}"),
-            FaultPlace::Top(key) => write!(f, "{key}"),
-            FaultPlace::Table { kind, number, key } => write!(f, "{kind} {number}, {key}"),
-        }
-    }
 }

@@ -3,21 +3,11 @@
 ghost use Rattle.std.specs.Prelude.{◌≡◌, ◌<◌, ◌+◌, ◌^◌, length};
 ghost use Rattle.zh_setups.specs.Positions.{moved, position_after};
 
-use std::fmt;
-
 /// A position in a text: its line and its column, both from 1. A column counts characters.
 #[derive(Clone, Copy, Debug, PartialEq, Eq)]
 pub struct Position {
     pub line: usize,
     pub column: usize,
-}
-
-impl fmt::Display for Position {
-    fn fmt<W: fmt::Write>(&self, f: &mut fmt::Formatter<W>) -> fmt::Result {
-        let line = self.line;
-        let column = self.column;
-        write!(f, "line {line}, column {column}")
-    }
 }
 
 /// The position after one more byte.

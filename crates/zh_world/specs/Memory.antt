@@ -15,16 +15,22 @@ bytes_at (named ∷ others) path = if bytes_eq named.path.now path then Some nam
 abbrev pub IsOutOfReach : ℕ → Option (List ℕ) → Type 0
 IsOutOfReach calls found = (calls ≡ 0) ⊎ (found ≡ None)
 
--- these are not the bytes of a disk
-abbrev pub HasWrongSize : Option (List ℕ) → Type 0
-HasWrongSize None = ⊥
-HasWrongSize (Some bytes) = length bytes ≢ disk_length
+-- These bytes are no disk: they are so many, and not as many as a disk has; or memory for it is refused.
+abbrev pub IsImageFault : List ℕ → FileFault → Type 0
+IsImageFault bytes faults.Memory = Unit {0}
+IsImageFault bytes (faults.Size found) = (found ≡ length bytes) × (found ≢ disk_length)
+IsImageFault bytes fault = ⊥
+
+-- what was found at a path has another length than a disk, and this one
+abbrev pub IsNoDisksLength : Option (List ℕ) → ℕ → Type 0
+IsNoDisksLength None found = ⊥
+IsNoDisksLength (Some bytes) found = (found ≡ length bytes) × (found ≢ disk_length)
 
 -- Why there is no disk, where so many calls pass and this is found at its path: memory for it may be refused.
 abbrev pub IsDiskFault : ℕ → Option (List ℕ) → FileFault → Type 0
 IsDiskFault calls found faults.Memory = Unit {0}
 IsDiskFault calls found faults.Device = IsOutOfReach calls found
-IsDiskFault calls found faults.Size = HasWrongSize found
+IsDiskFault calls found (faults.Size length) = IsNoDisksLength found length
 IsDiskFault calls found faults.Busy = ⊥
 
 -- The same of one that is made where there is none.

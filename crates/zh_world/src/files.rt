@@ -13,9 +13,9 @@ pub enum FileFault {
     Memory,
     #[error("the file could not be opened")]
     Device,
-    /// The file has not [`DISK_LENGTH`](zh_disk::DISK_LENGTH) bytes.
+    /// The file has so many bytes, and not [`DISK_LENGTH`](zh_disk::DISK_LENGTH).
     #[error("the file does not have the length of a disk")]
-    Size,
+    Size(u64),
     /// Another program, or another disk of this one, has the file open.
     #[error("the file is in use")]
     Busy,

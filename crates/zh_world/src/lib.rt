@@ -13,4 +13,4 @@ pub use count::CallCount;
 pub use files::{FileFault, Files};
 pub use memory::{MemoryFiles, Named};
 pub use text::MemoryText;
-pub use world::{Ended, World};
+pub use world::{Ended, Remark, World};

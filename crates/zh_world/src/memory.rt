@@ -1,18 +1,18 @@
 //! Files in memory.
-ghost use Rattle.std.specs.Prelude.{◌≡◌, ◌+◌, ◌-◌, ◌^◌, ◌≢◌, false, Some, Ok, Err, IfOk, IfErr, MatchOption, MatchResult, length};
-ghost use Rattle.zh_disk.specs.Disk.{disk_length, fresh_trail};
-ghost use Rattle.zh_disk.specs.Fuse.{IsFuse, calls_left, fuse_history, inside};
+ghost use Rattle.std.specs.Prelude.{◌≡◌, ◌+◌, ◌-◌, ◌^◌, false, Some, Ok, IfOk, IfErr, MatchOption, MatchResult};
+ghost use Rattle.zh_disk.specs.Disk.{fresh_trail};
+ghost use Rattle.zh_disk.specs.Failing.{IsFailing, calls_left, failing_history, inside};
 ghost use Rattle.zh_disk.specs.Memory.{IsNewDisk, memory_history, memory_trail};
 ghost use Rattle.zh_world.specs.Count.{number};
 ghost use Rattle.zh_world.specs.Files.{Begins, BeginsOrIsMade, IsCallOfFiles};
-ghost use Rattle.zh_world.specs.Memory.{bytes_at, IsDiskFault, IsMakingFault, IsOutOfReach};
+ghost use Rattle.zh_world.specs.Memory.{bytes_at, IsDiskFault, IsImageFault, IsMakingFault, IsOutOfReach};
 
 use crate::count::CallCount;
 use crate::files::{FileFault, Files};
 use crate::text::MemoryText;
 use std::alloc::{AllocError, Global};
 use std::marker::PhantomData;
-use zh_disk::{DISK_LENGTH, FuseDisk, MemoryDisk};
+use zh_disk::{DISK_LENGTH, FailingDisk, MemoryDisk};
 
 /// Bytes, and the path that they stand at.
 #[derive(Clone, Copy)]
@@ -88,43 +88,46 @@ impl<'a, R> MemoryFiles<'a, R> {
     }
 
     /// The disk that was made, which passes so many calls.
-    fn fused(&self, made: Result<MemoryDisk, AllocError>) -> Result<FuseDisk<MemoryDisk>, FileFault>
-        ensures { MatchResult result (λ disk. (made ≡ Ok (inside disk)) × IsFuse (inside disk) self.now.disk_calls false disk)
+    fn failing(
+        &self,
+        made: Result<MemoryDisk, AllocError>,
+    ) -> Result<FailingDisk<MemoryDisk>, FileFault>
+        ensures { MatchResult result (λ disk. (made ≡ Ok (inside disk)) × IsFailing (inside disk) self.now.disk_calls false disk)
             (λ fault. fault ≡ FileFault.Memory) }
     {
         match made {
-            Ok(disk) => Ok(FuseDisk::new(disk, self.disk_calls)),
+            Ok(disk) => Ok(FailingDisk::new(disk, self.disk_calls)),
             Err(_) => Err(FileFault::Memory),
         }
     }
 
     /// The disk that this is the image of.
-    fn disk_of(&self, image: &[u8]) -> Result<FuseDisk<MemoryDisk>, FileFault>
+    fn disk_of(&self, image: &[u8]) -> Result<FailingDisk<MemoryDisk>, FileFault>
         ensures begins { IfOk result (λ disk. memory_trail (inside disk) ≡ fresh_trail image.now) }
-        ensures fuse { IfOk result (λ disk. IsFuse (inside disk) self.now.disk_calls false disk) }
-        ensures size { result ≡ Err FileFault.Size → length image.now ≢ disk_length }
-        ensures other { IfErr result (λ fault. fault ≢ FileFault.Size → fault ≡ FileFault.Memory) }
+        ensures failing { IfOk result (λ disk. IsFailing (inside disk) self.now.disk_calls false disk) }
+        ensures fault { IfErr result (IsImageFault image.now) }
     {
-        if image.len() as u64 != DISK_LENGTH {
-            return Err(FileFault::Size);
+        let length = image.len() as u64;
+        if length != DISK_LENGTH {
+            return Err(FileFault::Size(length));
         }
-        self.fused(MemoryDisk::new(self.alloc, image))
+        self.failing(MemoryDisk::new(self.alloc, image))
     }
 
     /// A disk of zeros.
-    fn blank(&self) -> Result<FuseDisk<MemoryDisk>, FileFault>
+    fn blank(&self) -> Result<FailingDisk<MemoryDisk>, FileFault>
         ensures blank { IfOk result (λ disk. IsNewDisk (memory_trail (inside disk))) }
-        ensures fuse { IfOk result (λ disk. IsFuse (inside disk) self.now.disk_calls false disk) }
+        ensures failing { IfOk result (λ disk. IsFailing (inside disk) self.now.disk_calls false disk) }
         ensures memory { IfErr result (λ fault. fault ≡ FileFault.Memory) }
     {
-        self.fused(MemoryDisk::blank(self.alloc))
+        self.failing(MemoryDisk::blank(self.alloc))
     }
 }
 
 impl<'a, R: Drop> Files for MemoryFiles<'a, R> {
     type Text = MemoryText<'a>;
 
-    type Disk = FuseDisk<MemoryDisk>;
+    type Disk = FailingDisk<MemoryDisk>;
 
     type Right = R;
 
@@ -153,9 +156,9 @@ impl<'a, R: Drop> Files for MemoryFiles<'a, R> {
         }
     }
 
-    fn disk(&mut self, _right: R, path: &str) -> Result<FuseDisk<MemoryDisk>, FileFault>
+    fn disk(&mut self, _right: R, path: &str) -> Result<FailingDisk<MemoryDisk>, FileFault>
         ensures call { IsCallOfFiles text_at disk_at calls_made self.old self.new }
-        ensures begins { IfOk result (λ disk. Begins (disk_at self.old path.now) (fuse_history memory_history disk)) }
+        ensures begins { IfOk result (λ disk. Begins (disk_at self.old path.now) (failing_history memory_history disk)) }
         ensures left { IfOk result (λ disk. calls_left disk ≡ Some self.old.disk_calls) }
         ensures fails { IfErr result (IsDiskFault self.old.calls (bytes_at self.old.disks.now path.now)) }
     {
@@ -164,9 +167,9 @@ impl<'a, R: Drop> Files for MemoryFiles<'a, R> {
         self.disk_of(image)
     }
 
-    fn disk_or_make(&mut self, _right: R, path: &str) -> Result<FuseDisk<MemoryDisk>, FileFault>
+    fn disk_or_make(&mut self, _right: R, path: &str) -> Result<FailingDisk<MemoryDisk>, FileFault>
         ensures call { IsCallOfFiles text_at disk_at calls_made self.old self.new }
-        ensures begins { IfOk result (λ disk. BeginsOrIsMade (disk_at self.old path.now) (fuse_history memory_history disk)) }
+        ensures begins { IfOk result (λ disk. BeginsOrIsMade (disk_at self.old path.now) (failing_history memory_history disk)) }
         ensures left { IfOk result (λ disk. calls_left disk ≡ Some self.old.disk_calls) }
         ensures fails { IfErr result (IsMakingFault self.old.calls (bytes_at self.old.disks.now path.now)) }
     {

@@ -1,5 +1,14 @@
 //! What is outside of the program.
 
+/// What became of a remark, which a task makes beside its answer.
+#[derive(Clone, Copy, Debug, PartialEq, Eq)]
+pub enum Remark {
+    /// It is written.
+    Whole,
+    /// The writer failed under it.
+    Broken,
+}
+
 /// The streams and the files that a task is given.
 ///
 /// It has no bound, so that clauses read it as a plain record.
@@ -11,6 +20,8 @@ pub struct World<I, O, E, F> {
     pub output: O,
     /// What is reported.
     pub faults: E,
+    /// What became of the last remark to `faults`. It changes no status.
+    pub remark: Remark,
     /// The texts and the disks, by their paths.
     pub files: F,
 }

@@ -3,8 +3,8 @@ use Rattle.zh_disk.proofs.once.OnceDiskDisk.write_at.Goals as goal
 
 pub returns-clause-once : goal.returns-clause-once
 returns-clause-once g c = record {
-  counts = c.write_at.ensures.fused.counts;
-  rises = c.write_at.ensures.fused.rises;
-  fails = c.write_at.ensures.fused.blows;
-  passes = passes_once _ _ _ _ _ c.write_at.ensures.fused c.args.self.now.once;
+  counts = c.write_at.ensures.failing.counts;
+  rises = c.write_at.ensures.failing.rises;
+  fails = c.write_at.ensures.failing.fails;
+  passes = passes_once _ _ _ _ _ c.write_at.ensures.failing c.args.self.now.once;
 }
