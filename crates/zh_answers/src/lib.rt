@@ -9,3 +9,4 @@ mod without_command;
 
 pub use answer::Answer;
 pub use commands::{answer_to, submit_batch};
+pub use sheets::{first_open, sheet_refusal};

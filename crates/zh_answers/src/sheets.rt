@@ -11,8 +11,8 @@ use zh_returns::{Count, Reason};
 use zh_sheet::{SheetFault, make};
 use zh_totals::Totals;
 
-/// The name under which a sheet is refused.
-fn sheet_refusal(fault: SheetFault) -> Refusal
+/// The name under which a sheet is refused whose making met this fault.
+pub fn sheet_refusal(fault: SheetFault) -> Refusal
     ensures { result ≡ sheet_refusal fault }
 {
     match fault {
@@ -28,8 +28,8 @@ fn sheet_refusal(fault: SheetFault) -> Refusal
     }
 }
 
-/// The lowest municipality that is open.
-fn first_open(count: &Count<'_>) -> Option<u32>
+/// The lowest municipality that is open, if one is.
+pub fn first_open(count: &Count<'_>) -> Option<u32>
     ensures { MatchOption result (AreClosed count.now) (IsFirstOpen count.now) }
 {
     for municipality in 1..=count.setup().municipalities() {

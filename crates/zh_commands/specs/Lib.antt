@@ -3,3 +3,4 @@ pub mod Forms
 pub mod Lines
 pub mod Commands
 pub mod Replies
+pub mod Shown

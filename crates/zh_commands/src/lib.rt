@@ -7,6 +7,7 @@ mod output;
 mod parser;
 mod replies;
 mod reply_writer;
+mod shown;
 mod text;
 mod words;
 
@@ -16,6 +17,7 @@ pub use output::{WriteFault, put};
 pub use parser::{desk_of, parse_line};
 pub use replies::{Refusal, Reply};
 pub use reply_writer::write_reply;
+pub use shown::{Sign, sign_at};
 pub use words::numeral;
 pub use zh_desks::{Desk, RowFault};
 pub use zh_returns::Reason;
