@@ -46,15 +46,15 @@ head_accepted desk is_final accepted small =
     ∙ word_last (decimal accepted) (decimal_word accepted)) (read-decimal accepted small) small
 
 -- a constituency
-abbrev constituency_name : Distribution → ℕ → List ℕ
+abbrev pub constituency_name : Distribution → ℕ → List ℕ
 constituency_name x d = option_map_or (λ c. c.name) (slice_get x.totals.canton.constituencies (d - 1)) []
 
-abbrev constituency_words : Distribution → ℕ → List (List ℕ)
+abbrev pub constituency_words : Distribution → ℕ → List (List ℕ)
 constituency_words x d =
     codes "constituency" ∷ decimal d ∷ codes "persons" ∷ decimal (persons_of x.totals.canton d) ∷ codes "seats" ∷
     decimal (slice_index x.seats.seats (d - 1)) ∷ codes "votes" ∷ decimal (constituency_votes x.totals d) ∷ codes "divisor" ∷ []
 
-are_constituency_words : (x : Distribution) (d : ℕ) → AreWords (constituency_words x d)
+pub are_constituency_words : (x : Distribution) (d : ℕ) → AreWords (constituency_words x d)
 are_constituency_words x d = (
   by_test (codes "constituency") refl,
   (
@@ -111,24 +111,24 @@ constituency_divisor x d small =
     ∙ word_before (divisor_text m) (constituency_name x d) (divisor_word m)) (read-divisor m small) small
 
 -- a group
-abbrev group_name : Distribution → ℕ → List ℕ
+abbrev pub group_name : Distribution → ℕ → List ℕ
 group_name x g = option_map_or (λ c. c.name) (slice_get x.totals.canton.groups (g - 1)) []
 
-abbrev group_voters : Distribution → ℕ → List ℕ
+abbrev pub group_voters : Distribution → ℕ → List ℕ
 group_voters x g = cond (takes_part x g) (decimal (slice_index x.voters (g - 1))) (codes "-")
 
-abbrev divisor_word_of : Distribution → ℕ → List ℕ
+abbrev pub divisor_word_of : Distribution → ℕ → List ℕ
 divisor_word_of x g = option_map_or (λ k. divisor_text (slice_index x.lower.divisors.of_columns k)) (column_of x g) (codes "-")
 
-is_divisor_word : (x : Distribution) (g : ℕ) → IsWord (divisor_word_of x g)
+pub is_divisor_word : (x : Distribution) (g : ℕ) → IsWord (divisor_word_of x g)
 is_divisor_word x g = divisor_or_dash (slice_index x.lower.divisors.of_columns) (column_of x g)
 
-abbrev group_words : Distribution → ℕ → List (List ℕ)
+abbrev pub group_words : Distribution → ℕ → List (List ℕ)
 group_words x g =
     codes "group" ∷ decimal g ∷ codes "quorum" ∷ cond (takes_part x g) (codes "yes") (codes "no") ∷ codes "voters" ∷ group_voters x g ∷
     codes "seats" ∷ decimal (slice_index x.upper.seats (g - 1)) ∷ codes "divisor" ∷ []
 
-are_group_words : (x : Distribution) (g : ℕ) → AreWords (group_words x g)
+pub are_group_words : (x : Distribution) (g : ℕ) → AreWords (group_words x g)
 are_group_words x g = (
   by_test (codes "group") refl,
   (
@@ -183,7 +183,7 @@ group_body_divisor x g small =
     ∙ word_before divisor (group_name x g) (is_divisor_word x g)) (read-divisor_or_dash (slice_index x.lower.divisors.of_columns) (column_of x g) small) small
 
 -- a list
-abbrev list_voters : Distribution → ℕ → ℕ → List ℕ
+abbrev pub list_voters : Distribution → ℕ → ℕ → List ℕ
 list_voters x d g = cond (takes_part x g) (decimal (voter_number (votes_in x.totals d g) (slice_index x.seats.seats (d - 1)))) (codes "-")
 
 abbrev list_front : Distribution → ℕ → ℕ → List (List ℕ)
@@ -192,12 +192,12 @@ list_front x d g = codes "list" ∷ decimal d ∷ decimal g ∷ codes "votes" �
 are_list_front : (x : Distribution) (d g : ℕ) → AreWords (list_front x d g)
 are_list_front x d g = (by_test (codes "list") refl, (decimal_word d, (decimal_word g, (by_test (codes "votes") refl, tt))))
 
-abbrev list_words : Distribution → ℕ → ℕ → List (List ℕ)
+abbrev pub list_words : Distribution → ℕ → ℕ → List (List ℕ)
 list_words x d g =
     codes "list" ∷ decimal d ∷ decimal g ∷ codes "votes" ∷ decimal (votes_in x.totals d g) ∷ codes "voters" ∷
     list_voters x d g ∷ codes "seats" ∷ []
 
-are_list_words : (x : Distribution) (d g : ℕ) → AreWords (list_words x d g)
+pub are_list_words : (x : Distribution) (d g : ℕ) → AreWords (list_words x d g)
 are_list_words x d g = (
   by_test (codes "list") refl,
   (

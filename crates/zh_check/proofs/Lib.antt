@@ -4,9 +4,15 @@ mod ColumnLemmas
 mod DifferenceLemmas
 mod DigitLemmas
 mod Divisors
+mod FormLemmas
+mod FormedLemmas
+mod HeldLemmas
 mod LineLemmas
 mod ListLemmas
+mod MillionthLemmas
 mod NameLemmas
+mod NumeralLemmas
+mod OwnLemmas
 mod PushLemmas
 mod RangeLemmas
 mod ReadLemmas

@@ -96,16 +96,16 @@ lists_read x (d ∷ ds) rest =
     ∙ ap (λ ls. shown_in x d ++ ls) (lists_read x ds rest))))
 
 -- the lines between the first and the constituencies
-abbrev house_body : Distribution → List ℕ
+abbrev pub house_body : Distribution → List ℕ
 house_body x = field (codes "house ") x.totals.canton.house
 
-abbrev seats_key_body : Distribution → List ℕ
+abbrev pub seats_key_body : Distribution → List ℕ
 seats_key_body x = codes "seats key " ++ (decimal x.seats.num ++ (codes "/" ++ decimal x.seats.den))
 
-abbrev upper_key_body : Distribution → List ℕ
+abbrev pub upper_key_body : Distribution → List ℕ
 upper_key_body x = codes "upper key " ++ (decimal x.upper.num ++ (codes "/" ++ decimal x.upper.den))
 
-plain_field : (words word : List ℕ) → IsPlain words → IsPlain word → IsPlain (words ++ word)
+pub plain_field : (words word : List ℕ) → IsPlain words → IsPlain word → IsPlain (words ++ word)
 plain_field words word front back = All-append (λ b. 32 ≤ b) words word front back
 
 above_past : (quorum : Option ℕ) (house seats upper rest : List ℕ) → IsPlain house → IsPlain seats → IsPlain upper →
@@ -133,10 +133,10 @@ groups_on x = flat_map (group_line x) (range_with_len 1 (length x.totals.canton.
 abbrev pub constituencies_on : Distribution → List ℕ
 constituencies_on x = flat_map (constituency_line x) (range_with_len 1 (length x.totals.canton.constituencies)) ++ groups_on x
 
-abbrev quorum_line : Distribution → List ℕ
+abbrev pub quorum_line : Distribution → List ℕ
 quorum_line x = option_map_or (λ q. field (codes "quorum canton ") q ++ 10 ∷ []) x.totals.canton.canton_quorum []
 
-abbrev house_on : Distribution → List ℕ
+abbrev pub house_on : Distribution → List ℕ
 house_on x = house_body x ++ 10 ∷ (seats_key_body x ++ 10 ∷ (upper_key_body x ++ 10 ∷ (quorum_line x ++ constituencies_on x)))
 
 front_parts : (a b c d e h p q r u v w z l m n k t y : List ℕ) →
@@ -144,7 +144,7 @@ front_parts : (a b c d e h p q r u v w z l m n k t y : List ℕ) →
     ≡ a ++ (b ++ (c ++ (d ++ (e ++ 10 ∷ (h ++ 10 ∷ ((p ++ (q ++ (r ++ u))) ++ 10 ∷ ((v ++ (w ++ (z ++ l))) ++ 10 ∷ (m ++ (n ++ (k ++ (t ++ y)))))))))))
 front_parts a b c d e h p q r u v w z l m n k t y = simp append_assoc refl
 
-text_parts : (x : Distribution) (desk : ℕ) (is_final : Bool) (accepted : ℕ) → sheet_text x desk is_final accepted ≡ head_body desk is_final accepted ++ 10 ∷ house_on x
+pub text_parts : (x : Distribution) (desk : ℕ) (is_final : Bool) (accepted : ℕ) → sheet_text x desk is_final accepted ≡ head_body desk is_final accepted ++ 10 ∷ house_on x
 text_parts x desk is_final accepted =
     let canton = x.totals.canton in
     front_parts (decimal desk) (codes " sheet ") (kind is_final) (codes " ") (decimal accepted) (house_body x)

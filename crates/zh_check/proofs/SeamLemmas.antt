@@ -1,5 +1,5 @@
 -- A text that is cut at a byte, and the words of a line.
-use Rattle.std.proofs.Common.{◌≡◌, ℕ, zero, suc, ◌+◌, ◌<◌, ◌≤◌, true, false, All, List, [], ◌∷◌, ◌++◌, length, take, drop, refl, ap, ◌∙◌, arith, append_assoc}
+use Rattle.std.proofs.Common.{◌≡◌, ℕ, zero, suc, ◌+◌, ◌<◌, ◌≤◌, true, false, All, List, [], ◌∷◌, ◌++◌, length, take, drop, get_or, refl, ap, ◌∙◌, arith, append_assoc}
 use Rattle.std.specs.Prelude.{◌==◌}
 use Rattle.std.specs.List.{after_first, before_first, position_or_len}
 use Rattle.std.proofs.lemmas.Bool.{eq-eqb, ne_eqb}
@@ -86,6 +86,16 @@ word_before word rest is = word_first (word ++ 32 ∷ rest) ∙ seam_front 32 wo
 pub word_last : (word : List ℕ) → IsWord word → word_at word 0 ≡ word
 word_last word is =
     word_first word ∙ take_all (position_or_len (λ b. b == 32) word) word (omega (arith, nowhere 32 word (λ k d lt. omega (arith, is k d lt))))
+
+-- each word where it stands
+pub word_there : (words : List (List ℕ)) (rest : List ℕ) (n : ℕ) → AreWords words → n < length words → word_at (joined words rest) n ≡ get_or words n []
+word_there [] rest n are lt = absurd (omega arith)
+word_there (word ∷ words) rest zero are lt = word_before word (joined words rest) are.0
+word_there (word ∷ words) rest (suc n) are lt =
+    let line : List ℕ = word ++ 32 ∷ joined words rest in
+    word_next line n
+    ∙ ap (λ xs. word_at xs n) (seam_back 32 word (joined words rest) (λ k d lt. omega (arith, are.0 k d lt)))
+    ∙ word_there words rest n are.1 (omega arith)
 
 pub joined_plain : (words : List (List ℕ)) (rest : List ℕ) → AreWords words → IsPlain rest → IsPlain (joined words rest)
 joined_plain [] rest are plain = plain

@@ -1,5 +1,5 @@
 -- What is recomputed of a text, and what is right.
-use Rattle.std.proofs.Common.{◌≡◌, ◌≢◌, ℕ, ◌-◌, ◌^◌, ◌≤◌, Bool, true, false, List, length, Option, Some, None, refl, sym, ap, ◌∙◌, subst, arith}
+use Rattle.std.proofs.Common.{◌≡◌, ◌≢◌, ℕ, ◌-◌, ◌^◌, ◌≤◌, Bool, true, false, List, Option, Some, None, refl, sym, ap, ◌∙◌, subst, arith}
 use Rattle.std.specs.Prelude.{IfSome, codes, ◌↔◌}
 use Rattle.zh_districts.specs.Canton.{Canton}
 use Rattle.zh_matrices.specs.SeatMatrix.{SeatMatrix}
@@ -8,15 +8,17 @@ use Rattle.zh_sheet.specs.Given.{IsGiven, IsPublished, given_lists}
 use Rattle.zh_totals.specs.Totals.{AreTotals, VoteTotals}
 use Rattle.zh_check.specs.Lines.{first_line, number_at, word_at}
 use Rattle.zh_check.specs.Reading.{column_divisors, group_divisors_read, row_divisors_read, seats_in_columns, seats_read, votes_read}
-use Rattle.zh_check.specs.Others.{IsOtherVotes}
+use Rattle.zh_check.specs.Form.{FindsOffForm, IsFormed, IsOffForm}
+use Rattle.zh_check.specs.Others.{FindsOtherVotes, HasHeldVotes, HasOtherVotes}
 use Rattle.zh_check.specs.declared.checked.OtherVotes.{OtherVotes}
 use Rattle.zh_check.specs.Differences.{DiffersAt}
-use Rattle.zh_check.specs.Verdicts.{DiffersFromSheet, FindsSheet, FollowsNone, IsReasonOf, IsRecomputed, IsRight, IsRightExactly, IsWhyNone, right_text}
+use Rattle.zh_check.specs.Verdicts.{DiffersFromSheet, FindsSheet, FollowsNone, IsReasonOf, IsRecomputed, IsRight, IsRightExactly, IsWhyNone, PartsHold, right_text}
 use Rattle.zh_check.specs.declared.checked.SheetVerdict.{SheetVerdict}
 use Rattle.zh_check.specs.declared.checked.SheetVerdict.TheVariants as verdicts
 use Rattle.zh_check.specs.declared.checked.WrongLine.{WrongLine}
 use Rattle.zh_check.specs.declared.checked.RightSheet.{RightSheet}
 use Rattle.zh_check.proofs.BodyLemmas.{head_accepted, head_desk, head_kind, kind}
+use Rattle.zh_check.proofs.FormedLemmas.{sheet_formed}
 use Rattle.zh_check.proofs.ReadLemmas.{head_read}
 use Rattle.zh_check.proofs.SheetLemmas.{final_word, lower_is, votes_are}
 
@@ -136,20 +138,25 @@ none_recomputed canton bytes found c is = let e : None ≡ Some c = found.every 
 pub why_exactly : (canton : Canton) (held : Option VoteTotals) (bytes : List ℕ) (verdict : SheetVerdict) → FindsSheet canton bytes None →
     IsWhyNone canton bytes verdict → IsRightExactly canton held bytes verdict
 why_exactly canton held bytes (verdicts.Right c) found why = absurd why
-why_exactly canton held bytes (verdicts.Differs wrong) found why = absurd why
-why_exactly canton held bytes (verdicts.OtherVotes other) found why = absurd why
-why_exactly canton held bytes (verdicts.OffList off) found why = none_right canton held bytes found
-why_exactly canton held bytes (verdicts.OffTotal off) found why = none_right canton held bytes found
-why_exactly canton held bytes verdicts.NoSheet found why = none_right canton held bytes found
+why_exactly canton held bytes verdict found why = none_right canton held bytes found
 
-pub why_reason : (canton : Canton) (held : Option VoteTotals) (bytes : List ℕ) (verdict : SheetVerdict) → FindsSheet canton bytes None →
-    IsWhyNone canton bytes verdict → IsReasonOf canton held bytes verdict
-why_reason canton held bytes (verdicts.Right c) found why = absurd why
-why_reason canton held bytes (verdicts.Differs wrong) found why = absurd why
-why_reason canton held bytes (verdicts.OtherVotes other) found why = absurd why
-why_reason canton held bytes (verdicts.OffList off) found why = (none_recomputed canton bytes found, why)
-why_reason canton held bytes (verdicts.OffTotal off) found why = (none_recomputed canton bytes found, why.0, why.1)
-why_reason canton held bytes verdicts.NoSheet found why = (none_recomputed canton bytes found, why.0, why.1)
+pub why_reason : (canton : Canton) (held : Option VoteTotals) (bytes : List ℕ) (verdict : SheetVerdict) → PartsHold canton held bytes →
+    FindsSheet canton bytes None → IsWhyNone canton bytes verdict → IsReasonOf canton held bytes verdict
+why_reason canton held bytes (verdicts.Right c) parts found why = absurd why
+why_reason canton held bytes (verdicts.OffForm wrong) parts found why = absurd why
+why_reason canton held bytes (verdicts.OtherVotes other) parts found why = absurd why
+why_reason canton held bytes (verdicts.Differs wrong) parts found why = absurd why
+why_reason canton held bytes verdict parts found why = (parts, none_recomputed canton bytes found, why)
+
+-- a text that is not in its form is no sheet's
+right_formed : (canton : Canton) (held : Option VoteTotals) (bytes : List ℕ) (c : RightSheet) → IsRight canton held bytes c → IsFormed canton bytes
+right_formed canton held bytes c is =
+    subst (λ text. IsFormed canton text) (sym is.text)
+    (subst (λ k. IsFormed k (right_text c)) is.same_setup (sheet_formed c.sheet c.desk c.is_final c.accepted is.meets.distribution is.desk.0 is.desk.1 is.accepted))
+
+pub off_form : (canton : Canton) (held : Option VoteTotals) (bytes : List ℕ) (wrong : WrongLine) → IsOffForm canton bytes wrong →
+    (c : RightSheet) → ¬ IsRight canton held bytes c
+off_form canton held bytes wrong off c right = off.other (right_formed canton held bytes c right)
 
 -- the right sheet is the one that follows
 only_this : (canton : Canton) (held : Option VoteTotals) (bytes : List ℕ) (r : RightSheet) → FindsSheet canton bytes (Some r) →
@@ -163,47 +170,49 @@ other_text canton held bytes expected r found printed differ c right =
     differ (right.text ∙ (ap right_text (sym (only_this canton held bytes r found c right)) ∙ sym printed))
 
 pub differs_from : (canton : Canton) (bytes expected : List ℕ) (wrong : WrongLine) (r : RightSheet) → FindsSheet canton bytes (Some r) →
-    expected ≡ right_text r → bytes ≢ expected → (bytes ≢ expected → DiffersAt bytes expected wrong) → DiffersFromSheet canton bytes wrong
+    expected ≡ right_text r → bytes ≢ expected → (bytes ≢ expected → DiffersAt bytes expected expected wrong) → DiffersFromSheet canton bytes wrong
 differs_from canton bytes expected wrong r found printed differ at = record {
   sheet = r;
   recomputed = found.some;
   other = λ e. differ (e ∙ sym printed);
-  line = subst (λ t. DiffersAt bytes t wrong) printed (at differ);
+  line = subst (λ t. DiffersAt bytes t t wrong) printed (at differ);
 }
 
--- the votes are not those that are held
-pub other_votes : (canton : Canton) (held : Option VoteTotals) (bytes : List ℕ) (r : RightSheet) → FindsSheet canton bytes (Some r) →
-    ¬ IfSome held (λ h. r.sheet.totals.votes ≡ h.votes) → (c : RightSheet) → ¬ IsRight canton held bytes c
-other_votes canton held bytes r found not c right =
-    not (subst (λ (x : RightSheet). IfSome held (λ h. x.sheet.totals.votes ≡ h.votes)) (sym (only_this canton held bytes r found c right)) right.votes)
+-- a sheet is of the votes that its text shows
+held_votes : (canton : Canton) (held : Option VoteTotals) (bytes : List ℕ) (c : RightSheet) → IsRecomputed canton bytes c →
+    IfSome held (λ h. c.sheet.totals.votes ≡ h.votes) → HasHeldVotes canton held bytes
+held_votes canton None bytes c is same = tt
+held_votes canton (Some h) bytes c is same = sym (ap (λ t. t.votes) is.votes) ∙ same
 
-pub not_held : (r : RightSheet) (held : Option VoteTotals) (h : VoteTotals) → held ≡ Some h → r.sheet.totals.votes ≢ h.votes →
-    ¬ IfSome held (λ h. r.sheet.totals.votes ≡ h.votes)
-not_held r held h is differ same = differ (subst (λ f. IfSome f (λ h. r.sheet.totals.votes ≡ h.votes)) is same)
+read_votes : (canton : Canton) (held : Option VoteTotals) (bytes : List ℕ) (c : RightSheet) → IsRecomputed canton bytes c →
+    HasHeldVotes canton held bytes → IfSome held (λ h. c.sheet.totals.votes ≡ h.votes)
+read_votes canton None bytes c is same = tt
+read_votes canton (Some h) bytes c is same = ap (λ t. t.votes) is.votes ∙ same
 
-pub list_held : (canton : Canton) (bytes : List ℕ) (r : RightSheet) (held : Option VoteTotals) (h : VoteTotals) (votes theirs : List ℕ) (other : OtherVotes) →
-    held ≡ Some h → votes ≡ r.sheet.totals.votes → theirs ≡ h.votes → votes ≢ theirs →
-    (length theirs ≡ length votes → votes ≢ theirs → IsOtherVotes canton bytes votes theirs other) →
-    IfSome held (λ h. length h.votes ≡ length r.sheet.totals.votes → IsOtherVotes canton bytes r.sheet.totals.votes h.votes other)
-list_held canton bytes r held h votes theirs other is votes_are theirs_are differ each =
-    let those = subst (λ t. length t ≡ length votes → IsOtherVotes canton bytes votes t other) theirs_are (λ same. each same differ) in
-    let here = subst (λ v. length h.votes ≡ length v → IsOtherVotes canton bytes v h.votes other) votes_are those in
-    subst (λ f. IfSome f (λ h. length h.votes ≡ length r.sheet.totals.votes → IsOtherVotes canton bytes r.sheet.totals.votes h.votes other)) (sym is) here
+-- other votes are held
+pub other_votes : (canton : Canton) (held : Option VoteTotals) (bytes : List ℕ) (other : OtherVotes) → HasOtherVotes canton held bytes other →
+    (c : RightSheet) → ¬ IsRight canton held bytes c
+other_votes canton held bytes other are c right =
+    are.votes (held_votes canton held bytes c (right_recomputed canton held bytes c right) right.votes)
 
-pub is_held : (r : RightSheet) (held : Option VoteTotals) (h : VoteTotals) → held ≡ Some h → r.sheet.totals.votes ≡ h.votes →
-    IfSome held (λ h. r.sheet.totals.votes ≡ h.votes)
-is_held r held h is same = subst (λ f. IfSome f (λ h. r.sheet.totals.votes ≡ h.votes)) (sym is) same
+-- no line is found that is none of its kind, and no list of which other votes are held
+pub parts_hold : (canton : Canton) (held : Option VoteTotals) (bytes : List ℕ) (form : Option WrongLine) (votes : Option OtherVotes) →
+    form ≡ None → votes ≡ None → FindsOffForm canton bytes form → FindsOtherVotes canton held bytes votes → PartsHold canton held bytes
+parts_hold canton held bytes form votes no_form no_votes formed are = record {
+  form = subst (λ f. FindsOffForm canton bytes f) no_form formed;
+  votes = subst (λ f. FindsOtherVotes canton held bytes f) no_votes are;
+}
 
 -- the sheet that follows is right
-pub found_right : (canton : Canton) (held : Option VoteTotals) (bytes : List ℕ) (r : RightSheet) → FindsSheet canton bytes (Some r) → bytes ≡ right_text r →
-    IfSome held (λ h. r.sheet.totals.votes ≡ h.votes) → IsRight canton held bytes r
-found_right canton held bytes r found printed votes =
+pub found_right : (canton : Canton) (held : Option VoteTotals) (bytes : List ℕ) (r : RightSheet) → PartsHold canton held bytes →
+    FindsSheet canton bytes (Some r) → bytes ≡ right_text r → IsRight canton held bytes r
+found_right canton held bytes r parts found printed =
     let is : IsRecomputed canton bytes r = found.some in
     record {
       desk = is.desk;
       accepted = omega (arith, is.accepted, number_most (first_line bytes) 3);
       same_setup = ap (λ t. t.canton) is.votes;
       meets = is.meets;
-      votes = votes;
+      votes = read_votes canton held bytes r is parts.votes;
       text = printed;
     }

@@ -18,7 +18,7 @@ use Rattle.zh_check.proofs.DigitLemmas.{after_append}
 use Rattle.zh_check.proofs.SeamLemmas.{IsPlain, IsWord}
 
 -- numerals are words
-glyph_word : (n : ℕ) → (48 ≤ digit_glyph false (n % 10)) × (digit_glyph false (n % 10) ≤ 57)
+pub glyph_word : (n : ℕ) → (48 ≤ digit_glyph false (n % 10)) × (digit_glyph false (n % 10) ≤ 57)
 glyph_word n =
     let small : n % 10 < 10 = mod-lt n (omega arith) in
     let is : digit_glyph false (n % 10) ≡ 48 + n % 10 = grind (arith, nat_tests) in

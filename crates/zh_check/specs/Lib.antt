@@ -1,5 +1,6 @@
 pub mod Cells
 pub mod Differences
+pub mod Form
 pub mod Lines
 pub mod Others
 pub mod Reading

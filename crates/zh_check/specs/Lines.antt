@@ -58,6 +58,9 @@ abbrev pub digits_after : ℕ → List ℕ → ℕ
 digits_after n [] = n
 digits_after n (b ∷ word) = if is_ascii_digit b then digits_after (n * 10 + (b - 48)) word else digits_after n word
 
--- the number that the digits of such a word write, at most the greatest of 64 bits
+-- the number that is read of a word: that which its digits write, at most the greatest of 64 bits
+abbrev pub number_of_word : List ℕ → ℕ
+number_of_word word = min (digits_after 0 word) (2 ^ 64 - 1)
+
 unfoldable pub number_at : List ℕ → ℕ → ℕ
-number_at line place = min (digits_after 0 (word_at line place)) (2 ^ 64 - 1)
+number_at line place = number_of_word (word_at line place)

@@ -1,9 +1,11 @@
--- The first list whose votes are not those that are held.
-use Rattle.std.specs.Prelude.{◌≡◌, ◌≢◌, ℕ, false, if◌then◌else◌, ◌+◌, ◌/◌, ◌<◌, List, length, slice_index, slice_index_or}
+-- The votes that are held, and the first list whose votes are others.
+use Rattle.std.specs.Prelude.{◌≡◌, ◌≢◌, ℕ, false, if◌then◌else◌, ◌+◌, ◌/◌, ◌<◌, Option, IfSome, MatchOption}
+use Rattle.std.specs.Prelude.{List, length, slice_index, slice_index_or}
 use Rattle.zh_districts.specs.Canton.{Canton}
+use Rattle.zh_totals.specs.Totals.{VoteTotals}
 use Rattle.zh_check.specs.Cells.{line_of_list}
 use Rattle.zh_check.specs.Lines.{after_lines, first_line}
-use Rattle.zh_check.specs.Reading.{lines_above, standing}
+use Rattle.zh_check.specs.Reading.{lines_above, standing, votes_read}
 use Rattle.zh_check.specs.declared.checked.OtherVotes.{OtherVotes}
 
 -- the number of the line that shows the votes of the list at a place: its own, or that of its constituency where it does not stand
@@ -32,3 +34,16 @@ pub record IsOtherVotes (canton : Canton) (text votes held : List ℕ) (other : 
   pub before : ℕ
   pub line : line_of_votes canton place ≡ before + 1
   pub said : IsOther text before (slice_index held place) other
+
+-- the votes that a text shows are those that are held, if there are any
+abbrev pub HasHeldVotes : Canton → Option VoteTotals → List ℕ → Type 0
+HasHeldVotes canton held text = IfSome held (λ h. votes_read canton text ≡ h.votes)
+
+-- they are not: of totals of as many lists, this is the first whose votes are others
+pub record HasOtherVotes (canton : Canton) (held : Option VoteTotals) (text : List ℕ) (other : OtherVotes) : Type 0 where
+  pub votes : ¬ HasHeldVotes canton held text
+  pub list : IfSome held (λ h. length h.votes ≡ length (votes_read canton text) →
+      IsOtherVotes canton text (votes_read canton text) h.votes other)
+
+abbrev pub FindsOtherVotes : Canton → Option VoteTotals → List ℕ → Option OtherVotes → Type 0
+FindsOtherVotes canton held text found = MatchOption found (HasHeldVotes canton held text) (HasOtherVotes canton held text)

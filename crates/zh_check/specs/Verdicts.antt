@@ -1,20 +1,20 @@
 -- When a published sheet is right, and which of its lines is wrong where it is not.
-use Rattle.std.specs.Prelude.{◌≡◌, ◌≢◌, ℕ, ◌-◌, ◌^◌, ◌≤◌, IsTrue, ◌↔◌, Option, Some, IfSome, List, codes, length}
+use Rattle.std.specs.Prelude.{◌≡◌, ◌≢◌, ℕ, ◌-◌, ◌^◌, ◌≤◌, IsTrue, ◌↔◌, Option, Some, IfSome, List, codes}
 use Rattle.zh_districts.specs.Canton.{Canton}
 use Rattle.zh_totals.specs.Totals.{VoteTotals}
 use Rattle.zh_sheet.specs.Given.{IsPublished, given_lists}
 use Rattle.zh_sheet_text.specs.SheetText.{sheet_text}
 use Rattle.zh_check.specs.Cells.{EachFollows, IsOffList}
 use Rattle.zh_check.specs.Differences.{DiffersAt}
-use Rattle.zh_check.specs.Others.{IsOtherVotes}
+use Rattle.zh_check.specs.Form.{IsFormed, IsOffForm}
 use Rattle.zh_check.specs.Lines.{first_line, number_at, word_at}
+use Rattle.zh_check.specs.Others.{HasHeldVotes, HasOtherVotes}
 use Rattle.zh_check.specs.Reading.{column_divisors, group_divisors_read, row_divisors_read, seats_in_columns, seats_read, votes_read}
 use Rattle.zh_check.specs.Totals.{IsNoneOff, IsOffTotal}
-use Rattle.zh_check.specs.declared.checked.OtherVotes.{OtherVotes}
 use Rattle.zh_check.specs.declared.checked.RightSheet.{RightSheet}
 use Rattle.zh_check.specs.declared.checked.SheetVerdict.TheVariants as verdicts
 use Rattle.zh_check.specs.declared.checked.SheetVerdict.{SheetVerdict}
-use Rattle.zh_check.specs.declared.checked.SheetVerdict.TheVariants.{Differs, NoSheet, OffList, OffTotal, Right}
+use Rattle.zh_check.specs.declared.checked.SheetVerdict.TheVariants.{Differs, NoSheet, OffForm, OffList, OffTotal, Right}
 use Rattle.zh_check.specs.declared.checked.WrongLine.{WrongLine}
 
 abbrev pub right_text : RightSheet → List ℕ
@@ -52,44 +52,34 @@ pub record DiffersFromSheet (canton : Canton) (bytes : List ℕ) (wrong : WrongL
   pub sheet : RightSheet
   pub recomputed : IsRecomputed canton bytes sheet
   pub other : bytes ≢ right_text sheet
-  pub line : DiffersAt bytes (right_text sheet) wrong
-
--- that sheet has this text, and its votes are not those that are held: of totals of as many lists, this is the first that is other
-pub record HasOtherVotes (canton : Canton) (held : Option VoteTotals) (bytes : List ℕ) (other : OtherVotes) : Type 0 where
-  pub sheet : RightSheet
-  pub recomputed : IsRecomputed canton bytes sheet
-  pub text : bytes ≡ right_text sheet
-  pub votes : ¬ IfSome held (λ h. sheet.sheet.totals.votes ≡ h.votes)
-  pub list : IfSome held (λ h. length h.votes ≡ length sheet.sheet.totals.votes →
-      IsOtherVotes canton bytes sheet.sheet.totals.votes h.votes other)
+  pub line : DiffersAt bytes (right_text sheet) (right_text sheet) wrong
 
 -- right where it is found right, and else right in no way
 abbrev pub IsRightExactly : Canton → Option VoteTotals → List ℕ → SheetVerdict → Type 0
 IsRightExactly canton held bytes (Right c) = IsRight canton held bytes c
-IsRightExactly canton held bytes (Differs wrong) = (c : RightSheet) → ¬ IsRight canton held bytes c
-IsRightExactly canton held bytes (verdicts.OtherVotes other) = (c : RightSheet) → ¬ IsRight canton held bytes c
-IsRightExactly canton held bytes (OffList off) = (c : RightSheet) → ¬ IsRight canton held bytes c
-IsRightExactly canton held bytes (OffTotal off) = (c : RightSheet) → ¬ IsRight canton held bytes c
-IsRightExactly canton held bytes NoSheet = (c : RightSheet) → ¬ IsRight canton held bytes c
+IsRightExactly canton held bytes verdict = (c : RightSheet) → ¬ IsRight canton held bytes c
 
 -- no sheet follows from what the bytes show
 abbrev pub FollowsNone : Canton → List ℕ → Type 0
 FollowsNone canton bytes = (c : RightSheet) → ¬ IsRecomputed canton bytes c
 
--- why none does
+-- why none does: of these reasons, in this order, the first that holds
 abbrev pub IsWhyNone : Canton → List ℕ → SheetVerdict → Type 0
-IsWhyNone canton bytes (Right c) = ⊥
-IsWhyNone canton bytes (Differs wrong) = ⊥
-IsWhyNone canton bytes (verdicts.OtherVotes other) = ⊥
 IsWhyNone canton bytes (OffList off) = IsOffList canton bytes off
 IsWhyNone canton bytes (OffTotal off) = EachFollows canton bytes × IsOffTotal canton bytes off
 IsWhyNone canton bytes NoSheet = EachFollows canton bytes × IsNoneOff canton bytes
+IsWhyNone canton bytes verdict = ⊥
 
--- why it is not right
+-- the parts that are looked at first hold: each line is of its kind, and the votes are those that are held
+pub record PartsHold (canton : Canton) (held : Option VoteTotals) (bytes : List ℕ) : Type 0 where
+  pub form : IsFormed canton bytes
+  pub votes : HasHeldVotes canton held bytes
+
+-- why a verdict is given: where a line is none of its kind, the first; else where other votes are held, the first list; and else
+-- by the sheet that follows, or, where none does, by the first reason why
 abbrev pub IsReasonOf : Canton → Option VoteTotals → List ℕ → SheetVerdict → Type 0
-IsReasonOf canton held bytes (Right c) = IsRecomputed canton bytes c
-IsReasonOf canton held bytes (Differs wrong) = DiffersFromSheet canton bytes wrong
-IsReasonOf canton held bytes (verdicts.OtherVotes other) = HasOtherVotes canton held bytes other
-IsReasonOf canton held bytes (OffList off) = FollowsNone canton bytes × IsOffList canton bytes off
-IsReasonOf canton held bytes (OffTotal off) = FollowsNone canton bytes × EachFollows canton bytes × IsOffTotal canton bytes off
-IsReasonOf canton held bytes NoSheet = FollowsNone canton bytes × EachFollows canton bytes × IsNoneOff canton bytes
+IsReasonOf canton held bytes (OffForm wrong) = IsOffForm canton bytes wrong
+IsReasonOf canton held bytes (verdicts.OtherVotes other) = IsFormed canton bytes × HasOtherVotes canton held bytes other
+IsReasonOf canton held bytes (Differs wrong) = PartsHold canton held bytes × DiffersFromSheet canton bytes wrong
+IsReasonOf canton held bytes (Right c) = PartsHold canton held bytes × IsRecomputed canton bytes c
+IsReasonOf canton held bytes verdict = PartsHold canton held bytes × FollowsNone canton bytes × IsWhyNone canton bytes verdict

@@ -72,23 +72,25 @@ pub struct OtherVotes {
     pub held: u64,
 }
 
-/// What a check comes to.
+/// What a check comes to. Each reason why a sheet is wrong stands only where none before it does.
 #[derive(Drop)]
 pub enum SheetVerdict<'s> {
     /// It is right.
     Right(RightSheet<'s>),
+    /// This is the first line that is none of its kind: what it should be has two dots for each word that only votes can give.
+    OffForm(WrongLine),
+    /// This is the first list whose votes are not those that are held.
+    OtherVotes(OtherVotes),
     /// A sheet follows from the votes, the divisors and the seats of the lists that it shows, and this is the first line that
     /// differs from that sheet.
     Differs(WrongLine),
-    /// It is right for its own votes, which are not those that are held, and this is the first list whose votes are not.
-    OtherVotes(OtherVotes),
-    /// No sheet follows from the votes, the divisors and the seats of the lists that it shows, and this is the first list whose
-    /// seats do not follow from its votes and its divisors.
+    /// No sheet follows, and this is the first list whose seats do not follow from its votes and its divisors.
     OffList(OffList),
-    /// No sheet follows, though the seats of each list do, and this is the first constituency, or else the first group, whose
-    /// lists have other seats together than it has.
+    /// No sheet follows, and this is the first constituency, or else the first group, whose lists have other seats together than
+    /// it has.
     OffTotal(OffTotal),
-    /// No sheet follows, though the seats of each list do and no total is known that they do not meet: there is no desk of this
-    /// number, no seats follow from the votes, or divisors are not those of the constituencies and groups with seats.
+    /// No sheet follows, though the seats of each list do and no total is known that they do not meet: no seats of the
+    /// constituencies follow from the persons, or none of the groups from the votes; there are too many votes; or a divisor is
+    /// beyond its limits, or that of a group without seats.
     NoSheet,
 }

@@ -1,30 +1,17 @@
 //! The check of a sheet: it is recomputed from what only its text can know, printed, and compared.
-ghost use Rattle.std.specs.Prelude.{◌≡◌, ◌↔◌, IfOk, IsTrue};
+ghost use Rattle.std.specs.Prelude.{IfOk};
 ghost use Rattle.std.specs.Option.{option_copied};
 ghost use Rattle.zh_check.specs.Verdicts.{IsReasonOf, IsRightExactly};
 
-use crate::checked::{RightSheet, SheetVerdict};
-use crate::differences::first_difference;
-use crate::others::other_votes;
+use crate::checked::SheetVerdict;
+use crate::differences::{first_difference, is_same};
+use crate::form::first_off_form;
+use crate::others::first_other_votes;
 use crate::reasons::why_none;
 use crate::recomputed::{recomputed, text_of};
 use std::alloc::{AllocError, Global};
 use zh_districts::Setup;
 use zh_totals::Totals;
-
-/// Whether two texts are the same.
-fn is_same(text: &[u8], expected: &[u8]) -> bool
-    ensures { IsTrue result ↔ text.now ≡ expected.now }
-{
-    text == expected
-}
-
-/// Whether a sheet has the votes that are held.
-fn has_votes(right: &RightSheet<'_>, held: &Totals<'_>) -> bool
-    ensures { IsTrue result ↔ right.now.sheet.totals.votes ≡ held.now.votes }
-{
-    right.sheet.totals().all() == held.all()
-}
 
 /// Whether these bytes are a sheet of this set-up, and of the votes that are held, if there are any: those of this set-up.
 ///
@@ -39,20 +26,18 @@ pub fn check<'s>(
     ensures exactly { IfOk result (IsRightExactly setup.now (option_copied held.entry) text.now) }
     ensures reason { IfOk result (IsReasonOf setup.now (option_copied held.entry) text.now) }
 {
+    if let Some(wrong) = first_off_form(alloc, setup, text)? {
+        return Ok(SheetVerdict::OffForm(wrong));
+    }
+    if let Some(other) = first_other_votes(alloc, setup, text, held)? {
+        return Ok(SheetVerdict::OtherVotes(other));
+    }
     let Some(right) = recomputed(alloc, setup, text)? else {
         return why_none(alloc, setup, text);
     };
     let expected = text_of(alloc, &right)?;
     if !is_same(text, &expected) {
-        return Ok(SheetVerdict::Differs(first_difference(alloc, text, &expected)?));
-    }
-    let Some(held) = held else {
-        return Ok(SheetVerdict::Right(right));
-    };
-    if !has_votes(&right, held) {
-        let votes = right.sheet.totals().all();
-        let other = other_votes(alloc, setup, text, votes, held.all())?;
-        return Ok(SheetVerdict::OtherVotes(other));
+        return Ok(SheetVerdict::Differs(first_difference(alloc, text, &expected, &expected)?));
     }
     Ok(SheetVerdict::Right(right))
 }

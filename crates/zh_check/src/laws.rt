@@ -1,9 +1,10 @@
 //! What is true of every right sheet.
 ghost use Rattle.std.specs.Prelude.{◌≡◌, ◌-◌, ◌^◌, ◌≤◌, ℕ, Bool, List, Option, Some, Ok};
+ghost use Rattle.zh_check.specs.Form.{IsFormed};
 ghost use Rattle.zh_check.specs.Verdicts.{IsRight};
 ghost use Rattle.zh_check.specs.declared.checked.RightSheet.{RightSheet};
 ghost use Rattle.zh_districts.specs.Canton.{Canton};
-ghost use Rattle.zh_sheet.specs.Distribution.{Distribution};
+ghost use Rattle.zh_sheet.specs.Distribution.{Distribution, IsDistribution};
 ghost use Rattle.zh_sheet.specs.Given.{HaveSameSeats};
 ghost use Rattle.zh_sheet.specs.Made.{IsMade};
 ghost use Rattle.zh_sheet_text.specs.SheetText.{sheet_text};
@@ -24,4 +25,10 @@ pub fn made_sheet_is_right()
         IsMade totals (Ok sheet) → NoneHidden totals → 1 ≤ desk → desk ≤ 8 → accepted ≤ 2 ^ 64 - 1 →
         IsRight totals.canton (Some totals) (sheet_text sheet desk is_final accepted)
         (record { sheet = sheet; desk = desk; is_final = is_final; accepted = accepted }) }
+{}
+
+/// The text of a sheet is in its form, for any desk: no line of it is found to be none of its kind.
+pub fn sheet_is_in_its_form()
+    ensures { (sheet : Distribution) (desk accepted : ℕ) (is_final : Bool) → IsDistribution sheet →
+        1 ≤ desk → desk ≤ 8 → accepted ≤ 2 ^ 64 - 1 → IsFormed sheet.totals.canton (sheet_text sheet desk is_final accepted) }
 {}

@@ -1,12 +1,15 @@
 //! The check of a published sheet: whether it follows from its votes, and from those that are held.
 #![tactic(auto)]
 
+mod blanks;
 mod cells;
 mod checked;
 mod checker;
 mod columns;
 mod differences;
+mod form;
 mod laws;
+mod line_forms;
 mod lines;
 mod others;
 mod places;
@@ -20,4 +23,4 @@ pub use checked::{
     ListQuotient, OffList, OffTotal, OtherVotes, RightSheet, SheetVerdict, WrongLine,
 };
 pub use checker::check;
-pub use laws::{made_sheet_is_right, right_sheets_agree};
+pub use laws::{made_sheet_is_right, right_sheets_agree, sheet_is_in_its_form};

@@ -1,7 +1,7 @@
 //! A text line by line. What is read is compared later, so nothing is refused here.
 ghost use Rattle.std.specs.Prelude.{◌≡◌, ◌==◌, ◌-◌, ◌^◌, ◌∷◌, ◌↔◌, [], ℕ, IfOk, IsTrue, min, position};
 ghost use Rattle.std.specs.List.{after_first, before_first};
-ghost use Rattle.zh_check.specs.Lines.{after_line, after_lines, digits_after, first_line, number_at, whole_line, word_at};
+ghost use Rattle.zh_check.specs.Lines.{after_line, after_lines, digits_after, first_line, number_at, number_of_word, whole_line, word_at};
 
 use std::alloc::{AllocError, Global};
 use std::marker::Model;
@@ -121,9 +121,9 @@ fn with_digit(number: u64, byte: u8) -> u64
         .saturating_add(u64::from(byte - b'0'))
 }
 
-/// The number that the digits of a word write.
-fn digits_in(word: &[u8]) -> u64
-    ensures { result ≡ min (digits_after 0 word.now) (2 ^ 64 - 1) }
+/// The number that is read of a word: that which its digits write, at most the greatest of 64 bits.
+pub(crate) fn number_of_word(word: &[u8]) -> u64
+    ensures { result ≡ number_of_word word.now }
 {
     let mut number = 0;
     for byte in word {
@@ -132,9 +132,9 @@ fn digits_in(word: &[u8]) -> u64
     number
 }
 
-/// The number that the digits of the word at a place of a line write.
+/// The number that is read of the word at a place of a line.
 pub(crate) fn number_at(line: &[u8], place: u32) -> u64
     ensures { result ≡ number_at line.now place }
 {
-    digits_in(word_at(line, place))
+    number_of_word(word_at(line, place))
 }

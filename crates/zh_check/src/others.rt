@@ -1,13 +1,15 @@
 //! The first list whose votes are not those that are held.
-ghost use Rattle.std.specs.Prelude.{◌≡◌, ◌≢◌, ◌+◌, ◌*◌, IfOk, IfNone, IfSome, length};
-ghost use Rattle.zh_check.specs.Lines.{after_lines, first_line};
-ghost use Rattle.zh_check.specs.Others.{IsFirstOther, IsOther, IsOtherVotes};
+ghost use Rattle.std.specs.Prelude.{◌≡◌, ◌≢◌, ◌+◌, ◌*◌, ◌↔◌, IfOk, IfNone, IfSome, IsTrue, length};
+ghost use Rattle.std.specs.Option.{option_copied};
+ghost use Rattle.zh_check.specs.Others.{FindsOtherVotes, IsFirstOther, IsOther, IsOtherVotes};
 
 use crate::checked::OtherVotes;
 use crate::lines::line_after;
 use crate::places::lines_before;
+use crate::values::read;
 use std::alloc::{AllocError, Global};
 use zh_districts::Setup;
+use zh_totals::Totals;
 
 /// The place of the first of these votes that are not those held.
 fn first_other(votes: &[u64], held: &[u64]) -> Option<usize>
@@ -34,7 +36,7 @@ fn other_after(alloc: Global, text: &[u8], before: u32, held: u64) -> Result<Oth
 }
 
 /// The first list whose votes are not those held. If these are not of this set-up, so that there may be none, the first line.
-pub(crate) fn other_votes(
+fn other_votes(
     alloc: Global,
     setup: &Setup,
     text: &[u8],
@@ -49,4 +51,31 @@ pub(crate) fn other_votes(
         Some(place) => other_after(alloc, text, lines_before(setup, place), held[place]),
         None => other_after(alloc, text, 0, 0),
     }
+}
+
+/// Whether these votes are those that are held.
+fn has_votes(votes: &[u64], held: &Totals<'_>) -> bool
+    ensures { IsTrue result ↔ votes.now ≡ held.now.votes }
+{
+    votes == held.all()
+}
+
+/// The first list whose votes, as a text shows them, are not those that are held, if there are any.
+pub(crate) fn first_other_votes(
+    alloc: Global,
+    setup: &Setup,
+    text: &[u8],
+    held: Option<&Totals<'_>>,
+) -> Result<Option<OtherVotes>, AllocError>
+    ensures { IfOk result (FindsOtherVotes setup.now (option_copied held.entry) text.now) }
+{
+    let Some(held) = held else {
+        return Ok(None);
+    };
+    let values = read(alloc, setup, text)?;
+    if has_votes(&values.votes, held) {
+        return Ok(None);
+    }
+    let other = other_votes(alloc, setup, text, &values.votes, held.all())?;
+    Ok(Some(other))
 }

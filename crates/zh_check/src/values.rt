@@ -11,7 +11,7 @@ use std::alloc::{AllocError, Global};
 use zh_districts::Setup;
 
 /// The most seats that a list has.
-const MOST_SEATS: u64 = 400;
+pub(crate) const MOST_SEATS: u64 = 400;
 
 /// What the first line says.
 #[derive(Clone, Copy)]

@@ -4,4 +4,4 @@ use Rattle.zh_check.proofs.lines.number_at.Goals as goal
 
 pub returns : goal.returns
 unfolding number_at
-returns c = c.digits_in.ensures ∙ ap (λ w. min (digits_after 0 w) (2 ^ 64 - 1)) c.word_at.ensures
+returns c = c.number_of_word.ensures ∙ ap (λ w. min (digits_after 0 w) (2 ^ 64 - 1)) c.word_at.ensures

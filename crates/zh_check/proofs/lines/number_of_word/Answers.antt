@@ -2,7 +2,7 @@ use Rattle.std.proofs.Common.{◌≡◌, ℕ, ◌-◌, ◌^◌, [], ◌∷◌, m
 use Rattle.std.proofs.lemmas.List.{take_all, take_more}
 use Rattle.zh_check.specs.Lines.{digits_after}
 use Rattle.zh_check.proofs.DigitLemmas.{after_append}
-use Rattle.zh_check.proofs.lines.digits_in.Goals as goal
+use Rattle.zh_check.proofs.lines.number_of_word.Goals as goal
 
 pub loop-byte-preserved : goal.loop-byte-preserved
 loop-byte-preserved c =

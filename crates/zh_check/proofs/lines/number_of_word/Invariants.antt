@@ -1,6 +1,6 @@
 use Rattle.std.proofs.Common.{◌≡◌, ◌-◌, ◌^◌, min, take}
 use Rattle.zh_check.specs.Lines.{digits_after}
-use Rattle.zh_check.proofs.lines.digits_in.Given as goal
+use Rattle.zh_check.proofs.lines.number_of_word.Given as goal
 
 -- the number so far, at most the greatest of 64 bits
 abbrev pub invariant-loop-byte : goal.invariant-loop-byte
