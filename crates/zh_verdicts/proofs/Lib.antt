@@ -1,1 +1,3 @@
 mod PutLemmas
+mod RowLemmas
+mod ShownLemmas

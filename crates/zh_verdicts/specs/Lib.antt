@@ -1,3 +1,5 @@
+pub mod Rows
+pub mod Parts
 pub mod Right
 pub mod Wrong
 pub mod Quotient

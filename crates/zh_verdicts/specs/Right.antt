@@ -1,16 +1,8 @@
 -- The text of the verdict on a sheet that is right: 10 ends a line.
 use Rattle.std.specs.Prelude.{ℕ, Bool, true, false, Option, Some, None, codes, decimal, List, [], ◌∷◌, ◌++◌}
 use Rattle.zh_check.specs.declared.checked.RightSheet.{RightSheet}
-
--- the votes are the sums of so many rows, or nothing was there to compare them with
-abbrev pub votes_line : Option ℕ → List ℕ
-votes_line None = codes "votes not compared\n"
-votes_line (Some rows) = codes "votes ok: the sums of " ++ decimal rows ++ codes " rows\n"
-
--- that each part holds
-abbrev pub parts_text : Option ℕ → List ℕ
-parts_text held =
-    codes "form ok\n" ++ votes_line held ++ codes "seats ok\nparticipation ok\nvoters ok\ngroups ok\nlists ok\n"
+use Rattle.zh_verdicts.specs.Parts.{parts_text}
+use Rattle.zh_verdicts.specs.declared.rows.HeldRows.{HeldRows}
 
 abbrev pub kind_part : Bool → List ℕ
 kind_part true = codes "not checked: final"
@@ -27,10 +19,10 @@ abbrev pub unchecked_line : RightSheet → List ℕ
 unchecked_line right = kind_part right.is_final ++ commands_part right.accepted ++ desk_part right.desk
 
 -- what the sheet is worth, with the rows that were returned or without them
-abbrev pub worth_line : Option ℕ → List ℕ
+abbrev pub worth_line : Option HeldRows → List ℕ
 worth_line None = codes "sheet ok for these votes; that they were returned is not checked\n"
 worth_line (Some rows) = codes "sheet ok: no other seats follow from these votes\n"
 
--- the whole text, where the votes were compared with the sums of so many rows, or with none
-abbrev pub right_verdict : Option ℕ → RightSheet → List ℕ
+-- the whole text, where the votes were compared with the sums of rows, or with nothing
+abbrev pub right_verdict : Option HeldRows → RightSheet → List ℕ
 right_verdict held right = parts_text held ++ unchecked_line right ++ worth_line held

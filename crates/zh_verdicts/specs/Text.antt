@@ -1,36 +1,48 @@
--- The text of a verdict.
+-- The text of a verdict: the parts that hold, and then the line that is wrong and that the sheet is, or what the sheet is worth.
 use Rattle.std.specs.Prelude.{ℕ, Option, codes, List, ◌++◌}
 use Rattle.zh_check.specs.declared.checked.SheetVerdict.{SheetVerdict}
-use Rattle.zh_check.specs.declared.checked.SheetVerdict.TheVariants.{Right, Differs, OffList, OffTotal, OtherVotes, NoSheet}
+use Rattle.zh_check.specs.declared.checked.SheetVerdict.TheVariants.{Right, Differs, OffForm, OffList, OffTotal, OtherVotes, NoSheet}
 use Rattle.zh_check.specs.declared.checked.OffList as off_lists
 use Rattle.zh_check.specs.declared.checked.OffTotal as off_totals
 use Rattle.zh_check.specs.declared.checked.OtherVotes as others
 use Rattle.zh_check.specs.declared.checked.WrongLine.{WrongLine}
+use Rattle.zh_verdicts.specs.Parts.{form_and_votes, parts_above}
 use Rattle.zh_verdicts.specs.Quotient.{off_text}
 use Rattle.zh_verdicts.specs.Right.{right_verdict}
 use Rattle.zh_verdicts.specs.Wrong.{differs_text, held_text, total_text}
+use Rattle.zh_verdicts.specs.declared.rows.HeldRows.{HeldRows}
 
--- a line that is wrong, and that the sheet is
-abbrev pub wrong_text : WrongLine → List ℕ
-wrong_text wrong = differs_text wrong ++ codes "sheet wrong\n"
+-- a line that is none of its kind
+abbrev pub off_form_text : WrongLine → List ℕ
+off_form_text wrong = differs_text wrong ++ codes "sheet wrong\n"
 
--- a list whose seats do not follow, and that the sheet is wrong
-abbrev pub off_list_text : off_lists.OffList → List ℕ
-off_list_text off = off_text off ++ codes "sheet wrong\n"
-
--- a total that is not met, and that the sheet is wrong
-abbrev pub off_total_text : off_totals.OffTotal → List ℕ
-off_total_text off = total_text off ++ codes "sheet wrong\n"
-
--- a list whose votes are not those held, and that the sheet is wrong
+-- a list whose votes are not those held
 abbrev pub other_votes_text : others.OtherVotes → List ℕ
-other_votes_text other = held_text other ++ codes "sheet wrong\n"
+other_votes_text other = codes "form ok\n" ++ held_text other ++ codes "sheet wrong\n"
 
--- the verdict on a sheet, whose votes were compared with the sums of so many rows, or with none
-abbrev pub verdict_text : Option ℕ → SheetVerdict → List ℕ
+-- a line that is not that of the sheet that follows
+abbrev pub difference_text : Option HeldRows → WrongLine → List ℕ
+difference_text held wrong =
+    form_and_votes held ++ parts_above wrong.should.items ++ differs_text wrong ++ codes "sheet wrong\n"
+
+-- a list whose seats do not follow
+abbrev pub off_list_text : Option HeldRows → off_lists.OffList → List ℕ
+off_list_text held off = form_and_votes held ++ off_text off ++ codes "sheet wrong\n"
+
+-- a total that is not met
+abbrev pub off_total_text : Option HeldRows → off_totals.OffTotal → List ℕ
+off_total_text held off = form_and_votes held ++ total_text off ++ codes "sheet wrong\n"
+
+-- no sheet follows, and no line is known to be wrong
+abbrev pub no_sheet_text : Option HeldRows → List ℕ
+no_sheet_text held = form_and_votes held ++ codes "no sheet follows from these votes, divisors and seats\nsheet wrong\n"
+
+-- the verdict on a sheet, whose votes were compared with the sums of rows, or with nothing
+abbrev pub verdict_text : Option HeldRows → SheetVerdict → List ℕ
 verdict_text held (Right right) = right_verdict held right
-verdict_text held (Differs wrong) = wrong_text wrong
-verdict_text held (OffList off) = off_list_text off
-verdict_text held (OffTotal off) = off_total_text off
+verdict_text held (OffForm wrong) = off_form_text wrong
 verdict_text held (OtherVotes other) = other_votes_text other
-verdict_text held NoSheet = codes "no sheet follows from these votes, divisors and seats\nsheet wrong\n"
+verdict_text held (Differs wrong) = difference_text held wrong
+verdict_text held (OffList off) = off_list_text held off
+verdict_text held (OffTotal off) = off_total_text held off
+verdict_text held NoSheet = no_sheet_text held

@@ -1,26 +1,48 @@
 -- The line of a sheet that is wrong, as a verdict shows it.
-use Rattle.std.specs.Prelude.{ℕ, ◌==◌, nat_lt, ◌||◌, if◌then◌else◌, codes, decimal, List, [], ◌∷◌, ◌++◌, flat_map}
+use Rattle.std.specs.Prelude.{ℕ, ◌==◌, nat_lt, ◌||◌, ◌&&◌, not, Bool, if◌then◌else◌, codes, decimal}
+use Rattle.std.specs.Prelude.{List, [], ◌∷◌, ◌++◌, ◌-◌, get_or, length}
+use Rattle.std.specs.List.{list_any}
 use Rattle.std.specs.Str.{bytes_eq}
+use Rattle.zh_commands.specs.Shown.{sign_at}
+use Rattle.zh_commands.specs.declared.shown.Sign.{Sign}
+use Rattle.zh_commands.specs.declared.shown.Sign.TheVariants.{Mark, Control, Further, Byte}
+use Rattle.zh_tables.specs.Tables.{each_to}
 use Rattle.zh_check.specs.declared.checked.OffTotal.{OffTotal}
 use Rattle.zh_check.specs.declared.checked.OtherVotes.{OtherVotes}
 use Rattle.zh_check.specs.declared.checked.WrongLine.{WrongLine}
 
--- a byte as it is shown: CR, which is 13, by its name, and any other that is no sign as a question mark
+-- a byte as it is shown: CR, which is 13, by its name, and any other control, below 32 or 127, as a question mark
 abbrev pub shown_byte : ℕ → List ℕ
 shown_byte byte = if byte == 13 then codes "<CR>" else (if nat_lt byte 32 || byte == 127 then codes "?" else byte ∷ [])
 
+-- a byte order mark by its name, and a control of two bytes as a question mark
+abbrev pub shown_sign : Sign → ℕ → List ℕ
+shown_sign Mark byte = codes "<BOM>"
+shown_sign Control byte = codes "?"
+shown_sign Further byte = []
+shown_sign Byte byte = shown_byte byte
+
+-- the byte of this number, from 1, as it is shown
+abbrev pub shown_at : List ℕ → ℕ → List ℕ
+shown_at line number = shown_sign (sign_at line (number - 1)) (get_or line (number - 1) 0)
+
 abbrev pub shown_line : List ℕ → List ℕ
-shown_line line = flat_map shown_byte line
+shown_line line = each_to (length line) (shown_at line)
 
 -- a line that was found, or that there is nothing
 abbrev pub found_text : List ℕ → List ℕ
 found_text [] = codes "nothing"
 found_text (byte ∷ line) = shown_line (byte ∷ line)
 
--- what it should be; where that is what was found, its end is missing; behind the last line there should be none
+-- a line that is what it should be lacks its end; but where dots, which are 46, stand for words, it may lack those
+abbrev pub lacks_end : List ℕ → List ℕ → Bool
+lacks_end found should = bytes_eq found should && not (list_any (λ byte. byte == 46) should)
+
+-- what it should be; after the last line there should be none
 abbrev pub should_text : List ℕ → List ℕ → List ℕ
 should_text found [] = codes "no line"
-should_text found (byte ∷ line) = shown_line (byte ∷ line) ++ (if bytes_eq found (byte ∷ line) then codes " and a line end" else [])
+should_text found (byte ∷ line) =
+    shown_line (byte ∷ line) ++ (if lacks_end found (byte ∷ line) then codes " and a line end" else [])
 
 -- a line with its number
 abbrev pub wrong_line : ℕ → List ℕ → List ℕ

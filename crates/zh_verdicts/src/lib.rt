@@ -1,10 +1,13 @@
 //! The text of the verdict on a published sheet.
 #![tactic(auto)]
 
+mod parts;
 mod quotient;
 mod right;
+mod rows;
 mod text;
 mod writer;
 mod wrong;
 
+pub use rows::HeldRows;
 pub use writer::{VerdictFault, write_verdict};

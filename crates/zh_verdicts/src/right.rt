@@ -1,9 +1,10 @@
 //! The lines of a sheet that is right.
 
 ghost use Rattle.std.specs.Prelude.{◌≡◌, ◌++◌, decimal, OnOk};
-ghost use Rattle.zh_verdicts.specs.Right.{commands_part, desk_part, kind_part, parts_text, right_verdict, unchecked_line};
-ghost use Rattle.zh_verdicts.specs.Right.{votes_line, worth_line};
+ghost use Rattle.zh_verdicts.specs.Right.{commands_part, desk_part, kind_part, right_verdict, unchecked_line, worth_line};
 
+use crate::parts::push_parts;
+use crate::rows::HeldRows;
 use itoa::Buffer;
 use std::alloc::AllocError;
 use zh_check::RightSheet;
@@ -13,27 +14,6 @@ pub(crate) fn push_number(text: &mut Vec<u8>, number: u64) -> Result<(), AllocEr
     ensures { OnOk result (text.new.items ≡ text.old.items ++ decimal number) }
 {
     text.extend_from_slice(Buffer::new().format(number).as_bytes())
-}
-
-/// Puts the line that the votes hold at the end.
-fn push_votes(text: &mut Vec<u8>, held: Option<u32>) -> Result<(), AllocError>
-    ensures { OnOk result (text.new.items ≡ text.old.items ++ votes_line held) }
-{
-    let Some(rows) = held else {
-        return text.extend_from_slice(b"votes not compared\n");
-    };
-    text.extend_from_slice(b"votes ok: the sums of ")?;
-    push_number(text, u64::from(rows))?;
-    text.extend_from_slice(b" rows\n")
-}
-
-/// Puts that each part holds at the end.
-fn push_parts(text: &mut Vec<u8>, held: Option<u32>) -> Result<(), AllocError>
-    ensures { OnOk result (text.new.items ≡ text.old.items ++ parts_text held) }
-{
-    text.extend_from_slice(b"form ok\n")?;
-    push_votes(text, held)?;
-    text.extend_from_slice(b"seats ok\nparticipation ok\nvoters ok\ngroups ok\nlists ok\n")
 }
 
 /// Puts whether a sheet is final at the end.
@@ -74,7 +54,7 @@ fn push_unchecked(text: &mut Vec<u8>, right: &RightSheet<'_>) -> Result<(), Allo
 }
 
 /// Puts what the sheet is worth at the end.
-fn push_worth(text: &mut Vec<u8>, held: Option<u32>) -> Result<(), AllocError>
+fn push_worth(text: &mut Vec<u8>, held: Option<HeldRows>) -> Result<(), AllocError>
     ensures { OnOk result (text.new.items ≡ text.old.items ++ worth_line held) }
 {
     match held {
@@ -89,7 +69,7 @@ fn push_worth(text: &mut Vec<u8>, held: Option<u32>) -> Result<(), AllocError>
 pub(crate) fn push_right(
     text: &mut Vec<u8>,
     right: &RightSheet<'_>,
-    held: Option<u32>,
+    held: Option<HeldRows>,
 ) -> Result<(), AllocError>
     ensures { OnOk result (text.new.items ≡ text.old.items ++ right_verdict held right.now) }
 {

@@ -5,6 +5,7 @@ ghost use Rattle.std.specs.Io.KnownBytes.{Appends};
 ghost use Rattle.zh_verdicts.specs.Text.{verdict_text};
 ghost use Rattle.zh_verdicts.specs.declared.writer.VerdictFault.{VerdictFault};
 
+use crate::rows::HeldRows;
 use crate::text::verdict_text;
 use std::alloc::{AllocError, Global};
 use std::io::Write;
@@ -49,7 +50,7 @@ impl From<WriteFault> for VerdictFault {
 pub fn write_verdict<W: Write>(
     alloc: Global,
     verdict: &SheetVerdict<'_>,
-    held: Option<u32>,
+    held: Option<HeldRows>,
     out: &mut W,
 ) -> Result<(), VerdictFault>
     ensures all { OnOk result (Appends (W.contents out.old) (W.contents out.new) (verdict_text held verdict.now)) }

@@ -1,12 +1,13 @@
 //! The line of a sheet that is wrong.
 
-ghost use Rattle.std.specs.Prelude.{◌≡◌, ◌++◌, OnOk};
-ghost use Rattle.zh_verdicts.specs.Wrong.{differs_text, found_text, held_text, should_text, shown_byte, shown_line};
-ghost use Rattle.zh_verdicts.specs.Wrong.{sum_text, total_text, wrong_line};
+ghost use Rattle.std.specs.Prelude.{◌≡◌, ◌<◌, ◌+◌, ◌++◌, OnOk, length};
+ghost use Rattle.zh_verdicts.specs.Wrong.{differs_text, found_text, held_text, lacks_end, should_text, shown_at, shown_byte};
+ghost use Rattle.zh_verdicts.specs.Wrong.{shown_line, sum_text, total_text, wrong_line};
 
 use crate::right::push_number;
 use std::alloc::AllocError;
 use zh_check::{OffTotal, OtherVotes, WrongLine};
+use zh_commands::{Sign, sign_at};
 
 /// Puts a byte of a line at the end as it is shown. A copy may have a CR at the end of each line, so it has a name; a terminal
 /// is given no other byte that it might act on.
@@ -22,12 +23,25 @@ fn push_shown_byte(text: &mut Vec<u8>, byte: u8) -> Result<(), AllocError>
     }
 }
 
+/// Puts the byte of a line at this place at the end as it is shown.
+fn push_shown_at(text: &mut Vec<u8>, line: &[u8], place: usize) -> Result<(), AllocError>
+    requires { place < length line.now }
+    ensures { OnOk result (text.new.items ≡ text.old.items ++ shown_at line.now (place + 1)) }
+{
+    match sign_at(line, place) {
+        Sign::Mark => text.extend_from_slice(b"<BOM>"),
+        Sign::Control => text.extend_from_slice(b"?"),
+        Sign::Further => Ok(()),
+        Sign::Byte => push_shown_byte(text, line[place]),
+    }
+}
+
 /// Puts a line at the end as it is shown.
 fn push_shown(text: &mut Vec<u8>, line: &[u8]) -> Result<(), AllocError>
     ensures { OnOk result (text.new.items ≡ text.old.items ++ shown_line line.now) }
 {
-    for byte in line {
-        push_shown_byte(text, *byte)?;
+    for place in 0..line.len() {
+        push_shown_at(text, line, place)?;
     }
     Ok(())
 }
@@ -42,8 +56,14 @@ fn push_found(text: &mut Vec<u8>, found: &[u8]) -> Result<(), AllocError>
     push_shown(text, found)
 }
 
-/// Puts what a line should be at the end. Where it is what was found, its end is missing; behind the last line there should be
-/// none.
+/// Whether a line that was found lacks only its end. Where dots stand for words it may lack those.
+fn lacks_end(found: &[u8], should: &[u8]) -> bool
+    ensures { result ≡ lacks_end found.now should.now }
+{
+    found == should && !should.contains(&b'.')
+}
+
+/// Puts what a line should be at the end. After the last line there should be none.
 fn push_should(text: &mut Vec<u8>, found: &[u8], should: &[u8]) -> Result<(), AllocError>
     ensures { OnOk result (text.new.items ≡ text.old.items ++ should_text found.now should.now) }
 {
@@ -51,7 +71,7 @@ fn push_should(text: &mut Vec<u8>, found: &[u8], should: &[u8]) -> Result<(), Al
         return text.extend_from_slice(b"no line");
     }
     push_shown(text, should)?;
-    if found == should {
+    if lacks_end(found, should) {
         return text.extend_from_slice(b" and a line end");
     }
     Ok(())

@@ -1,6 +1,7 @@
-use Rattle.std.proofs.Common.{◌≡◌, ◌++◌, take}
-use Rattle.zh_verdicts.specs.Wrong.{shown_line}
+use Rattle.std.proofs.Common.{◌≡◌, ◌++◌}
+use Rattle.zh_tables.specs.Tables.{each_to}
+use Rattle.zh_verdicts.specs.Wrong.{shown_at}
 use Rattle.zh_verdicts.proofs.wrong.push_shown.Given as goal
 
-abbrev pub invariant-loop-byte : goal.invariant-loop-byte
-invariant-loop-byte l = l.text.items ≡ l.fn.text.items ++ shown_line (take l.byte-index l.line)
+abbrev pub invariant-loop-place : goal.invariant-loop-place
+invariant-loop-place l = l.text.items ≡ l.fn.text.items ++ each_to l.place (shown_at l.line)
