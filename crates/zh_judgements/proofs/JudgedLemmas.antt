@@ -1,5 +1,5 @@
 -- Records judged one after the other.
-use Rattle.std.proofs.Common.{◌≡◌, ◌≤◌, ◌+◌, ℕ, List, [], ◌∷◌, ◌++◌, length, Option, Result, Ok, Err, IfOk, OnOk, OnErr, refl, sym, ap, ◌∙◌, subst, arith, inl, inr}
+use Rattle.std.proofs.Common.{◌≡◌, ◌≤◌, ◌+◌, ℕ, List, [], ◌∷◌, ◌++◌, length, Option, Result, Ok, Err, IfErr, IfOk, OnOk, refl, sym, ap, ◌∙◌, subst, arith, inl, inr}
 use Rattle.std.specs.Prelude.{MatchResult}
 use Rattle.std.specs.Io.KnownBytes.{Appends}
 use Rattle.std.proofs.lemmas.Grind.{flat_map-append}
@@ -10,8 +10,8 @@ use Rattle.zh_returns.specs.Tally.{Tally}
 use Rattle.zh_tables.proofs.CallerLemmas.{Appends-join}
 use Rattle.zh_csv.specs.Records.{Record, AreAll}
 use Rattle.zh_csv.proofs.CallerLemmas.{all_first}
-use Rattle.zh_judgements.specs.Findings.{judgement, rows_after, rows_kept, findings_from, first_findings, begun, findings, counts_of, counts_with, forecast_by, forecast_of}
-use Rattle.zh_judgements.specs.Judged.{AreAllOf, AreBrokenOff, AreFirstOf, AreJudged, HasGiven, IsAfter, IsBrokenOff, IsJudged, Judges, WritesUpTo}
+use Rattle.zh_judgements.specs.Findings.{judgement, rows_after, rows_kept, findings_on, first_findings, begun, findings, counts_of, counts_with, forecast_by, forecast_of}
+use Rattle.zh_judgements.specs.Judged.{AreAllOf, AreBrokenOff, AreFirstOf, AreJudged, HasGiven, IsAfter, IsBrokenOff, IsJudged, Judges, WritesUpTo, BreaksOffLine, bytes_left, records_judged}
 use Rattle.zh_judgements.specs.Rows.{row_in}
 use Rattle.zh_judgements.specs.Text.{forecast_text, judgement_text, line_by, line_of, finding_lines}
 use Rattle.zh_judgements.specs.declared.fault.JudgementFault.{JudgementFault}
@@ -26,7 +26,7 @@ use Rattle.zh_judgements.proofs.ReaderLemmas.{are_first}
 
 -- the lines on the records after the first
 abbrev other_lines : Tally → List Record → List ℕ
-other_lines tally others = finding_lines (findings_from tally 2 [] others)
+other_lines tally others = finding_lines (findings_on tally others)
 
 -- some records after the first are judged, and the next one has this number
 pub record HasJudged {R : Type 0} (remaining : R → Option (List ℕ)) (tally : Tally) (first : Record) (old new : Reader R) (w w' : Option (List ℕ)) (number : ℕ) (progress : Progress) : Type 0 where
@@ -51,8 +51,8 @@ module _ {R : Type 0} (remaining : R → Option (List ℕ)) (tally : Tally) (fir
 
     lines_are : other_lines tally has.others ++ line_by number fields (judgement tally progress.rows (row_in fields)) ≡ other_lines tally (has.others ++ fields ∷ [])
     lines_are = ap (λ (l : List ℕ). other_lines tally has.others ++ l) line_is
-        ∙ sym (lines_push (findings_from tally 2 [] has.others) (next_finding tally 2 [] has.others fields))
-        ∙ ap finding_lines (sym (findings_push tally 2 [] has.others fields))
+        ∙ sym (lines_push (findings_on tally has.others) (next_finding tally 2 [] has.others fields))
+        ∙ ap finding_lines (sym (findings_push tally has.others fields))
 
     -- one record more
     pub judged_more : (progress' : Progress) → progress'.rows ≡ rows_after tally.canton progress.rows (row_in fields) → progress'.counts ≡ counts_with progress.counts (judgement tally progress.rows (row_in fields))
@@ -72,20 +72,23 @@ module _ {R : Type 0} (remaining : R → Option (List ℕ)) (tally : Tally) (fir
     }
 
     -- the writer fails under it
-    pub broken_at : WritesUpTo w' w'' (line_by number fields (judgement tally progress.rows (row_in fields))) → AreBrokenOff tally first (λ bytes. HasGiven remaining bytes (first ∷ []) old) w w''
-    broken_at front = record {
+    pub broken_at : (fault : JudgementFault) → BreaksOffLine fault w' w'' (line_by number fields (judgement tally progress.rows (row_in fields)))
+        → AreBrokenOff tally first (λ bytes. HasGiven remaining bytes (first ∷ []) old) (WritesUpTo (bytes_left fault) w w'') (records_judged fault)
+    broken_at fault (early, front) = record {
       others = has.others ++ fields ∷ [];
       front = λ bytes begins. are_first remaining bytes (first ∷ (has.others ++ fields ∷ [])) next (gives bytes (first ∷ has.others) (has.given bytes begins));
-      written = subst (WritesUpTo w w'') lines_are (front_after w w' w'' (other_lines tally has.others) _ has.written front);
+      enough = omega (arith, early);
+      written = subst (WritesUpTo (bytes_left fault) w w'') lines_are (front_after _ w w' w'' (other_lines tally has.others) _ has.written front);
     }
 
   module _ (now : Reader R) (w' : Option (List ℕ)) (number : ℕ) (progress : Progress) (has : HasJudged remaining tally first old now w w' number progress) where
-    -- no record is given any more
-    pub broken_between : AreBrokenOff tally first (λ bytes. HasGiven remaining bytes (first ∷ []) old) w w'
-    broken_between = record {
+    -- no record is given any more, or no more are taken
+    pub broken_between : (left least : ℕ) → left ≡ 0 → least + 1 ≤ number → AreBrokenOff tally first (λ bytes. HasGiven remaining bytes (first ∷ []) old) (WritesUpTo left w w') least
+    broken_between left least none few = record {
       others = has.others;
       front = λ bytes begins. are_first remaining bytes (first ∷ has.others) now (has.given bytes begins);
-      written = all_written w w' (other_lines tally has.others) has.written;
+      enough = omega (arith, few, has.count);
+      written = all_written left w w' (other_lines tally has.others) none has.written;
     }
 
     -- the text has ended
@@ -99,23 +102,26 @@ module _ {R : Type 0} (remaining : R → Option (List ℕ)) (tally : Tally) (fir
 
 -- the lines on the first record and on the others
 lines_both : (tally : Tally) (first : Record) (others : List Record) → finding_lines (begun tally (first ∷ others)) ≡ finding_lines (first_findings first) ++ other_lines tally others
-lines_both tally first others = flat_map-append line_of (first_findings first) (findings_from tally 2 [] others)
+lines_both tally first others = flat_map-append line_of (first_findings first) (findings_on tally others)
 
 module _ (tally : Tally) (first : Record) (IsText : List ℕ → Type 0) (w w' : Option (List ℕ)) where
   -- the first line is broken off
-  pub first_broken : AreFirstOf IsText (first ∷ []) → WritesUpTo w w' (finding_lines (first_findings first)) → IsBrokenOff tally IsText w w'
-  first_broken begins front = record {
+  pub first_broken : (fault : JudgementFault) → AreFirstOf IsText (first ∷ []) → BreaksOffLine fault w w' (finding_lines (first_findings first))
+      → IsBrokenOff tally IsText w w' (bytes_left fault) (records_judged fault)
+  first_broken fault begins (early, front) = record {
     records = first ∷ [];
     first = begins;
-    written = inl (subst (WritesUpTo w w') (sym (lines_both tally first [])) (front_more w w' (finding_lines (first_findings first)) (other_lines tally []) front));
+    enough = omega (arith, early);
+    written = inl (subst (WritesUpTo (bytes_left fault) w w') (sym (lines_both tally first [])) (front_more _ w w' (finding_lines (first_findings first)) (other_lines tally []) front));
   }
 
   -- the others are
-  pub others_broken : (w'' : Option (List ℕ)) → Appends w w' (finding_lines (first_findings first)) → AreBrokenOff tally first IsText w' w'' → IsBrokenOff tally IsText w w''
-  others_broken w'' written broken = record {
+  pub others_broken : (left least : ℕ) (w'' : Option (List ℕ)) → Appends w w' (finding_lines (first_findings first)) → AreBrokenOff tally first IsText (WritesUpTo left w' w'') least → IsBrokenOff tally IsText w w'' left least
+  others_broken left least w'' written broken = record {
     records = first ∷ broken.others;
     first = broken.front;
-    written = inl (subst (WritesUpTo w w'') (sym (lines_both tally first broken.others)) (front_after w w' w'' (finding_lines (first_findings first)) (other_lines tally broken.others) written broken.written));
+    enough = broken.enough;
+    written = inl (subst (WritesUpTo left w w'') (sym (lines_both tally first broken.others)) (front_after left w w' w'' (finding_lines (first_findings first)) (other_lines tally broken.others) written broken.written));
   }
 
   module _ (w'' : Option (List ℕ)) (progress : Progress) (written : Appends w w' (finding_lines (first_findings first))) (judged : AreJudged tally first IsText w' w'' progress) where
@@ -126,14 +132,16 @@ module _ (tally : Tally) (first : Record) (IsText : List ℕ → Type 0) (w w' :
     comes_to = ap forecast_by judged.after.counts
 
     -- the last line is
-    pub last_broken : (w3 : Option (List ℕ)) → WritesUpTo w'' w3 (forecast_text (forecast_by progress.counts)) → IsBrokenOff tally IsText w w3
-    last_broken w3 front = record {
+    pub last_broken : (fault : JudgementFault) (w3 : Option (List ℕ)) → BreaksOffLine fault w'' w3 (forecast_text (forecast_by progress.counts))
+        → IsBrokenOff tally IsText w w3 (bytes_left fault) (records_judged fault)
+    last_broken fault w3 (early, front) = record {
       records = first ∷ judged.others;
       first = λ bytes is. all_first bytes (first ∷ judged.others) (judged.all bytes is);
+      enough = omega (arith, early);
       written = inr (
         judged.all,
-        front_after w w'' w3 (finding_lines (findings tally (first ∷ judged.others))) (forecast_text (forecast_of (findings tally (first ∷ judged.others)))) lines_written
-            (subst (λ (f : Forecast). WritesUpTo w'' w3 (forecast_text f)) comes_to front),
+        front_after _ w w'' w3 (finding_lines (findings tally (first ∷ judged.others))) (forecast_text (forecast_of (findings tally (first ∷ judged.others)))) lines_written
+            (subst (λ (f : Forecast). WritesUpTo (bytes_left fault) w'' w3 (forecast_text f)) comes_to front),
       );
     }
 
@@ -158,6 +166,7 @@ judges_of tally IsText Known w w' (Ok forecast) known judged = record {
 judges_of tally IsText Known w w' (Err fault) known broken = record {
   records = broken.records;
   first = λ bytes is. broken.first bytes (known bytes is);
+  enough = broken.enough;
   written = elim broken.written [
     | inl front ↦ inl front
     | inr (all, front) ↦ inr (λ bytes is. all bytes (known bytes is), front)
@@ -166,25 +175,25 @@ judges_of tally IsText Known w w' (Err fault) known broken = record {
 
 -- a text without a record
 pub none_written_whole : (tally : Tally) (w w' w'' : Option (List ℕ)) (result : Result Forecast JudgementFault) (progress : Progress) → IsAfter tally ([] ∷ []) progress → Appends w w' (finding_lines (first_findings []))
-    → IfOk result (λ forecast. forecast ≡ forecast_by progress.counts) → OnOk result (Appends w' w'' (forecast_text (forecast_by progress.counts))) → OnErr result (WritesUpTo w' w'' (forecast_text (forecast_by progress.counts)))
-    → MatchResult result (λ forecast. Appends w w'' (judgement_text tally []) × (forecast ≡ forecast_of (findings tally []))) (λ _. WritesUpTo w w'' (judgement_text tally []))
+    → IfOk result (λ forecast. forecast ≡ forecast_by progress.counts) → OnOk result (Appends w' w'' (forecast_text (forecast_by progress.counts))) → IfErr result (λ fault. BreaksOffLine fault w' w'' (forecast_text (forecast_by progress.counts)))
+    → MatchResult result (λ forecast. Appends w w'' (judgement_text tally []) × (forecast ≡ forecast_of (findings tally []))) (λ fault. BreaksOffLine fault w w'' (judgement_text tally []))
 none_written_whole tally w w' w'' (Ok forecast) progress after first is all front =
     let same : forecast_by progress.counts ≡ forecast_of (findings tally []) = ap forecast_by after.counts in
     (Appends-join w w' w'' (finding_lines (first_findings [])) (forecast_text (forecast_of (findings tally []))) first (subst (λ (f : Forecast). Appends w' w'' (forecast_text f)) same all), is ∙ same)
 none_written_whole tally w w' w'' (Err fault) progress after first is all front =
     let same : forecast_by progress.counts ≡ forecast_of (findings tally []) = ap forecast_by after.counts in
-    front_after w w' w'' (finding_lines (first_findings [])) (forecast_text (forecast_of (findings tally []))) first (subst (λ (f : Forecast). WritesUpTo w' w'' (forecast_text f)) same front)
+    (front.0, front_after _ w w' w'' (finding_lines (first_findings [])) (forecast_text (forecast_of (findings tally []))) first (subst (λ (f : Forecast). WritesUpTo (bytes_left fault) w' w'' (forecast_text f)) same front.1))
 
 pub none_judges : (tally : Tally) (IsText : List ℕ → Type 0) (w w' : Option (List ℕ)) (result : Result Forecast JudgementFault) → AreAllOf IsText []
-    → MatchResult result (λ forecast. Appends w w' (judgement_text tally []) × (forecast ≡ forecast_of (findings tally []))) (λ _. WritesUpTo w w' (judgement_text tally [])) → Judges tally IsText w w' result
+    → MatchResult result (λ forecast. Appends w w' (judgement_text tally []) × (forecast ≡ forecast_of (findings tally []))) (λ fault. BreaksOffLine fault w w' (judgement_text tally [])) → Judges tally IsText w w' result
 none_judges tally IsText w w' (Ok forecast) all judged = record { records = []; all = all; written = judged.0; comes_to = judged.1 }
-none_judges tally IsText w w' (Err fault) all front = record { records = []; first = λ bytes is. all_first bytes [] (all bytes is); written = inr (all, front) }
+none_judges tally IsText w w' (Err fault) all (early, front) = record { records = []; first = λ bytes is. all_first bytes [] (all bytes is); enough = omega (arith, early); written = inr (all, front) }
 
 -- the last line, written or not
 pub last_judges : (tally : Tally) (first : Record) (IsText : List ℕ → Type 0) (w w' w'' w3 : Option (List ℕ)) (progress : Progress) (result : Result Forecast JudgementFault) → Appends w w' (finding_lines (first_findings first)) → AreJudged tally first IsText w' w'' progress
-    → IfOk result (λ forecast. forecast ≡ forecast_by progress.counts) → OnOk result (Appends w'' w3 (forecast_text (forecast_by progress.counts))) → OnErr result (WritesUpTo w'' w3 (forecast_text (forecast_by progress.counts))) → Judges tally IsText w w3 result
+    → IfOk result (λ forecast. forecast ≡ forecast_by progress.counts) → OnOk result (Appends w'' w3 (forecast_text (forecast_by progress.counts))) → IfErr result (λ fault. BreaksOffLine fault w'' w3 (forecast_text (forecast_by progress.counts))) → Judges tally IsText w w3 result
 last_judges tally first IsText w w' w'' w3 progress (Ok forecast) written judged is all front = whole_judged tally first IsText w w' w'' progress written judged w3 forecast is all
-last_judges tally first IsText w w' w'' w3 progress (Err fault) written judged is all front = last_broken tally first IsText w w' w'' progress written judged w3 front
+last_judges tally first IsText w w' w'' w3 progress (Err fault) written judged is all front = last_broken tally first IsText w w' w'' progress written judged fault w3 front
 
 -- no more are refused than there are
 pub counts_within : (counts : Counts) (judgement : Judgement) → counts.refused ≤ counts.records → (counts_with counts judgement).refused ≤ (counts_with counts judgement).records

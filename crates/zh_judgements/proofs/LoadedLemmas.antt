@@ -28,10 +28,11 @@ use Rattle.zh_office.specs.Office.{Office}
 use Rattle.zh_office.specs.Runs.{its_ledger}
 use Rattle.zh_office.specs.Undisturbed.{is_disturbed, is_memory}
 use Rattle.zh_judgements.specs.Answered.{IsAnswered, IsByJudgement}
-use Rattle.zh_judgements.specs.Findings.{Finding, by_verdict, findings, findings_from, forecast_of, judgement, refuses, rows_after, stores}
+use Rattle.zh_judgements.specs.Findings.{Finding, by_verdict, findings, findings_on, forecast_of, judgement, refuses, rows_after, stores}
 use Rattle.zh_judgements.specs.Rows.{row_in}
 use Rattle.zh_judgements.specs.declared.judgement.Judgement.{Judgement}
 use Rattle.zh_judgements.proofs.AnyLemmas.{all_refused, all_taken, answered_refused, answered_same, answered_stored, any_refused, any_stored}
+use Rattle.zh_judgements.proofs.FindingLemmas.{findings_from, found_in_turn}
 use Rattle.zh_judgements.proofs.RowLemmas.{names_found, names_missed, row_in-fields, row_in-unread}
 
 -- a row among rows that can be held together
@@ -95,7 +96,7 @@ stop_refused tally number before (row ∷ rows) last rest are refused =
 
 -- the names are no finding
 after_names : (tally : Tally) (others : List Record) → findings tally (names ∷ others) ≡ findings_from tally 2 [] others
-after_names tally others = ap (λ (l : List Finding). l ++ findings_from tally 2 [] others) (names_found names refl)
+after_names tally others = ap (λ (l : List Finding). l ++ findings_on tally others) (names_found names refl) ∙ found_in_turn tally others
 
 -- records that begin a text begin all of them
 begin_all : (text : List ℕ) (records few : List Record) → AreAll text records → AreFirst text few → (rest : List Record) × (records ≡ few ++ rest)

@@ -1,8 +1,8 @@
 -- What a loading would find of the records of a text, each judged by itself: by reading it after the records before it, or
 -- else by judging its row against the count. Memory aside.
-use Rattle.std.specs.Prelude.{ℕ, ◌+◌, ◌||◌, nat_lt, if◌then◌else◌, Bool, true, false, List, [], ◌∷◌, ◌++◌, length, count_by}
-use Rattle.std.specs.Prelude.{Option, Some, None, Result, Ok, Err}
-use Rattle.std.specs.List.{list_any}
+use Rattle.std.specs.Prelude.{ℕ, ◌+◌, ◌||◌, nat_lt, if◌then◌else◌, Bool, true, false, List, [], ◌∷◌, ◌++◌, length}
+use Rattle.std.specs.Prelude.{map, get_or, take, count_by, Option, Some, None, Result, Ok, Err}
+use Rattle.std.specs.List.{list_any, range_with_len}
 use Rattle.zh_districts.specs.Canton.{Canton}
 use Rattle.zh_records.specs.declared.row.Row.{Row}
 use Rattle.zh_returns.specs.Tally.{Tally}
@@ -58,12 +58,17 @@ abbrev pub rows_kept : Canton → List Row → List Record → List Row
 rows_kept canton rows [] = rows
 rows_kept canton rows (fields ∷ others) = rows_kept canton (rows_after canton rows (row_in fields)) others
 
--- records, the first of which is this row of the text
-abbrev pub findings_from : Tally → ℕ → List Row → List Record → List Finding
-findings_from tally number rows [] = []
-findings_from tally number rows (fields ∷ others) =
-    record { number = number; fields = fields; judgement = judgement tally rows (row_in fields) }
-    ∷ findings_from tally (number + 1) (rows_after tally.canton rows (row_in fields)) others
+-- the finding on the k-th of the records after the first, from 0: judged after the rows that are kept of those before it
+abbrev pub finding_on : Tally → List Record → ℕ → Finding
+finding_on tally others k = record {
+  number = 2 + k;
+  fields = get_or others k [];
+  judgement = judgement tally (rows_kept tally.canton [] (take k others)) (row_in (get_or others k []));
+}
+
+-- the findings on all of them
+abbrev pub findings_on : Tally → List Record → List Finding
+findings_on tally others = map (finding_on tally others) (range_with_len 0 (length others))
 
 -- the first record of a text, where nothing but the names of the columns may stand
 abbrev pub first_findings : Record → List Finding
@@ -73,7 +78,7 @@ first_findings fields =
 -- the first records of a text
 abbrev pub begun : Tally → List Record → List Finding
 begun tally [] = []
-begun tally (first ∷ others) = first_findings first ++ findings_from tally 2 [] others
+begun tally (first ∷ others) = first_findings first ++ findings_on tally others
 
 -- all records of a text; where there is none, it is judged as if it had one without fields
 abbrev pub findings : Tally → List Record → List Finding

@@ -11,5 +11,5 @@ mod text;
 
 pub use fault::JudgementFault;
 pub use judgement::{Forecast, Judgement};
-pub use laws::forecast_is_kept;
+pub use laws::{each_is_judged_after_those_before, forecast_is_kept};
 pub use text::write_judgement;

@@ -1,16 +1,16 @@
 //! The line of a record that is refused, and the last line.
 
-ghost use Rattle.std.specs.Prelude.{◌≡◌, ◌<◌, ◌++◌, ◌∷◌, [], drop, length, map, IfOk, OnOk, codes, decimal};
+ghost use Rattle.std.specs.Prelude.{◌≡◌, ◌<◌, ◌++◌, ◌∷◌, [], ◌+◌, drop, length, IfOk, OnOk, codes, decimal};
 ghost use Rattle.csv.specs.Records.{fields_of};
 ghost use Rattle.zh_commands.specs.Replies.{answer};
 ghost use Rattle.zh_commands.specs.declared.replies.Reply.{Reply};
-ghost use Rattle.zh_judgements.specs.Text.{forecast_text, joined, refused_line, printable, after_commas};
+ghost use Rattle.zh_judgements.specs.Text.{forecast_text, joined, refused_line, printable, printed_at, shown_field, after_commas};
 
 use crate::judgement::Forecast;
 use csv::ByteRecord;
 use itoa::Buffer;
 use std::alloc::{AllocError, Global};
-use zh_commands::{Refusal, Reply, write_reply};
+use zh_commands::{Refusal, Reply, Sign, sign_at, write_reply};
 use zh_csv::field;
 
 /// A byte as it is shown: a control byte as a question mark.
@@ -20,12 +20,25 @@ fn printable(byte: u8) -> u8
     if byte < 32 || byte == 127 { b'?' } else { byte }
 }
 
+/// Puts the byte of a field at this place at the end as it is shown.
+fn push_printed(line: &mut Vec<u8>, field: &[u8], place: usize) -> Result<(), AllocError>
+    requires { place < length field.now }
+    ensures { OnOk result (line.new.items ≡ line.old.items ++ printed_at field.now (place + 1)) }
+{
+    match sign_at(field, place) {
+        Sign::Mark => line.extend_from_slice(b"<BOM>"),
+        Sign::Control => line.extend_from_slice(b"?"),
+        Sign::Further => Ok(()),
+        Sign::Byte => line.extend_from_slice(&[printable(field[place])]),
+    }
+}
+
 /// Puts a field at the end.
 fn push_field(line: &mut Vec<u8>, field: &[u8]) -> Result<(), AllocError>
-    ensures { OnOk result (line.new.items ≡ line.old.items ++ map printable field.now) }
+    ensures { OnOk result (line.new.items ≡ line.old.items ++ shown_field field.now) }
 {
-    for byte in field {
-        line.push(printable(*byte))?;
+    for place in 0..field.len() {
+        push_printed(line, field, place)?;
     }
     Ok(())
 }

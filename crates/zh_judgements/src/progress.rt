@@ -1,6 +1,6 @@
 //! What is kept of the records judged so far.
 
-ghost use Rattle.std.specs.Prelude.{◌≡◌, ◌≢◌, ◌+◌, ◌^◌, ◌<◌, ◌≤◌, Ok, OnErr, OnOk, IfOk, [], ◌∷◌};
+ghost use Rattle.std.specs.Prelude.{◌≡◌, ◌≢◌, ◌+◌, ◌^◌, ◌<◌, ◌≤◌, Ok, OnOk, IfErr, IfOk, [], ◌∷◌};
 ghost use Rattle.std.specs.Io.KnownBytes.{Appends};
 ghost use Rattle.csv.specs.Records.{fields_of};
 ghost use Rattle.zh_returns.specs.Tally.{Tally};
@@ -8,7 +8,7 @@ ghost use Rattle.zh_csv.specs.Load.{IsReadable};
 ghost use Rattle.zh_csv.specs.declared.fault.LoadFault.{LoadFault};
 ghost use Rattle.zh_office.specs.Load.{load_refusal};
 ghost use Rattle.zh_judgements.specs.Findings.{counts_of, counts_with, first_findings, judgement, rows_after};
-ghost use Rattle.zh_judgements.specs.Judged.{IsAfter, WritesUpTo};
+ghost use Rattle.zh_judgements.specs.Judged.{BreaksOffLine, IsAfter};
 ghost use Rattle.zh_judgements.specs.Rows.{row_in};
 ghost use Rattle.zh_judgements.specs.Text.{line_by, finding_lines};
 
@@ -77,8 +77,8 @@ fn write_finding<W: Write>(
     out: &mut W,
 ) -> Result<(), JudgementFault>
     ensures all { OnOk result (Appends (W.contents out.old) (W.contents out.new) (line_by number (fields_of record.now) judgement)) }
-    ensures front { OnErr result
-        (WritesUpTo (W.contents out.old) (W.contents out.new) (line_by number (fields_of record.now) judgement)) }
+    ensures front { IfErr result (λ fault.
+        BreaksOffLine fault (W.contents out.old) (W.contents out.new) (line_by number (fields_of record.now) judgement)) }
 {
     let Judgement::Refused(refusal) = judgement else {
         return Ok(());
@@ -97,8 +97,8 @@ fn judge_first<W: Write>(
     ensures counts { IfOk result (λ counts. counts ≡ counts_of (first_findings (fields_of record.now))) }
     ensures all { OnOk result
         (Appends (W.contents out.old) (W.contents out.new) (finding_lines (first_findings (fields_of record.now)))) }
-    ensures front { OnErr result
-        (WritesUpTo (W.contents out.old) (W.contents out.new) (finding_lines (first_findings (fields_of record.now)))) }
+    ensures front { IfErr result (λ fault.
+        BreaksOffLine fault (W.contents out.old) (W.contents out.new) (finding_lines (first_findings (fields_of record.now)))) }
 {
     if is_names(record) {
         return Ok(Counts {
@@ -126,8 +126,8 @@ impl Progress {
         ensures few { IfOk result (λ progress. (progress.counts.refused ≤ progress.counts.records) × (progress.counts.records ≤ 1)) }
         ensures all { OnOk result
             (Appends (W.contents out.old) (W.contents out.new) (finding_lines (first_findings (fields_of record.now)))) }
-        ensures front { OnErr result
-            (WritesUpTo (W.contents out.old) (W.contents out.new) (finding_lines (first_findings (fields_of record.now)))) }
+        ensures front { IfErr result (λ fault.
+            BreaksOffLine fault (W.contents out.old) (W.contents out.new) (finding_lines (first_findings (fields_of record.now)))) }
     {
         let counts = judge_first(alloc, record, out)?;
         Ok(Progress {
@@ -152,7 +152,7 @@ impl Progress {
             ≡ counts_with self.old.counts (judgement count.now self.old.rows (row_in (fields_of record.now)))) }
         ensures all { OnOk result (Appends (W.contents out.old) (W.contents out.new)
             (line_by number (fields_of record.now) (judgement count.now self.old.rows (row_in (fields_of record.now))))) }
-        ensures front { OnErr result (WritesUpTo (W.contents out.old) (W.contents out.new)
+        ensures front { IfErr result (λ fault. BreaksOffLine fault (W.contents out.old) (W.contents out.new)
             (line_by number (fields_of record.now) (judgement count.now self.old.rows (row_in (fields_of record.now))))) }
     {
         let judgement = judge_record(count, &mut self.rows, record)?;

@@ -1,10 +1,10 @@
 //! The records of a text, of whatever length.
 
-ghost use Rattle.std.specs.Prelude.{◌≡◌, ◌++◌, ◌∷◌, [], ℕ, List, Some, IfOk};
+ghost use Rattle.std.specs.Prelude.{◌≡◌, ◌++◌, ◌∷◌, [], ℕ, List, Some, IfErr, IfOk};
 ghost use Rattle.std.specs.Bool.{MatchBool};
 ghost use Rattle.csv.specs.Records.{fields_of};
 ghost use Rattle.zh_csv.specs.Records.{Record, AreAll};
-ghost use Rattle.zh_judgements.specs.Judged.{HasGiven};
+ghost use Rattle.zh_judgements.specs.Judged.{HasGiven, bytes_left, records_judged};
 
 use crate::fault::JudgementFault;
 use csv::{ByteRecord, ErrorKind, Reader, ReaderBuilder};
@@ -26,8 +26,9 @@ pub(crate) fn next_record<R: Read>(
     reader: &mut Reader<R>,
     record: &mut ByteRecord,
 ) -> Result<bool, JudgementFault>
-    ensures { (text : List ℕ) (given : List Record) → HasGiven R.remaining text given reader.old → IfOk result
+    ensures read { (text : List ℕ) (given : List Record) → HasGiven R.remaining text given reader.old → IfOk result
         (λ found. MatchBool found (HasGiven R.remaining text (given ++ fields_of record.new ∷ []) reader.new) (AreAll text given)) }
+    ensures fault { IfErr result (λ fault. (bytes_left fault ≡ 0) × (records_judged fault ≡ 0)) }
 {
     match reader.read_byte_record(record) {
         Ok(found) => Ok(found),

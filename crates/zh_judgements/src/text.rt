@@ -1,13 +1,14 @@
 //! A text judged record by record.
 
-ghost use Rattle.std.specs.Prelude.{◌≡◌, ◌≤◌, ◌∷◌, [], ℕ, List, Some, IfOk, IsErrOf, MatchResult, OnErr, OnOk, true};
+ghost use Rattle.std.specs.Prelude.{◌≡◌, ◌≤◌, ◌∷◌, [], ℕ, List, Some, IfErr, IfOk, IsErrOf, MatchResult, OnOk, true};
 ghost use Rattle.std.specs.Io.KnownBytes.{Appends};
 ghost use Rattle.csv.specs.Records.{fields_of};
 ghost use Rattle.zh_csv.specs.Noted.{has_failed, inner_reader};
 ghost use Rattle.zh_csv.specs.Records.{Record};
 ghost use Rattle.zh_returns.specs.Tally.{Tally};
 ghost use Rattle.zh_judgements.specs.Findings.{findings, forecast_by, forecast_of};
-ghost use Rattle.zh_judgements.specs.Judged.{AreBrokenOff, AreJudged, HasGiven, IsAfter, Judges, WritesUpTo};
+ghost use Rattle.zh_judgements.specs.Judged.{AreBrokenOff, AreJudged, BreaksOffLine, HasGiven, IsAfter, Judges};
+ghost use Rattle.zh_judgements.specs.Judged.{WritesUpTo, bytes_left, records_judged};
 ghost use Rattle.zh_judgements.specs.Text.{forecast_text, judgement_text};
 
 use crate::fault::JudgementFault;
@@ -36,8 +37,8 @@ fn judge_others<R: Read, W: Write>(
     ensures { (first : Record) → IsAfter count.now (first ∷ []) progress.old → MatchResult result
         (λ _. AreJudged count.now first (λ bytes. HasGiven R.remaining bytes (first ∷ []) reader.old)
         (W.contents out.old) (W.contents out.new) progress.new)
-        (λ _. AreBrokenOff count.now first (λ bytes. HasGiven R.remaining bytes (first ∷ []) reader.old)
-        (W.contents out.old) (W.contents out.new)) }
+        (λ fault. AreBrokenOff count.now first (λ bytes. HasGiven R.remaining bytes (first ∷ []) reader.old)
+        (WritesUpTo (bytes_left fault) (W.contents out.old) (W.contents out.new)) (records_judged fault)) }
 {
     for number in 2..u32::MAX {
         if !next_record(reader, record)? {
@@ -56,7 +57,8 @@ fn write_forecast<W: Write>(
 ) -> Result<Forecast, JudgementFault>
     ensures comes_to { IfOk result (λ forecast. forecast ≡ forecast_by counts.now) }
     ensures all { OnOk result (Appends (W.contents out.old) (W.contents out.new) (forecast_text (forecast_by counts.now))) }
-    ensures front { OnErr result (WritesUpTo (W.contents out.old) (W.contents out.new) (forecast_text (forecast_by counts.now))) }
+    ensures front { IfErr result (λ fault. BreaksOffLine fault (W.contents out.old) (W.contents out.new)
+        (forecast_text (forecast_by counts.now))) }
 {
     let forecast = counts.forecast();
     let line = forecast_line(alloc, forecast)?;
@@ -69,7 +71,7 @@ fn judge_none<W: Write>(alloc: Global, out: &mut W) -> Result<Forecast, Judgemen
     ensures { (tally : Tally) → MatchResult result
         (λ forecast. Appends (W.contents out.old) (W.contents out.new) (judgement_text tally [])
         × (forecast ≡ forecast_of (findings tally [])))
-        (λ _. WritesUpTo (W.contents out.old) (W.contents out.new) (judgement_text tally [])) }
+        (λ fault. BreaksOffLine fault (W.contents out.old) (W.contents out.new) (judgement_text tally [])) }
 {
     let progress = Progress::begin(alloc, &ByteRecord::new(alloc), out)?;
     write_forecast(alloc, &progress.counts, out)

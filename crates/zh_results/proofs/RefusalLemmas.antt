@@ -2,7 +2,6 @@
 use Rattle.std.proofs.Common.{◌≡◌, Bool, Err, arith, inr, refl}
 use Rattle.zh_totals.specs.Totals.{VoteTotals}
 use Rattle.zh_sheet.specs.Distribution.{Distribution}
-use Rattle.zh_sheet.specs.Made.{IsMade}
 use Rattle.zh_sheet.specs.Refusals.{IsAnswer}
 use Rattle.zh_sheet.specs.declared.fault.SheetFault.TheVariants as faults
 use Rattle.zh_commands.specs.declared.replies.Reply.TheVariants as replies

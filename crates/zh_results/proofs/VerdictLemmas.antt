@@ -1,5 +1,5 @@
 -- A sheet that is not found right is right in no way.
-use Rattle.std.proofs.Common.{◌≡◌, ◌≢◌, List, None, Option, refl, ℕ}
+use Rattle.std.proofs.Common.{◌≢◌, List, Option, refl, ℕ}
 use Rattle.zh_districts.specs.Canton.{Canton}
 use Rattle.zh_totals.specs.Totals.{VoteTotals}
 use Rattle.zh_check.specs.Verdicts.{IsRight, IsRightExactly}

@@ -1,47 +1,19 @@
 //! The seats by a count.
 
-ghost use Rattle.std.specs.Prelude.{◌≡◌, Bool, IfErr, IfOk, MatchOption};
-ghost use Rattle.zh_answers.specs.Sheets.{AreClosed, IsFirstOpen, MayGive, MayGiveFor, sheet_refusal};
+ghost use Rattle.std.specs.Prelude.{◌≡◌, Bool, IfErr, IfOk};
+ghost use Rattle.zh_answers.specs.Sheets.{MayGive, MayGiveFor};
 ghost use Rattle.zh_totals.specs.Counting.{totals_of};
 ghost use Rattle.zh_sheet.specs.Made.{IsMade};
 ghost use Rattle.zh_results.specs.Results.{IsReasonFor, MayAnswerAs, answer_of, refusal_answer};
 
 use crate::outcome::{MarkedSheet, NoSeats};
 use std::alloc::Global;
+use zh_answers::{first_open, sheet_refusal};
 use zh_commands::Refusal;
 use zh_returns::{Count, Reason};
 use zh_seats::Mark;
 use zh_sheet::{SheetFault, explain, make};
 use zh_totals::Totals;
-
-/// The lowest municipality that is open.
-fn first_open(count: &Count<'_>) -> Option<u32>
-    ensures { MatchOption result (AreClosed count.now) (IsFirstOpen count.now) }
-{
-    for municipality in 1..=count.setup().municipalities() {
-        if !count.closed(municipality) {
-            return Some(municipality);
-        }
-    }
-    None
-}
-
-/// The name under which a sheet is refused.
-fn refusal_of(fault: SheetFault) -> Refusal
-    ensures { result ≡ sheet_refusal fault }
-{
-    match fault {
-        SheetFault::Memory => Refusal::Memory,
-        SheetFault::TiedSeats => Refusal::TiedSeats,
-        SheetFault::NoSeat(constituency) => Refusal::NoSeat(constituency),
-        SheetFault::NoGroup => Refusal::NoGroup,
-        SheetFault::NoVoters => Refusal::NoVoters,
-        SheetFault::TiedUpper => Refusal::TiedUpper,
-        SheetFault::NoVotes(constituency) => Refusal::NoVotes(constituency),
-        SheetFault::TiedLower(constituency, group) => Refusal::TiedLower(constituency, group),
-        SheetFault::Exhausted => Refusal::Exhausted,
-    }
-}
 
 /// Why there is no sheet of these totals, whose making ended so.
 fn why_none(alloc: Global, totals: &Totals<'_>, fault: SheetFault) -> NoSeats
@@ -54,7 +26,7 @@ fn why_none(alloc: Global, totals: &Totals<'_>, fault: SheetFault) -> NoSeats
             Ok(reason) => NoSeats::Exhausted(reason),
             Err(_) => NoSeats::Refused(Refusal::Memory),
         },
-        _ => NoSeats::Refused(refusal_of(fault)),
+        _ => NoSeats::Refused(sheet_refusal(fault)),
     }
 }
 

@@ -1,5 +1,5 @@
--- The widths of seats_columns, one number more each time.
-use Rattle.std.proofs.Common.{◌≡◌, ◌+◌, ℕ, ◌∷◌, [], ap, ◌∙◌, sum_by}
+-- The widths of the columns, one number more each time.
+use Rattle.std.proofs.Common.{◌≡◌, ◌+◌, ℕ, ap, ◌∙◌, sum_by}
 use Rattle.std.specs.List.{fold, range_with_len}
 use Rattle.std.proofs.lemmas.List.Sums.{fold_push, sum_by_push}
 use Rattle.zh_sheet.proofs.CallerLemmas.{numbers_more}

@@ -42,7 +42,7 @@ pub record AreTexts (x : Distribution) (d g : ℕ) (texts : Texts) : Type 0 wher
 abbrev pub kind : Mark → List ℕ
 kind mark = if mark.is_final then codes "final" else codes "provisional"
 
--- the names of the seats_columns
+-- the names of the columns
 abbrev pub seats_columns : TableRecord
 seats_columns =
     codes "constituency" ∷ codes "group" ∷ codes "votes" ∷ codes "voters" ∷ codes "seats"

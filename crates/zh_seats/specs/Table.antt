@@ -1,6 +1,6 @@
 -- The seats as a table for people: a line for each constituency and a column for each group, with totals. It has at most 80
 -- columns of characters; where that does not do, each constituency stands above its groups, of which each has a line.
-use Rattle.std.specs.Prelude.{ℕ, ◌+◌, ◌-◌, ◌≤◌, nat_le, nat_lt, ◌||◌, Bool, max, List, [], ◌∷◌, ◌++◌, length, map, fold, replicate}
+use Rattle.std.specs.Prelude.{ℕ, ◌+◌, ◌-◌, ◌≤◌, nat_le, nat_lt, ◌||◌, Bool, max, List, [], ◌∷◌, ◌++◌, length, fold, replicate}
 use Rattle.std.specs.Prelude.{if◌then◌else◌, codes, count_by, decimal, slice_index, sum_by}
 use Rattle.std.specs.List.{range_with_len}
 use Rattle.zh_districts.specs.Canton.{Canton, stands}

@@ -1,6 +1,7 @@
-use Rattle.std.proofs.Common.{◌≡◌, ◌++◌, map, take}
-use Rattle.zh_judgements.specs.Text.{printable}
+use Rattle.std.proofs.Common.{◌≡◌, ◌++◌}
+use Rattle.zh_tables.specs.Tables.{each_to}
+use Rattle.zh_judgements.specs.Text.{printed_at}
 use Rattle.zh_judgements.proofs.line.push_field.Given as goal
 
-abbrev pub invariant-loop-byte : goal.invariant-loop-byte
-invariant-loop-byte l = l.line.items ≡ l.fn.line.items ++ map printable (take l.byte-index l.field)
+abbrev pub invariant-loop-place : goal.invariant-loop-place
+invariant-loop-place l = l.line.items ≡ l.fn.line.items ++ each_to l.place (printed_at l.field)

@@ -1,6 +1,6 @@
 use Rattle.std.proofs.Common.{◌≡◌, List, ℕ, Err, refl, sym, subst, rules}
 use Rattle.csv.specs.Records.{fields_of}
-use Rattle.zh_judgements.specs.Judged.{WritesUpTo}
+use Rattle.zh_judgements.specs.Judged.{BreaksOffLine}
 use Rattle.std.specs.Io.KnownBytes.{Appends}
 use Rattle.zh_csv.specs.Load.{names}
 use Rattle.zh_judgements.proofs.RowLemmas.{names_missed, missed_line}
@@ -10,7 +10,7 @@ pub returns-in_err-write_finding-clause-front : goal.returns-in_err-write_findin
 returns-in_err-write_finding-clause-front g c =
     let other : fields_of c.args.record.now ≡ names → ⊥ = λ same. search rules in
     let is : c.from_residual.result ≡ Err c.in_err-write_finding.field-0.0 = search rules in
-    rw is (subst (λ (t : List ℕ). WritesUpTo (g.W.Write.contents c.args.out.now) (g.W.Write.contents c.write_finding.new.out) t) (sym (missed_line (fields_of c.args.record.now) other)) c.in_err-write_finding.ensures.front)
+    rw is (subst (λ (t : List ℕ). BreaksOffLine c.in_err-write_finding.field-0.0 (g.W.Write.contents c.args.out.now) (g.W.Write.contents c.write_finding.new.out) t) (sym (missed_line (fields_of c.args.record.now) other)) c.in_err-write_finding.ensures.front)
 
 pub returns-clause-counts : goal.returns-clause-counts
 returns-clause-counts g c =

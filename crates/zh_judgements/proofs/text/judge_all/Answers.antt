@@ -8,14 +8,14 @@ use Rattle.zh_judgements.proofs.text.judge_all.Goals as goal
 pub returns-in_err-progress : goal.returns-in_err-progress
 returns-in_err-progress g c =
     let is : c.from_residual.result ≡ Err c.in_err-progress.field-0.0 = search rules in
-    rw is (first_broken c.args.count.now (fields_of c.args.record.now) (λ bytes. HasGiven g.R.Read.remaining bytes (fields_of c.args.record.now ∷ []) c.args.reader.now) _ _
+    rw is (first_broken c.args.count.now (fields_of c.args.record.now) (λ bytes. HasGiven g.R.Read.remaining bytes (fields_of c.args.record.now ∷ []) c.args.reader.now) _ _ c.in_err-progress.field-0.0
     (λ bytes has. are_first g.R.Read.remaining bytes (fields_of c.args.record.now ∷ []) c.args.reader.now has) c.in_err-progress.ensures.front)
 
 pub returns-in_err-judge_others : goal.returns-in_err-judge_others
 returns-in_err-judge_others g c =
     let is : c.from_residual-in_err-judge_others.result ≡ Err c.in_err-judge_others.field-0.0 = search rules in
     let broken = rw c.in_err-judge_others.was at (c.judge_others.ensures (fields_of c.args.record.now) (c.in_ok-progress.ensures.begun c.args.count.now)) in
-    rw is (others_broken c.args.count.now (fields_of c.args.record.now) (λ bytes. HasGiven g.R.Read.remaining bytes (fields_of c.args.record.now ∷ []) c.args.reader.now) _ _ _ c.in_ok-progress.ensures.all broken)
+    rw is (others_broken c.args.count.now (fields_of c.args.record.now) (λ bytes. HasGiven g.R.Read.remaining bytes (fields_of c.args.record.now ∷ []) c.args.reader.now) _ _ _ _ _ c.in_ok-progress.ensures.all broken)
 
 pub returns : goal.returns
 returns g c =

@@ -1,6 +1,5 @@
 use Rattle.std.proofs.Common.{IfOk, List, ap, append_assoc, codes, decimal, length, replicate, string_bytes, subst, sym, ◌++◌, ◌-◌, ◌/◌, ◌%◌, ◌∙◌, ◌≡◌, ℕ}
 use Rattle.std.specs.Fmt.{format_spec, styled_decimal}
-use Rattle.zh_sheet_text.specs.SheetText.{divisor_text}
 use Rattle.zh_seats.proofs.NumberLemmas.{six_digits}
 use Rattle.zh_seats.proofs.numbers.millionths_text.Goals as goal
 

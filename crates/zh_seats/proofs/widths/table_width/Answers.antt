@@ -1,6 +1,5 @@
-use Rattle.std.proofs.Common.{ap, arith, sum_by, sym, ◌+◌, ◌∙◌, ◌≡◌, ℕ}
-use Rattle.std.specs.List.{range_with_len}
-use Rattle.zh_seats.specs.Table.{group_width, name_width}
+use Rattle.std.proofs.Common.{arith}
+use Rattle.zh_seats.specs.Table.{group_width}
 use Rattle.zh_seats.proofs.WidthLemmas.{sum_next}
 use Rattle.zh_seats.proofs.widths.table_width.Goals as goal
 
