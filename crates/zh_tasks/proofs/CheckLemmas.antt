@@ -1,6 +1,7 @@
 -- What a check reads, and what it answers.
-use Rattle.std.proofs.Common.{◌≡◌, ◌∙◌, ◌++◌, ◌≤◌, ◌+◌, ℕ, List, [], length, take, Option, Some, None, Ok, Err, IfSome, refl, ap, arith, option_map}
+use Rattle.std.proofs.Common.{◌≡◌, ◌≢◌, ◌∙◌, ◌≤◌, ◌+◌, ℕ, List, length, take, Option, Some, None, Ok, Err, refl, subst, arith}
 use Rattle.std.proofs.lemmas.List.{length-take, take_all}
+use Rattle.std.specs.Io.KnownBytes.{Appends}
 use Rattle.zh_csv.specs.declared.fault.LoadFault.{LoadFault}
 use Rattle.zh_csv.specs.declared.fault.LoadFault.TheVariants as loads
 use Rattle.zh_districts.specs.Canton.{Canton}
@@ -8,26 +9,17 @@ use Rattle.zh_held.specs.Faults.{named}
 use Rattle.zh_held.specs.Held.{IsHolding}
 use Rattle.zh_held.specs.declared.held_reader.HeldSums.{HeldSums}
 use Rattle.zh_returns.specs.declared.verdict.Reason.TheVariants as reasons
+use Rattle.zh_check.specs.declared.checked.RightSheet.{RightSheet}
 use Rattle.zh_check.specs.declared.checked.SheetVerdict.{SheetVerdict}
+use Rattle.zh_check.specs.declared.checked.SheetVerdict.TheVariants.{Right}
 use Rattle.zh_verdicts.specs.declared.writer.VerdictFault.{VerdictFault}
 use Rattle.zh_verdicts.specs.declared.writer.VerdictFault.TheVariants as of_verdict
 use Rattle.zh_world.specs.declared.files.Files.{Ghosts as Files}
 use Rattle.zh_tasks.specs.World.{AreCalls}
 use Rattle.zh_tasks.specs.Load.{WritesPart}
-use Rattle.zh_tasks.specs.Check.{Answers, AreSumsAt, ComesTo, HeldFaultAs, Inputs, IsOfHeld, IsSheetAt, VerdictFaultAs, check_text}
+use Rattle.zh_tasks.specs.Check.{Answers, AreSumsAt, ComesTo, HeldFaultAs, Inputs, IsOfHeld, VerdictFaultAs, calls_if_named, check_text}
 use Rattle.zh_tasks.specs.declared.fault.TaskFault.{TaskFault}
 use Rattle.zh_tasks.specs.declared.fault.TaskFault.TheVariants as faults
-
-front_of : (all front before text : List ℕ) → text ≡ before ++ front → before ≡ [] → front ≡ take 280065 all → text ≡ take 280065 all
-front_of all front before text is none cut = is ∙ ap (λ (l : List ℕ). l ++ front) none ∙ cut
-
--- the bytes that were read are the first of the sheet
-pub sheet_known : (known read : Option (List ℕ)) (limit : ℕ) (before text : List ℕ) → read ≡ known → limit ≡ 280065 → before ≡ [] → IfSome (option_map (take limit) read) (λ xs. text ≡ before ++ xs) → IsSheetAt known text
-sheet_known None read limit before text is at_most none front = tt
-sheet_known (Some all) (Some xs) limit before text is at_most none front =
-    let same : xs ≡ all = cc in
-    front_of all (take limit xs) before text front none (ap (λ (n : ℕ). take n xs) at_most ∙ ap (take 280065) same)
-sheet_known (Some all) None limit before text is at_most none front = absurd cc
 
 -- a fault of no record, and of no read
 pub other_fault : (why : LoadFault) → named why ≡ None → (why ≡ loads.Read → ⊥) → why ≡ loads.Memory
@@ -60,6 +52,17 @@ pub not_written : (U : Type 0) (w w' : Option (List ℕ)) (inputs : Inputs) (ver
 not_written U w w' inputs verdict of_verdict.Memory e is comes part unwritten = rw is (unwritten refl)
 not_written U w w' inputs verdict of_verdict.Write e is comes part unwritten = rw is ((verdict, comes, part refl))
 
+-- a sheet that is right, and one that is not: what the verdict says is written
+pub right_answered : (w w' : Option (List ℕ)) (inputs : Inputs) (verdict : SheetVerdict) (right : RightSheet)
+    → verdict ≡ Right right → ComesTo inputs verdict → Appends w w' (check_text inputs verdict) → Answers (Unit {0}) w w' inputs (Ok tt)
+right_answered w w' inputs verdict right is comes written =
+    (right, subst (ComesTo inputs) is comes, subst (λ (v : SheetVerdict). Appends w w' (check_text inputs v)) is written)
+
+pub wrong_answered : (w w' : Option (List ℕ)) (inputs : Inputs) (verdict : SheetVerdict)
+    → ((right : RightSheet) → verdict ≢ Right right) → ComesTo inputs verdict → Appends w w' (check_text inputs verdict)
+    → Answers (Unit {0}) w w' inputs (Err faults.Refused)
+wrong_answered w w' inputs verdict is_not comes written = (verdict, comes, is_not, written)
+
 -- calls after calls
 pub calls_after : {F T D R : Type 0} (files : Files F T D R) (n m : ℕ) (old mid new : F) → AreCalls files n old mid → AreCalls files m mid new → AreCalls files (n + m) old new
 calls_after files n m old mid new one other = record {
@@ -67,6 +70,11 @@ calls_after files n m old mid new one other = record {
   texts = other.texts ∙ one.texts;
   disks = other.disks ∙ one.disks;
 }
+
+-- an export is read in one call at most
+pub few_calls : (path : Option (List ℕ)) → calls_if_named path ≤ 1
+few_calls None = omega arith
+few_calls (Some path) = omega arith
 
 -- a front that is shorter than what was asked for is the whole
 pub front_is_whole : (text : List ℕ) → length (take 280065 text) ≤ 280064 → take 280065 text ≡ text

@@ -1,6 +1,6 @@
 -- What a dry run has done, by how it ended.
 use Rattle.std.proofs.Common.{◌≡◌, ◌≢◌, ℕ, List, Option, Some, Result, Ok, Err, IfErr, subst, sym, refl}
-use Rattle.zh_judgements.specs.Judged.{IsBrokenOff, IsJudged, Judges}
+use Rattle.zh_judgements.specs.Judged.{IsBrokenOff, IsJudged, Judges, bytes_left, records_judged}
 use Rattle.zh_judgements.specs.declared.fault.JudgementFault.{JudgementFault}
 use Rattle.zh_judgements.specs.declared.fault.JudgementFault.TheVariants as judging
 use Rattle.zh_judgements.specs.declared.judgement.Forecast.{Forecast}
@@ -16,18 +16,25 @@ use Rattle.zh_tasks.specs.declared.fault.TaskFault.{TaskFault}
 use Rattle.zh_tasks.specs.declared.fault.TaskFault.TheVariants as faults
 
 module _ (text w w' : Option (List ℕ)) (Spans : OnDisk Office → OnDisk Office → Type 0) (start : OnDisk Office) (spans : Spans start start) where
-  breaks : IsBrokenOff start.holder.ledger.tally (λ bytes. text ≡ Some bytes) w w' → BreaksOffJudging text w w' Spans
-  breaks broken = record { start = start; spans = spans; broken = broken }
+  breaks : (fault : JudgementFault) → IsBrokenOff start.holder.ledger.tally (λ bytes. text ≡ Some bytes) w w' (bytes_left fault) (records_judged fault) → BreaksOffJudging text w w' Spans fault
+  breaks fault broken = record { start = start; spans = spans; broken = broken }
 
   -- the judging was broken off
-  pub broken_runs : (fault : JudgementFault) (e : TaskFault) → JudgedAs fault e → IsBrokenOff start.holder.ledger.tally (λ bytes. text ≡ Some bytes) w w' → DryRuns text w w' Spans (Err e)
-  broken_runs judging.Memory e is broken = rw is (breaks broken)
-  broken_runs judging.Read e is broken = rw is (breaks broken)
-  broken_runs judging.Turns e is broken = rw is (breaks broken)
-  broken_runs judging.Write e is broken = rw is (breaks broken)
+  pub broken_runs : (fault : JudgementFault) (e : TaskFault) → JudgedAs fault e → IsBrokenOff start.holder.ledger.tally (λ bytes. text ≡ Some bytes) w w' (bytes_left fault) (records_judged fault) → DryRuns text w w' Spans (Err e)
+  broken_runs judging.Memory e is broken = rw is (breaks judging.Memory broken)
+  broken_runs judging.Read e is broken = rw is (breaks judging.Read broken)
+  broken_runs judging.Turns e is broken = rw is (breaks judging.Turns broken)
+  broken_runs judging.Write e is broken = rw is (breaks judging.Write broken)
 
   pub forecasts_of : (forecast : Forecast) → IsJudged start.holder.ledger.tally (λ bytes. text ≡ Some bytes) w w' forecast → HasForecast text w w' Spans forecast
   forecasts_of forecast judged = record { start = start; spans = spans; judged = judged }
+
+-- the CSV file is reported where a read of it failed
+pub read_failed : (fault : JudgementFault) (e : TaskFault) → JudgedAs fault e → e ≡ faults.CsvFile → fault ≡ judging.Read
+read_failed judging.Memory e is file = absurd cc
+read_failed judging.Read e is file = refl
+read_failed judging.Turns e is file = absurd cc
+read_failed judging.Write e is file = absurd cc
 
 -- the file gives no text
 pub unread_runs : (text w : Option (List ℕ)) (Spans : OnDisk Office → OnDisk Office → Type 0) (start : OnDisk Office) → Spans start start → (fault : TaskFault) → IsUnreadable fault → DryRuns text w w Spans (Err fault)
@@ -40,16 +47,16 @@ module _ (text w w' : Option (List ℕ)) (Spans Spans' : OnDisk Office → OnDis
   forecast_as : (forecast : Forecast) → HasForecast text w w' Spans forecast → HasForecast text w w' Spans' forecast
   forecast_as forecast by = record { start = by.start; spans = turn by.start by.start by.spans; judged = by.judged }
 
-  breaks_as : BreaksOffJudging text w w' Spans → BreaksOffJudging text w w' Spans'
-  breaks_as by = record { start = by.start; spans = turn by.start by.start by.spans; broken = by.broken }
+  breaks_as : (fault : JudgementFault) → BreaksOffJudging text w w' Spans fault → BreaksOffJudging text w w' Spans' fault
+  breaks_as fault by = record { start = by.start; spans = turn by.start by.start by.spans; broken = by.broken }
 
   pub dry_runs_as : (result : Result (Unit {0}) TaskFault) → DryRuns text w w' Spans result → DryRuns text w w' Spans' result
   dry_runs_as (Ok done) (forecast, taken, by) = (forecast, taken, forecast_as forecast by)
   dry_runs_as (Err faults.Refused) (refused, records, by) = (refused, records, forecast_as (forecasts.Refused refused records) by)
-  dry_runs_as (Err faults.Memory) by = breaks_as by
-  dry_runs_as (Err faults.CsvFile) by = breaks_as by
-  dry_runs_as (Err (faults.Serve serving.Turns)) by = breaks_as by
-  dry_runs_as (Err faults.Write) by = breaks_as by
+  dry_runs_as (Err faults.Memory) by = breaks_as judging.Memory by
+  dry_runs_as (Err faults.CsvFile) by = breaks_as judging.Read by
+  dry_runs_as (Err (faults.Serve serving.Turns)) by = breaks_as judging.Turns by
+  dry_runs_as (Err faults.Write) by = breaks_as judging.Write by
   dry_runs_as (Err fault) by = absurd by
 
 -- it does not report the device

@@ -2,6 +2,7 @@ mod CheckLemmas
 mod DryRunLemmas
 mod ExportLemmas
 mod FormatLemmas
+mod FrontLemmas
 mod KeptLemmas
 mod ListLemmas
 mod LoadLemmas

@@ -1,7 +1,5 @@
 -- The office of a rehearsal.
-use Rattle.std.proofs.Common.{◌≡◌, ◌∙◌, ◌<◌, ℕ, List, length, take, Option, Result, Ok, Err, OnErr, OnOk, refl, sym, ap, subst, arith, IsTrue}
-use Rattle.std.proofs.lemmas.List.{take_all}
-use Rattle.std.specs.Io.KnownBytes.{Appends}
+use Rattle.std.proofs.Common.{◌≡◌, ◌∙◌, ℕ, List, Result, Ok, Err, refl, sym, ap, subst, IsTrue}
 use Rattle.zh_districts.specs.Canton.{Canton}
 use Rattle.zh_setups.specs.Rehearsal.{rehearsal}
 use Rattle.zh_disk.specs.Disk.{Moment, IsImage}
@@ -16,7 +14,7 @@ use Rattle.zh_office.specs.Office.{Office}
 use Rattle.zh_office.specs.declared.service.ServeFault.TheVariants as serving
 use Rattle.zh_tasks.specs.Format.{IsOfFormat}
 use Rattle.zh_tasks.specs.Opened.{IsFrom, WithOffice}
-use Rattle.zh_tasks.specs.Rehearse.{IsRehearsal, Rehearsed, WritesSome}
+use Rattle.zh_tasks.specs.Rehearse.{IsRehearsal, Rehearsed}
 use Rattle.zh_tasks.specs.Run.{Serves, Streams}
 use Rattle.zh_tasks.specs.declared.fault.TaskFault.{TaskFault}
 use Rattle.zh_tasks.specs.declared.fault.TaskFault.TheVariants as faults
@@ -64,10 +62,3 @@ rehearsed nothing old new canton first last result is sure formatted by = at res
     at (Err (faults.Serve serving.Turns)) by = serves_as old new (IsFrom canton first last) IsRehearsal (Err (faults.Serve serving.Turns)) turn by
     at (Err (faults.Serve serving.Write)) by = serves_as old new (IsFrom canton first last) IsRehearsal (Err (faults.Serve serving.Write)) turn by
     at (Err fault) by = absurd by
-
--- a text was written, or a front of it
-pub wrote_some : {T E : Type 0} (result : Result T E) (w w' : Option (List ℕ)) (text said : List ℕ) → text ≡ said → OnOk result (Appends w w' text)
-    → OnErr result ((n : ℕ) × (n < length text) × Appends w w' (take n text)) → WritesSome w w' said
-wrote_some (Ok done) w w' text said is all front =
-    subst (WritesSome w w') is (length text, omega arith, subst (λ (l : List ℕ). Appends w w' l) (sym (take_all (length text) text (omega arith))) all)
-wrote_some (Err fault) w w' text said is all (n, part, written) = subst (WritesSome w w') is (n, omega (arith, part), written)

@@ -27,5 +27,5 @@ known_before at old mid path P same by = subst (λ (f : List ℕ → Option (Lis
 pub found_early : (text : Option (List ℕ)) (fault : FileFault) (e : TaskFault) → FoundAs fault e → IsEarly text e
 found_early text of_files.Memory e is = subst (IsEarly text) (sym is) tt
 found_early text of_files.Device e is = subst (IsEarly text) (sym is) tt
-found_early text of_files.Size e is = subst (IsEarly text) (sym is) tt
+found_early text (of_files.Size length) e is = subst (IsEarly text) (sym is) tt
 found_early text of_files.Busy e is = subst (IsEarly text) (sym is) tt

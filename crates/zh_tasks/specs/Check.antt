@@ -1,5 +1,5 @@
 -- What the check of a published sheet does.
-use Rattle.std.specs.Prelude.{◌≡◌, ◌≢◌, ◌≤◌, ℕ, List, take, Option, Some, None, Result, Ok, Err, IsErrAnd, option_map, ◌⊎◌}
+use Rattle.std.specs.Prelude.{◌≡◌, ◌≢◌, ◌≤◌, ◌+◌, ℕ, List, take, Option, Some, None, Result, Ok, Err, IsErrAnd, option_map, ◌⊎◌}
 use Rattle.std.specs.Io.KnownBytes.{Appends}
 use Rattle.zh_arguments.specs.declared.check.CheckPaths.{CheckPaths}
 use Rattle.zh_check.specs.Verdicts.{IsReasonOf, IsRightExactly}
@@ -15,6 +15,7 @@ use Rattle.zh_held.specs.Held.{AddsUp, AreHeldIn, AreSums}
 use Rattle.zh_held.specs.declared.fault.HeldFault.{HeldFault}
 use Rattle.zh_held.specs.declared.held_reader.HeldSums.{HeldSums}
 use Rattle.zh_held.specs.declared.row.HeldRow.{HeldRow}
+use Rattle.zh_verdicts.specs.Rows.{rows_held}
 use Rattle.zh_verdicts.specs.Text.{verdict_text}
 use Rattle.zh_verdicts.specs.declared.writer.VerdictFault.{VerdictFault}
 use Rattle.zh_verdicts.specs.declared.writer.VerdictFault.TheVariants as of_verdict
@@ -107,10 +108,24 @@ pub record LacksSums (text_at : List ℕ → Option (List ℕ)) (paths : CheckPa
   pub front : IsSheetAt (text_at paths.sheet.now) sheet
   pub none : IsOfHeldAt text_at canton (held_path paths) fault
 
--- the first of the texts that gives nothing, with this fault
-abbrev pub LacksInputs : (List ℕ → Option (List ℕ)) → CheckPaths → TaskFault → Type 0
-LacksInputs text_at paths fault =
-    IsOfSetup (text_at paths.setup.now) fault ⊎ (LacksSheet text_at paths fault ⊎ LacksSums text_at paths fault)
+-- how many calls the reading of an export takes, which may be none
+abbrev pub calls_if_named : Option (List ℕ) → ℕ
+calls_if_named None = 0
+calls_if_named (Some path) = 1
+
+-- how many calls the reading of all of them takes
+abbrev pub calls_for : CheckPaths → ℕ
+calls_for paths = 2 + calls_if_named (held_path paths)
+
+-- all was read, in so many calls
+abbrev pub ReadsInputs : (ℕ → Type 0) → (List ℕ → Option (List ℕ)) → CheckPaths → Inputs → Type 0
+ReadsInputs IsAfter text_at paths inputs = IsAfter (calls_for paths) × AreInputs text_at paths inputs
+
+-- The first of the texts that gives nothing, with this fault. The set-up is read in the first call, the sheet in the second
+-- and the export in the third.
+abbrev pub LacksInputs : (ℕ → Type 0) → (List ℕ → Option (List ℕ)) → CheckPaths → TaskFault → Type 0
+LacksInputs IsAfter text_at paths fault = (IsAfter 1 × IsOfSetup (text_at paths.setup.now) fault)
+    ⊎ ((IsAfter 2 × LacksSheet text_at paths fault) ⊎ (IsAfter (calls_for paths) × LacksSums text_at paths fault))
 
 -- the totals of the export, where there is one
 abbrev pub totals_held : Inputs → Option VoteTotals
@@ -122,7 +137,7 @@ pub record ComesTo (inputs : Inputs) (verdict : SheetVerdict) : Type 0 where
   pub reason : IsReasonOf inputs.canton (totals_held inputs) inputs.sheet verdict
 
 abbrev pub check_text : Inputs → SheetVerdict → List ℕ
-check_text inputs verdict = verdict_text (option_map (λ sums. sums.rows) inputs.held) verdict
+check_text inputs verdict = verdict_text (option_map (λ sums. rows_held inputs.canton sums.rows) inputs.held) verdict
 
 -- a check that ended so has written the verdict on what it was given: all of it, a front of it, or nothing
 abbrev pub Answers : Type 0 → Option (List ℕ) → Option (List ℕ) → Inputs → Result (Unit {0}) TaskFault → Type 0
@@ -148,7 +163,8 @@ module _ {I O E F T D R : Type 0} where
     pub none : ended.used ≡ None
     pub rest : new ≡ record old { output = new.output; files = new.files }
     pub calls : (n : ℕ) × (n ≤ 3) × AreCalls of.files n old.files new.files
-    pub checks : Checks (new.output ≡ old.output) (AreInputs (of.files.text_at old.files) paths)
+    pub checks : Checks (new.output ≡ old.output)
+        (ReadsInputs (λ n. AreCalls of.files n old.files new.files) (of.files.text_at old.files) paths)
         (λ inputs. Answers (new.output ≡ old.output) (of.writers.contents old.output) (of.writers.contents new.output) inputs
         ended.result)
-        (IsErrAnd ended.result (LacksInputs (of.files.text_at old.files) paths))
+        (IsErrAnd ended.result (LacksInputs (λ n. AreCalls of.files n old.files new.files) (of.files.text_at old.files) paths))

@@ -2,7 +2,7 @@
 use Rattle.std.specs.Prelude.{◌≡◌, ◌≢◌, ◌≤◌, ◌+◌, ℕ, List, Option, Some, Result, Ok, Err}
 use Rattle.std.specs.Io.KnownBytes.{Keeps}
 use Rattle.zh_districts.specs.Canton.{Canton}
-use Rattle.zh_judgements.specs.Judged.{IsBrokenOff, IsJudged}
+use Rattle.zh_judgements.specs.Judged.{IsBrokenOff, IsJudged, bytes_left, records_judged}
 use Rattle.zh_judgements.specs.declared.fault.JudgementFault.{JudgementFault}
 use Rattle.zh_judgements.specs.declared.fault.JudgementFault.TheVariants as judging
 use Rattle.zh_judgements.specs.declared.judgement.Forecast.{Forecast}
@@ -29,11 +29,12 @@ pub record HasForecast (text w w' : Option (List ℕ)) (Spans : OnDisk Office �
   pub spans : Spans start start
   pub judged : IsJudged start.holder.ledger.tally (λ bytes. text ≡ Some bytes) w w' forecast
 
--- the same, and the judging was broken off
-pub record BreaksOffJudging (text w w' : Option (List ℕ)) (Spans : OnDisk Office → OnDisk Office → Type 0) : Type 0 where
+-- the same, and the judging was broken off by this fault
+pub record BreaksOffJudging (text w w' : Option (List ℕ)) (Spans : OnDisk Office → OnDisk Office → Type 0)
+    (fault : JudgementFault) : Type 0 where
   pub start : OnDisk Office
   pub spans : Spans start start
-  pub broken : IsBrokenOff start.holder.ledger.tally (λ bytes. text ≡ Some bytes) w w'
+  pub broken : IsBrokenOff start.holder.ledger.tally (λ bytes. text ≡ Some bytes) w w' (bytes_left fault) (records_judged fault)
 
 -- what a dry run over this text with this result has done
 abbrev pub DryRuns : Option (List ℕ) → Option (List ℕ) → Option (List ℕ) → (OnDisk Office → OnDisk Office → Type 0)
@@ -42,10 +43,10 @@ DryRuns text w w' Spans (Ok done) = (forecast : Forecast)
     × ((refused records : ℕ) → forecast ≢ forecasts.Refused refused records) × HasForecast text w w' Spans forecast
 DryRuns text w w' Spans (Err faults.Refused) =
     (refused : ℕ) × (records : ℕ) × HasForecast text w w' Spans (forecasts.Refused refused records)
-DryRuns text w w' Spans (Err faults.Memory) = BreaksOffJudging text w w' Spans
-DryRuns text w w' Spans (Err faults.CsvFile) = BreaksOffJudging text w w' Spans
-DryRuns text w w' Spans (Err (faults.Serve serving.Turns)) = BreaksOffJudging text w w' Spans
-DryRuns text w w' Spans (Err faults.Write) = BreaksOffJudging text w w' Spans
+DryRuns text w w' Spans (Err faults.Memory) = BreaksOffJudging text w w' Spans judging.Memory
+DryRuns text w w' Spans (Err faults.CsvFile) = BreaksOffJudging text w w' Spans judging.Read
+DryRuns text w w' Spans (Err (faults.Serve serving.Turns)) = BreaksOffJudging text w w' Spans judging.Turns
+DryRuns text w w' Spans (Err faults.Write) = BreaksOffJudging text w w' Spans judging.Write
 DryRuns text w w' Spans (Err fault) = ⊥
 
 module _ {I O E F T D R : Type 0} where

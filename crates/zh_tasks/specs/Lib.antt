@@ -7,6 +7,7 @@ pub mod Run
 pub mod Load
 pub mod DryRun
 pub mod Export
+pub mod Remarks
 pub mod Rehearse
 pub mod Tasks
 pub mod List

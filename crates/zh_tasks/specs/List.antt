@@ -11,7 +11,7 @@ use Rattle.zh_world.specs.declared.world.Ended.{Ended}
 use Rattle.zh_world.specs.declared.world.World.{World}
 use Rattle.zh_tasks.specs.Load.{WritesPart}
 use Rattle.zh_tasks.specs.OnDisk.{IsOfSetup}
-use Rattle.zh_tasks.specs.Rehearse.{WritesSome}
+use Rattle.zh_tasks.specs.Remarks.{BecameOf}
 use Rattle.zh_tasks.specs.World.{AreCalls, IsSetupAt, Known}
 use Rattle.zh_tasks.specs.declared.fault.TaskFault.{TaskFault}
 use Rattle.zh_tasks.specs.declared.fault.TaskFault.TheVariants as faults
@@ -46,9 +46,9 @@ SaysIf true said unsaid = said
 SaysIf false said unsaid = unsaid
 
 -- what is said of a table that was written: of more returns than one loading takes how to split them, and else nothing
-abbrev pub Advises : Type 0 → Option (List ℕ) → Option (List ℕ) → Canton → Table → Result (Unit {0}) TaskFault → Type 0
-Advises unsaid e e' canton table (Ok done) = SaysIf (exceeds_load canton table) (WritesSome e e' advice) unsaid
-Advises unsaid e e' canton table (Err fault) = unsaid
+abbrev pub Advises : Type 0 → Type 0 → Canton → Table → Result (Unit {0}) TaskFault → Type 0
+Advises said unsaid canton table (Ok done) = SaysIf (exceeds_load canton table) said unsaid
+Advises said unsaid canton table (Err fault) = unsaid
 
 -- no set-up could be read from this text, and nothing is written; or this was done with the one that was
 abbrev pub WithSetup : Option (List ℕ) → Type 0 → (Canton → Result (Unit {0}) TaskFault → Type 0) → Result (Unit {0}) TaskFault → Type 0
@@ -60,10 +60,12 @@ module _ {I O E F T D R : Type 0} where
   pub record Listed (of : Known I O E F T D R) (path : List ℕ) (table : Table) (old new : World I O E F)
       (ended : Ended (Result (Unit {0}) TaskFault) D) : Type 0 where
     pub none : ended.used ≡ None
-    pub rest : new ≡ record old { output = new.output; faults = new.faults; files = new.files }
+    pub rest : new ≡ record old { output = new.output; faults = new.faults; remark = new.remark; files = new.files }
     pub call : AreCalls of.files 1 old.files new.files
-    pub lists : WithSetup (of.files.text_at old.files path) ((new.output ≡ old.output) × (new.faults ≡ old.faults))
+    pub lists : WithSetup (of.files.text_at old.files path)
+        ((new.output ≡ old.output) × ((new.faults ≡ old.faults) × (new.remark ≡ old.remark)))
         (λ canton end. Lists (new.output ≡ old.output)
         (of.writers.contents old.output) (of.writers.contents new.output) canton table end
-        × Advises (new.faults ≡ old.faults) (of.errors.contents old.faults) (of.errors.contents new.faults) canton table end)
+        × Advises (BecameOf new.remark (of.errors.contents old.faults) (of.errors.contents new.faults) advice)
+        ((new.faults ≡ old.faults) × (new.remark ≡ old.remark)) canton table end)
         ended.result

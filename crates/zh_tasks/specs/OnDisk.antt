@@ -1,12 +1,11 @@
 -- What a task on a disk leaves of a world.
-use Rattle.std.specs.Prelude.{◌≡◌, ◌≢◌, ◌≤◌, ◌+◌, ◌⊎◌, ℕ, List, Option, Some, None, Result, Err, IsErrAnd}
+use Rattle.std.specs.Prelude.{◌≡◌, ◌≢◌, ◌≤◌, ◌+◌, ◌⊎◌, ℕ, List, Option, Some, None, option_map, Result, Err, IsErrAnd}
 use Rattle.zh_arguments.specs.declared.arguments.Paths.{Paths}
 use Rattle.zh_districts.specs.Canton.{Canton}
 use Rattle.zh_setups.specs.Refusals.{IsPlaced}
 use Rattle.zh_setups.specs.SetupText.{reading_of}
 use Rattle.zh_setups.specs.declared.fault.SetupFault.TheVariants.{Memory}
 use Rattle.zh_setups.specs.declared.fault.SetupRefusal.{SetupRefusal}
-use Rattle.zh_setups.specs.declared.place.FaultPlace.{FaultPlace}
 use Rattle.zh_world.specs.declared.files.FileFault.{FileFault}
 use Rattle.zh_world.specs.declared.files.FileFault.TheVariants as of_files
 use Rattle.zh_world.specs.declared.world.World.{World}
@@ -14,6 +13,8 @@ use Rattle.zh_tasks.specs.World.{AreCalls, IsSetupAt, Sight}
 use Rattle.zh_world.specs.declared.world.Ended.{Ended}
 use Rattle.zh_tasks.specs.declared.fault.TaskFault.{TaskFault}
 use Rattle.zh_tasks.specs.declared.fault.TaskFault.TheVariants as faults
+use Rattle.zh_tasks.specs.declared.place.TaskPlace.{TaskPlace}
+use Rattle.zh_tasks.specs.declared.place.TaskPlace.TheVariants as places
 
 -- this refuses the set-up in a text, if the text is known: the text has this fault, unless memory ran out, and has it there
 abbrev pub RefusesSetup : Option (List ℕ) → SetupRefusal → Type 0
@@ -21,8 +22,9 @@ RefusesSetup None refusal = Unit {0}
 RefusesSetup (Some text) refusal = (refusal.fault ≢ Memory → reading_of text ≡ Err refusal.fault) × IsPlaced text refusal
 
 -- the place that a fault names
-abbrev pub named_place : TaskFault → Option FaultPlace
-named_place (faults.Setup refusal) = refusal.place
+abbrev pub named_place : TaskFault → Option TaskPlace
+named_place (faults.Setup refusal) = option_map places.Setup refusal.place
+named_place (faults.Size length) = Some (places.Length length)
 named_place fault = None
 
 -- the fault is one of memory or of the set-up in this text, which come before all else
@@ -38,7 +40,7 @@ IsEarly text faults.SetupFile = Unit {0}
 IsEarly text (faults.Setup refusal) = RefusesSetup text refusal
 IsEarly text faults.Device = Unit {0}
 IsEarly text faults.Busy = Unit {0}
-IsEarly text faults.Size = Unit {0}
+IsEarly text (faults.Size length) = Unit {0}
 IsEarly text faults.Memory = Unit {0}
 IsEarly text fault = ⊥
 
@@ -46,7 +48,7 @@ IsEarly text fault = ⊥
 abbrev pub FoundAs : FileFault → TaskFault → Type 0
 FoundAs of_files.Memory e = e ≡ faults.Memory
 FoundAs of_files.Device e = e ≡ faults.Device
-FoundAs of_files.Size e = e ≡ faults.Size
+FoundAs (of_files.Size length) e = e ≡ faults.Size length
 FoundAs of_files.Busy e = e ≡ faults.Busy
 
 module _ {F T D R : Type 0} where

@@ -1,6 +1,5 @@
 -- What a rehearsal does.
-use Rattle.std.specs.Prelude.{◌≡◌, ◌≤◌, ℕ, false, List, length, take, Option, None, Result, Err, IsTrue, codes, ◌++◌, ◌∷◌, []}
-use Rattle.std.specs.Io.KnownBytes.{Appends}
+use Rattle.std.specs.Prelude.{◌≡◌, ℕ, false, List, None, Result, Err, IsTrue, codes, ◌++◌, ◌∷◌, []}
 use Rattle.zh_setups.specs.Rehearsal.{rehearsal}
 use Rattle.zh_returns.specs.Tally.{empty}
 use Rattle.zh_desks.specs.Batches.{no_batches}
@@ -8,6 +7,7 @@ use Rattle.zh_ledger.specs.Submissions.{OnDisk}
 use Rattle.zh_office.specs.Office.{Office}
 use Rattle.zh_world.specs.declared.world.World.{World}
 use Rattle.zh_tasks.specs.World.{Known}
+use Rattle.zh_tasks.specs.Remarks.{BecameOf}
 use Rattle.zh_tasks.specs.Run.{Serves, Streams, streams_of}
 use Rattle.zh_world.specs.declared.world.Ended.{Ended}
 use Rattle.zh_tasks.specs.declared.fault.TaskFault.{TaskFault}
@@ -32,14 +32,10 @@ Rehearsed nothing old new (Err faults.InUse) = nothing
 Rehearsed nothing old new (Err (faults.Open fault)) = nothing
 Rehearsed nothing old new result = Serves old new IsRehearsal result
 
--- a text, or a front of it, is written
-abbrev pub WritesSome : Option (List ℕ) → Option (List ℕ) → List ℕ → Type 0
-WritesSome writer writer' text = (front : ℕ) × (front ≤ length text) × Appends writer writer' (take front text)
-
 module _ {I O E F T D R : Type 0} where
   -- a rehearsal, which says so first; its disk is in memory, and no file is touched
   pub record Rehearses (of : Known I O E F T D R) (old new : World I O E F) (ended : Ended (Result (Unit {0}) TaskFault) D) : Type 0 where
     pub none : ended.used ≡ None
-    pub rest : new ≡ record old { input = new.input; output = new.output; faults = new.faults }
-    pub said : WritesSome (of.errors.contents old.faults) (of.errors.contents new.faults) announcement
+    pub rest : new ≡ record old { input = new.input; output = new.output; faults = new.faults; remark = new.remark }
+    pub said : BecameOf new.remark (of.errors.contents old.faults) (of.errors.contents new.faults) announcement
     pub served : Rehearsed ((new.input ≡ old.input) × (new.output ≡ old.output)) (streams_of of old) (streams_of of new) ended.result

@@ -18,7 +18,7 @@ use Rattle.zh_world.specs.declared.world.World.{World}
 use Rattle.zh_tasks.specs.World.{Known}
 use Rattle.zh_tasks.specs.Load.{WritesPart}
 use Rattle.zh_tasks.specs.Opened.{LeavesDisk, WithOffice}
-use Rattle.zh_tasks.specs.Rehearse.{WritesSome}
+use Rattle.zh_tasks.specs.Remarks.{BecameOf}
 use Rattle.zh_tasks.specs.declared.fault.TaskFault.{TaskFault}
 use Rattle.zh_tasks.specs.declared.fault.TaskFault.TheVariants as faults
 use Rattle.zh_tasks.specs.declared.seats.Seats.{Seats}
@@ -42,15 +42,15 @@ pub record AreSeatsOf (tally : Tally) (is_final : Bool) (seats : Result MarkedSh
 
 module _ {I O E F T D R : Type 0} where
   -- What a writing of seats with this result has done: they are written, or a part of them; or there are none, and the
-  -- standard error says why, or has a front of it. Where memory was refused nothing is written.
+  -- remark says why. Where memory was refused nothing is written.
   abbrev pub WritesSeats : Known I O E F T D R → World I O E F → World I O E F → Result (List ℕ) (List ℕ)
       → Result (Unit {0}) TaskFault → Type 0
   WritesSeats of old new (Ok text) (Ok done) =
-      Appends (of.writers.contents old.output) (of.writers.contents new.output) text × (new.faults ≡ old.faults)
+      Appends (of.writers.contents old.output) (of.writers.contents new.output) text × (new ≡ record old { output = new.output })
   WritesSeats of old new (Ok text) (Err faults.Write) =
-      WritesPart (of.writers.contents old.output) (of.writers.contents new.output) text × (new.faults ≡ old.faults)
+      WritesPart (of.writers.contents old.output) (of.writers.contents new.output) text × (new ≡ record old { output = new.output })
   WritesSeats of old new (Err text) (Err faults.Refused) =
-      (new.output ≡ old.output) × WritesSome (of.errors.contents old.faults) (of.errors.contents new.faults) text
+      (new.output ≡ old.output) × BecameOf new.remark (of.errors.contents old.faults) (of.errors.contents new.faults) text
   WritesSeats of old new shown (Err faults.Memory) = new ≡ old
   WritesSeats of old new shown result = ⊥
 
@@ -64,7 +64,7 @@ module _ {I O E F T D R : Type 0} where
   -- the seats of what the office on a disk holds: nothing else is touched
   pub record HasShownSeats (of : Known I O E F T D R) (task : Seats) (canton : Canton) (before after : World I O E F × D)
       (result : Result (Unit {0}) TaskFault) : Type 0 where
-    pub rest : after.0 ≡ record before.0 { output = after.0.output; faults = after.0.faults }
+    pub rest : after.0 ≡ record before.0 { output = after.0.output; faults = after.0.faults; remark = after.0.remark }
     pub shown : WithOffice canton (of.disks.history before.1) (of.disks.history after.1) (after.0 ≡ before.0)
         (ShowsSeats of task before.0 after.0) result
     pub disk : LeavesDisk (of.disks.history before.1) (of.disks.history after.1) result

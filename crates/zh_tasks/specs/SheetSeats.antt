@@ -45,6 +45,6 @@ module _ {I O E F T D R : Type 0} where
     pub none : ended.used ≡ None
     pub files : F
     pub calls : (n : ℕ) × (n ≤ 2) × AreCalls of.files n old.files files
-    pub rest : new ≡ record old { output = new.output; faults = new.faults; files = files }
+    pub rest : new ≡ record old { output = new.output; faults = new.faults; remark = new.remark; files = files }
     pub shown : (IsErrAnd ended.result (FindsNoSheet (of.files.text_at old.files) paths) × (new ≡ record old { files = files }))
         ⊎ ShowsSheet of paths old files new ended.result

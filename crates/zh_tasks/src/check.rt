@@ -4,24 +4,23 @@ ghost use Rattle.std.specs.Prelude.{◌≡◌, ◌≤◌, ℕ, IfErr, IfOk, IsEr
 ghost use Rattle.std.specs.Option.{option_copied};
 ghost use Rattle.zh_world.specs.Files.{IsCallOfFiles};
 ghost use Rattle.zh_tasks.specs.Check.{Answers, AreSumsAt, AreSumsIfNamed, Checked, Checks, HeldFaultAs};
-ghost use Rattle.zh_tasks.specs.Check.{AreInputs, IsOfHeld, IsOfHeldAt, IsOfSheet, IsSheetAt, LacksInputs};
+ghost use Rattle.zh_tasks.specs.Check.{IsOfHeld, IsOfHeldAt, IsOfSheet, IsSheetAt, LacksInputs, ReadsInputs, calls_if_named};
 ghost use Rattle.zh_tasks.specs.World.{AreCalls, known};
+ghost use Rattle.zh_verdicts.specs.Rows.{rows_held};
 
 use crate::fault::TaskFault;
+use crate::front::read_front;
 use crate::setup::setup_at;
 use std::alloc::Global;
-use std::io::{ErrorKind, Read, Write};
+use std::io::{Read, Write};
 use zh_arguments::CheckPaths;
 use zh_check::{SheetVerdict, check};
 use zh_csv::{LoadFault, NotedReader};
 use zh_districts::Setup;
 use zh_held::{HeldFault, HeldSums, read_held};
 use zh_totals::Totals;
-use zh_verdicts::write_verdict;
+use zh_verdicts::{HeldRows, write_verdict};
 use zh_world::{Ended, Files, World};
-
-/// How many bytes of a sheet's file are read at most: one more than a sheet may have, so that a longer one is noticed.
-const LONGEST_READ: u64 = 280_065;
 
 /// The front of the sheet at this path.
 pub(crate) fn sheet_at<F: Files>(
@@ -33,15 +32,10 @@ pub(crate) fn sheet_at<F: Files>(
     ensures sheet { IfOk result (λ text. IsSheetAt (F.text_at files.old path.now) text.items) }
     ensures fault { IfErr result IsOfSheet }
 {
-    let Ok(file) = files.text(path) else {
+    let Ok(mut file) = files.text(path) else {
         return Err(TaskFault::SheetFile);
     };
-    let mut text = Vec::new(alloc);
-    match file.take(LONGEST_READ).read_to_end(&mut text) {
-        Ok(_) => Ok(text),
-        Err(error) if error.kind() == ErrorKind::OutOfMemory => Err(TaskFault::Memory),
-        Err(_) => Err(TaskFault::SheetFile),
-    }
+    read_front(alloc, &mut file)
 }
 
 /// The fault of an export, as the task's.
@@ -83,7 +77,7 @@ fn held_if_named<'s, F: Files>(
     setup: &'s Setup,
     path: Option<&str>,
 ) -> Result<Option<HeldSums<'s>>, TaskFault>
-    ensures calls { (n : ℕ) × (n ≤ 1) × AreCalls F.Files n files.old files.new }
+    ensures calls { AreCalls F.Files (calls_if_named (option_map (λ p. p.now) path.entry)) files.old files.new }
     ensures held { IfOk result (AreSumsIfNamed (F.text_at files.old) setup.now (option_map (λ p. p.now) path.entry)) }
     ensures fault { IfErr result (IsOfHeldAt (F.text_at files.old) setup.now (option_map (λ p. p.now) path.entry)) }
 {
@@ -106,12 +100,12 @@ fn totals_in<'a, 's>(held: Option<&'a HeldSums<'s>>) -> Option<&'a Totals<'s>>
     }
 }
 
-/// How many rows it has.
-fn rows_in(held: Option<&HeldSums<'_>>) -> Option<u32>
-    ensures { result ≡ option_map (λ sums. sums.rows) (option_copied held.entry) }
+/// How many rows it has, of those that can be held.
+fn rows_in(setup: &Setup, held: Option<&HeldSums<'_>>) -> Option<HeldRows>
+    ensures { result ≡ option_map (λ sums. rows_held setup.now sums.rows) (option_copied held.entry) }
 {
     match held {
-        Some(sums) => Some(sums.rows),
+        Some(sums) => Some(HeldRows::new(setup, sums.rows)),
         None => None,
     }
 }
@@ -128,7 +122,7 @@ fn answer<O: Write>(
         (record { canton = setup.now; sheet = sheet.now; held = option_copied held.entry }) result }
 {
     let verdict = check(alloc, setup, sheet, totals_in(held))?;
-    write_verdict(alloc, &verdict, rows_in(held), out)?;
+    write_verdict(alloc, &verdict, rows_in(setup, held), out)?;
     match verdict {
         SheetVerdict::Right(_) => Ok(()),
         _ => Err(TaskFault::Refused),
@@ -143,9 +137,10 @@ fn check_files<O: Write, F: Files>(
     out: &mut O,
 ) -> Result<(), TaskFault>
     ensures calls { (n : ℕ) × (n ≤ 3) × AreCalls F.Files n files.old files.new }
-    ensures checks { Checks (out.new ≡ out.old) (AreInputs (F.text_at files.old) paths.entry)
+    ensures checks { Checks (out.new ≡ out.old)
+        (ReadsInputs (λ n. AreCalls F.Files n files.old files.new) (F.text_at files.old) paths.entry)
         (λ inputs. Answers (out.new ≡ out.old) (O.contents out.old) (O.contents out.new) inputs result)
-        (IsErrAnd result (LacksInputs (F.text_at files.old) paths.entry)) }
+        (IsErrAnd result (LacksInputs (λ n. AreCalls F.Files n files.old files.new) (F.text_at files.old) paths.entry)) }
 {
     let setup = setup_at(alloc, files, paths.setup)?;
     let sheet = sheet_at(alloc, files, paths.sheet)?;

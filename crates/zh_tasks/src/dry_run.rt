@@ -1,6 +1,7 @@
 //! Saying what a load would do.
 
-ghost use Rattle.std.specs.Prelude.{◌≡◌};
+ghost use Rattle.std.specs.Prelude.{◌≡◌, IsErrOf, true};
+ghost use Rattle.zh_csv.specs.Noted.{has_failed, inner_reader};
 ghost use Rattle.zh_ledger.specs.Submissions.{OnDisk};
 ghost use Rattle.zh_office.specs.Office as offices;
 ghost use Rattle.zh_tasks.specs.DryRun.{DryRuns, HasDryRun};
@@ -33,17 +34,17 @@ impl From<JudgementFault> for TaskFault {
 }
 
 /// Judges a text against what an office holds, and writes what comes of it.
-fn judge_text<R: Read + Drop, O: Write>(
+fn judge_text<R: Read, O: Write>(
     alloc: Global,
     office: &Office<'_>,
-    text: R,
+    text: &mut NotedReader<R>,
     out: &mut O,
 ) -> Result<(), TaskFault>
-    ensures { (start : OnDisk offices.Office) → start.holder ≡ office.now → DryRuns (R.remaining text)
+    ensures runs { (start : OnDisk offices.Office) → start.holder ≡ office.now → DryRuns (R.remaining (inner_reader text.old))
         (O.contents out.old) (O.contents out.new) (λ first last. (first ≡ start) × (last ≡ start)) result }
+    ensures read { IsErrOf result TaskFault.CsvFile → has_failed text.new ≡ true }
 {
-    let mut reader = NotedReader::new(text);
-    let forecast = write_judgement(alloc, office.count(), &mut reader, out)?;
+    let forecast = write_judgement(alloc, office.count(), text, out)?;
     match forecast {
         Forecast::Refused { .. } => Err(TaskFault::Refused),
         _ => Ok(()),
@@ -63,7 +64,8 @@ fn dry_run_from<I: Read, O: Write, E: Write, F: Files>(
 {
     let office = Office::open(alloc, setup, disk)?;
     let text = text_at(alloc, &mut world.files, csv)?;
-    judge_text(alloc, &office, text, &mut world.output)
+    let mut reader = NotedReader::new(text);
+    judge_text(alloc, &office, &mut reader, &mut world.output)
 }
 
 /// Says what a load of the CSV file at a path would do, and stores nothing.

@@ -1,17 +1,18 @@
 //! Why a task was not done.
 
+use crate::place::TaskPlace;
 use std::alloc::AllocError;
 use thiserror::Error;
 use zh_commands::WriteFault;
 use zh_districts::SeatFault;
 use zh_held::HeldFault;
 use zh_office::{OpenFault, ServeFault};
-use zh_setups::{FaultPlace, SetupRefusal};
+use zh_setups::SetupRefusal;
 use zh_tables::{ListFault, RecordFault};
 use zh_verdicts::VerdictFault;
 use zh_world::FileFault;
 
-/// The fault of a task, in the order of the manual. Its text is what the program reports after its name.
+/// The fault of a task, in the order of the manual.
 #[derive(Clone, Copy, Debug, PartialEq, Eq, Error)]
 pub enum TaskFault {
     /// The file of the set-up could not be read.
@@ -25,16 +26,16 @@ pub enum TaskFault {
     /// Another program has the disk open.
     #[error("disk busy")]
     Busy,
-    /// The file of the disk does not have the length of a disk.
+    /// The file of the disk has so many bytes, and not those of a disk.
     #[error("disk size")]
-    Size,
+    Size(u64),
     /// The disk that is to be formatted is not blank.
     #[error("disk inuse")]
     InUse,
     /// No office could be opened on the disk.
     #[error("{0}")]
     Open(OpenFault),
-    /// The CSV file could not be opened, or its first bytes could not be read.
+    /// The CSV file could not be opened, or its first bytes could not be read; of a dry run, any of them.
     #[error("csv file")]
     CsvFile,
     /// The file of the sheet could not be read.
@@ -59,13 +60,13 @@ pub enum TaskFault {
     Memory,
     #[error("{0}")]
     Serve(ServeFault),
-    /// A reply, or what is held, could not be written to its end.
+    /// What the task answers could not be written to its end.
     #[error("write")]
     Write,
     /// All is answered, and the device failed under it.
     #[error("disk device")]
     Faulted,
-    /// The reply, which is written, says why. Nothing else is reported.
+    /// The answer, which is written, or a remark says why. Nothing else is reported.
     #[error("refused")]
     Refused,
 }
@@ -75,11 +76,12 @@ impl TaskFault {
     ghost use Rattle.zh_tasks.specs.OnDisk.{named_place};
 
     /// Where it was met, as far as that is known.
-    pub fn place(&self) -> Option<FaultPlace>
+    pub fn place(&self) -> Option<TaskPlace>
         ensures { result ≡ named_place self.now }
     {
         match self {
-            TaskFault::Setup(refusal) => refusal.place,
+            TaskFault::Setup(refusal) => refusal.place.map(TaskPlace::Setup),
+            TaskFault::Size(length) => Some(TaskPlace::Length(*length)),
             _ => None,
         }
     }
@@ -105,7 +107,7 @@ impl From<FileFault> for TaskFault {
         match fault {
             FileFault::Memory => TaskFault::Memory,
             FileFault::Device => TaskFault::Device,
-            FileFault::Size => TaskFault::Size,
+            FileFault::Size(length) => TaskFault::Size(length),
             FileFault::Busy => TaskFault::Busy,
         }
     }

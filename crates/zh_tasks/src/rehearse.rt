@@ -1,25 +1,26 @@
 //! A rehearsal.
 
 ghost use Rattle.std.specs.Prelude.{◌≡◌};
-ghost use Rattle.zh_tasks.specs.Rehearse.{Rehearsed, Rehearses, WritesSome, announcement};
+ghost use Rattle.zh_tasks.specs.Rehearse.{Rehearsed, Rehearses, announcement};
+ghost use Rattle.zh_tasks.specs.Remarks.{BecameOf};
 ghost use Rattle.zh_tasks.specs.Run.{streams};
 ghost use Rattle.zh_tasks.specs.World.{known};
 
 use crate::fault::TaskFault;
 use crate::format::format_blank;
+use crate::remark::make_remark;
 use crate::run::serve_on;
 use std::alloc::Global;
 use std::io::{Read, Write};
-use zh_commands::put;
 use zh_disk::MemoryDisk;
 use zh_setups::rehearsal;
-use zh_world::{Ended, Files, World};
+use zh_world::{Ended, Files, Remark, World};
 
 /// Says of a rehearsal that nothing is kept. Where that can't be written it is one all the same.
-fn announce<E: Write>(faults: &mut E)
-    ensures { WritesSome (E.contents faults.old) (E.contents faults.new) announcement }
+fn announce<E: Write>(faults: &mut E) -> Remark
+    ensures { BecameOf result (E.contents faults.old) (E.contents faults.new) announcement }
 {
-    let _ = put(faults, b"zhcount: rehearsal, nothing is kept\n");
+    make_remark(b"zhcount: rehearsal, nothing is kept\n", faults)
 }
 
 /// Serves the lines of the input on the set-up of the rehearsal, on a disk in memory.
@@ -44,7 +45,7 @@ pub(crate) fn rehearse<I: Read, O: Write, E: Write, F: Files>(
 ) -> Ended<Result<(), TaskFault>, F::Disk>
     ensures { Rehearses (known I.Read O.Write E.Write F.Files F.Disk.Disk) world.old world.new result }
 {
-    announce(&mut world.faults);
+    world.remark = announce(&mut world.faults);
     Ended {
         result: serve_rehearsal(alloc, &mut world.input, &mut world.output),
         used: None,

@@ -9,6 +9,7 @@ ghost use Rattle.zh_tasks.specs.declared.fault.TaskFault.TheVariants as faults;
 
 use crate::fault::TaskFault;
 use crate::on_disk::Middle;
+use crate::remark::make_remark;
 use std::alloc::Global;
 use std::io::{Read, Write};
 use zh_arguments::Layout;
@@ -44,7 +45,7 @@ pub(crate) fn write_result<I: Read, O: Write, E: Write, F: Files>(
     layout: Layout,
     world: &mut World<I, O, E, F>,
 ) -> Result<(), TaskFault>
-    ensures rest { world.new ≡ record world.old { output = world.new.output; faults = world.new.faults } }
+    ensures rest { world.new ≡ record world.old { output = world.new.output; faults = world.new.faults; remark = world.new.remark } }
     ensures written { WritesSeats (known I.Read O.Write E.Write F.Files F.Disk.Disk) world.old world.new
         (shown_seats setup.now layout seats.entry) result }
 {
@@ -56,7 +57,7 @@ pub(crate) fn write_result<I: Read, O: Write, E: Write, F: Files>(
         }
         Err(why) => {
             let text = refusal_text(alloc, setup, &why)?;
-            let _ = put(&mut world.faults, &text);
+            world.remark = make_remark(&text, &mut world.faults);
             Err(TaskFault::Refused)
         }
     }
@@ -76,7 +77,7 @@ fn show_seats<I: Read, O: Write, E: Write, F: Files>(
     task: Seats,
     world: &mut World<I, O, E, F>,
 ) -> Result<(), TaskFault>
-    ensures rest { world.new ≡ record world.old { output = world.new.output; faults = world.new.faults } }
+    ensures rest { world.new ≡ record world.old { output = world.new.output; faults = world.new.faults; remark = world.new.remark } }
     ensures shown { (start : OnDisk offices.Office) → start.holder ≡ office.now
         → ShowsSeats (known I.Read O.Write E.Write F.Files F.Disk.Disk) task world.old world.new
         (λ first last. (first ≡ start) × (last ≡ start)) result }

@@ -49,7 +49,7 @@ fn show_text<I: Read, O: Write, E: Write, F: Files>(
     layout: Layout,
     world: &mut World<I, O, E, F>,
 ) -> Result<(), TaskFault>
-    ensures rest { world.new ≡ record world.old { output = world.new.output; faults = world.new.faults } }
+    ensures rest { world.new ≡ record world.old { output = world.new.output; faults = world.new.faults; remark = world.new.remark } }
     ensures shown { (seats : Result MarkedSheet NoSeats) × AreSeatsOn setup.now text.now seats
         × WritesSeats (known I.Read O.Write E.Write F.Files F.Disk.Disk) world.old world.new
         (shown_seats setup.now layout seats) result }

@@ -8,6 +8,7 @@ ghost use Rattle.zh_tasks.specs.World.{known};
 
 use crate::fault::TaskFault;
 use crate::on_disk::Middle;
+use crate::remark::make_remark;
 use std::alloc::Global;
 use std::io::{Read, Write};
 use zh_commands::put;
@@ -24,7 +25,7 @@ fn show<I: Read, O: Write, E: Write, F: Files>(
     view: View,
     world: &mut World<I, O, E, F>,
 ) -> Result<(), TaskFault>
-    ensures rest { world.new ≡ record world.old { output = world.new.output; faults = world.new.faults } }
+    ensures rest { world.new ≡ record world.old { output = world.new.output; faults = world.new.faults; remark = world.new.remark } }
     ensures shown { (start : OnDisk offices.Office) → start.holder ≡ office.now
         → Shows (known I.Read O.Write E.Write F.Files F.Disk.Disk) view world.old world.new
         (λ first last. (first ≡ start) × (last ≡ start)) result }
@@ -32,7 +33,7 @@ fn show<I: Read, O: Write, E: Write, F: Files>(
     let text = write_status(office.count(), view, Vec::new(alloc))?;
     let line = summary_line(alloc, office.count())?;
     put(&mut world.output, &text)?;
-    let _ = put(&mut world.faults, line.as_bytes());
+    world.remark = make_remark(line.as_bytes(), &mut world.faults);
     Ok(())
 }
 

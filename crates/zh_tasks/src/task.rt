@@ -23,7 +23,7 @@ use zh_world::{Ended, Files, World};
 
 /// Carries out a task. The disk that it worked on is handed over, whatever the result.
 ///
-/// An error says why the task was not done. Its text is what the program reports after its name (docs/MANUAL.md).
+/// An error says why the task was not done. The program reports it (docs/MANUAL.md).
 pub fn carry_out<I: Read, O: Write, E: Write, F: Files>(
     alloc: Global,
     task: Task<'_>,

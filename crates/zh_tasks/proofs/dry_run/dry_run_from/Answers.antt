@@ -1,4 +1,6 @@
-use Rattle.std.proofs.Common.{rules, refl, sym, ◌≡◌, subst, Err, arith}
+use Rattle.std.proofs.Common.{rules, refl, sym, ap, ◌≡◌, subst, Err, arith, List, Option, ℕ}
+use Rattle.std.specs.Io.Buffered.{reader_remaining}
+use Rattle.zh_csv.specs.Noted.{inner_reader}
 use Rattle.zh_ledger.specs.Submissions.{OnDisk, on_disk}
 use Rattle.zh_office.specs.Office.{Office}
 use Rattle.zh_tasks.specs.DryRun.{DryRuns}
@@ -53,7 +55,8 @@ returns g c =
     let same : (s e : OnDisk Office) → (s ≡ start) × (e ≡ start) → From s e = λ s e both. subst (λ (o : OnDisk Office). From s o) (sym both.1) (subst (λ (o : OnDisk Office). From o start) (sym both.0) begins) in
     let w = g.O.Write.contents c.args.world.now.output in
     let w' = g.O.Write.contents c.judge_text.new.out in
-    let runs = dry_runs_as _ w w' (λ s e. (s ≡ start) × (e ≡ start)) From same c.judge_text.result (c.judge_text.ensures start refl) in
+    let given : reader_remaining g.F.Text.Read.remaining (inner_reader c.new-reader.result) ≡ reader_remaining g.F.Text.Read.remaining c.in_ok-text.text = ap (reader_remaining g.F.Text.Read.remaining) c.new-reader.ensures.over in
+    let runs = dry_runs_as _ w w' (λ s e. (s ≡ start) × (e ≡ start)) From same c.judge_text.result (subst (λ (o : Option (List ℕ)). DryRuns o w w' (λ s e. (s ≡ start) × (e ≡ start)) c.judge_text.result) given (c.judge_text.ensures.runs start refl)) in
     record {
       rest = refl;
       counted = omega (arith, c.text_at.ensures.call.counted);

@@ -8,7 +8,7 @@ returns-in_err-setup-clause-call g c = one_call g.F.Files _ _ c.setup_at.ensures
 pub returns-in_err-setup-clause-lists : goal.returns-in_err-setup-clause-lists
 returns-in_err-setup-clause-lists g c =
     let is : c.from_residual.result ≡ Err c.in_err-setup.field-0.0 = search rules in
-    rw is (inl ((refl, refl), c.in_err-setup.ensures.fault))
+    rw is (inl ((refl, (refl, refl)), c.in_err-setup.ensures.fault))
 
 pub returns-clause-call : goal.returns-clause-call
 returns-clause-call g c = one_call g.F.Files _ _ c.setup_at.ensures.call

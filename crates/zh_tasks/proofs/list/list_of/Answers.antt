@@ -28,7 +28,7 @@ returns-clause-lists g c =
 pub returns-in_err-text-clause-advises : goal.returns-in_err-text-clause-advises
 returns-in_err-text-clause-advises g c =
     let p = err_from_is_err_and c.from_residual.result c.from_residual.ensures.1 in
-    rw p.1 refl
+    rw p.1 ((refl, refl))
 
 pub returns-in_err-exceeds-clause-lists : goal.returns-in_err-exceeds-clause-lists
 returns-in_err-exceeds-clause-lists g c =
@@ -38,12 +38,12 @@ returns-in_err-exceeds-clause-lists g c =
 pub returns-in_err-exceeds-clause-advises : goal.returns-in_err-exceeds-clause-advises
 returns-in_err-exceeds-clause-advises g c =
     let fault : c.from_residual-in_err-exceeds.result ≡ Err faults.Memory = search rules in
-    rw fault refl
+    rw fault ((refl, refl))
 
 pub returns-in_err-put-clause-advises : goal.returns-in_err-put-clause-advises
 returns-in_err-put-clause-advises g c =
     let fault : c.from_residual-in_err-put.result ≡ Err faults.Write = search rules in
-    rw fault refl
+    rw fault ((refl, refl))
 
 pub returns-clause-advises : goal.returns-clause-advises
 returns-clause-advises g c = rw (← c.in_ok-exceeds.ensures) c.advise.ensures

@@ -1,4 +1,4 @@
-use Rattle.std.proofs.Common.{inr, lit≤}
+use Rattle.std.proofs.Common.{lit≤}
 use Rattle.zh_tasks.specs.Check.{IsSheetAt}
 use Rattle.zh_tasks.proofs.WorldLemmas.{known_before, one_call, two_calls}
 use Rattle.zh_tasks.proofs.sheet_seats.read_both.Goals as goal

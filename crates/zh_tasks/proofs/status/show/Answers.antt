@@ -4,7 +4,7 @@ use Rattle.zh_status.specs.Status.{status_text, summary}
 use Rattle.zh_tasks.specs.declared.fault.TaskFault.TheVariants as faults
 use Rattle.zh_tasks.proofs.ListLemmas.{made}
 use Rattle.zh_tasks.proofs.LoadLemmas.{writes_front}
-use Rattle.zh_tasks.proofs.RehearseLemmas.{wrote_some}
+use Rattle.zh_tasks.specs.Remarks.{BecameOf}
 use Rattle.zh_tasks.proofs.status.show.Goals as goal
 
 pub returns-in_err-text-clause-shown : goal.returns-in_err-text-clause-shown
@@ -33,5 +33,5 @@ returns-clause-shown g c = λ start is.
       start,
       (refl, refl),
       subst (λ (t : List ℕ). Appends (g.O.Write.contents c.args.world.now.output) (g.O.Write.contents c.put.new.out) t) text c.in_ok-put.ensures.all,
-      wrote_some c.put-2.result (g.E.Write.contents c.args.world.now.faults) (g.E.Write.contents c.put-2.new.out) _ (summary start.holder.ledger.tally) said c.put-2.ensures.all c.put-2.ensures.front,
+      subst (λ (t : List ℕ). BecameOf c.make_remark-world.result (g.E.Write.contents c.args.world.now.faults) (g.E.Write.contents c.make_remark-world.new.faults) t) said c.make_remark-world.ensures,
     )

@@ -1,0 +1,63 @@
+//! Reading the front of a sheet's file, and no further.
+
+ghost use Rattle.std.specs.Prelude.{◌≡◌, ◌≤◌, ◌+◌, ◌++◌, ◌⊎◌, ℕ, List, IfErr, IfOk, false, length};
+ghost use Rattle.std.specs.Io.KnownBytes.{Consumes, IsAtEnd};
+ghost use Rattle.zh_tasks.specs.Check.{IsOfSheet, IsSheetAt};
+
+use crate::fault::TaskFault;
+use std::alloc::Global;
+use std::io::{Error, ErrorKind, Read};
+
+/// How many bytes of a sheet's file are read at most: one more than a sheet may have, so that a longer one is noticed.
+const LONGEST_READ: usize = 280_065;
+
+/// How many bytes are read at once.
+const PIECE: usize = 4096;
+
+/// The fault of a read, as the task's.
+fn read_fault(error: Error) -> TaskFault
+    ensures { IsOfSheet result }
+{
+    match error.kind() {
+        ErrorKind::OutOfMemory => TaskFault::Memory,
+        _ => TaskFault::SheetFile,
+    }
+}
+
+/// Reads the next piece of a file to the end of a text, and returns whether there may be more of its front. A read that is
+/// interrupted reads nothing.
+fn read_piece<R: Read>(file: &mut R, text: &mut Vec<u8>) -> Result<bool, TaskFault>
+    requires { length text.old.items ≤ 280065 }
+    ensures read { (bytes : List ℕ) × Consumes (R.remaining file.old) (R.remaining file.new) bytes
+        × (length text.old.items + length bytes ≤ 280065) × IfOk result (λ _. text.new.items ≡ text.old.items ++ bytes) }
+    ensures end { IfOk result (λ more. (more ≡ false) → IsAtEnd (R.remaining file.new) ⊎ (length text.new.items ≡ 280065)) }
+    ensures fault { IfErr result IsOfSheet }
+{
+    let mut piece = [0; PIECE];
+    let room = PIECE.min(LONGEST_READ - text.len());
+    match file.read(&mut piece[..room]) {
+        Ok(0) => Ok(false),
+        Ok(length) => {
+            text.extend_from_slice(&piece[..length])?;
+            Ok(true)
+        }
+        Err(error) if error.kind() == ErrorKind::Interrupted => Ok(true),
+        Err(error) => Err(read_fault(error)),
+    }
+}
+
+/// The front of a sheet's file, of which no more is read.
+pub(crate) fn read_front<R: Read>(alloc: Global, file: &mut R) -> Result<Vec<u8>, TaskFault>
+    ensures read { (bytes : List ℕ) × Consumes (R.remaining file.old) (R.remaining file.new) bytes × (length bytes ≤ 280065) }
+    ensures few { IfOk result (λ text. length text.items ≤ 280065) }
+    ensures sheet { IfOk result (λ text. IsSheetAt (R.remaining file.old) text.items) }
+    ensures fault { IfErr result IsOfSheet }
+{
+    let mut text = Vec::new(alloc);
+    for _ in 0..u32::MAX {
+        if !read_piece(file, &mut text)? {
+            return Ok(text);
+        }
+    }
+    Err(TaskFault::SheetFile)
+}
