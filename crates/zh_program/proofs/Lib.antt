@@ -1,3 +1,4 @@
+mod ReportLemmas
 mod EndingLemmas
 mod AlwaysLemmas
 mod SoundLemmas

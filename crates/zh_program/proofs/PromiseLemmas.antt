@@ -10,6 +10,7 @@ use Rattle.zh_arguments.specs.declared.arguments.Task.{Task}
 use Rattle.zh_arguments.specs.declared.arguments.Task.TheVariants as tasks
 use Rattle.zh_arguments.specs.declared.arguments.Task.TheVariants.{Rehearse, Format, Run, Load, Export}
 use Rattle.zh_world.specs.Files.{Begins}
+use Rattle.zh_world.specs.declared.world.Remark.{Remark}
 use Rattle.zh_world.specs.declared.world.World.{World}
 use Rattle.zh_tasks.specs.DryRun.{HasDryRun}
 use Rattle.zh_tasks.specs.Export.{Exported}
@@ -60,9 +61,9 @@ asked_on (Some given) (tasks.SheetSeats setup sheet layout) path on asks = absur
 
 module _ {I O E F T D R : Type 0} (of : Known I O E F T D R) where
   -- the promise, of the disk that was handed over
-  module _ (arguments : List (List ℕ)) (old after : World I O E F) (said : E) (status : ℕ) (result : Result (Unit {0}) TaskFault) (failed : (fault : TaskFault) → result ≡ Err fault → status ≢ 0) (used : Option D) (disk : D) (handed : used ≡ Some disk) where
+  module _ (arguments : List (List ℕ)) (old after : World I O E F) (said : E) (remark : Remark) (status : ℕ) (result : Result (Unit {0}) TaskFault) (failed : (fault : TaskFault) → result ≡ Err fault → status ≢ 0) (used : Option D) (disk : D) (handed : used ≡ Some disk) where
     abbrev new : World I O E F
-    new = record after { faults = said }
+    new = record after { faults = said; remark = remark }
 
     same_disk : (last : D) → used ≡ Some last → last ≡ disk
     same_disk last is = let same : Some last ≡ Some disk = sym is ∙ handed in cc
@@ -96,24 +97,24 @@ module _ {I O E F T D R : Type 0} (of : Known I O E F T D R) where
         found task asked paths on other uses.canton limits uses.first uses.began.begins (record { exchanges = here.exchanges; opened = here.opened; due = due here.exchanges here.due; kept = here.kept }))
         by
 
-    pub promise_of : (task : Task) → AsksFor arguments task → Does of task old after (ends result used) → Promise of arguments old new status disk
-    promise_of Rehearse asked by = none_early by.none
-    promise_of (tasks.List setup table) asked by = none_early by.none
-    promise_of (tasks.SheetSeats setup sheet layout) asked by = none_early by.none
-    promise_of (tasks.Check paths) asked by = none_early by.none
-    promise_of (Run paths) asked by = found_on (Run paths) asked paths refl (λ p is. absurd cc) (λ exchanges due. due) (Ran of)
+    promise_said : (task : Task) → AsksFor arguments task → Does of task old after (ends result used) → Promise of arguments old new status disk
+    promise_said Rehearse asked by = none_early by.none
+    promise_said (tasks.List setup table) asked by = none_early by.none
+    promise_said (tasks.SheetSeats setup sheet layout) asked by = none_early by.none
+    promise_said (tasks.Check paths) asked by = none_early by.none
+    promise_said (Run paths) asked by = found_on (Run paths) asked paths refl (λ p is. absurd cc) (λ exchanges due. due) (Ran of)
         (λ uses limits. run_part of old after uses.files uses.first uses.last uses.canton limits status result failed paths uses.does) by
-    promise_of (Load paths csv) asked by = found_on (Load paths csv) asked paths refl (λ p is. absurd cc) (λ exchanges due. due) (HasLoaded of csv.now)
+    promise_said (Load paths csv) asked by = found_on (Load paths csv) asked paths refl (λ p is. absurd cc) (λ exchanges due. due) (HasLoaded of csv.now)
         (λ uses limits. load_part of old after uses.files uses.first uses.last uses.canton limits status result failed paths csv uses.began.calls.texts uses.does) by
-    promise_of (tasks.DryRun paths csv) asked by = found_on (tasks.DryRun paths csv) asked paths refl (λ p is. absurd cc) (λ exchanges due. due) (HasDryRun of csv.now)
+    promise_said (tasks.DryRun paths csv) asked by = found_on (tasks.DryRun paths csv) asked paths refl (λ p is. absurd cc) (λ exchanges due. due) (HasDryRun of csv.now)
         (λ uses limits. dry_part of old after uses.files uses.first uses.last uses.canton limits status result failed paths csv uses.does) by
-    promise_of (Export paths) asked by = found_on (Export paths) asked paths refl (λ p is. absurd cc) (λ exchanges due. due) (Exported of)
+    promise_said (Export paths) asked by = found_on (Export paths) asked paths refl (λ p is. absurd cc) (λ exchanges due. due) (Exported of)
         (λ uses limits. export_part of old after uses.files uses.first uses.last uses.canton limits status result failed paths uses.does) by
-    promise_of (tasks.Status paths view) asked by = found_on (tasks.Status paths view) asked paths refl (λ p is. absurd cc) (λ exchanges due. due) (Shown of view)
+    promise_said (tasks.Status paths view) asked by = found_on (tasks.Status paths view) asked paths refl (λ p is. absurd cc) (λ exchanges due. due) (Shown of view)
         (λ uses limits. status_part of old after uses.files uses.first uses.last uses.canton limits status result failed paths view uses.does) by
-    promise_of (tasks.Seats paths is_final layout) asked by = found_on (tasks.Seats paths is_final layout) asked paths refl (λ p is. absurd cc) (λ exchanges due. due) (HasShownSeats of (record { is_final = is_final; layout = layout }))
+    promise_said (tasks.Seats paths is_final layout) asked by = found_on (tasks.Seats paths is_final layout) asked paths refl (λ p is. absurd cc) (λ exchanges due. due) (HasShownSeats of (record { is_final = is_final; layout = layout }))
         (λ uses limits. seats_part of old after uses.files uses.first uses.last uses.canton limits status result failed paths is_final layout uses.does) by
-    promise_of (Format paths) asked by = ⊎_elim {B = HasUsed (making of.files of.disks) paths old after (λ canton before end. Formatted of canton before end result) used} {C = Promise of arguments old new status disk}
+    promise_said (Format paths) asked by = ⊎_elim {B = HasUsed (making of.files of.disks) paths old after (λ canton before end. Formatted of canton before end result) used} {C = Promise of arguments old new status disk}
         (λ early. none_early early.none)
         (λ uses.
         let limits = setup_limits (of.files.text_at old.files paths.setup.now) uses.canton uses.began.setup in
@@ -140,3 +141,9 @@ module _ {I O E F T D R : Type 0} (of : Known I O E F T D R) where
           formatted = λ p is honest bytes known_is. empties honest bytes known_is;
         })
         by
+
+  -- the promise of a task of which no more changed after it than what was said of it
+  pub promise_of : (arguments : List (List ℕ)) (old after new : World I O E F) → new ≡ record after { faults = new.faults; remark = new.remark } → (status : ℕ) (result : Result (Unit {0}) TaskFault)
+      → ((fault : TaskFault) → result ≡ Err fault → status ≢ 0) → (used : Option D) (disk : D) → used ≡ Some disk → (task : Task) → AsksFor arguments task → Does of task old after (ends result used) → Promise of arguments old new status disk
+  promise_of arguments old after new rest status result failed used disk handed task asked by =
+      subst (λ (w : World I O E F). Promise of arguments old w status disk) (sym rest) (promise_said arguments old after new.faults new.remark status result failed used disk handed task asked by)

@@ -65,7 +65,8 @@ module _ {I O E F T D R : Type 0} where
   pub record Promise (of : Known I O E F T D R) (arguments : List (List ℕ)) (old new : World I O E F) (status : ℕ) (disk : D) : Type 0 where
     pub task : Task
     pub path : List ℕ
-    -- this path is given after `--disk`; which view or which seats they are, and that nothing is refused, say `done` and `fault`
+    -- this path is given after `--disk`; `done` and `fault` say which view or which seats were asked for, and that nothing was
+    -- refused
     pub asked : IsSomeAnd (command_in arguments) (λ given. AsksOnDisk given task × (path ≡ path_in (codes "disk") given.1))
     pub exchanges : List Exchange
     pub due : AreOfTask of task old new status exchanges

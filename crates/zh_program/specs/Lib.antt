@@ -1,3 +1,4 @@
+pub mod Reports
 pub mod Program
 pub mod Exchanges
 pub mod Due

@@ -3,6 +3,8 @@
 
 mod entry;
 mod laws;
+mod report;
+mod report_parts;
 
 pub use entry::program;
 pub use laws::{headline_excludes, promise_excludes, reopenings};

@@ -10,7 +10,7 @@ use unknown::UnknownContent;
 use zh_file::Start;
 use zh_host::HostFiles;
 use zh_program::program;
-use zh_world::World;
+use zh_world::{Remark, World};
 
 /// Hands the arguments, the streams and the files of the operating system to the program, and returns its status.
 fn main(rt: HostRuntime) -> ExitCode {
@@ -26,6 +26,7 @@ fn run<S: Start>(rt: HostRuntime, start: S) -> ExitCode {
                 input: rt.stdin(),
                 output: rt.stdout(),
                 faults: rt.stderr(),
+                remark: Remark::Whole,
                 files: HostFiles::<S>::new(&rt),
             };
             ExitCode::from(program(alloc, &arguments, start, &mut world).result)

@@ -1,4 +1,4 @@
-use Rattle.std.proofs.Common.{◌≡◌, inr}
+use Rattle.std.proofs.Common.{◌≡◌, inl, inr, refl}
 use Rattle.zh_tasks.specs.World.{known}
 use Rattle.zh_program.proofs.EndingLemmas.{fails, met_fault, was_done}
 use Rattle.zh_program.proofs.PromiseLemmas.{promise_of}
@@ -7,16 +7,19 @@ use Rattle.zh_program.proofs.entry.program.Goals as goal
 pub returns-in-Ok-clause-done : goal.returns-in-Ok-clause-done
 returns-in-Ok-clause-done g c = λ zero.
     let of = known g.I.Read g.O.Write g.E.Write g.F.Files g.F.Disk.Disk in
-    (c.in-Ok.task, c.in-Ok.ensures, was_done of c.in-Ok.task c.args.world.now c.carry_out-result.new.world c.end.new.faults c.carry_out-result.result.result c.carry_out-result.result.used c.end.result c.carry_out-result.ensures c.end.ensures.status zero)
+    (c.in-Ok.task, c.in-Ok.ensures, was_done of c.in-Ok.task c.args.world.now c.carry_out-result.new.world c.end.new.world c.carry_out-result.result.result c.carry_out-result.result.used c.end.result c.carry_out-result.ensures c.end.ensures.status zero)
 
 pub returns-in-Ok-clause-fault : goal.returns-in-Ok-clause-fault
 returns-in-Ok-clause-fault g c = λ one.
     let of = known g.I.Read g.O.Write g.E.Write g.F.Files g.F.Disk.Disk in
-    inr (c.in-Ok.task, c.in-Ok.ensures, met_fault of c.in-Ok.task c.args.world.now c.carry_out-result.new.world c.end.new.faults c.carry_out-result.result.result c.carry_out-result.result.used c.end.result c.carry_out-result.ensures c.end.ensures.status c.end.ensures.refused one)
+    inr (c.in-Ok.task, c.in-Ok.ensures, met_fault of c.in-Ok.task c.args.world.now c.carry_out-result.new.world c.end.new.world c.carry_out-result.result.result c.carry_out-result.result.used c.end.result c.carry_out-result.ensures c.end.ensures.status c.end.ensures.rest c.end.ensures.refused c.end.ensures.reported one)
+
+pub returns-in-Err-clause-fault : goal.returns-in-Err-clause-fault
+returns-in-Err-clause-fault g c = λ one. inl ((record { rest = c.refuse.ensures.rest; none = refl }, c.refuse.ensures.reported one))
 
 pub returns-in-Ok-clause-headline : goal.returns-in-Ok-clause-headline
 returns-in-Ok-clause-headline g c = λ disk used.
     let of = known g.I.Read g.O.Write g.E.Write g.F.Files g.F.Disk.Disk in
-    promise_of of _ c.args.world.now c.carry_out-result.new.world c.end.new.faults c.end.result c.carry_out-result.result.result
-    (fails c.carry_out-result.result.result c.end.result (c.end.new.faults ≡ c.carry_out-result.new.world.faults) c.end.ensures.status)
+    promise_of of _ c.args.world.now c.carry_out-result.new.world c.end.new.world c.end.ensures.rest c.end.result c.carry_out-result.result.result
+    (fails c.carry_out-result.result.result c.end.result (c.end.new.world ≡ c.carry_out-result.new.world) c.end.ensures.status)
     c.carry_out-result.result.used disk used c.in-Ok.task c.in-Ok.ensures c.carry_out-result.ensures

@@ -1,5 +1,5 @@
-use Rattle.std.proofs.Common.{rules}
+use Rattle.zh_program.proofs.EndingLemmas.{memory_reported}
 use Rattle.zh_program.proofs.entry.refuse.Goals as goal
 
-pub returns-clause-memory : goal.returns-clause-memory
-returns-clause-memory g c = search rules
+pub returns-then-eq-clause-reported : goal.returns-then-eq-clause-reported
+returns-then-eq-clause-reported g c = λ one. c.end.ensures.reported memory_reported
