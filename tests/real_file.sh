@@ -36,7 +36,7 @@ exec 9<> never  # nothing is ever written to it
 readonly DISK=1118720 JOURNAL=332032 PAGE=256
 
 # The functions of the checks, by subject.
-for subject in checks program tasks streams lists dry_runs statuses two_programs copies sheets seats volume memory kills kinds; do
+for subject in checks program tasks streams lists dry_runs statuses two_programs copies sheets seats volume memory calls kills kinds; do
     . "$here/$subject.sh" || exit 1
 done
 
@@ -82,6 +82,10 @@ check "the disk full, then the output: the fault is write" full_disk_and_output
 check "format on a full volume can be done again" full_format
 check "too little memory: the fault is memory, and the disk is untouched" little_memory
 check "each allocation refused: the fault is memory, and the disk is untouched" each_allocation
+check "each allocation refused under the tasks that change no disk" each_allocation_of_a_reader
+check "each allocation refused under a rehearsal" each_allocation_of_a_rehearsal
+check "each call of a file failing: the fault names the file, and the disk is whole" each_failed_call
+check "output and standard error closed at each byte" closed_at_each_byte
 check "kill -9 of run, 50 times" killed_runs
 check "3,000 returns on one disk" many_returns
 check "kill -9 around a switch, 40 times" killed_switches

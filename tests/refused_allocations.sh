@@ -25,7 +25,6 @@ zh_office_tests tests::refused_rows::a_row_without_memory_leaves_the_batch_as_it
 zh_office_tests tests::refused_sheets::a_sheet_without_memory_changes_nothing
 zh_office_tests tests::refused_sheets::a_sheet_of_the_second_search_without_memory_changes_nothing
 zh_office_tests tests::refused_texts::a_text_is_loaded_once_and_exported
-zh_office_tests tests::refused_rehearsals::a_rehearsal_without_memory_says_so
 "
 
 folder=$(mktemp -d) || exit 2

@@ -61,14 +61,14 @@ another_length() {
         mkdir kinds
         head -c "$length" /dev/zero > kinds/d
         cp kinds/d before
-        refused "disk size" kinds/d
+        refused "disk size"$'\n'"$length bytes instead of $DISK" kinds/d
         same_bytes kinds/d before
     done
 }
 
 empty_file() {
     : > d
-    ends 1 "disk size" "" run d < /dev/null
+    ends 1 "disk size"$'\n'"0 bytes instead of $DISK" "" run d < /dev/null
     same "the length" 0 "$(stat -c %s d)"
     new_disk_over d
 }

@@ -8,28 +8,41 @@ refusing() {
     REFUSE=$number LD_PRELOAD=$folder/refuse.so "$@" > replies 2> faults 3> reached
 }
 
-# each_refused BYTES TASK ARGUMENT..: each allocation of a task is refused in turn, on a disk of these bytes, or where
-# there are none on a missing file. The task does without it, or it says memory and the disk is as it was.
+# A folder with a disk d of these bytes; without one where none are given.
+room_for() {
+    rm -rf kinds
+    mkdir kinds
+    [ -z "$1" ] || cp "$1" kinds/d
+}
+
+# each_refused BYTES TASK ARGUMENT..: each allocation of a task is refused in turn, where the disk kinds/d has these bytes or
+# is not there. The task does without it and says just what it does with all memory, or it says memory and the disk is as
+# it was.
 each_refused() {
-    local bytes=$1 number=0 status wanted refused=0
+    local bytes=$1 number=0 status said wanted refused=0
     shift
+    room_for "$bytes"
+    said=$("$program" "$@" --setup "$setup" <<< "1 show 1 1" 2>&1)
     while number=$((number + 1)); do
-        rm -rf kinds
-        mkdir kinds
-        [ -z "$bytes" ] || cp "$bytes" kinds/d
-        refusing $number "$program" "$@" --setup "$setup" --disk kinds/d <<< "1 show 1 1"
+        room_for "$bytes"
+        refusing $number "$program" "$@" --setup "$setup" <<< "1 show 1 1"
         status=$?
         [ -s reached ] || break
-        [ "$status" -ne 0 ] || continue
+        if [ "$status" -eq 0 ]; then
+            same "what $* says without allocation $number" "$said" "$(cat replies faults)"
+            continue
+        fi
         refused=$((refused + 1))
-        wanted="1 zhcount: memory"
-        # The rows of a file for which there is no room are answered.
-        [ "$1 $(cat replies)" != "load refused memory" ] || wanted="1 refused memory"
-        same "the end of $1 without allocation $number" "$wanted" "$status $(cat replies faults)"
+        case "$1 $(cat replies)$(cat faults)" in
+            "load refused memory") wanted="1 refused memory" ;; # no room for the rows of a file
+            "seats zhcount: refused memory") wanted="1 zhcount: refused memory" ;; # nor for a search
+            *) wanted="1 zhcount: memory" ;;
+        esac
+        same "the end of $* without allocation $number" "$wanted" "$status $(cat replies faults)"
         if [ -n "$bytes" ]; then same_bytes kinds/d "$bytes"; else new_disk_over kinds/d; fi
     done
-    same "the status of $1 with all memory" 0 $status
-    that "refusals that ended $1" "refused > 0"
+    same "the status of $* with all memory" 0 $status
+    that "refusals that ended $*" "refused > 0"
     note+="${note:+, }$refused of $1"
 }
 
@@ -39,8 +52,49 @@ each_allocation() {
     serves d "$(returns 1 1 1)" "1 stored 1"
     cp d before
     printf 'municipality,list,number,votes\n1,1,2,14\n' > returns.csv
-    each_refused "" format
-    each_refused before run
-    each_refused before export
-    each_refused before load --csv returns.csv
+    each_refused "" format --disk kinds/d
+    each_refused before run --disk kinds/d
+    each_refused before export --disk kinds/d
+    each_refused before load --disk kinds/d --csv returns.csv
+}
+
+# The tasks that change no disk, or need none.
+each_allocation_of_a_reader() {
+    cc -shared -fPIC -O1 -o refuse.so "$here/../refuse.c" -ldl
+    sheet_and_rows
+    cp d before
+    printf 'municipality,list,number,votes\n1,1,2,14\n2,2,2,15\n' > returns.csv
+    each_refused before load --disk kinds/d --csv returns.csv --dry-run
+    each_refused before status --disk kinds/d --missing
+    each_refused before seats --disk kinds/d --table
+    each_refused before seats --sheet sheet
+    each_refused before check --sheet sheet --held held.csv
+    each_refused before list --of constituencies
+    each_refused before list --of returns --municipality 2
+}
+
+# A rehearsal has its disk in memory: an allocation refused to that is a fault of the disk.
+each_allocation_of_a_rehearsal() {
+    local number=0 status refused=0 remark="zhcount: rehearsal, nothing is kept" line
+    cc -shared -fPIC -O1 -o refuse.so "$here/../refuse.c" -ldl
+    line=$'1 return 1 1 1 525\n1 show 1 1'
+    while number=$((number + 1)); do
+        refusing $number "$program" <<< "$line"
+        status=$?
+        [ -s reached ] || break
+        case "$status $(cat replies)" in
+            "0 "*) same "a rehearsal without allocation $number" $'1 stored 1\n1 shows 1 525\n'"$remark" "$(cat replies faults)" ;;
+            "1 ") refused=$((refused + 1))
+                case "$(cat faults)" in
+                    *memory) same "its fault without allocation $number" "zhcount: memory" "$(grep -v rehearsal faults)" ;;
+                    *) same "its fault without allocation $number" "$remark"$'\nzhcount: disk device' "$(cat faults)" ;;
+                esac ;;
+            *) refused=$((refused + 1))
+                same "its end without allocation $number" \
+                    $'1 1 refused device\n1 refused reopen-disk\n'"$remark"$'\nzhcount: disk device' "$status $(cat replies faults)" ;;
+        esac
+    done
+    same "the status of a rehearsal with all memory" 0 $status
+    that "refusals that ended a rehearsal" "refused > 0"
+    note="$refused refusals"
 }

@@ -23,7 +23,7 @@ checked_sheets() {
     ends 0 "" "$RIGHT"$'\n'"not checked: provisional, commands 9, desk 1"$'\n'"$WORTH" check_sheet "$setup" sheet
     check_sheet "$setup" sheet --held held.csv > verdict
     same "the status with the rows held" 0 $?
-    same "what is said of the votes" "votes ok: the sums of 9 rows" "$(sed -n 2p verdict)"
+    same "what is said of the votes" "votes ok: the sums of 9 of 9 rows" "$(sed -n 2p verdict)"
     same "the last line" "sheet ok: no other seats follow from these votes" "$(tail -n 1 verdict)"
     rm d
     check_sheet "$setup" sheet --held held.csv > again
@@ -46,7 +46,7 @@ spoilt_sheets() {
     sed 's/$/\r/' sheet > crlf
     says_wrong crlf "line 1: 1 sheet provisional 9<CR>, should be: 1 sheet provisional 9"
     { printf '\xef\xbb\xbf'; cat sheet; } > marked
-    says_wrong marked $'line 1: \xef\xbb\xbf1 sheet provisional 9, should be: 1 sheet provisional 9'
+    says_wrong marked "line 1: <BOM>1 sheet provisional 9, should be: .. sheet .. .."
     head -c -1 sheet > cut
     says_wrong cut "line 20: end, should be: end and a line end"
     cat sheet sheet > both

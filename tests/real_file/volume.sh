@@ -41,7 +41,7 @@ full_disk_and_output() {
 full_format() {
     rm -f d
     ends 1 "disk device" "" limited 500 format d
-    ends 1 "disk size" "" run d < /dev/null
+    ends 1 "disk size"$'\n'"0 bytes instead of $DISK" "" run d < /dev/null
     new_disk_over d
     # With its full length already, a disk is cut short within the snapshot.
     rm -f d

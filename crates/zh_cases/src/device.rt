@@ -1,9 +1,9 @@
 //! A disk that counts its calls.
 
-use zh_disk::{Disk, DiskFault, FuseDisk, MemoryDisk, OnceDisk};
+use zh_disk::{Disk, DiskFault, FailingDisk, MemoryDisk, OnceDisk};
 
 /// The disk of a case, which may fail for good or once.
-pub(crate) type Device = CountingDisk<OnceDisk<FuseDisk<MemoryDisk>>>;
+pub(crate) type Device = CountingDisk<OnceDisk<FailingDisk<MemoryDisk>>>;
 
 /// So many calls are never made.
 const NEVER: u64 = u64::MAX;
@@ -20,7 +20,7 @@ pub(crate) struct CountingDisk<D: Disk + Drop> {
 /// A disk that fails for good after so many calls, or once. Nothing is counted yet.
 fn device(disk: MemoryDisk, for_good: u64, once: u64) -> Device {
     CountingDisk {
-        inner: OnceDisk::new(FuseDisk::new(disk, for_good), once),
+        inner: OnceDisk::new(FailingDisk::new(disk, for_good), once),
         reads: 0,
         writes: 0,
         syncs: 0,

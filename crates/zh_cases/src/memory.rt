@@ -8,7 +8,7 @@ use std::alloc::Global;
 use std::fs;
 use zh_program::program;
 use zh_transcripts::read_number;
-use zh_world::{Ended, MemoryFiles, Named, World};
+use zh_world::{Ended, MemoryFiles, Named, Remark, World};
 
 /// The path of the disk of the case. There is no other disk.
 const DISK: &str = "disk";
@@ -132,6 +132,7 @@ fn run_on(
             left: passes.output,
         },
         faults: Vec::new(alloc),
+        remark: Remark::Whole,
         files,
     };
     let Ended { result, used } = program(alloc, &given.arguments, OneDisk, &mut world);

@@ -8,7 +8,7 @@ use std::fs;
 use zh_file::Start;
 use zh_host::HostFiles;
 use zh_program::program;
-use zh_world::World;
+use zh_world::{Remark, World};
 
 /// Stands for what a file of the folder holds when it is opened.
 #[derive(Drop)]
@@ -82,6 +82,7 @@ fn run_on<S: Start>(
         input,
         output: Vec::new(alloc),
         faults: Vec::new(alloc),
+        remark: Remark::Whole,
         files: HostFiles::<S>::new(rt),
     };
     let status = program(alloc, arguments, start, &mut world).result;

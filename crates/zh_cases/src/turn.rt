@@ -68,7 +68,7 @@ fn act_on_disk(
     rest: &str,
 ) -> Result<&'static str, Fault> {
     match word {
-        "fuse" => fixture.fail(read_number(rest)?),
+        "fail" => fixture.fail(read_number(rest)?),
         "once" => fixture.fail_once(read_number(rest)?),
         "mend" => fixture.mend(),
         "stop" => fixture.stop(read_stop(rest)?),

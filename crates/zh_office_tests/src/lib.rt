@@ -1,4 +1,4 @@
-//! Tests of the count office that are code: refused allocations, and streams that fail. All that
+//! Tests of the count office that are code: refused allocations, and readers that fail. All that
 //! a text can say is a case of `zh_cases`.
 #![tactic(auto)]
 

@@ -1,10 +1,7 @@
-mod failing_streams;
-mod fakes;
 mod held;
 mod loading;
 mod offices;
 mod refused_openings;
-mod refused_rehearsals;
 mod refused_returns;
 mod refused_rows;
 mod refused_sheets;

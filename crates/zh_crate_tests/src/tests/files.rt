@@ -71,8 +71,8 @@ fn a_disk_is_the_one_at_its_path(rt: HostRuntime) -> Result<(), Fail> {
         (
             1,
             "short.disk",
-            Some(FileFault::Size),
-            Some(FileFault::Size),
+            Some(FileFault::Size(5)),
+            Some(FileFault::Size(5)),
         ),
         (1, "c.disk", Some(FileFault::Device), None),
         (

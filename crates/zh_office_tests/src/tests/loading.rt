@@ -1,6 +1,5 @@
-//! Texts that are loaded from readers which give a byte at a time, fail, or do not end soon.
+//! Texts that are loaded from readers which give a byte at a time, or fail.
 
-use super::fakes::SlowReader;
 use super::offices::on_office;
 use std::io::{self, ErrorKind, Read};
 use std::process::Abort;
@@ -8,6 +7,27 @@ use std::test::Fail;
 use zh_commands::{Refusal, Reply, RowFault};
 use zh_disk::MemoryDisk;
 use zh_office::{NotedReader, Office};
+
+/// Gives the bytes of a text one by one, and then comes to its end or fails.
+#[derive(Drop)]
+struct SlowReader<'a> {
+    text: &'a [u8],
+    at_end: Option<ErrorKind>,
+}
+
+impl Read for SlowReader<'_> {
+    fn read(&mut self, buf: &mut [u8]) -> io::Result<usize> {
+        let [first, rest @ ..] = self.text else {
+            return self.at_end.map_or(Ok(0), |kind| Err(kind.into()));
+        };
+        let Some(place) = buf.first_mut() else {
+            return Ok(0);
+        };
+        *place = *first;
+        self.text = rest;
+        Ok(1)
+    }
+}
 
 /// What an office replies to a text that is given byte by byte and then ends or fails, and what is left of the text.
 fn load_slowly<'t>(
@@ -77,23 +97,6 @@ fn see_failed_readers(rt: &impl Abort, office: &mut Office<'_>, disk: &mut Memor
 fn a_reader_that_fails_is_refused_as_csv(rt: HostRuntime) -> Result<(), Fail> {
     on_office(rt.alloc(), |office, disk| {
         see_failed_readers(&rt, office, disk);
-        Ok(())
-    })
-}
-
-/// What an office replies to a text with so many blank lines, which are no records, before its only return.
-fn load_after_blank_lines(office: &mut Office<'_>, disk: &mut MemoryDisk, lines: u64) -> Reply {
-    let names = b"municipality,list,number,votes\n".as_slice();
-    let blank = io::repeat(b'\n').take(lines);
-    let text = names.chain(blank).chain(b"1,1,1,525\n".as_slice());
-    office.load(disk, &mut NotedReader::new(text))
-}
-
-#[test]
-fn a_text_of_two_million_bytes_is_loaded(rt: HostRuntime) -> Result<(), Fail> {
-    on_office(rt.alloc(), |office, disk| {
-        let reply = load_after_blank_lines(office, disk, 2_000_000);
-        assert!(rt; reply == Reply::Stored(1));
         Ok(())
     })
 }
