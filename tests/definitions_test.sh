@@ -79,6 +79,18 @@ wrong "a file that is gone" docs/DEFINITIONS.md 's/src.lib.rt/src\/main.rt/' "th
 wrong "a link that leads nowhere" docs/DEFINITIONS.md 's/(PROVED.md)/(OTHER.md)/' "there is no OTHER.md"
 wrong "a link to a heading that is not there" docs/DEFINITIONS.md 's/(PROVED.md)/(PROVED.md#zh_high-2)/' "there is no PROVED.md#zh_high-2"
 wrong "a link to a heading of the page that is not there" docs/DEFINITIONS.md 's/(PROVED.md)/(#the-headlines)/' "there is no #the-headlines"
+# with_words: a tree that explains words, and a page that uses one of them.
+with_words() {
+    whole_tree
+    printf '%s\n' '' '## Words' '' '- *Moment*: what is, and' '  what was. *Gate*: a byte' >> "$folder/tree/docs/DEFINITIONS.md"
+    printf '%s\n' 'a moment, and the' '`gate` of the' "$1" > "$folder/tree/README.md"
+}
+with_words 'two Gates'
+expect "a word without a link to where it is explained" 1 "README.md:3: 'gate' is explained elsewhere" --check
+with_words 'two [Gates](docs/DEFINITIONS.md#words)'
+expect "a word with such a link" 0 "0 wrong" --check
+with_words 'end'
+expect "a word in backticks" 0 "0 wrong" --check
 wrong "a file that the other part leaves out" docs/DEFINITIONS.md 's/^- `Low.antt`: /- /' "nothing is said of crates/zh_low/specs/Low.antt"
 wrong "a file of which nothing is left" docs/DEFINITIONS.md 's/^- `Low.antt`/- `Low.antt`, `High.antt`/;s/zh_low.specs`$/zh_high\/specs`/' \
     "nothing of crates/zh_high/specs/High.antt is left to be said"

@@ -17,6 +17,8 @@ owed() {
         mkdir -p "$room/crates/zh_$crate"
         cp -r "crates/zh_$crate/src" "$room/crates/zh_$crate"
     done
+    mkdir "$room/crates/zh_program"
+    cp -r crates/zh_program/specs "$room/crates/zh_program"
     (cd "$room" && . /dev/stdin)
     "$room/tests/owed" > "$room/printed" 2>&1
     local status=$?
@@ -52,7 +54,7 @@ owed "a fault without a row" 1 'docs/FORMATS.md has no row of `disk inuse` (faul
 sed -i '/^| `disk inuse` |/d' docs/FORMATS.md
 END
 
-owed "a fault of rows held without a row" 1 'docs/MANUAL.md has no row of `held twice` (fault of rows held)' << 'END'
+owed "a fault of rows held without a row" 1 'docs/MANUAL.md has no row of `held twice` (fault)' << 'END'
 sed -i 's/, `held twice`//' docs/MANUAL.md
 END
 

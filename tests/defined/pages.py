@@ -5,6 +5,8 @@ from dataclasses import dataclass
 CELL = re.compile(r"(?<!\\)\|")
 ITEM = re.compile(r"- (`[^`]+`(?:, `[^`]+`)*): ")
 FUNCTION = re.compile(r"`([^`]+)`(,? and |, )?")
+# Words of the glossary that pages use as everybody does, too.
+ORDINARY = {"moment", "history", "record", "accepted", "follow", "clean", "handed over"}
 CLAUSES = re.compile(r"(\w+)(?: \(([^)]*)\))?(, | and |$)")
 
 
@@ -198,6 +200,23 @@ def anchors_in(path):
             if again:
                 found[f"{anchor}-{again}"] = 0
     return found
+
+
+def words_explained(path):
+    """The words that the part 'Words' of a page explains: those in italics before a colon, in lower case."""
+    return {it.lower() for _, line in lines_in_part(path, "Words") for it in re.findall(r"\*([A-Z][a-z ]+)\*:", line)} - ORDINARY
+
+
+def words_without_link(path, words):
+    """The first line of the page that uses one of these words, for each, if no link of the page leads to where they are
+    explained. What stands in backticks and in blocks does not count."""
+    text = path.read_text()
+    if "DEFINITIONS.md#words)" in text:
+        return
+    prose = re.sub(r"^ *```.*?^ *```|^    .*?$|`[^`\n]+`", lambda it: "\n" * it.group().count("\n"), text, flags=re.MULTILINE | re.DOTALL)
+    for word in sorted(words):
+        if used := re.search(rf"\b{word}s?\b", prose, re.IGNORECASE):
+            yield prose.count("\n", 0, used.start()) + 1, word
 
 
 def is_link(link, path):
