@@ -1,0 +1,49 @@
+-- What is known of a conversation, time after time.
+use Rattle.std.specs.Prelude.{◌≢◌, ℕ, List, [], ◌∷◌, map, Option}
+use Rattle.std.specs.declared.io.traits.Read.{Ghosts as Readers}
+use Rattle.std.specs.declared.io.traits.Write.{Ghosts as Writers}
+use Rattle.zh_disk.specs.Disk.{Trail}
+use Rattle.zh_disk.specs.declared.disk.Disk.{Ghosts as Disks}
+use Rattle.zh_film.specs.Scenes.{Scene, scenes}
+use Rattle.zh_film.specs.declared.kind.FrameKind.{FrameKind}
+use Rattle.zh_film.specs.declared.kind.FrameKind.TheVariants.{Between, Failed}
+use Rattle.zh_film.specs.declared.film.Film.{Film}
+
+-- at one time: what the input has left, what is written, if that is known, and the disk
+pub record Frame : Type 0 where
+  pub kind : FrameKind
+  pub left : Option (List ℕ)
+  pub written : Option (List ℕ)
+  pub disk : Trail
+
+-- with no read just before or after it
+abbrev pub now_at : Option (List ℕ) → Option (List ℕ) → Trail → Frame
+now_at left written disk = record { kind = Between; left = left; written = written; disk = disk }
+
+module _ {R W D : Type 0} where
+  abbrev pub frame_of : Readers R → Writers W → Disks D → Scene R W D → Frame
+  frame_of readers writers disks s = record {
+    kind = s.kind;
+    left = readers.remaining s.reader;
+    written = writers.contents s.writer;
+    disk = (disks.history s.disk).trail;
+  }
+
+  -- the latest first
+  abbrev pub frames : Readers R → Writers W → Disks D → Film R W D → List Frame
+  frames readers writers disks film = map (frame_of readers writers disks) (scenes film)
+
+-- so it is of each two that follow each other: from the first one over these, the latest first, to the one now
+abbrev pub InOrder : (Frame → Frame → Type 0) → Frame → List Frame → Frame → Type 0
+InOrder P first [] now = P first now
+InOrder P first (f ∷ fs) now = P f now × InOrder P first fs f
+
+-- no read of these failed
+abbrev pub NoneFailed : List Frame → Type 0
+NoneFailed [] = Unit {0}
+NoneFailed (f ∷ fs) = (f.kind ≢ Failed) × NoneFailed fs
+
+-- a read that failed is the last thing of these, the latest first
+abbrev pub FailsLast : List Frame → Type 0
+FailsLast [] = Unit {0}
+FailsLast (f ∷ fs) = NoneFailed fs

@@ -1,0 +1,3 @@
+pub mod Reel
+pub mod Scenes
+pub mod Frames
