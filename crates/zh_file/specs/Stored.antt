@@ -8,6 +8,10 @@ use Rattle.zh_file.specs.declared.stored.Stored.{Stored}
 use Rattle.zh_file.specs.Held.{file_trail}
 
 module _ {D : Type 0} {g : Ghosts D} where
+  -- its file
+  abbrev pub stored_file : Stored D g → D
+  stored_file d = d.held.file
+
   -- how many calls of its file have failed, as the record of these calls says
   abbrev pub stored_faults : Stored D g → ℕ
   stored_faults d = g.faults d.held.file

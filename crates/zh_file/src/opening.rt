@@ -1,34 +1,39 @@
-//! A disk over a file at a path.
-ghost use Rattle.std.specs.Prelude.{◌≡◌, ◌⊎◌, [], IfOk, IsTrue};
+//! A disk over the file at a path of a folder.
+ghost use Rattle.std.specs.Prelude.{◌≡◌, ◌≢◌, ◌⊎◌, ◌<◌, length, [], IfErr, IfOk, IfSome, IsTrue};
 ghost use Rattle.sqlite_disk.specs.Disk.{Only};
-ghost use Rattle.zh_disk.specs.Disk.{fresh_trail};
-ghost use Rattle.zh_file.specs.Held.{BeginsOrFills};
+ghost use Rattle.zh_disk.specs.Disk.{disk_length, fresh_trail};
+ghost use Rattle.zh_world.specs.Places.{IfKnown, companion_of};
+ghost use Rattle.zh_file.specs.Held.{BeginsOrFills, IsZeroed};
+ghost use Rattle.zh_file.specs.Opening.{HasFailed, OpensDisk, OpensOrMakesDisk};
+ghost use Rattle.zh_file.specs.Steps.{IsSetBack, IsUnfit, LeavesCompanion, Measures, TakesLock};
 ghost use Rattle.zh_file.specs.Stored.{stored_history, IsWhole};
 
-use crate::FileDisk;
 use crate::fault::OpenFault;
+use crate::folder::{Folder, Found};
 use crate::stored::Stored;
+use crate::zeros::take_space;
 use sqlite_disk::{Disk as File, Files};
-use sqlite_std_file::{FileFrom, Start};
-use std::fs::{self, OpenOptions};
-use std::io::{self, ErrorKind};
-use std::os::unix::fs::OpenOptionsExt;
+use std::io;
 use zh_disk::DISK_LENGTH;
 
 /// Opens the file at this path, which has [`DISK_LENGTH`] bytes, for this program alone.
-///
-/// `S` stands for what the file holds, which no code can tell. Its value is used up, so that code over
-/// any `S` opens one file.
-pub fn open<S: Start>(rt: &HostRuntime, path: &str, start: S) -> Result<FileDisk<S>, OpenFault>
-    ensures begins { IfOk result (λ d. (stored_history d).trail ≡ fresh_trail S.Start.db) }
+pub fn open<F: Folder>(
+    folder: &mut F,
+    right: F::Right,
+    path: &str,
+) -> Result<Stored<F::File>, OpenFault>
+    ensures disks { F.disk_at folder.new ≡ F.disk_at folder.old }
+    ensures begins { IfOk result (λ d. IfSome (F.disk_at folder.old path.now) (λ bytes. (stored_history d).trail ≡ fresh_trail bytes)) }
     ensures whole { IfOk result IsWhole }
+    ensures opens { IfKnown (OpensDisk (HasFailed F.File.is_clean F.File.faults) path.now
+        (λ d. (stored_history d).trail.now.bytes) result) (F.known folder.old) (F.known folder.new) }
 {
     // What is no disk is left alone: the lock makes a file that is missing, and one beside it.
-    let length = length_at(rt, path)?;
+    let length = length_at(folder, path)?;
     if length != DISK_LENGTH {
         return Err(OpenFault::Size(length));
     }
-    let file = lock(rt, path, start)?;
+    let file = lock(folder, right, path)?;
     Stored::start(file)
 }
 
@@ -36,50 +41,42 @@ pub fn open<S: Start>(rt: &HostRuntime, path: &str, start: S) -> Result<FileDisk
 /// owner alone.
 ///
 /// An empty file is taken for one that such a call began and was stopped in.
-pub fn open_or_make<S: Start>(
-    rt: &HostRuntime,
+pub fn open_or_make<F: Folder>(
+    folder: &mut F,
+    right: F::Right,
     path: &str,
-    start: S,
-) -> Result<FileDisk<S>, OpenFault>
+) -> Result<Stored<F::File>, OpenFault>
+    ensures disks { F.disk_at folder.new ≡ F.disk_at folder.old }
     ensures begins { IfOk result (λ d. IsTrue (stored_history d).honest
-        → BeginsOrFills S.Start.db (stored_history d).trail) }
+        → IfSome (F.disk_at folder.old path.now) (λ bytes. BeginsOrFills bytes (stored_history d).trail)) }
     ensures whole { IfOk result IsWhole }
+    ensures long { IfOk result (λ d. IsTrue (stored_history d).honest → length (stored_history d).trail.now.bytes ≡ disk_length) }
+    ensures opens { IfKnown (OpensOrMakesDisk (HasFailed F.File.is_clean F.File.faults) path.now (λ d. stored_history d) result)
+        (F.known folder.old) (F.known folder.new) }
 {
-    make(rt, path)?;
-    let length = length_at(rt, path)?;
+    folder.make(path)?;
+    let length = length_at(folder, path)?;
     if length != 0 && length != DISK_LENGTH {
         return Err(OpenFault::Size(length));
     }
-    let mut file = lock(rt, path, start)?;
+    let mut file = lock(folder, right, path)?;
     fill(&mut file)?;
     Stored::start(file)
 }
 
 /// The length of the regular file at this path, or where a link there leads.
-fn length_at(rt: &HostRuntime, path: &str) -> Result<u64, OpenFault> {
-    let found = fs::metadata(rt, path)?;
-    if !found.is_file() {
-        return Err(OpenFault::Device);
-    }
-    Ok(found.len())
-}
-
-/// Makes an empty file where there is nothing.
-fn make(rt: &HostRuntime, path: &str) -> Result<(), OpenFault> {
-    let made = OpenOptions::new()
-        .read(true)
-        .write(true)
-        .create_new(true)
-        .mode(0o600)
-        .open(rt, path);
-    match made {
-        Ok(_) => Ok(()),
-        Err(error) if error.kind() == ErrorKind::AlreadyExists => Ok(()),
-        Err(error) => Err(error.into()),
+fn length_at<F: Folder>(folder: &mut F, path: &str) -> Result<u64, OpenFault>
+    ensures disks { F.disk_at folder.new ≡ F.disk_at folder.old }
+    ensures measures { IfKnown (Measures path.now result) (F.known folder.old) (F.known folder.new) }
+{
+    match folder.kind(path)? {
+        Found::File(length) => Ok(length),
+        Found::Other => Err(OpenFault::Device),
     }
 }
 
-/// Gives an empty file the length of a disk. A file system fills it with zeros.
+/// Fills an empty file with zeros. Where that fails the file is set back, so that it can be filled another time: unless the sync
+/// failed, after which nothing is asked of a file.
 fn fill<D: File>(file: &mut D) -> io::Result<()>
     requires usable { IsTrue (D.is_usable file.old) }
     requires synced { Only (D.seen file.old) (D.may_leave file.old) }
@@ -87,34 +84,46 @@ fn fill<D: File>(file: &mut D) -> io::Result<()>
     ensures same { IsTrue (D.is_clean file.new) → (D.seen file.old ≡ []) ⊎ (D.seen file.new ≡ D.seen file.old) }
     ensures usable { IfOk result (λ _. IsTrue (D.is_usable file.new)) }
     ensures unfailed { IfOk result (λ _. D.faults file.new ≡ D.faults file.old) }
+    ensures failed { IfErr result (λ _. D.faults file.old ≡ 0 → 0 < D.faults file.new) }
     ensures synced { IfOk result (λ _. Only (D.seen file.new) (D.may_leave file.new)) }
+    ensures zeroed { IfOk result (λ _. IsTrue (D.is_clean file.new) → D.seen file.old ≡ [] → IsZeroed (D.seen file.new)) }
+    ensures set_back { IfErr result (λ _. IsTrue (D.is_clean file.new) → IsSetBack D.seen D.is_usable D.faults file.old file.new) }
 {
-    if file.len()? == 0 {
-        file.set_len(DISK_LENGTH as usize)?;
-        file.sync()?;
+    if file.len()? != 0 {
+        return Ok(());
+    }
+    let taken = take_space(file);
+    if taken.is_err() && file.may_be_used() {
+        let _also_failed = file.set_len(0);
+    }
+    taken
+}
+
+/// Opens and locks the file at this path. The device has what a read gives.
+fn lock<F: Folder>(folder: &mut F, right: F::Right, path: &str) -> Result<F::File, OpenFault>
+    ensures disks { F.disk_at folder.new ≡ F.disk_at folder.old }
+    ensures begins { IfOk result (λ file. IfSome (F.disk_at folder.old path.now) (λ bytes. F.File.seen file ≡ bytes)) }
+    ensures usable { IfOk result (λ file. IsTrue (F.File.is_usable file)) }
+    ensures synced { IfOk result (λ file. Only (F.File.seen file) (F.File.may_leave file)) }
+    ensures unfailed { IfOk result (λ file. F.File.faults file ≡ 0) }
+    ensures locks { IfKnown (TakesLock path.now F.File.seen result) (F.known folder.old) (F.known folder.new) }
+{
+    let files = folder.lock(right, path)?;
+    let _left_there = clear_companion(folder, path, &files);
+    Ok(files.db)
+}
+
+/// Removes the companion, which the library makes beside the disk, if it is empty. Only the holder of the lock does so: where a
+/// stop comes first it stays, and the next opening removes it.
+fn clear_companion<F: Folder>(folder: &mut F, path: &str, locked: &Files<F::File>) -> io::Result<()>
+    requires { IfSome (F.known folder.old)
+        (λ now. now.places.leads (companion_of now.places path.now) ≡ companion_of now.places path.now) }
+    ensures disks { F.disk_at folder.new ≡ F.disk_at folder.old }
+    ensures clears { IfKnown (LeavesCompanion path.now) (F.known folder.old) (F.known folder.new) }
+{
+    let companion = folder.companion(path)?;
+    if matches!(folder.kind(&companion)?, Found::File(0)) {
+        folder.remove(&companion, locked)?;
     }
     Ok(())
-}
-
-/// Locks the file, and settles it, so that the device has what a read gives.
-fn lock<S: Start>(rt: &HostRuntime, path: &str, start: S) -> Result<FileFrom<S>, OpenFault>
-    ensures usable { IfOk result (λ file. IsTrue (⟦<FileFrom<S> as File>⟧.is_usable file)) }
-    ensures synced { IfOk result (λ file. Only (⟦<FileFrom<S> as File>⟧.seen file) (⟦<FileFrom<S> as File>⟧.may_leave file)) }
-    ensures holds { IfOk result (λ file. ⟦<FileFrom<S> as File>⟧.seen file ≡ S.Start.db) }
-    ensures unfailed { IfOk result (λ file. ⟦<FileFrom<S> as File>⟧.faults file ≡ 0) }
-{
-    let Files { mut log, db } = sqlite_std_file::open(rt, path, start)?;
-    if matches!(log.len(), Ok(0)) {
-        drop(log);
-        let _left_there = remove_log(rt, path);
-    }
-    Ok(db)
-}
-
-/// Removes the empty file that the library makes beside the disk. Only the holder of the lock does so:
-/// where a stop comes first it stays, and the next opening removes it.
-fn remove_log(rt: &HostRuntime, path: &str) -> io::Result<()> {
-    let real = fs::canonicalize(rt, path)?;
-    let log = format!(in rt.alloc(); "{}-wal", real.as_str())?;
-    fs::remove_file(rt, log.as_str())
 }

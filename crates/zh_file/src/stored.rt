@@ -1,5 +1,6 @@
 //! A disk over a file, as the trait of files has it.
-ghost use Rattle.std.specs.Prelude.{◌≡◌, ◌≤◌, ◌+◌, ◌||◌, ℕ, List, length, slice_index, true, false, is_ok, is_err, IsTrue, IfOk, IsErr};
+ghost use Rattle.std.specs.Prelude.{◌≡◌, ◌≤◌, ◌+◌, ◌⊎◌, ◌||◌, ℕ, List, length, slice_index, true, false, is_ok, is_err};
+ghost use Rattle.std.specs.Prelude.{IsTrue, IfErr, IfOk, IsErr};
 ghost use Rattle.std.proofs.Common.{sym, ◌∙◌};
 ghost use Rattle.sqlite_disk.specs.Disk.{Only};
 ghost use Rattle.zh_disk.specs.declared.disk.TheConstants.{DISK_LENGTH};
@@ -45,8 +46,9 @@ pub struct Stored<D: File + Drop> {
 
 impl<D: File + Drop> Stored<D> {
     ghost use Rattle.zh_file.specs.Stored.{stored_history, is_over};
+    ghost use Rattle.zh_file.specs.Steps.{IsUnfit};
 
-    /// The disk that a file holds, as it was synced.
+    /// The disk that a file holds, as it was synced. It is to have the length of one.
     pub(crate) fn start(mut file: D) -> Result<Stored<D>, OpenFault>
         requires usable { IsTrue (D.is_usable file) }
         requires synced { Only (D.seen file) (D.may_leave file) }
@@ -54,10 +56,12 @@ impl<D: File + Drop> Stored<D> {
         ensures begins { IfOk result (λ d. (stored_history d).trail ≡ fresh_trail (D.seen file)) }
         ensures failures { IfOk result (λ d. (stored_history d).failures ≡ D.faults file) }
         ensures whole { IfOk result (λ d. is_over d ≡ false) }
+        ensures fault { IfErr result (λ fault. (fault ≡ OpenFault.Memory)
+            ⊎ ((fault ≡ OpenFault.Device) × IsUnfit D.is_clean D.faults D.seen file)) }
     {
-        let length = file.len()? as u64;
-        if length != DISK_LENGTH {
-            return Err(OpenFault::Size(length));
+        // It had the length of a disk when it was locked.
+        if file.len()? as u64 != DISK_LENGTH {
+            return Err(OpenFault::Device);
         }
         Ok(Stored {
             held: HeldFile {

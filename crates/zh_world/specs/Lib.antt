@@ -2,3 +2,4 @@ pub mod Count
 pub mod Files
 pub mod Memory
 pub mod MemoryFiles
+pub mod Places

@@ -1,7 +1,9 @@
 -- What is known of files in memory.
-use Rattle.std.specs.Prelude.{ℕ, List, [], Option, Some, unwrap_or}
+use Rattle.std.specs.Prelude.{ℕ, List, [], Option, Some, None, unwrap_or}
 use Rattle.zh_world.specs.Count.{number}
 use Rattle.zh_world.specs.Memory.{bytes_at}
+use Rattle.zh_world.specs.Places.{Places, Standing}
+use Rattle.zh_world.specs.Places.Standing.{nothing, file}
 use Rattle.zh_world.specs.declared.memory.MemoryFiles.{MemoryFiles}
 
 -- the bytes of the text at this path
@@ -15,3 +17,12 @@ disk_at files path = Some (unwrap_or (bytes_at files.disks.now path) [])
 -- how many calls were made
 abbrev pub calls_made : {R : Type 0} → MemoryFiles R → ℕ
 calls_made files = number files.made
+
+-- a file with these bytes, or nothing
+abbrev pub standing_of : Option (List ℕ) → Standing
+standing_of None = nothing
+standing_of (Some bytes) = file bytes
+
+-- the texts, which no call changes; a disk stands beside them, and is copied where it is opened
+abbrev pub places : {R : Type 0} → MemoryFiles R → Option Places
+places files = Some (record { leads = λ path. path; stands = λ path. standing_of (bytes_at files.texts.now path) })

@@ -1,6 +1,7 @@
 //! The files that the program is given by name.
 ghost use Rattle.std.specs.Prelude.{◌≡◌, ℕ, List, Option, IfOk};
-ghost use Rattle.zh_world.specs.Files.{Begins, BeginsOrIsMade, IsCallOfFiles};
+ghost use Rattle.zh_world.specs.Files.{Begins, BeginsOrIsMade, IsCallOfFiles, IsReadOfFiles};
+ghost use Rattle.zh_world.specs.Places.{IfKnown, Places, TouchesOnly};
 
 use std::io::Read;
 use thiserror::Error;
@@ -36,21 +37,26 @@ pub trait Files {
     /// The bytes that the disk at this path begins with, where they are known; none of them where there is no disk.
     ghost disk_at: { Self → List ℕ → Option (List ℕ) };
 
+    /// What stands where, if it is known: as it was found or left, apart from what is written through the disks that were opened.
+    ghost places: { Self → Option Places };
+
     /// How many calls were made.
     ghost calls: { Self → ℕ };
 
     /// The text at this path, from its first byte.
     fn text(&mut self, path: &str) -> Result<Self::Text, FileFault>
-        ensures call { IsCallOfFiles text_at disk_at calls self.old self.new }
+        ensures call { IsReadOfFiles text_at disk_at places calls self.old self.new }
         ensures bytes { IfOk result (λ text. Self.Text.remaining text ≡ text_at self.old path.now) };
 
     /// The disk at this path.
     fn disk(&mut self, right: Self::Right, path: &str) -> Result<Self::Disk, FileFault>
         ensures call { IsCallOfFiles text_at disk_at calls self.old self.new }
+        ensures touches { IfKnown (TouchesOnly path.now) (places self.old) (places self.new) }
         ensures begins { IfOk result (λ disk. Begins (disk_at self.old path.now) (Self.Disk.history disk)) };
 
     /// The disk at this path. Where there is none, it is made, of zeros.
     fn disk_or_make(&mut self, right: Self::Right, path: &str) -> Result<Self::Disk, FileFault>
         ensures call { IsCallOfFiles text_at disk_at calls self.old self.new }
+        ensures touches { IfKnown (TouchesOnly path.now) (places self.old) (places self.new) }
         ensures begins { IfOk result (λ disk. BeginsOrIsMade (disk_at self.old path.now) (Self.Disk.history disk)) };
 }

@@ -4,7 +4,7 @@ ghost use Rattle.zh_disk.specs.Disk.{fresh_trail};
 ghost use Rattle.zh_disk.specs.Failing.{IsFailing, calls_left, failing_history, inside};
 ghost use Rattle.zh_disk.specs.Memory.{IsNewDisk, memory_history, memory_trail};
 ghost use Rattle.zh_world.specs.Count.{number};
-ghost use Rattle.zh_world.specs.Files.{Begins, BeginsOrIsMade, IsCallOfFiles};
+ghost use Rattle.zh_world.specs.Files.{Begins, BeginsOrIsMade, IsCallOfFiles, IsReadOfFiles};
 ghost use Rattle.zh_world.specs.Memory.{bytes_at, IsDiskFault, IsImageFault, IsMakingFault, IsOutOfReach};
 
 use crate::count::CallCount;
@@ -131,16 +131,19 @@ impl<'a, R: Drop> Files for MemoryFiles<'a, R> {
 
     type Right = R;
 
-    ghost use Rattle.zh_world.specs.MemoryFiles.{text_at, disk_at, calls_made};
+    ghost use Rattle.zh_world.specs.MemoryFiles.{text_at, disk_at, calls_made, places};
+    ghost use Rattle.zh_world.specs.Places.{IfKnown, TouchesOnly};
 
     ghost text_at = { text_at };
 
     ghost disk_at = { disk_at };
 
+    ghost places = { places };
+
     ghost calls = { calls_made };
 
     fn text(&mut self, path: &str) -> Result<MemoryText<'a>, FileFault>
-        ensures call { IsCallOfFiles text_at disk_at calls_made self.old self.new }
+        ensures call { IsReadOfFiles text_at disk_at places calls_made self.old self.new }
         ensures bytes { IfOk result (λ text. Some text.bytes.now ≡ bytes_at self.old.texts.now path.now) }
         ensures reads { IfOk result (λ text. text.reads ≡ self.old.reads) }
         ensures fails { IfErr result (λ fault. (fault ≡ FileFault.Device)
@@ -158,6 +161,7 @@ impl<'a, R: Drop> Files for MemoryFiles<'a, R> {
 
     fn disk(&mut self, _right: R, path: &str) -> Result<FailingDisk<MemoryDisk>, FileFault>
         ensures call { IsCallOfFiles text_at disk_at calls_made self.old self.new }
+        ensures touches { IfKnown (TouchesOnly path.now) (places self.old) (places self.new) }
         ensures begins { IfOk result (λ disk. Begins (disk_at self.old path.now) (failing_history memory_history disk)) }
         ensures left { IfOk result (λ disk. calls_left disk ≡ Some self.old.disk_calls) }
         ensures fails { IfErr result (IsDiskFault self.old.calls (bytes_at self.old.disks.now path.now)) }
@@ -169,6 +173,7 @@ impl<'a, R: Drop> Files for MemoryFiles<'a, R> {
 
     fn disk_or_make(&mut self, _right: R, path: &str) -> Result<FailingDisk<MemoryDisk>, FileFault>
         ensures call { IsCallOfFiles text_at disk_at calls_made self.old self.new }
+        ensures touches { IfKnown (TouchesOnly path.now) (places self.old) (places self.new) }
         ensures begins { IfOk result (λ disk. BeginsOrIsMade (disk_at self.old path.now) (failing_history memory_history disk)) }
         ensures left { IfOk result (λ disk. calls_left disk ≡ Some self.old.disk_calls) }
         ensures fails { IfErr result (IsMakingFault self.old.calls (bytes_at self.old.disks.now path.now)) }

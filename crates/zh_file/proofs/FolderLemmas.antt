@@ -1,0 +1,116 @@
+-- What is known of a folder over several calls.
+use Rattle.std.proofs.Common.{◌≡◌, ◌∙◌, ◌+◌, ℕ, List, length, Option, Some, None, Result, Ok, Err, IfOk, sym, ap, subst, inl, inr, ⊎_elim, arith}
+use Rattle.std.specs.Prelude.{codes, ◌++◌}
+use Rattle.std.proofs.lemmas.List.{length-append}
+use Rattle.std.specs.declared.io.ErrorKind.{ErrorKind}
+use Rattle.std.specs.declared.io.ErrorKind.TheVariants as kinds
+use Rattle.zh_disk.specs.Disk.{Trail, fresh_trail}
+use Rattle.zh_world.specs.Places.{Places, Standing, IfKnown, IsBare, IsSameOrBare, IsSameOrMade, TouchesOnly, companion_of, found_at}
+use Rattle.zh_file.specs.Faults.{fault_of_kind}
+use Rattle.zh_file.specs.Folder.{Makes, MakesBoth}
+use Rattle.zh_file.specs.Steps.{ClearsCompanion}
+use Rattle.zh_file.specs.declared.fault.OpenFault.{OpenFault}
+use Rattle.zh_file.specs.declared.fault.OpenFault.TheVariants as faults
+
+module _ {A : Type 0} where
+  pub map_known : (P R : A → A → Type 0) (old new : Option A) → ((x y : A) → P x y → R x y) → IfKnown P old new → IfKnown R old new
+  map_known P R None new f by = by
+  map_known P R (Some x) None f by = by
+  map_known P R (Some x) (Some y) f by = f x y by
+
+  -- one call after the next
+  pub chain : (P Q R : A → A → Type 0) (old mid new : Option A) → ((x y z : A) → P x y → Q y z → R x z) → IfKnown P old mid → IfKnown Q mid new → IfKnown R old new
+  chain P Q R None mid new f one next = subst (λ (k : Option A). IfKnown Q k new) one next
+  chain P Q R (Some x) None new f one next = absurd one
+  chain P Q R (Some x) (Some y) None f one next = next
+  chain P Q R (Some x) (Some y) (Some z) f one next = f x y z one next
+
+  pub chain_three : (P Q S R : A → A → Type 0) (a b c d : Option A) → ((w x y z : A) → P w x → Q x y → S y z → R w z)
+      → IfKnown P a b → IfKnown Q b c → IfKnown S c d → IfKnown R a d
+  chain_three P Q S R None b c d f one two three = subst (λ (k : Option A). IfKnown S k d) (subst (λ (k : Option A). IfKnown Q k c) one two) three
+  chain_three P Q S R (Some w) None c d f one two three = absurd one
+  chain_three P Q S R (Some w) (Some x) None d f one two three = absurd two
+  chain_three P Q S R (Some w) (Some x) (Some y) None f one two three = three
+  chain_three P Q S R (Some w) (Some x) (Some y) (Some z) f one two three = f w x y z one two three
+
+-- the fault of a call is memory or the device
+pub of_kind : (P : OpenFault → Type 0) → P faults.Memory → P faults.Device → (kind : ErrorKind) → P (fault_of_kind kind)
+of_kind P memory device kinds.OutOfMemory = memory
+of_kind P memory device kind = device
+
+pub same_companion : (old new : Places) (path : List ℕ) → new.leads ≡ old.leads → companion_of new path ≡ companion_of old path
+same_companion old new path same = ap (λ (f : List ℕ → List ℕ). f path ++ codes "-wal") same
+
+-- a companion's place is not that of its disk
+longer : (xs : List ℕ) → (xs ≡ xs ++ codes "-wal" → ⊥)
+longer xs is = let size : length xs ≡ length xs + 4 = ap length is ∙ length-append xs (codes "-wal") in absurd (omega (arith, size))
+
+bare_made : (old new : Standing) → IsSameOrMade old new → IsSameOrBare old new
+bare_made old new made = ⊎_elim (λ same. inl same) (λ it. inr (inl it.0, inr it.1)) made
+
+bare_both : (x y z : Standing) → IsSameOrBare x y → IsSameOrBare y z → IsSameOrBare x z
+bare_both x y z one next = ⊎_elim
+    (λ same. ⊎_elim (λ was. inl (same ∙ was)) (λ bare. inr (bare.0, subst IsBare (sym same) bare.1)) one)
+    (λ bare. ⊎_elim (λ was. inr (subst IsBare was bare.0, bare.1)) (λ before. inr (before.0, bare.1)) one)
+    next
+
+-- the lock, and then the look at the companion
+pub lock_touches : (path : List ℕ) (x y z : Places) → MakesBoth path x y → ClearsCompanion path y z → TouchesOnly path x z × (found_at z path ≡ found_at y path)
+lock_touches path x y z makes clears =
+    let at : companion_of y path ≡ companion_of x path = same_companion x y path makes.leads in
+    let leads : z.leads ≡ x.leads = clears.leads ∙ makes.leads in
+    let kept : z.stands (y.leads path) ≡ y.stands (y.leads path) = clears.others (y.leads path) (longer (y.leads path)) in
+    let here : z.stands (z.leads path) ≡ y.stands (y.leads path) = subst (λ (l : List ℕ → List ℕ). z.stands (l path) ≡ y.stands (y.leads path)) (sym clears.leads) kept in
+    let cleared : IsSameOrBare (y.stands (companion_of x path)) (z.stands (companion_of x path)) =
+    subst (λ (c : List ℕ). IsSameOrBare (y.stands c) (z.stands c)) at (⊎_elim (λ same. inl same) (λ gone. inr (inr gone.0, inl gone.1)) clears.companion) in (
+      record {
+        leads = leads;
+        disk = ⊎_elim (λ same. inl (here ∙ same)) (λ it. inr (it.0, here ∙ it.1)) makes.disk;
+        companion = bare_both (x.stands (companion_of x path)) (y.stands (companion_of x path)) (z.stands (companion_of x path)) (bare_made _ _ makes.companion) cleared;
+        others = λ place disk companion. clears.others place (λ is. companion (is ∙ at)) ∙ makes.others place disk companion;
+      },
+      here,
+    )
+
+pub made_touches : (path : List ℕ) (x y : Places) → Makes path x y → TouchesOnly path x y
+made_touches path x y makes = record {
+  leads = makes.leads;
+  disk = makes.made;
+  companion = inl (makes.others (companion_of x path) (λ is. longer (x.leads path) (sym is)));
+  others = λ place disk companion. makes.others place disk;
+}
+
+made_twice : (x y z : Standing) → IsSameOrMade x y → IsSameOrMade y z → IsSameOrMade x z
+made_twice x y z one next = ⊎_elim
+    (λ same. ⊎_elim (λ was. inl (same ∙ was)) (λ it. inr (it.0, same ∙ it.1)) one)
+    (λ it. ⊎_elim (λ was. inr (sym was ∙ it.0, it.1)) (λ before. inr (before.0, it.1)) one)
+    next
+
+pub touches_both : (path : List ℕ) (x y z : Places) → TouchesOnly path x y → TouchesOnly path y z → TouchesOnly path x z
+touches_both path x y z one next =
+    let at : companion_of y path ≡ companion_of x path = same_companion x y path one.leads in
+    record {
+      leads = next.leads ∙ one.leads;
+      disk = made_twice (found_at x path) (found_at y path) (found_at z path) one.disk next.disk;
+      companion = bare_both (x.stands (companion_of x path)) (y.stands (companion_of x path)) (z.stands (companion_of x path)) one.companion
+          (subst (λ (c : List ℕ). IsSameOrBare (y.stands c) (z.stands c)) at next.companion);
+      others = λ place disk companion.
+          next.others place (λ is. disk (is ∙ ap (λ (l : List ℕ → List ℕ). l path) one.leads)) (λ is. companion (is ∙ at)) ∙ one.others place disk companion;
+    }
+
+pub same_touches : (path : List ℕ) (x y : Places) → y ≡ x → TouchesOnly path x y
+same_touches path x y same = record {
+  leads = ap (λ (p : Places). p.leads) same;
+  disk = inl (ap (λ (p : Places). found_at p path) same);
+  companion = inl (ap (λ (p : Places). p.stands (companion_of x path)) same);
+  others = λ place disk companion. ap (λ (p : Places). p.stands place) same;
+}
+
+pub same_found : (path : List ℕ) (x y : Places) → y ≡ x → found_at y path ≡ found_at x path
+same_found path x y same = ap (λ (p : Places). found_at p path) same
+
+-- a trail that begins with bytes has them
+pub ok_bytes : {T : Type 0} (trail : T → Trail) (bytes : List ℕ) (result : Result T OpenFault) → IfOk result (λ d. trail d ≡ fresh_trail bytes)
+    → IfOk result (λ d. (trail d).now.bytes ≡ bytes)
+ok_bytes trail bytes (Ok d) is = ap (λ (t : Trail). t.now.bytes) is
+ok_bytes trail bytes (Err fault) is = tt

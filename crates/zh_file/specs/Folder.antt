@@ -1,0 +1,90 @@
+-- What is done at paths, and what it comes to.
+use Rattle.std.specs.Prelude.{◌≡◌, ◌≢◌, ◌⊎◌, ◌+◌, ℕ, List, [], length, Result, Ok, Err, IfOk, Option, Some, None}
+use Rattle.std.specs.declared.io.Error.{Error}
+use Rattle.sqlite_std_file.specs.declared.pair.OpenError.{OpenError}
+use Rattle.sqlite_std_file.specs.declared.pair.OpenError.TheVariants as opening
+use Rattle.zh_world.specs.Places.{Places, Standing, bytes_of, companion_of, found_at, IsSameOrMade}
+use Rattle.zh_world.specs.Places.Standing.{nothing, file, other}
+use Rattle.zh_file.specs.declared.folder.Found.{Found}
+use Rattle.zh_file.specs.declared.folder.Found.TheVariants as kinds
+
+-- what stands where in a folder, how many calls of it have failed, and how many locks were refused as another has them
+pub record Folders : Type 0 where
+  pub places : Places
+  pub failed : ℕ
+  pub refused : ℕ
+
+-- a call with this answer is counted where it failed
+abbrev pub failed_after : {T : Type 0} → Result T Error → ℕ → ℕ
+failed_after (Ok done) before = before
+failed_after (Err error) before = before + 1
+
+-- one that is no lock
+pub record IsCounted {T : Type 0} (result : Result T Error) (old new : Folders) : Type 0 where
+  pub failed : new.failed ≡ failed_after result old.failed
+  pub refused : new.refused ≡ old.refused
+
+-- a call that only asks, and this of what it says
+pub record LooksAt {T : Type 0} (says : Places → T → Type 0) (result : Result T Error) (old new : Folders) : Type 0 where
+  pub same : new.places ≡ old.places
+  pub counted : IsCounted result old new
+  pub said : IfOk result (says old.places)
+
+-- one that may change what stands somewhere
+pub record ActsAt {T : Type 0} (does : Places → Places → Type 0) (result : Result T Error) (old new : Folders) : Type 0 where
+  pub done : does old.places new.places
+  pub counted : IsCounted result old new
+
+-- a file of so many bytes stands there, or something that is no file
+abbrev pub IsKind : Standing → Found → Type 0
+IsKind (file bytes) (kinds.File n) = n ≡ length bytes
+IsKind other kinds.Other = Unit {0}
+IsKind standing kind = ⊥
+
+-- an empty file was made at this path where nothing stood, or nothing was
+pub record Makes (path : List ℕ) (old new : Places) : Type 0 where
+  pub leads : new.leads ≡ old.leads
+  pub made : IsSameOrMade (found_at old path) (found_at new path)
+  pub others : (place : List ℕ) → place ≢ old.leads path → new.stands place ≡ old.stands place
+
+-- the same of the disk at this path and of its companion
+pub record MakesBoth (path : List ℕ) (old new : Places) : Type 0 where
+  pub leads : new.leads ≡ old.leads
+  pub disk : IsSameOrMade (found_at old path) (found_at new path)
+  pub companion : IsSameOrMade (old.stands (companion_of old path)) (new.stands (companion_of old path))
+  pub others : (place : List ℕ) → place ≢ old.leads path → place ≢ companion_of old path
+      → new.stands place ≡ old.stands place
+
+-- an empty file stands at this path, which is no link
+pub record IsEmptyFile (path : List ℕ) (places : Places) : Type 0 where
+  pub own : places.leads path ≡ path
+  pub empty : places.stands path ≡ file []
+
+-- what stood at this path was removed, or not
+pub record Removes (path : List ℕ) (old new : Places) : Type 0 where
+  pub leads : new.leads ≡ old.leads
+  pub removed : (new.stands path ≡ old.stands path) ⊎ (new.stands path ≡ nothing)
+  pub others : (place : List ℕ) → place ≢ path → new.stands place ≡ old.stands place
+
+-- a file with these bytes stands where this path leads, and no link at the place of its companion
+pub record IsLocked (path bytes : List ℕ) (places : Places) : Type 0 where
+  pub disk : found_at places path ≡ file bytes
+  pub companion : places.leads (companion_of places path) ≡ companion_of places path
+
+-- the counts after a lock with this answer
+abbrev pub IsCountedLock : {T : Type 0} → Result T OpenError → Folders → Folders → Type 0
+IsCountedLock (Ok done) old new = (new.failed ≡ old.failed) × (new.refused ≡ old.refused)
+IsCountedLock (Err opening.Busy) old new = (new.failed ≡ old.failed) × (new.refused ≡ old.refused + 1)
+IsCountedLock (Err error) old new = (new.failed ≡ old.failed + 1) × (new.refused ≡ old.refused)
+
+-- The disk at this path was opened and locked, and these are its bytes; or it was not. Where nothing stood at it or beside it,
+-- an empty file may have been made.
+pub record Locks {T : Type 0} (path : List ℕ) (seen : T → List ℕ) (result : Result T OpenError) (old new : Folders) : Type 0 where
+  pub made : MakesBoth path old.places new.places
+  pub counted : IsCountedLock result old new
+  pub locked : IfOk result (λ files. IsLocked path (seen files) new.places)
+
+-- the bytes at a path, if it is known what stands where
+abbrev pub bytes_known : Option Folders → List ℕ → Option (List ℕ)
+bytes_known None path = None
+bytes_known (Some known) path = Some (bytes_of (found_at known.places path))

@@ -1,0 +1,60 @@
+-- What the opening of a disk leaves of a folder, and which fault has which cause.
+use Rattle.std.specs.Prelude.{◌≡◌, ◌≢◌, ◌⊎◌, ◌<◌, ◌+◌, ℕ, Bool, IsTrue, List, length, Result, IfOk, IfErr}
+use Rattle.zh_disk.specs.Disk.{disk_length}
+use Rattle.zh_disk.specs.History.{History}
+use Rattle.zh_world.specs.Places.{Places, Standing, found_at, IsBare, TouchesOnly}
+use Rattle.zh_world.specs.Places.Standing.{file, other}
+use Rattle.zh_file.specs.Folder.{Folders}
+use Rattle.zh_file.specs.declared.fault.OpenFault.{OpenFault}
+use Rattle.zh_file.specs.declared.fault.OpenFault.TheVariants as faults
+
+-- everything stands where it stood
+pub record AreSame (old new : Places) : Type 0 where
+  pub leads : new.leads ≡ old.leads
+  pub stands : (place : List ℕ) → new.stands place ≡ old.stands place
+
+-- a file of so many bytes stands there
+abbrev pub IsLength : Standing → ℕ → Type 0
+IsLength (file bytes) n = n ≡ length bytes
+IsLength standing n = ⊥
+
+-- A file whose answers were right has failed a call. It is the one that was locked.
+abbrev pub HasFailed : {D : Type 0} → (D → Bool) → (D → ℕ) → Type 0
+HasFailed {D} is_clean failures = (after : D) × (IsTrue (is_clean after) → 0 < failures after)
+
+-- Why there is no disk. `IsRefused` says which lengths are none of a disk, and `Failed` that a call of its file failed.
+-- Where the length is wrong nothing was made or removed.
+abbrev pub IsOpeningCause : (ℕ → Type 0) → Type 0 → List ℕ → Folders → Folders → OpenFault → Type 0
+IsOpeningCause IsRefused Failed path old new faults.Memory = Unit {0}
+IsOpeningCause IsRefused Failed path old new (faults.Size n) =
+    IsLength (found_at old.places path) n × IsRefused n × AreSame old.places new.places
+IsOpeningCause IsRefused Failed path old new faults.Busy = new.refused ≡ old.refused + 1
+IsOpeningCause IsRefused Failed path old new faults.Device =
+    (new.refused ≡ old.refused) × ((old.failed < new.failed) ⊎ ((found_at old.places path ≡ other) ⊎ Failed))
+
+-- none of a disk's length
+abbrev pub IsNoDisk : ℕ → Type 0
+IsNoDisk n = n ≢ disk_length
+
+-- nor empty
+abbrev pub IsNoStart : ℕ → Type 0
+IsNoStart n = (n ≢ disk_length) × (n ≢ 0)
+
+-- The disk that is there at this path was opened, and `bytes` are those that it begins with; or it was not. What stands there
+-- is as it was.
+pub record OpensDisk {T : Type 0} (Failed : Type 0) (path : List ℕ) (bytes : T → List ℕ) (result : Result T OpenFault)
+    (old new : Folders) : Type 0 where
+  pub touches : TouchesOnly path old.places new.places
+  pub kept : found_at new.places path ≡ found_at old.places path
+  pub opened : IfOk result (λ disk. found_at old.places path ≡ file (bytes disk))
+  pub refused : IfOk result (λ disk. new.refused ≡ old.refused)
+  pub cause : IfErr result (IsOpeningCause IsNoDisk Failed path old new)
+
+-- The same of a disk that is made where there is none, or where an empty file is: its file is then filled.
+pub record OpensOrMakesDisk {T : Type 0} (Failed : Type 0) (path : List ℕ) (history : T → History) (result : Result T OpenFault)
+    (old new : Folders) : Type 0 where
+  pub touches : TouchesOnly path old.places new.places
+  pub opened : IfOk result (λ disk. IsTrue (history disk).honest
+      → (found_at old.places path ≡ file (history disk).trail.now.bytes) ⊎ IsBare (found_at old.places path))
+  pub refused : IfOk result (λ disk. new.refused ≡ old.refused)
+  pub cause : IfErr result (IsOpeningCause IsNoStart Failed path old new)

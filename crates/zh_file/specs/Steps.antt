@@ -1,0 +1,63 @@
+-- What the steps of an opening leave, for those that follow.
+use Rattle.std.specs.Prelude.{◌≡◌, ◌⊎◌, ◌<◌, ◌≤◌, ◌+◌, ℕ, List, [], Bool, IsTrue, Result, IfOk, IfErr, length}
+use Rattle.zh_disk.specs.Disk.{disk_length}
+use Rattle.zh_world.specs.Places.{Places, companion_of, found_at}
+use Rattle.zh_world.specs.Places.Standing.{file, nothing, other}
+use Rattle.zh_file.specs.Folder.{Folders, MakesBoth}
+use Rattle.zh_file.specs.Opening.{IsLength}
+use Rattle.zh_file.specs.declared.fault.OpenFault.{OpenFault}
+use Rattle.zh_file.specs.declared.fault.OpenFault.TheVariants as faults
+
+-- no lock was refused, and no failure is forgotten
+pub record GoesAhead (old new : Folders) : Type 0 where
+  pub failed : old.failed ≤ new.failed
+  pub refused : new.refused ≡ old.refused
+
+-- why a file was not measured: a call failed, or none stands there
+abbrev pub IsUnmeasured : List ℕ → Folders → Folders → OpenFault → Type 0
+IsUnmeasured path old new faults.Memory = Unit {0}
+IsUnmeasured path old new faults.Device = (old.failed < new.failed) ⊎ (found_at old.places path ≡ other)
+IsUnmeasured path old new fault = ⊥
+
+-- the file at this path was measured, or not
+pub record Measures (path : List ℕ) (result : Result ℕ OpenFault) (old new : Folders) : Type 0 where
+  pub same : new.places ≡ old.places
+  pub goes : GoesAhead old new
+  pub length : IfOk result (IsLength (found_at old.places path))
+  pub cause : IfErr result (IsUnmeasured path old new)
+
+-- an empty file at the place of a companion was removed, or not
+pub record ClearsCompanion (path : List ℕ) (old new : Places) : Type 0 where
+  pub leads : new.leads ≡ old.leads
+  pub companion : (new.stands (companion_of old path) ≡ old.stands (companion_of old path))
+      ⊎ ((old.stands (companion_of old path) ≡ file []) × (new.stands (companion_of old path) ≡ nothing))
+  pub others : (place : List ℕ) → (place ≡ companion_of old path → ⊥) → new.stands place ≡ old.stands place
+
+-- that of a disk was looked at
+pub record LeavesCompanion (path : List ℕ) (old new : Folders) : Type 0 where
+  pub clears : ClearsCompanion path old.places new.places
+  pub goes : GoesAhead old new
+
+-- why a disk was not locked
+abbrev pub IsUnlocked : Folders → Folders → OpenFault → Type 0
+IsUnlocked old new faults.Memory = Unit {0}
+IsUnlocked old new faults.Busy = new.refused ≡ old.refused + 1
+IsUnlocked old new faults.Device = (new.refused ≡ old.refused) × (old.failed < new.failed)
+IsUnlocked old new fault = ⊥
+
+-- a disk was locked, and its companion looked at; or it was not
+pub record TakesLock {T : Type 0} (path : List ℕ) (seen : T → List ℕ) (result : Result T OpenFault) (old new : Folders) : Type 0 where
+  pub mid : Places
+  pub made : MakesBoth path old.places mid
+  pub clears : ClearsCompanion path mid new.places
+  pub locked : IfOk result (λ f. (found_at mid path ≡ file (seen f)) × GoesAhead old new)
+  pub cause : IfErr result (IsUnlocked old new)
+
+-- why a file that was locked is none of a disk, though it was measured: a call of it failed, or an answer was wrong
+pub record IsUnfit {D : Type 0} (is_clean : D → Bool) (failures : D → ℕ) (seen : D → List ℕ) (before : D) : Type 0 where
+  pub after : D
+  pub cause : IsTrue (is_clean after) → IsTrue (is_clean before) × ((0 < failures after) ⊎ (length (seen before) ≡ disk_length → ⊥))
+
+-- a file that was not filled: unless its sync failed, or its setting back too, it is as it was
+abbrev pub IsSetBack : {D : Type 0} → (D → List ℕ) → (D → Bool) → (D → ℕ) → D → D → Type 0
+IsSetBack seen is_usable failures old new = IsTrue (is_usable new) → failures old ≡ 0 → (seen new ≡ seen old) ⊎ (1 < failures new)

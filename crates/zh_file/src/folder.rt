@@ -1,0 +1,75 @@
+//! What is done at paths: each is one call.
+ghost use Rattle.std.specs.Prelude.{◌≡◌, ℕ, List, Option, IfOk, IfSome, IsTrue, string_bytes};
+ghost use Rattle.sqlite_disk.specs.Disk.{Only};
+ghost use Rattle.zh_world.specs.Places.{IfKnown, companion_of, found_at};
+ghost use Rattle.zh_file.specs.Folder.{LooksAt, ActsAt, Folders, IsEmptyFile, IsKind, Locks, Makes, Removes, bytes_known};
+
+use sqlite_disk::{Disk as File, Files};
+use sqlite_std_file::OpenError;
+use std::io::{self, Read};
+
+/// What stands at a path, or where a link there leads.
+#[derive(Clone, Copy, Debug, PartialEq, Eq)]
+pub enum Found {
+    /// A regular file of so many bytes.
+    File(u64),
+    /// A folder, a pipe, a device ..
+    Other,
+}
+
+/// What is done at paths.
+///
+/// What stands where is a model, of which nothing may be known. A file that was locked is changed by its own calls,
+/// which the model doesn't follow.
+pub trait Folder {
+    /// What reads a text.
+    type Text: Read + Drop;
+    /// A file that is locked.
+    type File: File + Drop;
+    /// The right to lock one disk. Code over any folder can make none and copy none.
+    type Right: Drop;
+
+    /// What stands where, and how many calls came to nothing, if that is known.
+    ghost known: { Self → Option Folders };
+
+    /// The bytes of a disk's file at this path when it is locked, where they are known; none where there is no file.
+    ghost disk_at: { Self → List ℕ → Option (List ℕ) };
+
+    /// What stands at this path. It fails where nothing does.
+    fn kind(&mut self, path: &str) -> io::Result<Found>
+        ensures disks { disk_at self.new ≡ disk_at self.old }
+        ensures call { IfKnown (LooksAt (λ places. IsKind (found_at places path.now)) result) (known self.old) (known self.new) };
+
+    /// The path of the companion of the disk at this path, with no link in it.
+    fn companion(&mut self, path: &str) -> io::Result<String>
+        ensures disks { disk_at self.new ≡ disk_at self.old }
+        ensures call { IfKnown (LooksAt (λ places name. string_bytes name ≡ companion_of places path.now) result)
+            (known self.old) (known self.new) };
+
+    /// The text at this path, from its first byte. It is only read.
+    fn text(&mut self, path: &str) -> io::Result<Self::Text>
+        ensures disks { disk_at self.new ≡ disk_at self.old }
+        ensures bytes { IfOk result (λ text. Self.Text.remaining text ≡ bytes_known (known self.old) path.now) }
+        ensures call { IfKnown (LooksAt (λ _ _. Unit {0}) result) (known self.old) (known self.new) };
+
+    /// Makes an empty file, if nothing stands at this path.
+    fn make(&mut self, path: &str) -> io::Result<()>
+        ensures disks { disk_at self.new ≡ disk_at self.old }
+        ensures call { IfKnown (ActsAt (Makes path.now) result) (known self.old) (known self.new) };
+
+    /// Opens and locks the disk at this path, and its companion: for this program alone, until both are dropped. Each is made
+    /// where it is missing. The device has what a read gives.
+    fn lock(&mut self, right: Self::Right, path: &str) -> Result<Files<Self::File>, OpenError>
+        ensures disks { disk_at self.new ≡ disk_at self.old }
+        ensures begins { IfOk result (λ files. IfSome (disk_at self.old path.now) (λ bytes. Self.File.seen files.db ≡ bytes)) }
+        ensures usable { IfOk result (λ files. IsTrue (Self.File.is_usable files.db)) }
+        ensures synced { IfOk result (λ files. Only (Self.File.seen files.db) (Self.File.may_leave files.db)) }
+        ensures unfailed { IfOk result (λ files. Self.File.faults files.db ≡ 0) }
+        ensures call { IfKnown (Locks path.now (λ files. Self.File.seen files.db) result) (known self.old) (known self.new) };
+
+    /// Removes the companion at this path, which was seen to be empty while it was locked, and still is.
+    fn remove(&mut self, path: &str, locked: &Files<Self::File>) -> io::Result<()>
+        requires { IfSome (known self.old) (λ now. IsEmptyFile path.now now.places) }
+        ensures disks { disk_at self.new ≡ disk_at self.old }
+        ensures call { IfKnown (ActsAt (Removes path.now) result) (known self.old) (known self.new) };
+}

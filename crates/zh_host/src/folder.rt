@@ -1,0 +1,80 @@
+//! The folders of the operating system.
+ghost use Rattle.std.specs.Prelude.{Some, None};
+
+use sqlite_disk::Files;
+use std::fs::{self, File, OpenOptions};
+use std::io::{self, ErrorKind};
+use std::marker::PhantomData;
+use std::os::unix::fs::OpenOptionsExt;
+use zh_file::{FileOf, Folder, Found, OpenError, Start};
+
+/// The folders of the operating system. That each method does what [`Folder`] says is believed: the clauses are proved for
+/// every folder, and of this one nothing is known.
+///
+/// `S` stands for what the file of the disk holds. Its value is the right to that disk, and is used up.
+#[derive(Drop)]
+pub struct HostFolder<'a, S> {
+    rt: &'a HostRuntime,
+    content: PhantomData<S>,
+}
+
+impl<'a, S> HostFolder<'a, S> {
+    /// The folders of this runtime.
+    pub fn new(rt: &'a HostRuntime) -> HostFolder<'a, S> {
+        HostFolder {
+            rt,
+            content: PhantomData,
+        }
+    }
+}
+
+impl<S: Start> Folder for HostFolder<'_, S> {
+    type Text = File;
+
+    type File = FileOf<S>;
+
+    type Right = S;
+
+    ghost known = { λ folder. None };
+
+    ghost disk_at = { λ folder path. Some S.Start.db };
+
+    fn kind(&mut self, path: &str) -> io::Result<Found> {
+        let found = fs::metadata(self.rt, path)?;
+        Ok(if found.is_file() {
+            Found::File(found.len())
+        } else {
+            Found::Other
+        })
+    }
+
+    fn companion(&mut self, path: &str) -> io::Result<String> {
+        let real = fs::canonicalize(self.rt, path)?;
+        Ok(format!(in self.rt.alloc(); "{}-wal", real.as_str())?)
+    }
+
+    fn text(&mut self, path: &str) -> io::Result<File> {
+        File::open(self.rt, path)
+    }
+
+    fn make(&mut self, path: &str) -> io::Result<()> {
+        let made = OpenOptions::new()
+            .read(true)
+            .write(true)
+            .create_new(true)
+            .mode(0o600)
+            .open(self.rt, path);
+        match made {
+            Err(error) if error.kind() != ErrorKind::AlreadyExists => Err(error),
+            _ => Ok(()),
+        }
+    }
+
+    fn lock(&mut self, right: S, path: &str) -> Result<Files<FileOf<S>>, OpenError> {
+        sqlite_std_file::open(self.rt, path, right)
+    }
+
+    fn remove(&mut self, path: &str, _locked: &Files<FileOf<S>>) -> io::Result<()> {
+        fs::remove_file(self.rt, path)
+    }
+}
