@@ -1,5 +1,6 @@
 pub mod CallerLemmas
 mod CantonLemmas
+mod ClaimLemmas
 mod ImageLemmas
 mod LengthLemmas
 mod MaskLemmas

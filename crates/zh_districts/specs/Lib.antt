@@ -1,4 +1,5 @@
 pub mod Canton
+pub mod Claims
 pub mod Misplaced
 pub mod Seats
 pub mod Parts

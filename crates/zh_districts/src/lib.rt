@@ -2,12 +2,14 @@
 #![tactic(auto)]
 
 mod bytes;
+mod claims;
 mod laws;
 mod misplaced;
 mod parts;
 mod setup;
 mod shares;
 
+pub use claims::{tied, unseated};
 pub use laws::equal_bytes;
 pub use misplaced::Misplaced;
 pub use parts::{Constituency, Draft, Group, Municipality};

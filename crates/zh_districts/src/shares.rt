@@ -58,7 +58,7 @@ fn first_without(seats: &[u32]) -> Option<u32>
 }
 
 /// The seats of the constituencies in proportion to their persons, where one may get none.
-fn proportion(alloc: Global, setup: &Setup) -> Result<Shares, ShareFault>
+pub(crate) fn proportion(alloc: Global, setup: &Setup) -> Result<Shares, ShareFault>
     ensures shares { Apportions (persons setup.now) setup.now.house result }
     ensures limits { IsCanton setup.now }
 {

@@ -92,7 +92,7 @@ positive_seated weights seats house i fit (k, x, kw, is, positive) within seated
     ]
 
 -- otherwise the seats are tied
-pub IsTied-together : (weights seats : List ℕ) (house last next : ℕ) → IsFit weights house seats → Any (λ w. 0 < w) weights →
+abbrev pub IsTied-together : (weights seats : List ℕ) (house last next : ℕ) → IsFit weights house seats → Any (λ w. 0 < w) weights →
     IsLeastLast weights seats (length weights) last → IsMostNext weights seats (length weights) next →
     get_or weights last 0 * (2 * get_or seats next 0 + 1) ≤ get_or weights next 0 * (2 * get_or seats last 0 - 1) →
     IsTied weights house

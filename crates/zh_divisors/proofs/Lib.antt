@@ -1,4 +1,5 @@
 pub mod CallerLemmas
+mod ClaimLemmas
 mod DivisorLemmas
 mod FiniteSumLemmas
 mod LastSeatLemmas

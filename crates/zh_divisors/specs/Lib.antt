@@ -1,7 +1,9 @@
+pub mod Claims
 pub mod Fit
 pub mod Line
 pub mod LineSeats
 pub mod Rounding
+pub mod SameWorth
 pub mod Shares
 pub mod Sums
 pub mod Weights

@@ -8,6 +8,7 @@
 //! them a divisor that suits its total, while those that cross it stay.
 #![tactic(auto)]
 
+pub use claims::same_claims;
 pub use fault::ShareFault;
 pub use laws::{line_rule, one_fit};
 pub use lines::line;
@@ -15,6 +16,7 @@ pub use shares::Shares;
 pub use single::apportion;
 pub use weights::Weights;
 
+mod claims;
 mod fault;
 mod laws;
 mod line_seats;

@@ -6,6 +6,7 @@ ghost use Rattle.std.specs.Prelude.{◌≡◌, ◌+◌, ◌-◌, ◌*◌, ◌^�
 ghost use Rattle.zh_divisors.specs.Fit.{NextAgainstLast};
 ghost use Rattle.zh_divisors.specs.Weights.{AreSmall};
 ghost use Rattle.zh_divisors.specs.Worth.{IsLeastLast, IsMostNext};
+ghost use Rattle.zh_divisors.specs.SameWorth.{IsWorthAsMuch};
 
 /// A weight times an odd number of half seats.
 fn times(weight: u64, halves: u32) -> u64
@@ -51,6 +52,22 @@ pub(crate) fn next_is_worth_less(weights: &[u64], seats: &[u32], i: usize, j: us
     ensures { IsTrue result ↔ NextAgainstLast ◌<◌ weights.now seats.now i j }
 {
     times(weights[j], 2 * seats[i] - 1) < times(weights[i], 2 * seats[j] + 1)
+}
+
+/// Whether the next seat of `k`, or its last one, is worth as much as the last seat of `i`.
+pub(crate) fn is_worth_as_much(weights: &[u64], seats: &[u32], i: usize, k: usize) -> bool
+    requires small { AreSmall weights.now seats.now }
+    requires i { i < length weights.now }
+    requires k { k < length weights.now }
+    requires seated { 1 ≤ slice_index seats.now i }
+    ensures { IsTrue result ↔ IsWorthAsMuch weights.now seats.now i k }
+{
+    let lasts = 2 * seats[i] - 1;
+    let claim = times(weights[k], lasts);
+    if claim == times(weights[i], 2 * seats[k] + 1) {
+        return true;
+    }
+    seats[k] > 0 && claim == times(weights[i], 2 * seats[k] - 1)
 }
 
 /// The first whose next seat is worth most.

@@ -1,5 +1,6 @@
 pub mod Asked
 pub mod Divisors
+pub mod Fitting
 pub mod NearlyTied
 pub mod Question
 pub mod RoundingOf

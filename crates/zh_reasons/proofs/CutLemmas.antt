@@ -4,7 +4,8 @@ use Rattle.std.proofs.lemmas.Bool.{cases_eq, cases_lt, ltb-true}
 use Rattle.std.proofs.Math.Nat.{le_of_eq}
 use Rattle.zh_divisors.specs.Sums.{sum_to}
 use Rattle.zh_divisors.proofs.CallerLemmas.{sum_to-le, sum_to-zero}
-use Rattle.zh_reasons.specs.Impossible.{FitsVotes, HasTooFewSeats, is_among, seats_due, seats_there, votes_among}
+use Rattle.zh_matrices.specs.Fitting.{FitsVotes}
+use Rattle.zh_reasons.specs.Impossible.{HasTooFewSeats, is_among, seats_due, seats_there, votes_among}
 use Rattle.zh_matrices.specs.Question.{Question, cell}
 use Rattle.zh_reasons.specs.Ways.{AreBalanced, ArePlaced, HasNoSource, IsStuck, column_seats, placed, row_seats, to_place, way_at}
 use Rattle.zh_reasons.specs.declared.ways.Way.{Way}

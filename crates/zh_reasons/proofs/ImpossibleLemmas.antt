@@ -5,7 +5,8 @@ use Rattle.std.proofs.Math.Nat.{mul-le-mul_right, mul-pos}
 use Rattle.zh_divisors.specs.Sums.{sum_to}
 use Rattle.zh_divisors.proofs.CallerLemmas.{sum_to-ext, sum_to-le, sum_to-zero, term-le-sum_to}
 use Rattle.zh_matrices.specs.Divisors.{Divisors}
-use Rattle.zh_reasons.specs.Impossible.{FitsVotes, HasTooFewSeats, is_among, seats_due, seats_there, votes_among}
+use Rattle.zh_matrices.specs.Fitting.{FitsVotes}
+use Rattle.zh_reasons.specs.Impossible.{HasTooFewSeats, is_among, seats_due, seats_there, votes_among}
 use Rattle.zh_matrices.specs.Question.{Question, cell}
 use Rattle.zh_matrices.specs.SeatMatrix.{IsWeak, MayRound}
 use Rattle.zh_matrices.proofs.CallerLemmas.{total-swap}

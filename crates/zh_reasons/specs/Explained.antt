@@ -1,6 +1,7 @@
 -- What an explanation says.
 use Rattle.std.specs.Prelude.{ℕ}
-use Rattle.zh_reasons.specs.Impossible.{FitsVotes, HasTooFewSeats}
+use Rattle.zh_matrices.specs.Fitting.{FitsVotes}
+use Rattle.zh_reasons.specs.Impossible.{HasTooFewSeats}
 use Rattle.zh_reasons.specs.Pairs.{IsNearTie}
 use Rattle.zh_matrices.specs.Question.{Question}
 use Rattle.zh_reasons.specs.declared.explanation.Explanation.{Explanation}

@@ -1,19 +1,8 @@
 -- Why no seats exist under any divisors: rows whose votes lie in columns that have fewer seats than they.
-use Rattle.std.specs.Prelude.{◌≡◌, ℕ, ◌*◌, ◌<◌, Bool, false, nat_lt, if◌then◌else◌, List, length, slice_index, slice_index_or}
+use Rattle.std.specs.Prelude.{ℕ, ◌<◌, Bool, false, nat_lt, if◌then◌else◌, List, slice_index, slice_index_or}
 use Rattle.zh_divisors.specs.Sums.{sum_to}
+use Rattle.zh_matrices.specs.Fitting.{FitsVotes}
 use Rattle.zh_matrices.specs.Question.{Question, cell}
-use Rattle.zh_matrices.specs.SeatMatrix.{ColumnsAddUp, RowsAddUp}
-
--- no seats where there are no votes
-abbrev pub AreOnVotes : Question → List ℕ → Type 0
-AreOnVotes q seats = (d g : ℕ) → d < q.rows → g < q.columns → cell q.columns q.votes d g ≡ 0 → cell q.columns seats d g ≡ 0
-
--- a matrix on these votes with these totals
-pub record FitsVotes (q : Question) (seats : List ℕ) : Type 0 where
-  pub one_each : length seats ≡ q.rows * q.columns
-  pub rows_add_up : RowsAddUp q seats
-  pub columns_add_up : ColumnsAddUp q seats
-  pub on_votes : AreOnVotes q seats
 
 -- there is such a matrix
 abbrev pub IsPossible : Question → Type 0

@@ -1,7 +1,7 @@
 -- Seats that are placed one by one, and the ways by which a row may take one more.
 use Rattle.std.specs.Prelude.{◌≡◌, ℕ, ◌+◌, ◌*◌, ◌<◌, ◌≤◌, Option, Some, None, IsSome, List, length, slice_index, slice_index_or}
 use Rattle.zh_divisors.specs.Sums.{sum_to}
-use Rattle.zh_reasons.specs.Impossible.{AreOnVotes}
+use Rattle.zh_matrices.specs.Fitting.{AreOnVotes}
 use Rattle.zh_matrices.specs.Question.{Question, cell}
 use Rattle.zh_reasons.specs.declared.ways.Source.{Source}
 use Rattle.zh_reasons.specs.declared.ways.Source.TheVariants.{Giver, Spare}

@@ -2,7 +2,8 @@
 //! one after the other along paths, until there is no way to place one.
 ghost use Rattle.std.specs.Prelude.{◌≡◌, ℕ, ◌+◌, ◌*◌, ◌<◌, IfErr, OnOk, is_none, length, slice_index};
 ghost use Rattle.zh_matrices.specs.Asked.{asked};
-ghost use Rattle.zh_reasons.specs.Impossible.{FitsVotes, HasTooFewSeats, is_among};
+ghost use Rattle.zh_matrices.specs.Fitting.{FitsVotes};
+ghost use Rattle.zh_reasons.specs.Impossible.{HasTooFewSeats, is_among};
 ghost use Rattle.zh_matrices.specs.Question.{AreSeatTotals};
 ghost use Rattle.zh_reasons.specs.Ways as words;
 

@@ -1,7 +1,8 @@
 //! What shows that a question has no seats, or none that are clear of every half.
 ghost use Rattle.std.specs.Prelude.{Bool, List, ℕ};
 ghost use Rattle.zh_matrices.specs.Divisors.{Divisors};
-ghost use Rattle.zh_reasons.specs.Impossible.{FitsVotes, HasTooFewSeats};
+ghost use Rattle.zh_matrices.specs.Fitting.{FitsVotes};
+ghost use Rattle.zh_reasons.specs.Impossible.{HasTooFewSeats};
 ghost use Rattle.zh_matrices.specs.NearlyTied.{IsClear, IsNear, IsNearlyTied};
 ghost use Rattle.zh_matrices.specs.Question.{Question};
 ghost use Rattle.zh_matrices.specs.SeatMatrix.{IsStrict, IsWeak};

@@ -7,6 +7,7 @@ use crate::above::{Above, seats_above};
 use crate::fault::SheetFault;
 use crate::seated::{seated_groups, seats_of, votes_of};
 use std::alloc::{AllocError, Global};
+use std::snapshot::Snapshot;
 use zh_lower::Matrix;
 use zh_reasons::{Explanation, MarkedRows, Room, explain_exhausted};
 use zh_totals::Totals;
@@ -20,8 +21,9 @@ pub enum ExhaustedReason {
     /// Two different distributions follow nearly from the same divisors; they differ first in this constituency and this
     /// group.
     NearlyTied(u32, u32),
-    /// Some seats of the lists meet all totals, and no near tie is known.
-    Undecided,
+    /// Some seats of the lists meet all totals, and no near tie is known. What was tested last, which only clauses read, is
+    /// none.
+    Undecided(Snapshot<Room>),
 }
 
 /// The reason in the numbers of the set-up, where the seats above stand.
@@ -47,7 +49,7 @@ fn reason_below(
             constituency,
             seated[(column - 1) as usize],
         )),
-        Explanation::Undecided => Ok(ExhaustedReason::Undecided),
+        Explanation::Undecided => Ok(ExhaustedReason::Undecided(Snapshot::of(&room))),
     }
 }
 

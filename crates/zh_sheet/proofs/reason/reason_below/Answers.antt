@@ -1,7 +1,8 @@
-use Rattle.std.proofs.Common.{◌≡◌, ap, arith, length, refl, rules, subst, sym, ◌∙◌}
+use Rattle.std.proofs.Common.{◌≡◌, ℕ, ap, arith, length, refl, rules, subst, sym, ◌∙◌}
 use Rattle.std.proofs.lemmas.Grind.{common_steps}
 use Rattle.zh_matrices.specs.Question.{Question, question}
-use Rattle.zh_reasons.specs.Impossible.{FitsVotes, HasTooFewSeats}
+use Rattle.zh_matrices.specs.Fitting.{FitsVotes}
+use Rattle.zh_reasons.specs.Impossible.{HasTooFewSeats}
 use Rattle.zh_reasons.specs.Pairs.{IsNearTie}
 use Rattle.zh_reasons.specs.Ways.{AreBalanced}
 use Rattle.zh_sheet.specs.Distribution.{lower_question, seated_groups}
@@ -155,5 +156,6 @@ returns c =
       c.deref-2.ensures.value,
       c.in_ok-seated.ensures,
     ) refl in
-    undecided c.args.totals.now targets c.explain_exhausted.new.room.placed.items
+    rw c.of.ensures (undecided c.args.totals.now targets c.explain_exhausted.new.room
     (subst (λ (q : Question). FitsVotes q c.explain_exhausted.new.room.placed.items) same c.in-Undecided.ensures.explains.0)
+    (subst (λ (q : Question). (d g : ℕ) → ¬ IsNearTie q c.explain_exhausted.new.room.pair d g) same c.in-Undecided.ensures.explains.1))

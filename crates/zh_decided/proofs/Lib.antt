@@ -1,0 +1,6 @@
+mod BeyondLemmas
+mod BoxLemmas
+mod CellLemmas
+mod ScaledLemmas
+mod TableLemmas
+mod TieLemmas

@@ -1,0 +1,105 @@
+-- Floating divisors, and near ties under them.
+use Rattle.std.proofs.Common.{◌≡◌, ℕ, zero, suc, ◌+◌, ◌-◌, ◌*◌, ◌^◌, ◌<◌, ◌≤◌, List, get_or, slice_index, inl, inr, arith}
+use Rattle.std.proofs.lemmas.Bool.{cases_lt}
+use Rattle.zh_divisors.specs.Sums.{sum_to}
+use Rattle.zh_floating.specs.Floats.{floating}
+use Rattle.zh_floating.specs.declared.divisors.FloatingDivisors.{FloatingDivisors}
+use Rattle.zh_floating.proofs.CallerLemmas.{of_scale, value_at}
+use Rattle.zh_logarithms.specs.Logarithms.{log_unit}
+use Rattle.zh_logarithms.proofs.CallerLemmas.{power_positive}
+use Rattle.zh_matrices.specs.Fitting.{FitsVotes}
+use Rattle.zh_matrices.specs.NearlyTied.{IsNear}
+use Rattle.zh_matrices.specs.Question.{AreSeatTotals, Question, cell}
+use Rattle.zh_sweeps.specs.Gaps.{IsGap}
+use Rattle.zh_sweeps.specs.Prices.{AreLogs, Logs, priced}
+use Rattle.zh_sweeps.specs.Sweeps.{StandsFree, of_column, of_row}
+use Rattle.zh_sweeps.specs.Turns.{KeepsNearlyFair, MakesAnother}
+use Rattle.zh_sweeps.specs.declared.gaps.Gap.{Gap}
+use Rattle.zh_sweeps.specs.declared.sweeps.Potentials.{Potentials}
+use Rattle.zh_sweeps.proofs.CallerLemmas.{cell-fitting}
+use Rattle.zh_decided.specs.Floated.{AreColumnFloats, AreRowFloats, Fit}
+use Rattle.zh_decided.specs.Tables.{AreLogTables}
+use Rattle.zh_decided.proofs.ScaledLemmas.{AreScaled, near}
+use Rattle.zh_decided.proofs.TableLemmas.{next-dearer, price-is}
+
+-- some term of a positive sum is positive
+positive-term : (n : ℕ) (f : ℕ → ℕ) → 0 < sum_to n f → (g : ℕ) × (g < n) × (0 < f g)
+positive-term zero f some = absurd (omega arith)
+positive-term (suc n) f some =
+    elim (cases_lt 0 (f n)) [
+      | inl here ↦ (n, omega arith, here)
+      | inr none ↦
+          let before : (g : ℕ) × (g < n) × (0 < f g) = positive-term n f (omega arith) in
+          (before.0, omega (arith, before.1), before.2)
+    ]
+
+-- potentials that stand still lie near those of the divisor 1, since each row has a seat
+pub fit : (q : Question) (l : Logs) (seats : List ℕ) (given taken : ℕ) (p : Potentials) → AreLogs l → AreLogTables q l →
+    AreSeatTotals q.rows q.row_totals → FitsVotes q seats → StandsFree (priced q l seats) given taken p → Fit q.rows q.columns p
+fit q l seats given taken p A T totals F S = record {
+  rows = λ d dm.
+      let some : 1 ≤ get_or q.row_totals d 0 = totals.from_1 d 0 (omega (arith, totals.one_each)) in
+      let seated : (g : ℕ) × (g < q.columns) × (0 < cell q.columns seats d g)
+      = positive-term q.columns (λ g. cell q.columns seats d g) (omega (arith, F.rows_add_up d dm)) in
+      let g : ℕ = seated.0 in
+      let gn : g < q.columns = seated.1 in
+      let few : cell q.columns seats d g ≤ 400 = cell-fitting q seats totals F d g dm gn in
+      let small : get_or l.of_odds (cell q.columns seats d g) 0 ≤ 2 ^ 36 = A.small_odds (cell q.columns seats d g) 0 (omega (arith, A.enough)) in
+      elim (cases_lt 0 (cell q.columns q.votes d g)) [
+        | inl votes ↦ omega (
+          arith,
+          S.still.fair.given d g dm gn votes,
+          S.still.capped.columns g gn,
+          S.free.column_cap,
+          price-is q l A T d g (cell q.columns seats d g) dm gn,
+        )
+        | inr none ↦ absurd (omega (arith, F.on_votes d g dm gn (omega arith), seated.2))
+      ];
+  columns = λ g gn. omega (arith, S.still.capped.columns g gn, S.free.column_cap);
+}
+
+-- the divisors that they stand for
+pub scaled-floats : (q : Question) (p : Potentials) (x : FloatingDivisors) → Fit q.rows q.columns p → AreRowFloats q.rows p.of_rows x.of_rows →
+    AreColumnFloats q.columns p.of_columns x.of_columns → AreScaled q 1 (floating x) (of_row p) (of_column p)
+scaled-floats q p x fits R C = record {
+  unit = 65598 * log_unit;
+  row_log = λ d. 31 * log_unit + (2 ^ 60 + 2 ^ 45 - slice_index p.of_rows d);
+  column_log = λ g. 31 * log_unit + (2 ^ 45 + slice_index p.of_columns g);
+  scale_positive = power_positive 2 32799 (omega arith);
+  scale = of_scale;
+  rows = λ d dm. rw (value_at x.of_rows d) (R.logs d dm);
+  columns = λ g gn. rw (value_at x.of_columns g) (C.logs g gn);
+  potentials = λ d g dm gn. omega (arith, fits.rows d dm);
+}
+
+-- the matrix that a gap is about is near
+pub one-near : (q : Question) (l : Logs) (seats : List ℕ) (gap : Gap) (x : FloatingDivisors) → AreLogs l → AreLogTables q l →
+    AreSeatTotals q.rows q.row_totals → FitsVotes q seats → IsGap (priced q l seats) gap →
+    AreScaled q 1 (floating x) (of_row gap.potentials) (of_column gap.potentials) → IsNear q (floating x) seats
+one-near q l seats gap x A T totals F G K =
+    near q l 1 0 0 (floating x) G.still.bounds (of_row gap.potentials) (of_column gap.potentials) seats A T totals F K G.still.still.fair
+    (omega arith) (omega arith)
+
+-- and so is that which its cycle makes of it
+pub other-near : (q : Question) (l : Logs) (seats others : List ℕ) (gap : Gap) (x : FloatingDivisors) → AreLogs l → AreLogTables q l →
+    AreSeatTotals q.rows q.row_totals → FitsVotes q others → IsGap (priced q l seats) gap → gap.cycle_at ≡ gap.still_at + 1 →
+    gap.cycle_at ≤ 4108 → KeepsNearlyFair q gap.cycle seats others →
+    AreScaled q 1 (floating x) (of_row gap.potentials) (of_column gap.potentials) → IsNear q (floating x) others
+other-near q l seats others gap x A T totals F G one small keeps K =
+    let b = G.still.bounds in
+    let slack : gap.cycle_at ≡ b.given + b.taken + 1 = omega (arith, G.still.given_is, G.still.taken_is) in
+    let spent : ℕ = b.given + b.taken + gap.cycle.length * 1 in
+    near q l 1 spent spent (floating x) b (of_row gap.potentials) (of_column gap.potentials) others A T totals F K
+    (keeps l b 1 (of_row gap.potentials) (of_column gap.potentials) A (rw slack at G.cycle) G.still.still.fair)
+    (omega (arith, G.still.given_is, G.still.taken_is, G.cycle.circle.few)) (omega (arith, G.still.given_is, G.still.taken_is, G.cycle.circle.few))
+
+-- it is another one
+pub another : (q : Question) (l : Logs) (seats others : List ℕ) (gap : Gap) → AreLogs l → AreLogTables q l → AreSeatTotals q.rows q.row_totals →
+    FitsVotes q seats → IsGap (priced q l seats) gap → gap.cycle_at ≤ 4108 → MakesAnother q gap.cycle seats others →
+    ((k : ℕ) → slice_index seats k ≡ slice_index others k) → ⊥
+another q l seats others gap A T totals F G small makes same =
+    let other = makes l gap.cycle_at G.cycle (λ d g dm gn has. omega (
+      arith,
+      next-dearer q l A T d g (cell q.columns seats d g) dm gn has (cell-fitting q seats totals F d g dm gn),
+    )) in
+    other.4 (same (other.0 * q.columns + other.1))

@@ -1,0 +1,43 @@
+-- Sweeps within the limits of a sheet.
+use Rattle.std.specs.Prelude.{◌≡◌, ℕ, ◌+◌, ◌-◌, ◌*◌, ◌^◌, ◌<◌, ◌≤◌, List, length, slice_index}
+use Rattle.zh_logarithms.specs.Logarithms.{IsLog, log_unit}
+use Rattle.zh_matrices.specs.Divisors.{AreWithinLimits, millionths}
+use Rattle.zh_matrices.specs.Question.{Question}
+use Rattle.zh_matrices.specs.SeatMatrix.{IsStrict}
+use Rattle.zh_sweeps.specs.declared.bounds.Bounds.{Bounds}
+
+-- bounds for divisors from 2^bits millionths to the limits, with what rounding such numbers costs for a slack
+pub record IsBox (bits : ℕ) (bounds : Bounds) : Type 0 where
+  pub scale : ℕ
+  pub most : ℕ
+  pub scale_log : IsLog 0 2 (10 ^ 12) scale
+  pub most_log : IsLog 0 2 (10 ^ 18) most
+  pub given : bounds.given ≡ 2 ^ (32 - bits) + 6
+  pub taken : bounds.taken ≡ 6
+  pub row_cap : bounds.row_cap + bits * log_unit ≡ 2 ^ 60 + scale
+  pub row_floor : bounds.row_floor + most ≡ 2 ^ 60 + scale
+  pub column_cap : bounds.column_cap ≡ scale
+  pub column_floor : bounds.column_floor ≡ bits * log_unit
+
+-- numbers from 2^bits to a most with these logarithms
+pub record HaveLogs (bits most n : ℕ) (numbers : List ℕ) (logarithms : ℕ → ℕ) : Type 0 where
+  pub one_each : length numbers ≡ n
+  pub logs : (i : ℕ) → i < n → IsLog (2 ^ (31 - bits)) 2 (slice_index numbers i) (logarithms i)
+  pub from_least : (i : ℕ) → i < n → 2 ^ bits ≤ slice_index numbers i
+  pub at_most : (i : ℕ) → i < n → slice_index numbers i ≤ most
+
+-- divisors in millionths, within the limits, that give these seats and no others
+pub record GiveWithin (q : Question) (of_rows of_columns seats : List ℕ) : Type 0 where
+  pub limits : AreWithinLimits q of_rows of_columns
+  pub strict : IsStrict q (millionths of_rows of_columns) seats
+
+-- from 1.05 to 999,900 for a column, and to 999,900,000,000 for a row
+pub record AreInRange (q : Question) (of_rows of_columns : List ℕ) : Type 0 where
+  pub row_least : (d : ℕ) → d < q.rows → 1050000 ≤ slice_index of_rows d
+  pub row_most : (d : ℕ) → d < q.rows → slice_index of_rows d ≤ 999900000000000000
+  pub column_least : (g : ℕ) → g < q.columns → 1050000 ≤ slice_index of_columns g
+  pub column_most : (g : ℕ) → g < q.columns → slice_index of_columns g ≤ 999900000000
+
+-- no divisors in millionths in these ranges give the seats
+abbrev pub NoneInRange : Question → List ℕ → Type 0
+NoneInRange q seats = (of_rows of_columns : List ℕ) → AreInRange q of_rows of_columns → ¬ IsStrict q (millionths of_rows of_columns) seats

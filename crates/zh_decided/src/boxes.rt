@@ -1,0 +1,135 @@
+//! Divisors in millionths, within the limits of a sheet.
+ghost use Rattle.std.specs.Prelude.{◌≡◌, ℕ, ◌+◌, ◌-◌, ◌*◌, ◌^◌, ◌<◌, ◌≤◌, length, slice_index};
+ghost use Rattle.std.specs.Bool.{OnFalse, OnTrue};
+ghost use Rattle.zh_decided.specs.Boxes.{GiveWithin, HaveLogs, IsBox, NoneInRange};
+ghost use Rattle.zh_decided.specs.Tables.{AreLogTables};
+ghost use Rattle.zh_logarithms.specs.Logarithms.{log_unit, power};
+ghost use Rattle.zh_matrices.specs.Asked.{asked};
+ghost use Rattle.zh_matrices.specs.Fitting.{FitsVotes};
+ghost use Rattle.zh_matrices.specs.Question.{AreSeatTotals};
+ghost use Rattle.zh_sweeps.specs.Prices.{priced};
+ghost use Rattle.zh_sweeps.specs.Sweeps.{StandsFree};
+ghost use Rattle.zh_sweeps.specs.Taken.{logs};
+ghost use Rattle.zh_sweeps.specs.declared.sweeps.Potentials.{Potentials};
+
+use zh_logarithms::{antilogarithm, logarithm};
+use zh_matrices::Question;
+use zh_sweeps::{Bounds, LogTable, Swept, sweep};
+
+/// What potentials of rows are below.
+const BASE: u64 = 1 << 60;
+/// The logarithm of 2.
+const UNIT: u64 = 1 << 30;
+/// The most that a row and a column may have, in millionths. Twice the votes are taken 10^12 times too.
+const ROW_MOST: u64 = 1_000_000_000_000_000_000;
+
+const COLUMN_MOST: u64 = 1_000_000_000_000;
+
+/// Divisors from 2^bits millionths to the limits.
+fn box_from(bits: u32) -> Bounds
+    requires some { 4 ≤ bits }
+    requires few { bits ≤ 20 }
+    ensures { IsBox bits result }
+{
+    let scale = logarithm(COLUMN_MOST);
+    let least = u64::from(bits) * UNIT;
+    Bounds {
+        given: (1 << (32 - bits)) + 6,
+        taken: 6,
+        row_cap: BASE + scale - least,
+        column_cap: scale,
+        row_floor: BASE + scale - logarithm(ROW_MOST),
+        column_floor: least,
+    }
+}
+
+/// Numbers with the logarithms from a top down to potentials.
+fn take_below(top: u64, potentials: &[u64; 32], bits: u32, most: u64, into: &mut [u64])
+    requires some { 4 ≤ bits }
+    requires few { bits ≤ 20 }
+    requires length { length into.old ≤ 32 }
+    requires least { (i : ℕ) → i < length into.old → slice_index potentials.now i + bits * log_unit ≤ top }
+    requires most { (i : ℕ) → i < length into.old → power 2 (top - slice_index potentials.now i) ≤ power most log_unit }
+    requires room { 2 ^ 20 ≤ most }
+    requires fits { most < 2 ^ 63 }
+    ensures { HaveLogs bits most (length into.old) into.new (λ i. top - slice_index potentials.now i) }
+{
+    for line in 0..into.len() {
+        into[line] = antilogarithm(top - potentials[line], bits, most);
+    }
+}
+
+/// Numbers with these logarithms.
+fn take_numbers(logarithms: &[u64; 32], bits: u32, most: u64, into: &mut [u64])
+    requires some { 4 ≤ bits }
+    requires few { bits ≤ 20 }
+    requires length { length into.old ≤ 32 }
+    requires least { (i : ℕ) → i < length into.old → bits * log_unit ≤ slice_index logarithms.now i }
+    requires most { (i : ℕ) → i < length into.old → power 2 (slice_index logarithms.now i) ≤ power most log_unit }
+    requires room { 2 ^ 20 ≤ most }
+    requires fits { most < 2 ^ 63 }
+    ensures { HaveLogs bits most (length into.old) into.new (slice_index logarithms.now) }
+{
+    for line in 0..into.len() {
+        into[line] = antilogarithm(logarithms[line], bits, most);
+    }
+}
+
+/// Whether divisors from 2^bits millionths on give the seats, which are left behind.
+fn give_from(
+    question: &Question<'_>,
+    logarithms: &LogTable<'_>,
+    seats: &[u32],
+    bits: u32,
+    of_rows: &mut [u64],
+    of_columns: &mut [u64],
+) -> bool
+    requires some { 4 ≤ bits }
+    requires few { bits ≤ 20 }
+    requires totals { AreSeatTotals question.now.rows question.now.row_totals.now }
+    requires tables { AreLogTables (asked question.now) (logs logarithms.now) }
+    requires fits { FitsVotes (asked question.now) seats.now }
+    requires rows { length of_rows.old ≡ question.now.rows }
+    requires columns { length of_columns.old ≡ question.now.columns }
+    ensures give { OnTrue result (GiveWithin (asked question.now) of_rows.new of_columns.new seats.now) }
+    ensures none { OnFalse result (bits ≡ 20 → (p : Potentials) →
+        StandsFree (priced (asked question.now) (logs logarithms.now) seats.now) 4102 6 p → NoneInRange (asked question.now) seats.now) }
+{
+    let bounds = box_from(bits);
+    match sweep(question, logarithms, seats, bounds) {
+        Swept::Still(potentials) => {
+            let top = bounds.row_cap + u64::from(bits) * UNIT;
+            take_below(top, &potentials.of_rows, bits, ROW_MOST, of_rows);
+            take_numbers(&potentials.of_columns, bits, COLUMN_MOST, of_columns);
+            true
+        }
+        Swept::Cycle(_cycle) => false,
+        Swept::Out => false,
+    }
+}
+
+/// Whether divisors in millionths give the seats, in the first of five boxes that has some; they are left behind.
+pub(crate) fn give_within(
+    question: &Question<'_>,
+    logarithms: &LogTable<'_>,
+    seats: &[u32],
+    of_rows: &mut [u64],
+    of_columns: &mut [u64],
+) -> bool
+    requires totals { AreSeatTotals question.now.rows question.now.row_totals.now }
+    requires tables { AreLogTables (asked question.now) (logs logarithms.now) }
+    requires fits { FitsVotes (asked question.now) seats.now }
+    requires rows { length of_rows.old ≡ question.now.rows }
+    requires columns { length of_columns.old ≡ question.now.columns }
+    ensures give { OnTrue result (GiveWithin (asked question.now) of_rows.new of_columns.new seats.now) }
+    ensures none { OnFalse result ((p : Potentials) →
+        StandsFree (priced (asked question.now) (logs logarithms.now) seats.now) 4102 6 p → NoneInRange (asked question.now) seats.now) }
+{
+    for smaller in 0..5 {
+        let bits = 20 - 4 * smaller;
+        if give_from(question, logarithms, seats, bits, of_rows, of_columns) {
+            return true;
+        }
+    }
+    false
+}

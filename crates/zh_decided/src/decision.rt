@@ -1,0 +1,15 @@
+//! What is decided.
+
+use zh_floating::FloatingDivisors;
+
+/// What there is for a question, where some matrix on the votes has the totals.
+#[derive(Clone, Copy)]
+pub enum Decision {
+    /// Divisors in millionths give the seats, strictly.
+    Seats,
+    /// Two different matrices follow nearly from these divisors; they differ first in this row and this column, both counted
+    /// from 1.
+    NearlyTied(u32, u32, FloatingDivisors),
+    /// The seats follow strictly from these divisors, and none in millionths that leave the limits some room give any.
+    Beyond(FloatingDivisors),
+}

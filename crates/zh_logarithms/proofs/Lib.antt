@@ -1,0 +1,5 @@
+pub mod CallerLemmas
+mod ApproximationLemmas
+mod LogLemmas
+mod PowerLemmas
+mod RoundingLemmas

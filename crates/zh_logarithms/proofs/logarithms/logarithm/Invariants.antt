@@ -1,0 +1,11 @@
+use Rattle.std.proofs.Common.{◌*◌, ◌^◌, ◌<◌, ◌≤◌}
+use Rattle.zh_logarithms.proofs.ApproximationLemmas.{Approximates}
+use Rattle.zh_logarithms.proofs.logarithms.logarithm.Given as goal
+
+abbrev pub invariant-loop-place : goal.invariant-loop-place
+invariant-loop-place l = record {
+  least : 2 ^ 63 ≤ l.mantissa;
+  fits : l.mantissa < 2 ^ 64;
+  small : l.logarithm < 64 * 2 ^ l._place;
+  nearly : Approximates l.number l._place l.mantissa l.logarithm;
+}

@@ -1,0 +1,15 @@
+use Rattle.std.proofs.Common.{◌-◌, ◌≤◌}
+use Rattle.zh_matrices.specs.Asked.{asked}
+use Rattle.zh_sweeps.specs.Gaps.{IsGap}
+use Rattle.zh_sweeps.specs.Prices.{priced}
+use Rattle.zh_sweeps.specs.Taken.{logs}
+use Rattle.zh_sweeps.proofs.gaps.close_gap.Given as goal
+
+abbrev pub invariant-loop-gap : goal.invariant-loop-gap
+invariant-loop-gap l = record {
+  gap : IsGap (priced (asked l.question) (logs l.logarithms) l.seats) l.gap;
+  within : l.gap.cycle_at ≤ l.initial.gap.cycle_at;
+}
+
+abbrev pub decreases-loop-gap : goal.decreases-loop-gap
+decreases-loop-gap l = l.gap.cycle_at - l.gap.still_at

@@ -1,0 +1,16 @@
+use Rattle.zh_matrices.specs.Asked.{asked}
+use Rattle.zh_sweeps.specs.Sweeps.{of_column, of_row}
+use Rattle.zh_sweeps.specs.Taken.{logs}
+use Rattle.zh_sweeps.proofs.CheapestLemmas.{cheapest}
+use Rattle.zh_sweeps.proofs.TurnLemmas.{few-fitting}
+use Rattle.zh_sweeps.proofs.turns.make_cheapest.Goals as goal
+
+pub sweep-requires-clause-few : goal.sweep-requires-clause-few
+sweep-requires-clause-few c =
+    few-fitting (asked c.args.question.now) c.loop-potentials.seats c.requires.totals c.loop-potentials.invariant
+
+pub returns-in-Still-clause-cheapest : goal.returns-in-Still-clause-cheapest
+returns-in-Still-clause-cheapest c = λ others fits.
+    cheapest (asked c.args.question.now) (logs c.args.logarithms.now) c.free.result c.loop-potentials.seats others
+    (of_row c.in-Still.potentials) (of_column c.in-Still.potentials) c.args.logarithms.now.taken c.requires.totals c.in-Still.ensures.fair
+    c.loop-potentials.invariant fits

@@ -1,0 +1,97 @@
+//! The levels of a sweep, one after the other.
+ghost use Rattle.std.specs.Prelude.{◌≡◌, ℕ, ◌*◌, ◌<◌, ◌≤◌, All, IfNone, IfSome, None, Some, length, slice_index};
+ghost use Rattle.zh_matrices.specs.Asked.{asked};
+ghost use Rattle.zh_sweeps.specs.Levels as words;
+ghost use Rattle.zh_sweeps.specs.Prices.{priced};
+ghost use Rattle.zh_sweeps.specs.Taken.{logs};
+
+use crate::bounds::Bounds;
+use crate::cycle::Cycle;
+use crate::levels::{LINES, Mark, column_marks, row_marks};
+use crate::prices::LogTable;
+use crate::sweeps::Potentials;
+use crate::trail::Trail;
+use zh_matrices::Question;
+
+/// The end of a sweep, or a column that falls even at its last level.
+#[derive(Clone, Copy)]
+pub(crate) enum Descent {
+    Still(Potentials),
+    Out,
+    Cycle(Cycle),
+    Falls(Trail),
+}
+
+/// The first column that fell, and the row that made it.
+fn first_fallen(question: &Question<'_>, columns: &[Mark; LINES]) -> Option<(usize, usize)>
+    ensures column { IfSome result (λ fallen. fallen.0 < question.now.columns) }
+    ensures maker { IfSome result (λ fallen. (words.mark_at columns.now fallen.0).maker ≡ Some fallen.1) }
+    ensures none { IfNone result ((g : ℕ) → g < question.now.columns → (words.mark_at columns.now g).maker ≡ None) }
+{
+    for column in 0..question.columns {
+        if let Some(row) = columns[column].maker {
+            return Some((column, row));
+        }
+    }
+    None
+}
+
+/// The potentials alone.
+fn potentials(marks: &[Mark; LINES]) -> [u64; LINES]
+    ensures { (i : ℕ) → i < 32 → slice_index result i ≡ words.potential_at marks.now i }
+{
+    let mut potentials = [0; LINES];
+    for line in 0..LINES {
+        potentials[line] = marks[line].potential;
+    }
+    potentials
+}
+
+/// Goes on from these columns, with so many levels after this one.
+pub(crate) fn descend(
+    question: &Question<'_>,
+    logarithms: &LogTable<'_>,
+    seats: &[u32],
+    bounds: Bounds,
+    columns: &[Mark; LINES],
+    levels: usize,
+) -> Descent
+    requires votes { length logarithms.now.of_votes.now ≡ question.now.rows * question.now.columns }
+    requires seats { length seats.now ≡ question.now.rows * question.now.columns }
+    requires few { All (λ s. s ≤ 400) seats.now }
+    requires caps { (g : ℕ) → g < question.now.columns → words.potential_at columns.now g ≤ bounds.column_cap }
+    requires above { words.AreAbove (priced (asked question.now) (logs logarithms.now) seats.now) bounds columns.now }
+    requires levels { levels ≤ 32 }
+    ensures { words.Descends (priced (asked question.now) (logs logarithms.now) seats.now) bounds levels columns.now result }
+{
+    let Some(rows) = row_marks(question, logarithms, seats, bounds, columns) else {
+        return Descent::Out;
+    };
+    let Some(lower) = column_marks(question, logarithms, seats, bounds, &rows, columns) else {
+        return Descent::Out;
+    };
+    let Some((fallen, maker)) = first_fallen(question, &lower) else {
+        return Descent::Still(Potentials {
+            of_rows: potentials(&rows),
+            of_columns: potentials(&lower),
+        });
+    };
+    if levels == 0 {
+        return Descent::Falls(Trail::new(maker, fallen, rows[maker].maker));
+    }
+    match descend(question, logarithms, seats, bounds, &lower, levels - 1) {
+        Descent::Falls(trail) => {
+            let Some(column) = trail.source else {
+                unreachable!();
+            };
+            if let Some(first) = trail.position(column) {
+                return Descent::Cycle(trail.circle_from(first));
+            }
+            let Some(giver) = lower[column].maker else {
+                unreachable!();
+            };
+            Descent::Falls(trail.and(giver, column, rows[giver].maker))
+        }
+        end => end,
+    }
+}
