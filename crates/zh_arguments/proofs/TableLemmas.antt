@@ -8,10 +8,9 @@ use Rattle.std.proofs.lemmas.Slice.Eq.{bytes_eq-Decides}
 use Rattle.std.specs.Prelude.{option_and_then}
 use Rattle.clap.specs.Words.{Row, Text, first_of}
 use Rattle.zh_arguments.specs.Table.{number_in, part_of, path_in, table_in, table_named}
-use Rattle.zh_arguments.proofs.ArgumentLemmas.{equal, unequal}
+use Rattle.zh_arguments.proofs.ArgumentLemmas.{equal}
 use Rattle.zh_tables.specs.declared.table.Part.{Part}
 use Rattle.zh_tables.specs.declared.table.Table.{Table}
-use Rattle.zh_tables.specs.declared.table.Part.TheVariants.{Whole, Municipality, Constituency}
 
 unless_both : (a b : Bool) (n : ℕ) → (a ≡ true → b ≡ true → ⊥) → ◌≡◌ {A = Option ℕ} None (if a && b then Some n else None)
 unless_both true true n h = absurd (h refl refl)
@@ -26,12 +25,6 @@ number_read text None none =
 number_read text (Some n) (small, is) =
     let value : digits_value 10 text ≡ n = ap (digits_value 10) is ∙ (decimal_is_IsNumeral n (omega arith)).1 in
     rw (value, lt-ltb n (2 ^ 32) small, equal text (decimal n) is) refl
-
--- a name that is that of no table
-pub none_named : (name : Text) → name ≢ codes "constituencies" → name ≢ codes "municipalities" → name ≢ codes "groups" → name ≢ codes "lists" → name ≢ codes "returns" → (part : Part) → table_named name part ≡ None
-none_named name a b c d e Whole = rw (unequal name _ a, unequal name _ b, unequal name _ c, unequal name _ d, unequal name _ e) refl
-none_named name a b c d e (Municipality m) = rw (unequal name _ e) refl
-none_named name a b c d e (Constituency m) = rw (unequal name _ e) refl
 
 -- the part that was given
 part_read : (rows : List Row) (m d : Option Text) → m ≡ first_of (codes "municipality") rows → d ≡ first_of (codes "constituency") rows → part_of m d ≡ part_of (first_of (codes "municipality") rows) (first_of (codes "constituency") rows)

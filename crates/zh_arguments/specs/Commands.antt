@@ -36,9 +36,11 @@ list_command =
     with_rule (with_rule (with_rule (with_rule (new_app (codes "list")) (argument_rule (codes "setup"))) (argument_rule (codes "of")))
     (option_rule (codes "municipality"))) (option_rule (codes "constituency"))
 
--- the command that may have one of two flags
+-- the command that may have one of three flags
 abbrev pub status_command : App
-status_command = with_rule (with_rule (command_for (codes "status")) (flag_rule (codes "constituencies"))) (flag_rule (codes "missing"))
+status_command =
+    with_rule (with_rule (with_rule (command_for (codes "status")) (flag_rule (codes "constituencies"))) (flag_rule (codes "missing")))
+    (flag_rule (codes "implausible"))
 
 -- the command that needs a set-up and a sheet, and may have an export
 abbrev pub check_command : App

@@ -7,7 +7,7 @@ use Rattle.clap.specs.Words.{Row, Text, first_of}
 use Rattle.zh_tables.specs.declared.table.Part.{Part}
 use Rattle.zh_tables.specs.declared.table.Part.TheVariants.{Whole, Municipality, Constituency}
 use Rattle.zh_tables.specs.declared.table.Table.{Table}
-use Rattle.zh_tables.specs.declared.table.Table.TheVariants.{Constituencies, Municipalities, Groups, Lists, Returns}
+use Rattle.zh_tables.specs.declared.table.Table.TheVariants.{Constituencies, Municipalities, Groups, Lists, Problems, Returns}
 
 -- the path that was given after `--name`; clap sees to it that there is one
 abbrev pub path_in : Text → List Row → Text
@@ -30,11 +30,12 @@ name_of_table Constituencies = codes "constituencies"
 name_of_table Municipalities = codes "municipalities"
 name_of_table Groups = codes "groups"
 name_of_table Lists = codes "lists"
+name_of_table Problems = codes "problems"
 name_of_table (Returns part) = codes "returns"
 
 -- the tables of a part; only the returns are of another part than the whole
 abbrev pub tables_for : Part → List Table
-tables_for Whole = Constituencies ∷ Municipalities ∷ Groups ∷ Lists ∷ Returns Whole ∷ []
+tables_for Whole = Constituencies ∷ Municipalities ∷ Groups ∷ Lists ∷ Problems ∷ Returns Whole ∷ []
 tables_for part = Returns part ∷ []
 
 -- the table of this name and part, or none where no table has it

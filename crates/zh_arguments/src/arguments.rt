@@ -137,11 +137,11 @@ fn refusal(alloc: Global, misuse: Misuse) -> Result<Error, AllocError>
     match misuse {
         Misuse::Table => program.error(
             ErrorKind::InvalidValue,
-            "'--of' takes constituencies, municipalities, groups, lists or returns; returns may be of one --municipality or --constituency",
+            "'--of' takes constituencies, municipalities, groups, lists, problems or returns (--municipality, --constituency)",
         ),
         Misuse::Flags => program.error(
             ErrorKind::ArgumentConflict,
-            "'--constituencies' cannot be used with '--missing'",
+            "'status' takes one of '--constituencies', '--missing' and '--implausible'",
         ),
         Misuse::Source => program.error(
             ErrorKind::ArgumentConflict,

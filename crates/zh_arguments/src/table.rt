@@ -22,7 +22,7 @@ pub(crate) fn list_command<'a>(alloc: Global) -> Result<Command<'a>, AllocError>
             alloc,
             "of",
             "TABLE",
-            "constituencies, municipalities, groups, lists or returns",
+            "constituencies, municipalities, groups, lists, problems or returns",
         ))?
         .arg(option(alloc, "municipality", "M", "Its returns alone"))?
         .arg(option(alloc, "constituency", "D", "Its returns alone"))
@@ -57,6 +57,7 @@ fn table_named(name: &str, part: Part) -> Option<Table>
         ("municipalities", Part::Whole) => Some(Table::Municipalities),
         ("groups", Part::Whole) => Some(Table::Groups),
         ("lists", Part::Whole) => Some(Table::Lists),
+        ("problems", Part::Whole) => Some(Table::Problems),
         _ => None,
     }
 }

@@ -10,7 +10,7 @@ use clap::{ArgMatches, Command};
 use std::alloc::{AllocError, Global};
 use zh_status::View;
 
-/// The command that may have one of two flags.
+/// The command that may have one of three flags.
 pub(crate) fn status_command<'a>(alloc: Global) -> Result<Command<'a>, AllocError>
     ensures { IfOk result (λ command. IsCommand command status_command) }
 {
@@ -20,7 +20,8 @@ pub(crate) fn status_command<'a>(alloc: Global) -> Result<Command<'a>, AllocErro
             "constituencies",
             "By constituency, not by municipality",
         ))?
-        .arg(flag(alloc, "missing", "Each return that is not there"))
+        .arg(flag(alloc, "missing", "Each return that is not there"))?
+        .arg(flag(alloc, "implausible", "Votes that are hardly true"))
 }
 
 /// Whether a flag was given. clap writes `true` or `false` as its value.
@@ -30,15 +31,16 @@ pub(crate) fn has_flag(given: &ArgMatches<'_>, name: &str) -> bool
     given.get_str(name).unwrap_or("") == "true"
 }
 
-/// The view that these flags ask for, if they are not both given.
-fn view_of(constituencies: bool, missing: bool) -> Option<View>
-    ensures { result ≡ view_of constituencies missing }
+/// The view that these flags ask for, if not more than one is given.
+fn view_of(constituencies: bool, missing: bool, implausible: bool) -> Option<View>
+    ensures { result ≡ view_of constituencies missing implausible }
 {
-    match (constituencies, missing) {
-        (false, false) => Some(View::Municipalities),
-        (true, false) => Some(View::Constituencies),
-        (false, true) => Some(View::Missing),
-        (true, true) => None,
+    match (constituencies, missing, implausible) {
+        (false, false, false) => Some(View::Municipalities),
+        (true, false, false) => Some(View::Constituencies),
+        (false, true, false) => Some(View::Missing),
+        (false, false, true) => Some(View::Implausible),
+        _ => None,
     }
 }
 
@@ -49,5 +51,6 @@ pub(crate) fn view_in(given: &ArgMatches<'_>) -> Option<View>
     view_of(
         has_flag(given, "constituencies"),
         has_flag(given, "missing"),
+        has_flag(given, "implausible"),
     )
 }

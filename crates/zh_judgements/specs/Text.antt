@@ -1,7 +1,10 @@
 -- What is written of the records of a text: a line for each that is refused, and then what a loading would come to. 10 ends a
 -- line, 32 is the space, 44 the comma, 63 the question mark.
-use Rattle.std.specs.Prelude.{ℕ, ◌==◌, ◌||◌, nat_lt, if◌then◌else◌, List, [], ◌∷◌, ◌++◌, ◌-◌, drop, get_or, length, codes, decimal}
+use Rattle.std.specs.Prelude.{ℕ, ◌==◌, ◌&&◌, ◌||◌, nat_lt, if◌then◌else◌, Bool, List, [], ◌∷◌, ◌++◌, ◌-◌, drop, get_or, length}
+use Rattle.std.specs.Prelude.{codes, decimal}
+use Rattle.std.specs.Cmp.Lexicographic.{pointwise}
 use Rattle.std.specs.List.{flat_map}
+use Rattle.std.specs.Str.{bytes_eq}
 use Rattle.zh_commands.specs.Replies.{answer}
 use Rattle.zh_commands.specs.Shown.{sign_at}
 use Rattle.zh_commands.specs.declared.shown.Sign.{Sign}
@@ -43,10 +46,21 @@ after_commas fields = flat_map (λ field. 44 ∷ shown_field field) fields
 abbrev pub joined : Record → List ℕ
 joined fields = drop 1 (after_commas fields)
 
+-- whether a record is the names of the columns with semicolons between them, which make one field of them
+abbrev pub has_semicolons : Record → Bool
+has_semicolons fields = pointwise bytes_eq fields (codes "municipality;list;number;votes" ∷ [])
+
+-- how to convert a text whose first record is so
+abbrev pub conversion : ℕ → Record → List ℕ
+conversion number fields =
+    if (number == 1) && has_semicolons fields then codes "semicolons are between the fields, not commas: convert the file by tr ';' ','\n"
+    else []
+
 -- a record that is refused: the number of its row, its fields, and the refusal as a reply has it
 abbrev pub refused_line : ℕ → Record → Refusal → List ℕ
 refused_line number fields refusal =
     codes "row " ++ decimal number ++ codes ": " ++ joined fields ++ 32 ∷ answer (replies.Refused refusal) ++ 10 ∷ []
+    ++ conversion number fields
 
 -- any record: only one that is refused has a line
 abbrev pub line_by : ℕ → Record → Judgement → List ℕ

@@ -4,7 +4,8 @@ ghost use Rattle.std.specs.Prelude.{◌≡◌, ◌<◌, ◌++◌, ◌∷◌, [],
 ghost use Rattle.csv.specs.Records.{fields_of};
 ghost use Rattle.zh_commands.specs.Replies.{answer};
 ghost use Rattle.zh_commands.specs.declared.replies.Reply.{Reply};
-ghost use Rattle.zh_judgements.specs.Text.{forecast_text, joined, refused_line, printable, printed_at, shown_field, after_commas};
+ghost use Rattle.zh_judgements.specs.Text.{conversion, after_commas, forecast_text, has_semicolons, joined, printable, printed_at};
+ghost use Rattle.zh_judgements.specs.Text.{refused_line, shown_field};
 
 use crate::judgement::Forecast;
 use csv::ByteRecord;
@@ -82,7 +83,26 @@ fn push_refusal(line: &mut Vec<u8>, refusal: Refusal) -> Result<(), AllocError>
     line.extend_from_slice(&text[1..length])
 }
 
-/// The line of a record that is refused.
+/// Whether a record is the names of the columns with semicolons between them.
+fn has_semicolons(record: &ByteRecord) -> bool
+    ensures { result ≡ has_semicolons (fields_of record.now) }
+{
+    record.len() == 1 && field(record, 0) == b"municipality;list;number;votes".as_slice()
+}
+
+/// Puts at the end how to convert a text, below its first record, if semicolons are between the names of its columns.
+fn push_conversion(line: &mut Vec<u8>, number: u32, record: &ByteRecord) -> Result<(), AllocError>
+    ensures { OnOk result (line.new.items ≡ line.old.items ++ conversion number (fields_of record.now)) }
+{
+    if number != 1 || !has_semicolons(record) {
+        return Ok(());
+    }
+    line.extend_from_slice(
+        b"semicolons are between the fields, not commas: convert the file by tr ';' ','\n",
+    )
+}
+
+/// The line of a record that is refused, and below it what to do about a text with semicolons.
 pub(crate) fn refused_line(
     alloc: Global,
     number: u32,
@@ -97,6 +117,7 @@ pub(crate) fn refused_line(
     line.extend_from_slice(b": ")?;
     push_fields(&mut line, record)?;
     push_refusal(&mut line, refusal)?;
+    push_conversion(&mut line, number, record)?;
     Ok(line)
 }
 

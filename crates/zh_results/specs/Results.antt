@@ -36,13 +36,7 @@ IsReasonFor totals (Exhausted reason) = IsReason totals reason
 IsReasonFor totals (Refused refusals.Exhausted) = ⊥
 IsReasonFor totals why = Unit {0}
 
--- the bytes are a right sheet of this set-up for some desk, with these seats, marked so
-pub record IsSheetOn (canton : Canton) (bytes : List ℕ) (seats : MarkedSheet) : Type 0 where
-  pub desk : ℕ
-  pub right : IsRight canton None bytes
-      (record { sheet = seats.sheet; desk = desk; is_final = seats.mark.is_final; accepted = seats.mark.accepted })
-
--- they are none in any way; or memory was refused
+-- the bytes are a right sheet of this set-up in no way; or memory was refused
 abbrev pub IsNoSheetOf : Canton → List ℕ → NoSeats → Type 0
 IsNoSheetOf canton bytes Wrong = (c : RightSheet) → ¬ IsRight canton None bytes c
 IsNoSheetOf canton bytes (Refused refusals.Memory) = Unit {0}

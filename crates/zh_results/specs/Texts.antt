@@ -26,7 +26,7 @@ abbrev pub reason_text : Canton → ExhaustedReason → List ℕ
 reason_text canton (Impossible marked) =
     codes "impossible" ++ each_to (length canton.constituencies) (number_if_among marked)
 reason_text canton (NearlyTied d g) = codes "nearly tied" ++ 32 ∷ decimal d ++ 32 ∷ decimal g
-reason_text canton Undecided = codes "undecided"
+reason_text canton (Undecided room) = codes "undecided"
 
 abbrev pub refusal_text : Canton → NoSeats → List ℕ
 refusal_text canton (Refused refusal) = refusal_line refusal

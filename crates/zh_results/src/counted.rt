@@ -4,6 +4,7 @@ ghost use Rattle.std.specs.Prelude.{◌≡◌, Bool, IfErr, IfOk};
 ghost use Rattle.zh_answers.specs.Sheets.{MayGive, MayGiveFor};
 ghost use Rattle.zh_totals.specs.Counting.{totals_of};
 ghost use Rattle.zh_sheet.specs.Made.{IsMade};
+ghost use Rattle.zh_seats.specs.declared.mark.Source.TheVariants as sources;
 ghost use Rattle.zh_results.specs.Results.{IsReasonFor, MayAnswerAs, answer_of, refusal_answer};
 
 use crate::outcome::{MarkedSheet, NoSeats};
@@ -11,7 +12,7 @@ use std::alloc::Global;
 use zh_answers::{first_open, sheet_refusal};
 use zh_commands::Refusal;
 use zh_returns::{Count, Reason};
-use zh_seats::Mark;
+use zh_seats::{Mark, Source};
 use zh_sheet::{SheetFault, explain, make};
 use zh_totals::Totals;
 
@@ -70,7 +71,8 @@ pub fn seats_by_count<'s>(
     is_final: bool,
 ) -> Result<MarkedSheet<'s>, NoSeats>
     ensures answer { MayAnswerAs count.now is_final (answer_of result) }
-    ensures mark { IfOk result (λ seats. seats.mark ≡ record { is_final = is_final; accepted = count.now.accepted }) }
+    ensures mark { IfOk result (λ seats.
+        seats.mark ≡ record { is_final = is_final; accepted = count.now.accepted; source = sources.Count }) }
     ensures reason { IfErr result (IsReasonFor (totals_of count.now)) }
 {
     let open = if is_final { first_open(count) } else { None };
@@ -81,6 +83,7 @@ pub fn seats_by_count<'s>(
     let mark = Mark {
         is_final,
         accepted: count.accepted(),
+        source: Source::Count,
     };
     seats_of_count(alloc, count, mark)
 }

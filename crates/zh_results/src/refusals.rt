@@ -87,7 +87,7 @@ fn push_reason(out: &mut Vec<u8>, setup: &Setup, reason: &ExhaustedReason) -> Re
         ExhaustedReason::NearlyTied(constituency, group) => {
             push_near_tie(out, *constituency, *group)
         }
-        ExhaustedReason::Undecided => push_bytes(out, b"undecided"),
+        ExhaustedReason::Undecided(_) => push_bytes(out, b"undecided"),
     }
 }
 

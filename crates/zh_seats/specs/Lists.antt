@@ -14,6 +14,8 @@ use Rattle.zh_sheet_text.specs.SheetText.{divisor_text}
 use Rattle.zh_seats.specs.Quotients.{quotient}
 use Rattle.zh_seats.specs.declared.lists.Texts.{Texts}
 use Rattle.zh_seats.specs.declared.mark.Mark.{Mark}
+use Rattle.zh_seats.specs.declared.mark.Source.{Source}
+use Rattle.zh_seats.specs.declared.mark.Source.TheVariants.{Count, Sheet}
 
 -- the voter number of a list, if its group takes part
 abbrev pub list_voters : Distribution → ℕ → ℕ → Option ℕ
@@ -39,8 +41,16 @@ pub record AreTexts (x : Distribution) (d g : ℕ) (texts : Texts) : Type 0 wher
   pub quotient : string_bytes texts.quotient ≡ option_map_or divisor_text (list_quotient x d g) []
 
 -- whether the seats are final, in a word
+abbrev pub finality : Mark → List ℕ
+finality mark = if mark.is_final then codes "final" else codes "provisional"
+
+-- the same with whose word it is, if it is not the count's
+abbrev pub kind_from : Source → Mark → List ℕ
+kind_from Count mark = finality mark
+kind_from Sheet mark = codes "stated " ++ finality mark
+
 abbrev pub kind : Mark → List ℕ
-kind mark = if mark.is_final then codes "final" else codes "provisional"
+kind mark = kind_from mark.source mark
 
 -- the names of the columns
 abbrev pub seats_columns : TableRecord

@@ -7,10 +7,12 @@ use Rattle.zh_districts.specs.Canton.{Canton, stands}
 use Rattle.zh_sheet.specs.Distribution.{Distribution}
 use Rattle.zh_sheet.specs.Readings.{list_seats}
 use Rattle.zh_tables.specs.Tables.{each_to, name_of_constituency, name_of_group}
-use Rattle.zh_seats.specs.Lists.{kind}
+use Rattle.zh_seats.specs.Lists.{finality}
 use Rattle.zh_seats.specs.declared.cells.Line.{Line}
 use Rattle.zh_seats.specs.declared.cells.Line.TheVariants.{Heading, Constituency, Total}
 use Rattle.zh_seats.specs.declared.mark.Mark.{Mark}
+use Rattle.zh_seats.specs.declared.mark.Source.{Source}
+use Rattle.zh_seats.specs.declared.mark.Source.TheVariants.{Count, Sheet}
 
 -- how many characters a text in UTF-8 has: each byte counts but for those that go on with a character, 128 to 191
 abbrev pub begins_character : ℕ → Bool
@@ -84,9 +86,14 @@ tall_lines x line = on_left 42 (label_in x line) ++ on_right 5 (last_in x line) 
 abbrev pub tall_table : Distribution → List ℕ
 tall_table x = each_to (length x.totals.canton.constituencies) (λ d. tall_lines x (Constituency d)) ++ tall_lines x Total
 
+-- whose word a mark is, after each part of it
+abbrev pub whose : Source → List ℕ
+whose Count = []
+whose Sheet = codes " (as the sheet says)"
+
 -- how the seats are marked
 abbrev pub title : Mark → List ℕ
-title mark = kind mark ++ codes ", " ++ decimal mark.accepted ++ codes " commands\n"
+title mark = finality mark ++ whose mark.source ++ codes ", " ++ decimal mark.accepted ++ codes " commands" ++ whose mark.source ++ 10 ∷ []
 
 -- the whole table
 abbrev pub table_text : Distribution → Mark → List ℕ

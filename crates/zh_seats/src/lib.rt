@@ -11,6 +11,6 @@ mod seats;
 mod table;
 mod widths;
 
-pub use mark::Mark;
+pub use mark::{Mark, Source};
 pub use seats::write_seats;
 pub use table::seat_table;

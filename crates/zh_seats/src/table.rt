@@ -96,10 +96,14 @@ fn push_tall_table(out: &mut Vec<u8>, sheet: &Sheet<'_>) -> Result<(), AllocErro
 fn push_title(out: &mut Vec<u8>, mark: Mark) -> Result<(), AllocError>
     ensures { OnOk result (out.new.items ≡ out.old.items ++ title mark) }
 {
-    out.extend_from_slice(mark.kind().as_bytes())?;
+    let whose = mark.source.whose().as_bytes();
+    out.extend_from_slice(mark.finality().as_bytes())?;
+    out.extend_from_slice(whose)?;
     out.extend_from_slice(b", ")?;
     out.extend_from_slice(Buffer::new().format(mark.accepted).as_bytes())?;
-    out.extend_from_slice(b" commands\n")
+    out.extend_from_slice(b" commands")?;
+    out.extend_from_slice(whose)?;
+    out.extend_from_slice(b"\n")
 }
 
 /// The seats of a sheet as a table for people, marked so: constituencies in lines and groups in columns, with totals, where

@@ -1,2 +1,3 @@
+mod ImplausibleLemmas
 mod ProgressLemmas
 mod StatusLemmas

@@ -30,10 +30,12 @@ over_push : (tally : Tally) (ms : List ℕ) (m : ℕ) → progress_over tally (m
 over_push tally ms m =
     let held = sum_by_push (λ k. (progress_of tally k).held) ms m in
     let due = sum_by_push (λ k. (progress_of tally k).due) ms m in
+    let missing = sum_by_push (λ k. (progress_of tally k).missing) ms m in
     let votes = sum_by_push (λ k. (progress_of tally k).votes) ms m in
     let municipalities = length-append ms (m ∷ []) in
+    let begun = sum_by_push (λ k. (progress_of tally k).begun) ms m in
     let closed = sum_by_push (λ k. (progress_of tally k).closed) ms m in
-    λ i. record { held = held i; due = due i; votes = votes i; municipalities = municipalities i; closed = closed i }
+    λ i. record { held = held i; due = due i; missing = missing i; votes = votes i; municipalities = municipalities i; begun = begun i; closed = closed i }
 
 -- the next municipality is one of them, or not
 pub over_next : (tally : Tally) (p : ℕ → Bool) (n : ℕ) (old : Progress) → old ≡ progress_over tally (filter p (range_with_len 1 n)) → p (n + 1) ≡ true
@@ -54,8 +56,10 @@ pub few_both : (n : ℕ) (a b : Progress) → AreFew n a → AreFew 1 b → AreF
 few_both n a b few one = record {
   held = omega (arith, few.held, one.held);
   due = omega (arith, few.due, one.due);
+  missing = omega (arith, few.missing, one.missing);
   votes = omega (arith, few.votes, one.votes);
   municipalities = omega (arith, few.municipalities, one.municipalities);
+  begun = omega (arith, few.begun, one.begun);
   closed = omega (arith, few.closed, one.closed);
 }
 
@@ -63,8 +67,10 @@ pub few_more : (n k : ℕ) (a : Progress) → AreFew n a → n ≤ k → AreFew 
 few_more n k a few more = record {
   held = omega (arith, few.held);
   due = omega (arith, few.due);
+  missing = omega (arith, few.missing);
   votes = omega (arith, few.votes);
   municipalities = omega (arith, few.municipalities);
+  begun = omega (arith, few.begun);
   closed = omega (arith, few.closed);
 }
 

@@ -1,23 +1,28 @@
 -- The texts of how far the returns have come in.
-use Rattle.std.specs.Prelude.{ℕ, ◌==◌, Bool, not, ◌&&◌, List, [], ◌∷◌, ◌++◌, length, codes, decimal}
-use Rattle.std.specs.Prelude.{if◌then◌else◌, Some, None, is_some}
-use Rattle.zh_districts.specs.Canton.{constituency_of, stands}
-use Rattle.zh_returns.specs.Tally.{Tally, held}
+use Rattle.std.specs.Prelude.{◌≡◌, ℕ, ◌==◌, List, [], ◌∷◌, ◌++◌, length, codes, decimal, if◌then◌else◌, Result}
+use Rattle.zh_divisors.specs.Shares.{Apportionment}
+use Rattle.zh_districts.specs.declared.shares.SeatFault.{SeatFault}
+use Rattle.zh_returns.specs.Tally.{Tally}
 use Rattle.zh_tables.specs.Records.{TableRecord, record_text}
 use Rattle.zh_tables.specs.Tables.{each_to, name_of_constituency, name_of_group, name_of_municipality}
-use Rattle.zh_status.specs.Progress.{progress_of, progress_over, within}
+use Rattle.zh_status.specs.Implausible.{AreFound, found_note, implausible_rows}
+use Rattle.zh_status.specs.Progress.{is_missing, progress_of, progress_over, within}
 use Rattle.zh_status.specs.declared.progress.Progress.{Progress}
+use Rattle.zh_status.specs.declared.progress.Region.TheVariants.{Whole, Constituency}
 use Rattle.zh_status.specs.declared.view.View.{View}
-use Rattle.zh_status.specs.declared.view.View.TheVariants.{Municipalities, Constituencies, Missing}
+use Rattle.zh_status.specs.declared.view.View.TheVariants.{Municipalities, Constituencies, Missing, Implausible}
 
 -- the names of the columns
 abbrev pub columns : View → TableRecord
 columns Missing = codes "municipality" ∷ codes "list" ∷ codes "municipality_name" ∷ codes "list_name" ∷ []
+columns Implausible =
+    codes "municipality" ∷ codes "list" ∷ codes "votes" ∷ codes "limit" ∷ codes "municipality_name" ∷ codes "list_name" ∷ []
 columns view = codes "number" ∷ codes "held" ∷ codes "due" ∷ codes "state" ∷ codes "votes" ∷ codes "name" ∷ []
 
--- whether all of the municipalities are closed, in a word
+-- whether all of the municipalities are closed, in a word; a constituency may have none
 abbrev pub state_of : Progress → List ℕ
-state_of p = if p.closed == p.municipalities then codes "closed" else codes "open"
+state_of p =
+    if p.municipalities == 0 then codes "empty" else (if p.closed == p.municipalities then codes "closed" else codes "open")
 
 -- the line of a municipality, or of a constituency, that has come this far
 abbrev pub progress_row : ℕ → Progress → List ℕ → List ℕ
@@ -30,11 +35,7 @@ municipality_progress tally = each_to (length tally.canton.municipalities)
 
 abbrev pub constituency_progress : Tally → List ℕ
 constituency_progress tally = each_to (length tally.canton.constituencies)
-    (λ d. progress_row d (progress_over tally (within tally.canton (Some d))) (name_of_constituency tally.canton d))
-
--- whether a return is due and not there
-abbrev pub is_missing : Tally → ℕ → ℕ → Bool
-is_missing tally m list = stands tally.canton (constituency_of tally.canton m) list && not (is_some (held tally m list))
+    (λ d. progress_row d (progress_over tally (within tally.canton (Constituency d))) (name_of_constituency tally.canton d))
 
 -- the line of a return that is missing
 abbrev pub missing_row : Tally → ℕ → ℕ → List ℕ
@@ -49,20 +50,34 @@ missing_in tally m = each_to (length tally.canton.groups) (missing_row tally m)
 abbrev pub missing_rows : Tally → List ℕ
 missing_rows tally = each_to (length tally.canton.municipalities) (missing_in tally)
 
-abbrev pub rows : Tally → View → List ℕ
-rows tally Municipalities = municipality_progress tally
-rows tally Constituencies = constituency_progress tally
-rows tally Missing = missing_rows tally
+-- the lines of a view after the names of its columns
+abbrev pub AreRowsOf : Tally → View → List ℕ → Type 0
+AreRowsOf tally Municipalities rows = rows ≡ municipality_progress tally
+AreRowsOf tally Constituencies rows = rows ≡ constituency_progress tally
+AreRowsOf tally Missing rows = rows ≡ missing_rows tally
+AreRowsOf tally Implausible rows =
+    (found : Result Apportionment SeatFault) × AreFound tally.canton found × (rows ≡ implausible_rows tally found)
 
 -- the text of a view
-abbrev pub status_text : Tally → View → List ℕ
-status_text tally view = record_text (columns view) ++ rows tally view
+abbrev pub IsStatusText : Tally → View → List ℕ → Type 0
+IsStatusText tally view text = (rows : List ℕ) × AreRowsOf tally view rows × (text ≡ record_text (columns view) ++ rows)
 
--- how far the whole canton is, in a line, with its LF, which is 10
+-- whether a final sheet would be of all returns
+abbrev pub would_be : Progress → List ℕ
+would_be p = if p.missing == 0 then codes "would be" else codes "would not be"
+
+-- how far the whole canton is, in a line with its LF, which is 10
 abbrev pub summary_of : Progress → ℕ → List ℕ
 summary_of p accepted =
     decimal p.held ++ (codes " of " ++ (decimal p.due ++ (codes " returns, " ++ (decimal p.closed ++ (codes " of "
-    ++ (decimal p.municipalities ++ (codes " municipalities closed, " ++ (decimal accepted ++ (codes " commands" ++ 10 ∷ [])))))))))
+    ++ (decimal p.municipalities ++ (codes " municipalities closed, " ++ (decimal accepted ++ (codes " commands; final "
+    ++ (would_be p ++ (codes " of all returns" ++ 10 ∷ [])))))))))))
 
 abbrev pub summary : Tally → List ℕ
-summary tally = summary_of (progress_over tally (within tally.canton None)) tally.accepted
+summary tally = summary_of (progress_over tally (within tally.canton Whole)) tally.accepted
+
+-- what is said beside a view: the canton in a line; above it, beside implausible votes, why they are not compared with persons
+abbrev pub IsSaidOf : Tally → View → List ℕ → Type 0
+IsSaidOf tally Implausible text =
+    (found : Result Apportionment SeatFault) × AreFound tally.canton found × (text ≡ found_note found ++ summary tally)
+IsSaidOf tally view text = text ≡ summary tally

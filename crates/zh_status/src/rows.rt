@@ -4,7 +4,7 @@ ghost use Rattle.std.specs.Prelude.{◌≡◌, ◌≤◌, OnOk, length};
 ghost use Rattle.zh_tables.specs.Records.{IsBetweenRecords, PutsText, record_text};
 ghost use Rattle.zh_status.specs.Status.{columns, missing_row, progress_row, state_of};
 
-use crate::progress::Progress;
+use crate::progress::{Progress, is_missing};
 use crate::view::View;
 use csv::Writer;
 use itoa::Buffer;
@@ -30,6 +30,17 @@ pub(crate) fn write_header<W: Write + Drop>(
             ];
             write_record(writer, &columns)
         }
+        View::Implausible => {
+            let columns = [
+                b"municipality".as_slice(),
+                b"list".as_slice(),
+                b"votes".as_slice(),
+                b"limit".as_slice(),
+                b"municipality_name".as_slice(),
+                b"list_name".as_slice(),
+            ];
+            write_record(writer, &columns)
+        }
         View::Municipalities | View::Constituencies => {
             let columns = [
                 b"number".as_slice(),
@@ -44,11 +55,13 @@ pub(crate) fn write_header<W: Write + Drop>(
     }
 }
 
-/// Whether all of the municipalities are closed, in a word.
+/// Whether all of the municipalities are closed, in a word. A constituency may have none.
 fn state_of(progress: &Progress) -> &str
     ensures { result.now ≡ state_of progress.now }
 {
-    if progress.closed == progress.municipalities {
+    if progress.municipalities == 0 {
+        "empty"
+    } else if progress.closed == progress.municipalities {
         "closed"
     } else {
         "open"
@@ -94,12 +107,10 @@ pub(crate) fn write_missing<W: Write + Drop>(
     requires list_there { list ≤ length count.now.canton.groups }
     ensures { OnOk result (PutsText W.contents (missing_row count.now municipality list) writer.old writer.new) }
 {
-    let setup = count.setup();
-    if !setup.stands(setup.constituency_of(municipality), list)
-        || count.entry(municipality, list).is_some()
-    {
+    if !is_missing(count, municipality, list) {
         return Ok(());
     }
+    let setup = count.setup();
     let mut municipality_numeral = Buffer::new();
     let mut list_numeral = Buffer::new();
     let fields = [

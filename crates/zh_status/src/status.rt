@@ -1,14 +1,17 @@
 //! The views, written row by row.
 
-ghost use Rattle.std.specs.Prelude.{◌≡◌, ◌≤◌, IfOk, OnOk, length};
+ghost use Rattle.std.specs.Prelude.{◌≡◌, ◌≤◌, ℕ, List, IfOk, OnOk, length};
 ghost use Rattle.std.specs.Io.KnownBytes.{Appends};
 ghost use Rattle.zh_tables.specs.Records.{IsBetweenRecords, PutsText};
-ghost use Rattle.zh_status.specs.Status.{constituency_progress, missing_in, missing_rows, municipality_progress, rows, status_text};
+ghost use Rattle.zh_status.specs.Status.{AreRowsOf, IsStatusText, constituency_progress, missing_in, missing_rows, municipality_progress};
 
-use crate::progress::{progress_of, progress_within};
+use crate::implausible::write_all_implausible;
+use crate::progress::{Region, progress_of, progress_within};
 use crate::rows::{write_header, write_missing, write_progress};
+use crate::seats::found_seats;
 use crate::view::View;
 use csv::{Writer, WriterBuilder};
+use std::alloc::Global;
 use std::io::Write;
 use zh_returns::Count;
 use zh_tables::RecordFault;
@@ -42,7 +45,7 @@ fn write_constituencies<W: Write + Drop>(
     let setup = count.setup();
     for place in 0..setup.constituencies() {
         let constituency = place + 1;
-        let progress = progress_within(count, Some(constituency));
+        let progress = progress_within(count, Region::Constituency(constituency));
         let name = setup.constituency_name(constituency);
         write_progress(writer, constituency, progress, name)?;
     }
@@ -82,32 +85,41 @@ fn write_all_missing<W: Write + Drop>(
 
 /// Writes the records of a view.
 fn write_rows<W: Write + Drop>(
+    alloc: Global,
     writer: &mut Writer<W>,
     count: &Count<'_>,
     view: View,
 ) -> Result<(), RecordFault>
     requires { IsBetweenRecords writer.old }
-    ensures { OnOk result (PutsText W.contents (rows count.now view) writer.old writer.new) }
+    ensures { OnOk result ((rows : List ℕ) × AreRowsOf count.now view rows × PutsText W.contents rows writer.old writer.new) }
 {
     match view {
         View::Municipalities => write_municipalities(writer, count),
         View::Constituencies => write_constituencies(writer, count),
         View::Missing => write_all_missing(writer, count),
+        View::Implausible => {
+            let Ok(found) = found_seats(alloc, count.setup()) else {
+                return Err(RecordFault::Memory);
+            };
+            write_all_implausible(writer, count, &found)
+        }
     }
 }
 
 /// Writes a view of a count: the names of the columns, and then a record for each of its rows, in order. It gives the writer
 /// back. After an error a front of the text may be written.
 pub fn write_status<W: Write + Drop>(
+    alloc: Global,
     count: &Count<'_>,
     view: View,
     writer: W,
 ) -> Result<W, RecordFault>
-    ensures { IfOk result (λ after. Appends (W.contents writer) (W.contents after) (status_text count.now view)) }
+    ensures { IfOk result
+        (λ after. (text : List ℕ) × IsStatusText count.now view text × Appends (W.contents writer) (W.contents after) text) }
 {
     let mut writer = WriterBuilder::new().from_writer(writer);
     write_header(&mut writer, view)?;
-    write_rows(&mut writer, count, view)?;
+    write_rows(alloc, &mut writer, count, view)?;
     match writer.into_inner() {
         Ok(writer) => Ok(writer),
         Err(_) => Err(RecordFault::Write),

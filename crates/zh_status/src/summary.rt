@@ -1,24 +1,54 @@
-//! The count in a line.
+//! What is said beside a view.
 
-ghost use Rattle.std.specs.Prelude.{◌≡◌, IfOk, None, string_bytes};
-ghost use Rattle.zh_status.specs.Status.{summary};
+ghost use Rattle.std.specs.Prelude.{◌≡◌, IfOk, string_bytes};
+ghost use Rattle.zh_status.specs.Status.{IsSaidOf, summary, would_be};
 
-use crate::progress::progress_within;
+use crate::progress::{Progress, Region, progress_within};
+use crate::seats::{found_note, found_seats};
+use crate::view::View;
 use std::alloc::{AllocError, Global};
 use zh_returns::Count;
 
-/// How many returns are there of those that are due, how many municipalities are closed, and how many commands were
-/// accepted, in a line.
-pub fn summary_line(alloc: Global, count: &Count<'_>) -> Result<String, AllocError>
+/// Whether a final sheet would be of all returns.
+fn would_be(progress: &Progress) -> &str
+    ensures { result.now ≡ would_be progress.now }
+{
+    if progress.missing == 0 {
+        "would be"
+    } else {
+        "would not be"
+    }
+}
+
+/// How many returns are there of those that are due, how many municipalities are closed, how many commands were accepted, and
+/// whether a final sheet would be of all returns, in a line.
+fn summary_line(alloc: Global, count: &Count<'_>) -> Result<String, AllocError>
     ensures { IfOk result (λ line. string_bytes line ≡ summary count.now) }
 {
-    let progress = progress_within(count, None);
+    let progress = progress_within(count, Region::Whole);
     let held = progress.held;
     let due = progress.due;
     let closed = progress.closed;
-    let municipalities = progress.municipalities;
+    let all = progress.municipalities;
     let accepted = count.accepted();
+    let would_be = would_be(&progress);
     format!(in alloc;
-        "{held} of {due} returns, {closed} of {municipalities} municipalities closed, {accepted} commands\n"
+        "{held} of {due} returns, {closed} of {all} municipalities closed, {accepted} commands; final {would_be} of all returns\n"
     )
+}
+
+/// What is said beside a view, in lines: of implausible votes why they are not compared with persons, where the constituencies
+/// get no seats; and then how far the whole canton is.
+pub fn said_of(alloc: Global, count: &Count<'_>, view: View) -> Result<String, AllocError>
+    ensures { IfOk result (λ text. IsSaidOf count.now view (string_bytes text)) }
+{
+    let line = summary_line(alloc, count)?;
+    match view {
+        View::Municipalities | View::Constituencies | View::Missing => Ok(line),
+        View::Implausible => {
+            let found = found_seats(alloc, count.setup())?;
+            let note = found_note(alloc, &found)?;
+            format!(in alloc; "{note}{line}")
+        }
+    }
 }

@@ -7,4 +7,6 @@ pub enum View {
     Constituencies,
     /// Each return that is not there.
     Missing,
+    /// Votes that are hardly true.
+    Implausible,
 }

@@ -1,3 +1,4 @@
 pub mod CallerLemmas
+mod ProblemLemmas
 mod RecordLemmas
 mod TextLemmas

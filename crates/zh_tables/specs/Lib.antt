@@ -1,3 +1,4 @@
+pub mod Problems
 pub mod Records
 pub mod Returns
 pub mod Tables

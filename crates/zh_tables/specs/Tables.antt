@@ -1,20 +1,22 @@
 -- The tables of a set-up. Constituencies, municipalities and groups are numbered from 1, and a list has the number of its group.
 use Rattle.std.specs.Prelude.{◌≡◌, ◌<◌, ◌≤◌, ℕ, ◌-◌, List, [], ◌∷◌, ◌++◌, length, slice_get, slice_index}
-use Rattle.std.specs.Prelude.{if◌then◌else◌, codes, decimal}
+use Rattle.std.specs.Prelude.{if◌then◌else◌, codes, decimal, Bool, false, slice_index_or}
 use Rattle.std.specs.List.{flat_map}
 use Rattle.std.specs.Option.{option_map_or}
 use Rattle.zh_divisors.specs.Fit.{IsTied}
 use Rattle.zh_districts.specs.Canton.{Canton, persons_of, constituency_of, stands}
 use Rattle.zh_districts.specs.Seats.{persons, AreSeats, IsFirstWithout}
 use Rattle.zh_districts.specs.declared.shares.SeatFault.TheVariants as refusals
+use Rattle.zh_tables.specs.Problems.{AreProblems}
 use Rattle.zh_tables.specs.Records.{TableRecord, record_text}
 use Rattle.zh_tables.specs.declared.fault.ListFault.{ListFault}
 use Rattle.zh_tables.specs.declared.fault.ListFault.TheVariants as faults
+use Rattle.zh_tables.specs.declared.problems.SetupProblems.{SetupProblems}
 use Rattle.zh_tables.specs.declared.records.RecordFault.{RecordFault}
 use Rattle.zh_tables.specs.declared.records.RecordFault.TheVariants as records
 use Rattle.zh_tables.specs.declared.table.Part.{Part}
 use Rattle.zh_tables.specs.declared.table.Table.{Table}
-use Rattle.zh_tables.specs.declared.table.Table.TheVariants.{Constituencies, Municipalities, Groups, Lists, Returns}
+use Rattle.zh_tables.specs.declared.table.Table.TheVariants.{Constituencies, Municipalities, Groups, Lists, Problems, Returns}
 use Rattle.zh_tables.specs.Returns.{HasPart, IsMissing, return_row, returns_due}
 pub use Rattle.zh_tables.specs.Returns.{each_to}
 
@@ -33,6 +35,7 @@ header Constituencies = codes "number" ∷ codes "name" ∷ codes "persons" ∷ 
 header Municipalities = codes "number" ∷ codes "name" ∷ codes "constituency" ∷ []
 header Groups = codes "number" ∷ codes "name" ∷ []
 header Lists = codes "constituency" ∷ codes "list" ∷ codes "constituency_name" ∷ codes "list_name" ∷ []
+header Problems = codes "problem" ∷ codes "number" ∷ codes "name" ∷ []
 header (Returns part) = codes "municipality" ∷ codes "list" ∷ codes "number" ∷ codes "votes" ∷ []
 
 -- the line of a constituency that has these seats
@@ -73,6 +76,22 @@ list_rows canton = each_to (length canton.constituencies) (lists_in canton)
 abbrev pub return_rows : Canton → Part → List ℕ
 return_rows canton part = flat_map return_row (returns_due canton part)
 
+-- the line of this problem of a constituency, if it is marked
+abbrev pub problem_row : Canton → List ℕ → List Bool → ℕ → List ℕ
+problem_row canton problem marks d =
+    if slice_index_or marks (d - 1) false then record_text (problem ∷ decimal d ∷ name_of_constituency canton d ∷ []) else []
+
+-- those of all constituencies
+abbrev pub marked_rows : Canton → List ℕ → List Bool → List ℕ
+marked_rows canton problem marks = each_to (length canton.constituencies) (problem_row canton problem marks)
+
+-- problem by problem
+abbrev pub problem_rows : Canton → SetupProblems → List ℕ
+problem_rows canton problems =
+    marked_rows canton (codes "no municipality") problems.no_municipality.items
+    ++ marked_rows canton (codes "no list") problems.no_list.items
+    ++ marked_rows canton (codes "no seat") problems.no_seat.items ++ marked_rows canton (codes "tied seats") problems.tied_seats.items
+
 -- the seats of the constituencies, of which each has one at least
 pub record HasSeats (canton : Canton) (seats : List ℕ) : Type 0 where
   pub are : AreSeats canton seats
@@ -84,6 +103,7 @@ AreLines canton Constituencies lines = (seats : List ℕ) × HasSeats canton sea
 AreLines canton Municipalities lines = lines ≡ municipality_rows canton
 AreLines canton Groups lines = lines ≡ group_rows canton
 AreLines canton Lists lines = lines ≡ list_rows canton
+AreLines canton Problems lines = (problems : SetupProblems) × AreProblems canton problems × (lines ≡ problem_rows canton problems)
 AreLines canton (Returns part) lines = HasPart canton part × (lines ≡ return_rows canton part)
 
 -- the text of a table

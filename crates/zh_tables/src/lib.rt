@@ -1,9 +1,11 @@
 //! The tables of a set-up as comma-separated text: its constituencies with their seats, its municipalities, its groups, its
-//! lists, and the returns that are due.
+//! lists, the returns that are due, and what keeps it from ever giving seats.
 #![tactic(auto)]
 
 mod due;
 mod fault;
+mod problem_rows;
+mod problems;
 mod records;
 mod returns;
 mod rows;
@@ -12,6 +14,7 @@ mod tables;
 
 pub use due::exceeds_load;
 pub use fault::ListFault;
+pub use problems::{SetupProblems, problems_line, setup_problems};
 pub use records::{RecordFault, write_record};
 pub use table::{Part, Table};
 pub use tables::write_list;

@@ -38,6 +38,7 @@ pub(crate) fn write_header<W: Write + Drop>(
             ];
             write_record(writer, &columns)
         }
+        Table::Problems => write_record(writer, &[b"problem".as_slice(), number, name]),
         Table::Returns(_) => {
             let columns = [
                 b"municipality".as_slice(),

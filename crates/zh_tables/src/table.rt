@@ -20,6 +20,8 @@ pub enum Table {
     Groups,
     /// Each list that stands: a group in a constituency.
     Lists,
+    /// What keeps each constituency from ever getting or giving seats.
+    Problems,
     /// The returns that are due in a part of the set-up, to be filled in and loaded.
     Returns(Part),
 }

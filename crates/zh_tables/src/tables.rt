@@ -8,6 +8,8 @@ ghost use Rattle.zh_tables.specs.Tables.{list_rows, lists_in, municipality_rows}
 
 use crate::due::returns_due;
 use crate::fault::ListFault;
+use crate::problem_rows::write_problems;
+use crate::problems::setup_problems;
 use crate::records::RecordFault;
 use crate::returns::write_returns;
 use crate::rows::{
@@ -117,6 +119,11 @@ fn write_table<W: Write + Drop>(
         Table::Lists => {
             write_header(writer, table)?;
             Ok(write_lists(writer, setup)?)
+        }
+        Table::Problems => {
+            let problems = setup_problems(alloc, setup)?;
+            write_header(writer, table)?;
+            Ok(write_problems(writer, setup, &problems)?)
         }
         Table::Returns(part) => {
             part.found_in(setup)?;

@@ -3,10 +3,14 @@ use Rattle.std.specs.Prelude.{ℕ, nat_eq, if◌then◌else◌, Option, Some, No
 use Rattle.std.specs.List.{starts_with}
 use Rattle.zh_verdicts.specs.declared.rows.HeldRows.{HeldRows}
 
+-- so many rows, of one for each return that is due
+abbrev pub rows_part : HeldRows → List ℕ
+rows_part rows = decimal rows.held ++ codes " of " ++ decimal rows.due ++ codes " rows"
+
 -- the votes are the sums of so many rows, or nothing was there to compare them with
 abbrev pub votes_line : Option HeldRows → List ℕ
 votes_line None = codes "votes not compared\n"
-votes_line (Some rows) = codes "votes ok: the sums of " ++ decimal rows.held ++ codes " of " ++ decimal rows.due ++ codes " rows\n"
+votes_line (Some rows) = codes "votes ok: the sums of " ++ rows_part rows ++ codes "\n"
 
 -- the first two of them
 abbrev pub form_and_votes : Option HeldRows → List ℕ

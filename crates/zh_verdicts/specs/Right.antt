@@ -1,7 +1,8 @@
 -- The text of the verdict on a sheet that is right: 10 ends a line.
-use Rattle.std.specs.Prelude.{ℕ, Bool, true, false, Option, Some, None, codes, decimal, List, [], ◌∷◌, ◌++◌}
+use Rattle.std.specs.Prelude.{ℕ, ◌-◌, nat_lt, if◌then◌else◌, Bool, true, false, Option, Some, None, codes, decimal}
+use Rattle.std.specs.Prelude.{List, [], ◌∷◌, ◌++◌}
 use Rattle.zh_check.specs.declared.checked.RightSheet.{RightSheet}
-use Rattle.zh_verdicts.specs.Parts.{parts_text}
+use Rattle.zh_verdicts.specs.Parts.{parts_text, rows_part}
 use Rattle.zh_verdicts.specs.declared.rows.HeldRows.{HeldRows}
 
 abbrev pub kind_part : Bool → List ℕ
@@ -18,10 +19,16 @@ desk_part desk = codes ", desk " ++ decimal desk ++ 10 ∷ []
 abbrev pub unchecked_line : RightSheet → List ℕ
 unchecked_line right = kind_part right.is_final ++ commands_part right.accepted ++ desk_part right.desk
 
--- what the sheet is worth, with the rows that were returned or without them
+-- it is right for the rows that are there, and so many are missing
+abbrev pub missing_line : HeldRows → List ℕ
+missing_line rows =
+    codes "sheet ok for " ++ rows_part rows ++ codes ": " ++ decimal (rows.due - rows.held) ++ codes " returns are missing\n"
+
+-- what the sheet is worth, with the rows that were returned, all of them or not, or without them
 abbrev pub worth_line : Option HeldRows → List ℕ
 worth_line None = codes "sheet ok for these votes; that they were returned is not checked\n"
-worth_line (Some rows) = codes "sheet ok: no other seats follow from these votes\n"
+worth_line (Some rows) =
+    if nat_lt rows.held rows.due then missing_line rows else codes "sheet ok: no other seats follow from these votes\n"
 
 -- the whole text, where the votes were compared with the sums of rows, or with nothing
 abbrev pub right_verdict : Option HeldRows → RightSheet → List ℕ

@@ -9,5 +9,6 @@ mod text;
 mod writer;
 mod wrong;
 
+pub use right::unchecked_line;
 pub use rows::HeldRows;
 pub use writer::{VerdictFault, write_verdict};

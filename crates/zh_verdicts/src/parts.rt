@@ -1,11 +1,21 @@
 //! The parts of a sheet that hold.
 
 ghost use Rattle.std.specs.Prelude.{◌≡◌, ◌++◌, OnOk};
-ghost use Rattle.zh_verdicts.specs.Parts.{form_and_votes, parts_above, parts_text, votes_line};
+ghost use Rattle.zh_verdicts.specs.Parts.{form_and_votes, parts_above, parts_text, rows_part, votes_line};
 
 use crate::right::push_number;
 use crate::rows::HeldRows;
 use std::alloc::AllocError;
+
+/// Puts how many rows there are at the end, of how many that are due.
+pub(crate) fn push_rows(text: &mut Vec<u8>, rows: HeldRows) -> Result<(), AllocError>
+    ensures { OnOk result (text.new.items ≡ text.old.items ++ rows_part rows) }
+{
+    push_number(text, u64::from(rows.held))?;
+    text.extend_from_slice(b" of ")?;
+    push_number(text, u64::from(rows.due))?;
+    text.extend_from_slice(b" rows")
+}
 
 /// Puts the line that the votes hold at the end.
 fn push_votes(text: &mut Vec<u8>, held: Option<HeldRows>) -> Result<(), AllocError>
@@ -15,10 +25,8 @@ fn push_votes(text: &mut Vec<u8>, held: Option<HeldRows>) -> Result<(), AllocErr
         return text.extend_from_slice(b"votes not compared\n");
     };
     text.extend_from_slice(b"votes ok: the sums of ")?;
-    push_number(text, u64::from(rows.held))?;
-    text.extend_from_slice(b" of ")?;
-    push_number(text, u64::from(rows.due))?;
-    text.extend_from_slice(b" rows\n")
+    push_rows(text, rows)?;
+    text.extend_from_slice(b"\n")
 }
 
 /// Puts that the form and the votes hold at the end.

@@ -1,12 +1,12 @@
 //! The lines of a sheet that is right.
 
-ghost use Rattle.std.specs.Prelude.{◌≡◌, ◌++◌, decimal, OnOk};
-ghost use Rattle.zh_verdicts.specs.Right.{commands_part, desk_part, kind_part, right_verdict, unchecked_line, worth_line};
+ghost use Rattle.std.specs.Prelude.{◌≡◌, ◌≤◌, ◌++◌, decimal, IfOk, OnOk};
+ghost use Rattle.zh_verdicts.specs.Right.{commands_part, desk_part, kind_part, missing_line, right_verdict, unchecked_line, worth_line};
 
-use crate::parts::push_parts;
+use crate::parts::{push_parts, push_rows};
 use crate::rows::HeldRows;
 use itoa::Buffer;
-use std::alloc::AllocError;
+use std::alloc::{AllocError, Global};
 use zh_check::RightSheet;
 
 /// Puts a number at the end of a text.
@@ -53,11 +53,34 @@ fn push_unchecked(text: &mut Vec<u8>, right: &RightSheet<'_>) -> Result<(), Allo
     push_desk(text, right.desk)
 }
 
+/// What no check can tell of a right sheet, in a line with its LF: that it is final or provisional, how many commands were
+/// accepted before, and by which desk it was asked for (docs/FORMATS.md).
+pub fn unchecked_line(alloc: Global, right: &RightSheet<'_>) -> Result<Vec<u8>, AllocError>
+    ensures { IfOk result (λ line. line.items ≡ unchecked_line right.now) }
+{
+    let mut line = Vec::new(alloc);
+    push_unchecked(&mut line, right)?;
+    Ok(line)
+}
+
+/// Puts that the sheet is right for the rows that are there at the end, and how many are missing.
+fn push_missing(text: &mut Vec<u8>, rows: HeldRows) -> Result<(), AllocError>
+    requires { rows.held ≤ rows.due }
+    ensures { OnOk result (text.new.items ≡ text.old.items ++ missing_line rows) }
+{
+    text.extend_from_slice(b"sheet ok for ")?;
+    push_rows(text, rows)?;
+    text.extend_from_slice(b": ")?;
+    push_number(text, u64::from(rows.due - rows.held))?;
+    text.extend_from_slice(b" returns are missing\n")
+}
+
 /// Puts what the sheet is worth at the end.
 fn push_worth(text: &mut Vec<u8>, held: Option<HeldRows>) -> Result<(), AllocError>
     ensures { OnOk result (text.new.items ≡ text.old.items ++ worth_line held) }
 {
     match held {
+        Some(rows) if rows.held < rows.due => push_missing(text, rows),
         Some(_) => text.extend_from_slice(b"sheet ok: no other seats follow from these votes\n"),
         None => text.extend_from_slice(
             b"sheet ok for these votes; that they were returned is not checked\n",

@@ -8,7 +8,7 @@ pub loop-place-preserved : goal.loop-place-preserved
 loop-place-preserved c =
     let n = c.loop-place.place in
     let tally = c.args.count.now in
-    let p = is_within tally.canton c.args.constituency in
+    let p = is_within tally.canton c.args.region in
     let old = c.loop-place.progress in
     elim c.if-is_within.branch [
       | then-is_within w ↦ record {

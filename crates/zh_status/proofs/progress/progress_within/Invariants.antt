@@ -5,6 +5,6 @@ use Rattle.zh_status.proofs.progress.progress_within.Given as goal
 
 abbrev pub invariant-loop-place : goal.invariant-loop-place
 invariant-loop-place l = record {
-  progress : l.progress ≡ progress_over l.fn.count (filter (is_within l.fn.count.canton l.fn.constituency) (range_with_len 1 l.place));
+  progress : l.progress ≡ progress_over l.fn.count (filter (is_within l.fn.count.canton l.fn.region) (range_with_len 1 l.place));
   few : AreFew l.place l.progress;
 }

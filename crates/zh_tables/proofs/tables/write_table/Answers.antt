@@ -1,7 +1,7 @@
 use Rattle.std.proofs.Common.{refl, subst, List, ℕ, ◌∙◌}
 use Rattle.std.specs.List.{flat_map}
 use Rattle.zh_tables.specs.Records.{PutsText}
-use Rattle.zh_tables.specs.Tables.{constituency_rows, municipality_rows, group_rows, list_rows, return_rows}
+use Rattle.zh_tables.specs.Tables.{constituency_rows, municipality_rows, group_rows, list_rows, problem_rows, return_rows}
 use Rattle.zh_tables.specs.Returns.{return_row}
 use Rattle.zh_tables.specs.declared.due.Due.{Due}
 use Rattle.zh_tables.specs.declared.table.Table.TheVariants.{Returns}
@@ -39,3 +39,10 @@ returns-in_ok-write_returns-in-Returns-clause-written g c =
     (c.in_ok-found_in-in-Returns.ensures, refl)
     c.in_ok-write_header-in-Returns.ensures
     (subst rows (c.deref.ensures.value ∙ c.in_ok-due-in-Returns.ensures) c.in_ok-write_returns-in-Returns.ensures))
+
+pub returns-in_ok-write_problems-in-Problems-clause-written : goal.returns-in_ok-write_problems-in-Problems-clause-written
+returns-in_ok-write_problems-in-Problems-clause-written g c =
+    let found = c.in_ok-problems-in-Problems in
+    table_written g.W.Write.contents c.args.setup.now c.args.table (problem_rows c.args.setup.now found.problems) c.args.writer.now c.write_header-in-Problems.new.writer c.write_problems.new.writer
+    (rw c.in-Problems.is ((found.problems, found.ensures.problems, refl)))
+    c.in_ok-write_header-in-Problems.ensures c.in_ok-write_problems-in-Problems.ensures

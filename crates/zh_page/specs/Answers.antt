@@ -1,0 +1,93 @@
+-- What a page is answered on the texts that it hands in.
+use Rattle.std.specs.Prelude.{◌≡◌, ◌≢◌, ◌≤◌, ◌<◌, ℕ, List, length, take, Option, Some, None, Result, Ok, Err}
+use Rattle.zh_check.specs.declared.checked.RightSheet.{RightSheet}
+use Rattle.zh_check.specs.declared.checked.SheetVerdict.{SheetVerdict}
+use Rattle.zh_check.specs.declared.checked.SheetVerdict.TheVariants as verdicts
+use Rattle.zh_checks.specs.Checks.{ComesTo, Inputs, SaysWrong, check_text}
+use Rattle.zh_checks.specs.Reports.{rows_report, setup_report}
+use Rattle.zh_csv.specs.declared.fault.LoadFault.{LoadFault}
+use Rattle.zh_districts.specs.Canton.{Canton}
+use Rattle.zh_held.specs.Faults.{named}
+use Rattle.zh_held.specs.Held.{AddsUp}
+use Rattle.zh_held.specs.declared.fault.HeldFault.{HeldFault}
+use Rattle.zh_held.specs.declared.held_reader.HeldSums.{HeldSums}
+use Rattle.zh_page.specs.declared.answer.PageStatus.{PageStatus}
+use Rattle.zh_page.specs.declared.answer.PageStatus.TheVariants.{Right, Wrong, NoSetup, NoRows, Memory}
+use Rattle.zh_page.specs.declared.handed.HandedStatus.{HandedStatus}
+use Rattle.zh_page.specs.declared.handed.HandedStatus.TheVariants.{Whole, NoRoom}
+use Rattle.zh_setups.specs.Refusals.{IsPlaced}
+use Rattle.zh_setups.specs.SetupText.{reading_of}
+use Rattle.zh_setups.specs.declared.fault.SetupFault.TheVariants as of_setup
+use Rattle.zh_setups.specs.declared.fault.SetupRefusal.{SetupRefusal}
+
+-- the texts that a page hands in: an export where one is given
+pub record Texts : Type 0 where
+  pub setup : List ℕ
+  pub sheet : List ℕ
+  pub held : Option (List ℕ)
+
+-- the sums of an export, or none where none is given
+abbrev pub AddsUpIfGiven : Canton → Option (List ℕ) → Result (Option HeldSums) LoadFault → Type 0
+AddsUpIfGiven canton None held = held ≡ Ok None
+AddsUpIfGiven canton (Some text) (Ok (Some sums)) = AddsUp canton text (Ok sums)
+AddsUpIfGiven canton (Some text) (Ok None) = ⊥
+AddsUpIfGiven canton (Some text) (Err why) = AddsUp canton text (Err why)
+
+-- these are the texts of what a check is given, of which as much is looked at as the program looks at
+pub record AreTextsOf (texts : Texts) (inputs : Inputs) : Type 0 where
+  pub setup : reading_of texts.setup ≡ Ok inputs.canton
+  pub sheet : inputs.sheet ≡ take 280065 texts.sheet
+  pub held : AddsUpIfGiven inputs.canton texts.held (Ok inputs.held)
+
+-- the text is the verdict on a sheet that is right, or wrong, exactly if it is
+abbrev pub IsVerdictOn : Inputs → PageStatus → List ℕ → Type 0
+IsVerdictOn inputs Right text =
+    (right : RightSheet) × ComesTo inputs (verdicts.Right right) × (text ≡ check_text inputs (verdicts.Right right))
+IsVerdictOn inputs Wrong text =
+    (verdict : SheetVerdict) × ComesTo inputs verdict × SaysWrong verdict × (text ≡ check_text inputs verdict)
+IsVerdictOn inputs Memory text = Unit {0}
+IsVerdictOn inputs status text = ⊥
+
+-- this reports the fault of a set-up
+abbrev pub IsNoSetup : SetupRefusal → PageStatus → List ℕ → Type 0
+IsNoSetup refusal NoSetup text = (refusal.fault ≢ of_setup.Memory) × (text ≡ setup_report refusal)
+IsNoSetup refusal Memory text = Unit {0}
+IsNoSetup refusal status text = ⊥
+
+-- this reports the fault of an export
+abbrev pub AreNoRows : LoadFault → PageStatus → List ℕ → Type 0
+AreNoRows why NoRows text = (fault : HeldFault) × (named why ≡ Some fault) × (text ≡ rows_report fault)
+AreNoRows why Memory text = Unit {0}
+AreNoRows why status text = ⊥
+
+-- the text of a set-up is none, and this reports its fault, with the place
+pub record ReportsNoSetup (texts : Texts) (text : List ℕ) : Type 0 where
+  pub refusal : SetupRefusal
+  pub fault : reading_of texts.setup ≡ Err refusal.fault
+  pub not_memory : refusal.fault ≢ of_setup.Memory
+  pub place : IsPlaced texts.setup refusal
+  pub report : text ≡ setup_report refusal
+
+-- the set-up was read, and this reports what is wrong with a record of the export
+pub record ReportsNoRows (texts : Texts) (text : List ℕ) : Type 0 where
+  pub canton : Canton
+  pub setup : reading_of texts.setup ≡ Ok canton
+  pub why : LoadFault
+  pub refused : AddsUpIfGiven canton texts.held (Err why)
+  pub fault : HeldFault
+  pub named_so : named why ≡ Some fault
+  pub report : text ≡ rows_report fault
+
+-- What is answered on these texts, by its status: the verdict, or why there is none. Memory may have been refused on any.
+abbrev pub AnswersPage : Texts → PageStatus → List ℕ → Type 0
+AnswersPage texts Right text = (inputs : Inputs) × AreTextsOf texts inputs × IsVerdictOn inputs Right text
+AnswersPage texts Wrong text = (inputs : Inputs) × AreTextsOf texts inputs × IsVerdictOn inputs Wrong text
+AnswersPage texts NoSetup text = ReportsNoSetup texts text
+AnswersPage texts NoRows text = ReportsNoRows texts text
+AnswersPage texts Memory text = Unit {0}
+
+-- the first bytes of the room are this answer, or the room is shorter than the text of one
+abbrev pub IsHanded : Texts → HandedStatus → ℕ → List ℕ → Type 0
+IsHanded texts (Whole status) count room = (count ≤ length room) × AnswersPage texts status (take count room)
+IsHanded texts NoRoom count room =
+    (length room < count) × ((status : PageStatus) × (text : List ℕ) × AnswersPage texts status text × (length text ≡ count))

@@ -1,0 +1,119 @@
+//! The check of texts.
+
+ghost use Rattle.std.specs.Prelude.{◌≡◌, take};
+ghost use Rattle.std.specs.Option.{option_copied};
+ghost use Rattle.zh_page.specs.Answers.{AddsUpIfGiven, AreNoRows, IsNoSetup, IsVerdictOn, AnswersPage};
+
+use crate::answer::{PageAnswer, PageStatus};
+use std::alloc::Global;
+use zh_checks::{rows_report, setup_report, write_check};
+use zh_csv::{LoadFault, NotedReader};
+use zh_districts::Setup;
+use zh_held::{HeldFault, HeldSums, read_held};
+use zh_setups::{SetupFault, SetupRefusal, read_setup};
+
+/// The most bytes of a sheet that are looked at: one more than the longest has, as of a sheet's file.
+const LONGEST: usize = 280_065;
+
+/// As much of a sheet as is looked at.
+fn front_of(sheet: &[u8]) -> &[u8]
+    ensures { result.now ≡ take 280065 sheet.now }
+{
+    if sheet.len() <= LONGEST {
+        return sheet;
+    }
+    &sheet[..LONGEST]
+}
+
+/// The sums of an export, where there is one.
+fn sums_if_given<'s>(
+    alloc: Global,
+    setup: &'s Setup,
+    held: Option<&[u8]>,
+) -> Result<Option<HeldSums<'s>>, LoadFault>
+    ensures { AddsUpIfGiven setup.now (option_copied held.entry) result }
+{
+    match held {
+        Some(text) => {
+            let sums = read_held(alloc, setup, &mut NotedReader::new(text))?;
+            Ok(Some(sums))
+        }
+        None => Ok(None),
+    }
+}
+
+/// The answer where memory was refused.
+fn no_memory(alloc: Global) -> PageAnswer
+    ensures { result.status ≡ PageStatus.Memory }
+{
+    PageAnswer {
+        status: PageStatus::Memory,
+        text: Vec::new(alloc),
+    }
+}
+
+/// The answer on a text that is no set-up.
+fn no_setup(alloc: Global, refusal: &SetupRefusal) -> PageAnswer
+    ensures { IsNoSetup refusal.now result.status result.text.items }
+{
+    if refusal.fault == SetupFault::Memory {
+        return no_memory(alloc);
+    }
+    match setup_report(alloc, refusal) {
+        Ok(text) => PageAnswer {
+            status: PageStatus::NoSetup,
+            text,
+        },
+        Err(_) => no_memory(alloc),
+    }
+}
+
+/// The answer on a text that is no export. In memory no read fails, so what is no fault of a record is one of memory.
+fn no_rows(alloc: Global, fault: LoadFault) -> PageAnswer
+    ensures { AreNoRows fault result.status result.text.items }
+{
+    let Some(fault) = HeldFault::of(fault) else {
+        return no_memory(alloc);
+    };
+    match rows_report(alloc, fault) {
+        Ok(text) => PageAnswer {
+            status: PageStatus::NoRows,
+            text,
+        },
+        Err(_) => no_memory(alloc),
+    }
+}
+
+/// The answer on a sheet.
+fn verdict_on(alloc: Global, setup: &Setup, sheet: &[u8], held: Option<&HeldSums<'_>>) -> PageAnswer
+    ensures { IsVerdictOn (record { canton = setup.now; sheet = take 280065 sheet.now; held = option_copied held.entry })
+        result.status result.text.items }
+{
+    let mut text = Vec::new(alloc);
+    match write_check(alloc, setup, front_of(sheet), held, &mut text) {
+        Ok(true) => PageAnswer {
+            status: PageStatus::Right,
+            text,
+        },
+        Ok(false) => PageAnswer {
+            status: PageStatus::Wrong,
+            text,
+        },
+        Err(_) => no_memory(alloc),
+    }
+}
+
+/// Checks a sheet by the texts of a set-up and of an export, if there is one, as `zhcount check` checks it by their files.
+pub fn check_texts(alloc: Global, setup: &[u8], sheet: &[u8], held: Option<&[u8]>) -> PageAnswer
+    ensures { AnswersPage (record { setup = setup.now; sheet = sheet.now; held = option_copied held.entry })
+        result.status result.text.items }
+{
+    let setup = match read_setup(alloc, setup) {
+        Ok(setup) => setup,
+        Err(refusal) => return no_setup(alloc, &refusal),
+    };
+    match sums_if_given(alloc, &setup, held) {
+        Ok(sums) => verdict_on(alloc, &setup, sheet, sums.as_ref()),
+        Err(fault) => no_rows(alloc, fault),
+    }
+}

@@ -1,0 +1,19 @@
+-- The row of a municipality that outweighs others, or none.
+use Rattle.std.proofs.Common.{◌≡◌, ◌*◌, ℕ, true, false, [], refl, sym, ◌∙◌}
+use Rattle.zh_returns.specs.Tally.{Tally}
+use Rattle.zh_tables.specs.Tables.{name_of_municipality}
+use Rattle.zh_status.specs.Implausible.{implausible_row, neighbours, outweighing_row, outweighs}
+use Rattle.zh_status.specs.Progress.{progress_of}
+use Rattle.zh_status.specs.declared.progress.Progress.{Progress}
+
+pub outweighing_none : (tally : Tally) (m : ℕ) (own others : Progress) → own ≡ progress_of tally m → others ≡ neighbours tally m → outweighs own.votes others ≡ false
+    → [] ≡ outweighing_row tally m
+outweighing_none tally m own others is are lighter =
+    let none : outweighs (progress_of tally m).votes (neighbours tally m) ≡ false = (λ i. outweighs (sym is i).votes (sym are i)) ∙ lighter in
+    rw none refl
+
+pub outweighing_one : (tally : Tally) (m : ℕ) (own others : Progress) → own ≡ progress_of tally m → others ≡ neighbours tally m → outweighs own.votes others ≡ true
+    → implausible_row m [] own.votes (10 * others.votes) (name_of_municipality tally.canton m) [] ≡ outweighing_row tally m
+outweighing_one tally m own others is are heavier =
+    let some : outweighs (progress_of tally m).votes (neighbours tally m) ≡ true = (λ i. outweighs (sym is i).votes (sym are i)) ∙ heavier in
+    (λ i. implausible_row m [] (is i).votes (10 * (are i).votes) (name_of_municipality tally.canton m) []) ∙ rw some refl

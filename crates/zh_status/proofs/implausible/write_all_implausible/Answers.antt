@@ -1,0 +1,20 @@
+use Rattle.std.proofs.Common.{◌≡◌, ap, arith, length}
+use Rattle.zh_tables.proofs.CallerLemmas.{Puts-none}
+use Rattle.zh_status.specs.Implausible.{implausible_in}
+use Rattle.zh_status.proofs.StatusLemmas.{Puts-next}
+use Rattle.zh_status.proofs.implausible.write_all_implausible.Goals as goal
+
+pub loop-place-init : goal.loop-place-init
+loop-place-init g c = Puts-none g.W.Write.contents c.args.writer.now c.requires.ready
+
+pub loop-place-preserved : goal.loop-place-preserved
+loop-place-preserved g c =
+    Puts-next g.W.Write.contents (implausible_in c.args.count.now c.args.found.now) c.loop-place.place c.args.writer.now c.loop-place.writer c.write_implausible_in.new.writer c.loop-place.invariant c.in_ok-write_implausible_in.ensures
+
+pub write_implausible_in-requires-clause-there : goal.write_implausible_in-requires-clause-there
+write_implausible_in-requires-clause-there g c = omega (arith, c.municipalities-place-end.ensures.count, ap (λ t. length t.municipalities) c.setup.ensures)
+
+pub returns : goal.returns
+returns g c =
+    let last : c.loop-place.place ≡ length c.args.count.now.canton.municipalities = omega (arith, c.municipalities-place-end.ensures.count, ap (λ t. length t.municipalities) c.setup.ensures) in
+    rw last at c.loop-place.invariant

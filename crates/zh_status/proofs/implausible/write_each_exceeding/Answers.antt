@@ -1,0 +1,20 @@
+use Rattle.std.proofs.Common.{◌≡◌, ap, arith, length}
+use Rattle.zh_tables.proofs.CallerLemmas.{Puts-none}
+use Rattle.zh_status.specs.Implausible.{exceeding_row}
+use Rattle.zh_status.proofs.StatusLemmas.{Puts-next}
+use Rattle.zh_status.proofs.implausible.write_each_exceeding.Goals as goal
+
+pub loop-place-init : goal.loop-place-init
+loop-place-init g c = Puts-none g.W.Write.contents c.args.writer.now c.requires.ready
+
+pub loop-place-preserved : goal.loop-place-preserved
+loop-place-preserved g c =
+    Puts-next g.W.Write.contents (exceeding_row c.args.count.now c.args.shares.now.seats c.args.municipality) c.loop-place.place c.args.writer.now c.loop-place.writer c.write_exceeding.new.writer c.loop-place.invariant (rw c.seats.ensures at c.in_ok-write_exceeding.ensures)
+
+pub write_exceeding-requires-clause-list_there : goal.write_exceeding-requires-clause-list_there
+write_exceeding-requires-clause-list_there g c = omega (arith, c.groups-place-end.ensures.count, ap (λ t. length t.groups) c.setup.ensures)
+
+pub returns : goal.returns
+returns g c =
+    let last : c.loop-place.place ≡ length c.args.count.now.canton.groups = omega (arith, c.groups-place-end.ensures.count, ap (λ t. length t.groups) c.setup.ensures) in
+    rw last at c.loop-place.invariant
