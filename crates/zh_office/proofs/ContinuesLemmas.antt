@@ -82,10 +82,12 @@ breaks_continue lines old new breaks =
     both_continue (its_ledger old.office) (its_ledger breaks.mid) (its_ledger new.office) (run_continues old.office breaks.answered breaks.out breaks.log breaks.mid breaks.run) (submits_continue (its_ledger breaks.mid) last.0 breaks.turn.log (its_ledger new.office) last.2)
 
 -- and those that follow what was answered
-pub answers_on : (before lines : List (List ℕ)) (old mid new : Session) → AnswersAll before old mid → AnswersAll lines mid new → Continues (its_ledger old.office) (its_ledger new.office)
-answers_on before lines old mid new first second =
-    both_continue (its_ledger old.office) (its_ledger mid.office) (its_ledger new.office) (answers_continue before old mid first) (answers_continue lines mid new second)
+pub answers_on : (before lines : List (List ℕ)) (old mid seen new : Session) → seen.office ≡ mid.office → AnswersAll before old mid → AnswersAll lines seen new → Continues (its_ledger old.office) (its_ledger new.office)
+answers_on before lines old mid seen new same first second =
+    both_continue (its_ledger old.office) (its_ledger mid.office) (its_ledger new.office) (answers_continue before old mid first)
+    (subst (λ (o : OnDisk Office). Continues (its_ledger o) (its_ledger new.office)) same (answers_continue lines seen new second))
 
-pub breaks_on : (before lines : List (List ℕ)) (old mid new : Session) → AnswersAll before old mid → BreaksOff lines mid new → Continues (its_ledger old.office) (its_ledger new.office)
-breaks_on before lines old mid new first second =
-    both_continue (its_ledger old.office) (its_ledger mid.office) (its_ledger new.office) (answers_continue before old mid first) (breaks_continue lines mid new second)
+pub breaks_on : (before lines : List (List ℕ)) (old mid seen new : Session) → seen.office ≡ mid.office → AnswersAll before old mid → BreaksOff lines seen new → Continues (its_ledger old.office) (its_ledger new.office)
+breaks_on before lines old mid seen new same first second =
+    both_continue (its_ledger old.office) (its_ledger mid.office) (its_ledger new.office) (answers_continue before old mid first)
+    (subst (λ (o : OnDisk Office). Continues (its_ledger o) (its_ledger new.office)) same (breaks_continue lines seen new second))

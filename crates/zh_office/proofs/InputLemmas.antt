@@ -5,33 +5,80 @@ use Rattle.std.specs.Io.KnownBytes.{Appends, Consumes, Keeps, IsAtEnd}
 use Rattle.zh_ledger.specs.Submissions.{followed_by}
 use Rattle.zh_office.specs.Runs.{text_after}
 use Rattle.zh_office.specs.Text.{HasNoEnd, ended, unfinished, truncated, ended_lines, last_line, lines_of}
-use Rattle.zh_office.specs.Served.{Session, AnswersAll, BreaksOff, KeepsLog, TakesBlock, ServesAll, ServesEnded, ServesFront}
+use Rattle.zh_film.specs.Frames.{Frame, NoneFailed}
+use Rattle.zh_film.specs.declared.kind.FrameKind.{FrameKind}
+use Rattle.zh_film.specs.declared.kind.FrameKind.TheVariants.{Asks, Between, Failed}
+use Rattle.zh_office.specs.Filmed.{FilmsAll, FilmsFront, IsOn, TakesBlock}
+use Rattle.zh_office.specs.Order.{Step, IsInOrder}
+use Rattle.zh_office.specs.Served.{Session, AnswersAll, BreaksOff, KeepsLog, ServesAll, ServesEnded, ServesFront, frame_at, step_of, steps_broken, steps_in, steps_of}
 use Rattle.zh_office.proofs.TextLemmas.{ended-append, unfinished-append, unfinished_has_no_end, HasNoEnd-take, ended_lines-truncated, unfinished-truncated, truncated-truncated, last_line-truncated}
 use Rattle.zh_office.proofs.RunLemmas.{Runs-append, Runs-one}
 use Rattle.zh_office.proofs.LoggedLemmas.{run_is_logged}
 use Rattle.zh_office.proofs.BlockLemmas.{Appends-append, Consumes-append, Consumes-none, AnswersAll-none, AnswersAll-append}
+use Rattle.zh_office.proofs.FilmLemmas.{film_ends, read_failed, starts, was_read}
+use Rattle.zh_office.proofs.StepLemmas.{lines-of, steps-append}
+
+-- these lines are answered, and the film is in order
+pub record Filmed (lines : List (List ℕ)) (old now : Session) : Type 0 where
+  pub answers : AnswersAll lines old now
+  pub on : IsOn (frame_at old) (steps_in lines old now answers) now
+
+-- after a read: what the input has left, and what the film shows
+abbrev pub seen_by : Session → Option (List ℕ) → List Frame → Session
+seen_by now left film = record { written = now.written; office = now.office; left = left; film = film }
+
+-- the film of that read
+abbrev pub IsRead : Session → Option (List ℕ) → List Frame → FrameKind → Type 0
+IsRead now left film kind = film ≡ record { kind = kind; left = left; written = now.written; disk = now.office.history.trail }
+    ∷ (record { kind = Asks; left = now.left; written = now.written; disk = now.office.history.trail } ∷ now.film)
+
+-- the same answers after a read
+abbrev read_more : (lines : List (List ℕ)) (old now : Session) (left : Option (List ℕ)) (film : List Frame) → AnswersAll lines old now → AnswersAll lines old (seen_by now left film)
+read_more lines old now left film a = record { out = a.out; log = a.log; written = a.written; run = a.run }
+
+-- others are answered after them
+Filmed-append : (old now new : Session) (lines more : List (List ℕ)) → Filmed lines old now → FilmsAll more now new → Filmed (lines ++ more) old new
+Filmed-append old now new lines more f a = record {
+  answers = AnswersAll-append old now new lines more f.answers a.answers;
+  on =
+      subst (λ (steps : List Step). IsOn (frame_at old) steps new)
+      (sym (steps-append old.office now.office new.office lines more f.answers.out a.answers.out f.answers.log a.answers.log f.answers.run a.answers.run))
+      (a.shown (frame_at old) (steps_in lines old now f.answers) f.on);
+}
 
 -- what was read so far has been answered up to its last LF, and what counts of the rest is held
-pub record Serving (first reader : Option (List ℕ)) (old now : Session) (line : List ℕ) (count : ℕ) : Type 0 where
+pub record Serving (old now : Session) (line : List ℕ) (count : ℕ) : Type 0 where
   pub input : List ℕ
-  pub read : Consumes first reader input
-  pub answers : AnswersAll (ended_lines input) old now
+  pub read : Consumes old.left now.left input
+  pub films : Filmed (ended_lines input) old now
   pub held : line ≡ truncated (unfinished input)
   pub counted : count ≡ min (length (ended_lines input)) (2 ^ 64 - 1)
 
-pub Serving-start : (reader : Option (List ℕ)) (old : Session) (line : List ℕ) → line ≡ [] → Serving reader reader old old line 0
-Serving-start reader old line none = record {
+pub Serving-start : (old : Session) (film : List Frame) (line : List ℕ) → line ≡ [] → film ≡ frame_at old ∷ [] → Serving old (seen_by old old.left film) line 0
+Serving-start old film line none noted = record {
   input = [];
-  read = Consumes-none reader;
-  answers = AnswersAll-none old;
+  read = Consumes-none old.left;
+  films = record { answers = read_more [] old old old.left film (AnswersAll-none old); on = starts (seen_by old old.left film) noted };
   held = none;
   counted = refl;
 }
 
 -- what is held has no end of a line
-pub Serving-clean : (first reader : Option (List ℕ)) (old now : Session) (line : List ℕ) (count : ℕ) → Serving first reader old now line count → HasNoEnd line
-Serving-clean first reader old now line count s =
+pub Serving-clean : (old now : Session) (line : List ℕ) (count : ℕ) → Serving old now line count → HasNoEnd line
+Serving-clean old now line count s =
     subst (λ l. HasNoEnd l) (sym s.held) (HasNoEnd-take 121 (unfinished s.input) (unfinished_has_no_end s.input))
+
+-- the steps of what was read so far
+abbrev steps_so_far : (old now : Session) (line : List ℕ) (count : ℕ) → Serving old now line count → List Step
+steps_so_far old now line count s = steps_in (ended_lines s.input) old now s.films.answers
+
+Serving-seen : (old now : Session) (left : Option (List ℕ)) (film : List Frame) (line : List ℕ) (count : ℕ) (s : Serving old now line count) → IsRead now left film Between
+    → Filmed (ended_lines s.input) old (seen_by now left film)
+Serving-seen old now left film line count s is = record {
+  answers = read_more (ended_lines s.input) old now left film s.films.answers;
+  on = was_read (frame_at old) (steps_so_far old now line count s) now (seen_by now left film) Between s.input s.films.on s.read
+      (lines-of old.office (ended_lines s.input) s.films.answers.out s.films.answers.log now.office s.films.answers.run) refl refl refl is;
+}
 
 -- the log of a run is what was done
 pub answers_kept : (lines : List (List ℕ)) (old new : Session) (a : AnswersAll lines old new) → KeepsLog old a.log new
@@ -54,24 +101,25 @@ more_rest input line block held =
     ∙ ap truncated (sym (unfinished-append input block))
 
 -- a block was read, and its lines are answered
-pub Serving-more : (first reader reader' : Option (List ℕ)) (old now new : Session) (line block line' : List ℕ) (count more total : ℕ)
-    → Serving first reader old now line count → Consumes reader reader' block → TakesBlock now line block new line' more
-    → total ≡ min (count + more) (2 ^ 64 - 1) → Serving first reader' old new line' total
-Serving-more first reader reader' old now new line block line' count more total s read b total_is =
+pub Serving-more : (old now : Session) (left : Option (List ℕ)) (film : List Frame) (new : Session) (line block line' : List ℕ) (count more total : ℕ)
+    → Serving old now line count → IsRead now left film Between → Consumes now.left new.left block → TakesBlock (seen_by now left film) line block new line' more
+    → total ≡ min (count + more) (2 ^ 64 - 1) → Serving old new line' total
+Serving-more old now left film new line block line' count more total s is read b total_is =
     let lines = more_lines s.input line block s.held in
     record {
       input = s.input ++ block;
-      read = Consumes-append first reader reader' s.input block s.read read;
-      answers = subst (λ ls. AnswersAll ls old new) (sym lines) (AnswersAll-append old now new (ended_lines s.input) (ended_lines (line ++ block)) s.answers b.answers);
+      read = Consumes-append old.left now.left new.left s.input block s.read read;
+      films = subst (λ ls. Filmed ls old new) (sym lines)
+          (Filmed-append old (seen_by now left film) new (ended_lines s.input) (ended_lines (line ++ block)) (Serving-seen old now left film line count s is) b.films);
       held = b.left ∙ more_rest s.input line block s.held;
       counted = omega (arith, total_is, s.counted, b.counted, simp length-append at (ap length lines));
     }
 
-regrouped : {X : Type 0} (a b : List X) (x : X) (c d : List X) → (a ++ (b ++ x ∷ c)) ++ d ≡ (a ++ b) ++ x ∷ (c ++ d)
+pub regrouped : {X : Type 0} (a b : List X) (x : X) (c d : List X) → (a ++ (b ++ x ∷ c)) ++ d ≡ (a ++ b) ++ x ∷ (c ++ d)
 regrouped a b x c d = simp append_assoc
 
 -- the lines before those of a run that breaks off
-pub BreaksOff-after : (old now new : Session) (front lines others all : List (List ℕ))
+abbrev pub BreaksOff-after : (old now new : Session) (front lines others all : List (List ℕ))
     → AnswersAll front old now → BreaksOff lines now new → all ≡ (front ++ lines) ++ others → BreaksOff all old new
 BreaksOff-after old now new front lines others all a b all_is = record {
   answered = front ++ b.answered;
@@ -98,20 +146,36 @@ BreaksOff-kept old new lines b honest =
     run_is_logged old.office (b.answered ++ b.last ∷ []) (b.out ++ text) (followed_by b.log b.turn.log) new.office honest
     (Runs-append old.office b.mid new.office b.answered (b.last ∷ []) b.out text b.log b.turn.log b.run (Runs-one b.mid new.office b.last b.answer b.turn))
 
+-- the film of a run that breaks off after these lines
+breaks_filmed : (old now new : Session) (front lines others all : List (List ℕ)) (f : Filmed front old now) (b : FilmsFront lines now new) (all_is : all ≡ (front ++ lines) ++ others)
+    → IsInOrder (steps_broken all old new (BreaksOff-after old now new front lines others all f.answers b.breaks all_is)) (frame_at old) new.film (frame_at new)
+breaks_filmed old now new front lines others all f b all_is =
+    let breaks = b.breaks in
+    let before = steps_in front old now f.answers in
+    let then = steps_of now.office breaks.answered breaks.out breaks.log breaks.mid breaks.run in
+    let last = step_of breaks.last breaks.answer new.office ∷ [] in
+    let steps : steps_of old.office (front ++ breaks.answered) _ _ breaks.mid _ ≡ before ++ then
+    = steps-append old.office now.office breaks.mid front breaks.answered f.answers.out breaks.out f.answers.log breaks.log f.answers.run breaks.run in
+    subst (λ (xs : List Step). IsInOrder xs (frame_at old) new.film (frame_at new)) (sym (ap (λ (xs : List Step). xs ++ last) steps ∙ append_assoc before then last))
+    (b.shown (frame_at old) before f.on).0
+
 -- an answer within a block was not written whole
-pub Serving-breaks : (first reader reader' : Option (List ℕ)) (old now new : Session) (line block : List ℕ) (count : ℕ)
-    → Serving first reader old now line count → Consumes reader reader' block → BreaksOff (ended_lines (line ++ block)) now new
-    → ServesFront first reader' old new
-Serving-breaks first reader reader' old now new line block count s read b =
-    let breaks = BreaksOff-after old now new (ended_lines s.input) (ended_lines (line ++ block)) [] (ended_lines (s.input ++ block))
-    s.answers b (more_lines s.input line block s.held ∙ sym (append-nil (ended_lines s.input ++ ended_lines (line ++ block)))) in
+pub Serving-breaks : (old now : Session) (left : Option (List ℕ)) (film : List Frame) (new : Session) (line block : List ℕ) (count : ℕ)
+    → Serving old now line count → IsRead now left film Between → Consumes now.left new.left block → FilmsFront (ended_lines (line ++ block)) (seen_by now left film) new
+    → ServesFront old new
+Serving-breaks old now left film new line block count s is read b =
+    let seen = seen_by now left film in
+    let f = Serving-seen old now left film line count s is in
+    let all = more_lines s.input line block s.held ∙ sym (append-nil (ended_lines s.input ++ ended_lines (line ++ block))) in
+    let breaks = BreaksOff-after old seen new (ended_lines s.input) (ended_lines (line ++ block)) [] (ended_lines (s.input ++ block)) f.answers b.breaks all in
     record {
       input = s.input ++ block;
       lines = ended_lines (s.input ++ block);
-      read = Consumes-append first reader reader' s.input block s.read read;
+      read = Consumes-append old.left now.left new.left s.input block s.read read;
       due = inl refl;
       breaks = breaks;
       kept = BreaksOff-kept old new (ended_lines (s.input ++ block)) breaks;
+      order = breaks_filmed old seen new (ended_lines s.input) (ended_lines (line ++ block)) [] (ended_lines (s.input ++ block)) f b all;
     }
 
 -- the last line of the input by what is held of it
@@ -123,48 +187,86 @@ read_on : (first reader reader' : Option (List ℕ)) (input : List ℕ) → Cons
 read_on first reader reader' input before none =
     subst (λ xs. Consumes first reader' xs) (append-nil input) (Consumes-append first reader reader' input [] before none)
 
+pub Serving-breaks_calm : (old now : Session) (left : Option (List ℕ)) (film : List Frame) (new : Session) (line : List ℕ) (lines : List (List ℕ)) (count : ℕ)
+    → Serving old now line count → IsRead now left film Between → FilmsFront lines (seen_by now left film) new → NoneFailed new.film
+Serving-breaks_calm old now left film new line lines count s is b =
+    let f = Serving-seen old now left film line count s is in
+    (b.shown (frame_at old) (steps_in (ended_lines s.input) old (seen_by now left film) f.answers) f.on).1
+
 -- the answer to the last line was not written whole
-pub Serving-last_breaks : (first reader reader' : Option (List ℕ)) (old now new : Session) (line : List ℕ) (count : ℕ)
-    → Serving first reader old now line count → Consumes reader reader' [] → IsAtEnd reader' → BreaksOff (last_line line) now new
-    → ServesFront first reader' old new
-Serving-last_breaks first reader reader' old now new line count s read at_end b =
-    let breaks = BreaksOff-after old now new (ended_lines s.input) (last_line line) [] (lines_of s.input)
-    s.answers b (ap (λ ls. ended_lines s.input ++ ls) (sym (last_held s.input line s.held)) ∙ sym (append-nil (ended_lines s.input ++ last_line line))) in
+pub Serving-last_breaks : (old now : Session) (left : Option (List ℕ)) (film : List Frame) (new : Session) (line : List ℕ) (count : ℕ)
+    → Serving old now line count → IsRead now left film Between → Consumes now.left new.left [] → IsAtEnd new.left → FilmsFront (last_line line) (seen_by now left film) new
+    → ServesFront old new
+Serving-last_breaks old now left film new line count s is read at_end b =
+    let seen = seen_by now left film in
+    let f = Serving-seen old now left film line count s is in
+    let all = ap (λ ls. ended_lines s.input ++ ls) (sym (last_held s.input line s.held)) ∙ sym (append-nil (ended_lines s.input ++ last_line line)) in
+    let breaks = BreaksOff-after old seen new (ended_lines s.input) (last_line line) [] (lines_of s.input) f.answers b.breaks all in
     record {
       input = s.input;
       lines = lines_of s.input;
       due = inr (at_end, refl);
-      read = read_on first reader reader' s.input s.read read;
+      read = read_on old.left now.left new.left s.input s.read read;
       breaks = breaks;
       kept = BreaksOff-kept old new (lines_of s.input) breaks;
+      order = breaks_filmed old seen new (ended_lines s.input) (last_line line) [] (lines_of s.input) f b all;
     }
 
--- the reader or the turns ended before the input
-pub Serving-stops : (first reader reader' : Option (List ℕ)) (old now : Session) (line : List ℕ) (count : ℕ)
-    → Serving first reader old now line count → Consumes reader reader' [] → ServesEnded first reader' old now
-Serving-stops first reader reader' old now line count s read = record {
+-- the last line is answered
+Serving-last : (old now : Session) (left : Option (List ℕ)) (film : List Frame) (new : Session) (line : List ℕ) (count : ℕ)
+    (s : Serving old now line count) → IsRead now left film Between → FilmsAll (last_line line) (seen_by now left film) new → Filmed (lines_of s.input) old new
+Serving-last old now left film new line count s is then =
+    subst (λ ls. Filmed (ended_lines s.input ++ ls) old new) (last_held s.input line s.held)
+    (Filmed-append old (seen_by now left film) new (ended_lines s.input) (last_line line) (Serving-seen old now left film line count s is) then)
+
+pub Serving-last_calm : (old now : Session) (left : Option (List ℕ)) (film : List Frame) (new : Session) (line : List ℕ) (count : ℕ)
+    → Serving old now line count → IsRead now left film Between → FilmsAll (last_line line) (seen_by now left film) new → NoneFailed new.film
+Serving-last_calm old now left film new line count s is then = (Serving-last old now left film new line count s is then).on.calm
+
+-- the turns ended before the input
+pub Serving-stops : (old now : Session) (line : List ℕ) (count : ℕ) → Serving old now line count → ServesEnded old now
+Serving-stops old now line count s = record {
   input = s.input;
-  read = read_on first reader reader' s.input s.read read;
-  answers = s.answers;
-  kept = answers_kept (ended_lines s.input) old now s.answers;
+  read = s.read;
+  answers = s.films.answers;
+  kept = answers_kept (ended_lines s.input) old now s.films.answers;
+  order = film_ends (frame_at old) (steps_so_far old now line count s) now s.films.on;
 }
 
--- the input ended, and its last line is answered
-pub Serving-ends : (first reader reader' : Option (List ℕ)) (old now new : Session) (line : List ℕ) (count more total : ℕ)
-    → Serving first reader old now line count → Consumes reader reader' [] → IsAtEnd reader'
-    → (more ≡ length (last_line line)) × AnswersAll (last_line line) now new → total ≡ min (count + more) (2 ^ 64 - 1)
-    → ServesAll first reader' old new total
-Serving-ends first reader reader' old now new line count more total s read at_end (more_is, then) total_is =
-    let last = last_held s.input line s.held in
-    let all : AnswersAll (lines_of s.input) old new =
-    subst (λ ls. AnswersAll (ended_lines s.input ++ ls) old new) last (AnswersAll-append old now new (ended_lines s.input) (last_line line) s.answers then) in
+pub Serving-stops_calm : (old now : Session) (line : List ℕ) (count : ℕ) → Serving old now line count → NoneFailed now.film
+Serving-stops_calm old now line count s = s.films.on.calm
+
+-- a read failed
+pub Serving-fails : (old now : Session) (left : Option (List ℕ)) (film : List Frame) (line : List ℕ) (count : ℕ)
+    → Serving old now line count → IsRead now left film Failed → Consumes now.left left [] → ServesEnded old (seen_by now left film)
+Serving-fails old now left film line count s is read =
+    let seen = seen_by now left film in
+    let answers = read_more (ended_lines s.input) old now left film s.films.answers in
     record {
       input = s.input;
-      read = read_on first reader reader' s.input s.read read;
+      read = read_on old.left now.left left s.input s.read read;
+      answers = answers;
+      kept = answers_kept (ended_lines s.input) old seen answers;
+      order = read_failed (frame_at old) (steps_so_far old now line count s) now seen Failed s.input s.films.on s.read
+          (lines-of old.office (ended_lines s.input) s.films.answers.out s.films.answers.log now.office s.films.answers.run) refl refl refl is;
+    }
+
+-- the input ended, and its last line is answered
+pub Serving-ends : (old now : Session) (left : Option (List ℕ)) (film : List Frame) (new : Session) (line : List ℕ) (count more total : ℕ)
+    → Serving old now line count → IsRead now left film Between → Consumes now.left new.left [] → IsAtEnd new.left
+    → (more ≡ length (last_line line)) × FilmsAll (last_line line) (seen_by now left film) new → total ≡ min (count + more) (2 ^ 64 - 1)
+    → ServesAll old new total
+Serving-ends old now left film new line count more total s is read at_end (more_is, then) total_is =
+    let last = last_held s.input line s.held in
+    let all = Serving-last old now left film new line count s is then in
+    record {
+      input = s.input;
+      read = read_on old.left now.left new.left s.input s.read read;
       end = at_end;
-      answers = all;
-      kept = answers_kept (lines_of s.input) old new all;
+      answers = all.answers;
+      kept = answers_kept (lines_of s.input) old new all.answers;
       counted = omega (arith, total_is, s.counted, more_is, ap length last, length-append (ended_lines s.input) (last_line (unfinished s.input)));
+      order = film_ends (frame_at old) (steps_in (lines_of s.input) old new all.answers) new all.on;
     }
 
 -- what keeps its bytes consumes none

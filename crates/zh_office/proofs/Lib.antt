@@ -7,6 +7,8 @@ mod LoadLemmas
 mod LoggedLemmas
 mod NightLemmas
 mod OtherDeskLemmas
+mod FilmLemmas
+mod StepLemmas
 mod ReadCountLemmas
 mod RunLemmas
 mod SteadyLemmas

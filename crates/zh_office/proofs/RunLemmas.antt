@@ -20,12 +20,18 @@ pub followed_by-assoc : (a b c : Log) → followed_by (followed_by a b) c ≡ fo
 followed_by-assoc a b c =
     Log_is (followed_by (followed_by a b) c) (followed_by a (followed_by b c)) (append_assoc a.accepted b.accepted c.accepted) (omega arith)
 
+-- a run that is known by other names
+abbrev pub Runs-of : (old mid new : OnDisk Office) (lines : List (List ℕ)) (out out' : List ℕ) (log log' : Log) → mid ≡ old → out ≡ out' → log ≡ log'
+    → Runs mid lines out log new → Runs old lines out' log' new
+Runs-of old mid new lines out out' log log' same outs logs run =
+    subst (λ (l : Log). Runs old lines out' l new) logs (subst (λ (t : List ℕ). Runs old lines t log new) outs (subst (λ (o : OnDisk Office). Runs o lines out log new) same run))
+
 -- a run and one that goes on from its end are a run
-pub Runs-append : (old mid new : OnDisk Office) (lines more : List (List ℕ)) (out next : List ℕ) (log log' : Log)
+abbrev pub Runs-append : (old mid new : OnDisk Office) (lines more : List (List ℕ)) (out next : List ℕ) (log log' : Log)
     → Runs old lines out log mid → Runs mid more next log' new → Runs old (lines ++ more) (out ++ next) (followed_by log log') new
 Runs-append old mid new [] more out next log log' run next_run =
-    let same : followed_by log log' ≡ log' = ap (λ l. followed_by l log') run.logs ∙ nothing-followed_by log' in
-    rw run.wrote (rw same (subst (λ (d : OnDisk Office). Runs d more next log' new) run.same next_run))
+    Runs-of old mid new more next (out ++ next) log' (followed_by log log') run.same (sym (ap (λ (xs : List ℕ). xs ++ next) run.wrote))
+    (sym (ap (λ (l : Log). followed_by l log') run.logs ∙ nothing-followed_by log')) next_run
 Runs-append old mid new (line ∷ lines) more out next log log' run next_run = record {
   answer = run.answer;
   mid = run.mid;
@@ -38,11 +44,11 @@ Runs-append old mid new (line ∷ lines) more out next log log' run next_run = r
 }
 
 -- a run over no line
-pub Runs-none : (old : OnDisk Office) → Runs old [] [] nothing old
+abbrev pub Runs-none : (old : OnDisk Office) → Runs old [] [] nothing old
 Runs-none old = record { wrote = refl; logs = refl; same = refl }
 
 -- a run over one line is a turn
-pub Runs-one : (old new : OnDisk Office) (line : List ℕ) (answer : Answer) (turn : Turn old line answer new)
+abbrev pub Runs-one : (old new : OnDisk Office) (line : List ℕ) (answer : Answer) (turn : Turn old line answer new)
     → Runs old (line ∷ []) (text_after line answer new) turn.log new
 Runs-one old new line answer turn = record {
   answer = answer;

@@ -4,6 +4,8 @@ pub mod Code
 pub mod Opened
 pub mod Runs
 pub mod Load
+pub mod Order
 pub mod Served
+pub mod Filmed
 pub mod Night
 pub mod Undisturbed

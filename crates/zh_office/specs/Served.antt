@@ -1,22 +1,46 @@
 -- What was served of a reader's bytes.
-use Rattle.std.specs.Prelude.{◌≡◌, ◌<◌, ◌≤◌, ◌⊎◌, ◌-◌, ◌*◌, ◌^◌, ℕ, List, ◌∷◌, ◌++◌, take, min, length, IsTrue}
-use Rattle.std.specs.Prelude.{Option, Result, OnOk, OnErr}
+use Rattle.std.specs.Prelude.{◌≡◌, ◌<◌, ◌≤◌, ◌⊎◌, ◌-◌, ◌*◌, ◌^◌, ℕ, List, [], ◌∷◌, ◌++◌, take, min, length, IsTrue}
+use Rattle.std.specs.Prelude.{Option, Some}
 use Rattle.std.specs.Io.KnownBytes.{Appends, Consumes, IsAtEnd}
-use Rattle.zh_commands.specs.declared.output.WriteFault.{WriteFault}
 use Rattle.zh_disk.specs.History.{History}
+use Rattle.zh_film.specs.Frames.{Frame, now_at}
+use Rattle.zh_film.specs.declared.kind.FrameKind.TheVariants.{Failed}
 use Rattle.zh_ledger.specs.Submissions.{OnDisk, on_disk, Log, followed_by, IsLogged}
 use Rattle.zh_answers.specs.declared.answer.Answer.{Answer}
-use Rattle.zh_office.specs.Text.{lines_of, ended_lines, truncated, unfinished}
+use Rattle.zh_office.specs.Text.{lines_of, ended_lines}
 use Rattle.zh_office.specs.Office.{Office}
+use Rattle.zh_office.specs.Order.{Step, IsInOrder}
 use Rattle.zh_office.specs.Runs.{Runs, Turn, its_ledger, text_after}
 
--- an office on its disk, and what is written of its answers, if that is known
+-- an office on its disk, what is written of its answers, and what its input has left, if that is known; and what a film shows,
+-- the latest first
 pub record Session : Type 0 where
   pub written : Option (List ℕ)
   pub office : OnDisk Office
+  pub left : Option (List ℕ)
+  pub film : List Frame
 
-abbrev pub session : Option (List ℕ) → Office → History → Session
-session written office history = record { written = written; office = on_disk office history }
+abbrev pub session : Option (List ℕ) → Office → History → Option (List ℕ) → List Frame → Session
+session written office history left film = record { written = written; office = on_disk office history; left = left; film = film }
+
+-- how it is now
+abbrev pub frame_at : Session → Frame
+frame_at s = now_at s.left s.written s.office.history.trail
+
+-- the last read failed
+abbrev pub HasFailedRead : List Frame → Type 0
+HasFailedRead [] = ⊥
+HasFailedRead (f ∷ fs) = f.kind ≡ Failed
+
+-- a line that is answered, in the order of a conversation
+abbrev pub step_of : List ℕ → Answer → OnDisk Office → Step
+step_of line answer new = record { line = Some line; text = text_after line answer new; disk = new.history.trail }
+
+abbrev pub steps_of : (old : OnDisk Office) (lines : List (List ℕ)) (out : List ℕ) (log : Log) (new : OnDisk Office)
+    → Runs old lines out log new → List Step
+steps_of old [] out log new run = []
+steps_of old (line ∷ lines) out log new run =
+    step_of line run.answer run.mid ∷ steps_of run.mid lines run.rest run.others new run.follows
 
 -- these lines are answered, and the answers written
 pub record AnswersAll (lines : List (List ℕ)) (old new : Session) : Type 0 where
@@ -29,21 +53,30 @@ pub record AnswersAll (lines : List (List ℕ)) (old new : Session) : Type 0 whe
 abbrev pub KeepsLog : Session → Log → Session → Type 0
 KeepsLog old log new = IsTrue new.office.history.honest → IsLogged (its_ledger old.office) log (its_ledger new.office)
 
+-- the steps of what was answered, in their order
+abbrev pub steps_in : (lines : List (List ℕ)) (old new : Session) → AnswersAll lines old new → List Step
+steps_in lines old new answers = steps_of old.office lines answers.out answers.log new.office answers.run
+
+abbrev pub IsFilmed : List Step → Session → Session → Type 0
+IsFilmed steps old new = IsInOrder steps (frame_at old) new.film (frame_at new)
+
 -- the input was read to its end, all its lines are answered, and this is their number, which stops at the greatest u64
-pub record ServesAll (reader reader' : Option (List ℕ)) (old new : Session) (count : ℕ) : Type 0 where
+pub record ServesAll (old new : Session) (count : ℕ) : Type 0 where
   pub input : List ℕ
-  pub read : Consumes reader reader' input
-  pub end : IsAtEnd reader'
+  pub read : Consumes old.left new.left input
+  pub end : IsAtEnd new.left
   pub answers : AnswersAll (lines_of input) old new
   pub counted : count ≡ min (length (lines_of input)) (2 ^ 64 - 1)
   pub kept : KeepsLog old answers.log new
+  pub order : IsFilmed (steps_in (lines_of input) old new answers) old new
 
 -- the lines that are ended in what was read are answered, and what follows them is not
-pub record ServesEnded (reader reader' : Option (List ℕ)) (old new : Session) : Type 0 where
+pub record ServesEnded (old new : Session) : Type 0 where
   pub input : List ℕ
-  pub read : Consumes reader reader' input
+  pub read : Consumes old.left new.left input
   pub answers : AnswersAll (ended_lines input) old new
   pub kept : KeepsLog old answers.log new
+  pub order : IsFilmed (steps_in (ended_lines input) old new answers) old new
 
 -- of the lines of a text some are answered, and of the answer to the next a front is written, and not all
 pub record BreaksOff (lines : List (List ℕ)) (old new : Session) : Type 0 where
@@ -61,32 +94,24 @@ pub record BreaksOff (lines : List (List ℕ)) (old new : Session) : Type 0 wher
   pub part : front < length (text_after last answer new.office)
   pub written : Appends old.written new.written (out ++ take front (text_after last answer new.office))
 
+-- the steps of it, that of the line in work the last
+abbrev pub steps_broken : (lines : List (List ℕ)) (old new : Session) → BreaksOff lines old new → List Step
+steps_broken lines old new breaks =
+    steps_of old.office breaks.answered breaks.out breaks.log breaks.mid breaks.run ++ step_of breaks.last breaks.answer new.office ∷ []
+
 -- what can be answered of what was read: the lines that are ended in it, and at the end of the input the last one too
 abbrev pub AreDue : Option (List ℕ) → List ℕ → List (List ℕ) → Type 0
 AreDue reader' input lines = (lines ≡ ended_lines input) ⊎ (IsAtEnd reader' × (lines ≡ lines_of input))
 
 -- the writer failed: what is written is a front of the outputs, and the line in work has had its effect
-pub record ServesFront (reader reader' : Option (List ℕ)) (old new : Session) : Type 0 where
+pub record ServesFront (old new : Session) : Type 0 where
   pub input : List ℕ
   pub lines : List (List ℕ)
-  pub read : Consumes reader reader' input
-  pub due : AreDue reader' input lines
+  pub read : Consumes old.left new.left input
+  pub due : AreDue new.left input lines
   pub breaks : BreaksOff lines old new
   pub kept : KeepsLog old (followed_by breaks.log breaks.turn.log) new
-
--- a line is answered, and all of its answer is written, or a front of it and not all
-pub record WritesAnswer (old : Session) (bytes : List ℕ) (result : Result (Unit {0}) WriteFault) (new : Session) : Type 0 where
-  pub answer : Answer
-  pub turn : Turn old.office bytes answer new.office
-  pub ok : OnOk result (Appends old.written new.written (text_after bytes answer new.office))
-  pub err : OnErr result ((front : ℕ) × (front < length (text_after bytes answer new.office))
-      × Appends old.written new.written (take front (text_after bytes answer new.office)))
-
--- the block of bytes after these of a line gave so many lines; they are answered, and these bytes of a line are left
-pub record TakesBlock (old : Session) (line block : List ℕ) (new : Session) (line' : List ℕ) (count : ℕ) : Type 0 where
-  pub answers : AnswersAll (ended_lines (line ++ block)) old new
-  pub left : line' ≡ truncated (unfinished (line ++ block))
-  pub counted : count ≡ length (ended_lines (line ++ block))
+  pub order : IsFilmed (steps_broken lines old new breaks) old new
 
 -- so many reads, of a byte at least and 8,192 bytes at most, can have taken what the reader lost
 pub record TakesReads (reader reader' : Option (List ℕ)) (reads : ℕ) : Type 0 where

@@ -1,10 +1,13 @@
 //! Serving the lines of a reader.
 
-ghost use Rattle.std.specs.Prelude.{◌≡◌, ◌++◌, length, MatchResult, IfOk, IsErrOf, OnOk};
+ghost use Rattle.std.specs.Prelude.{◌≡◌, ◌++◌, ◌↔◌, [], length, MatchResult, IfOk, IsErrOf, OnOk};
+ghost use Rattle.zh_film.specs.Frames.{frames};
+ghost use Rattle.zh_film.specs.Scenes.{scenes};
 ghost use Rattle.zh_ledger.specs.Submissions.{on_disk};
-ghost use Rattle.zh_office.specs.Runs.{Continues};
+ghost use Rattle.zh_office.specs.Filmed.{FilmsAll, FilmsFront, TakesBlock, WritesAnswer, WritesText};
+ghost use Rattle.zh_office.specs.Runs.{Continues, answer_text};
 ghost use Rattle.zh_office.specs.Text.{HasNoEnd, ended_lines, last_line};
-ghost use Rattle.zh_office.specs.Served.{session, WritesAnswer, AnswersAll, BreaksOff, TakesBlock};
+ghost use Rattle.zh_office.specs.Served.{session, HasFailedRead};
 ghost use Rattle.zh_office.specs.Served.{ServesAll, ServesEnded, ServesFront, TakesFewerReads, TakesReads, TakesReadsUpTo};
 
 use crate::office::Office;
@@ -14,6 +17,7 @@ use thiserror::Error;
 use zh_answers::Answer;
 use zh_commands::{WriteFault, desk_of, put, write_reply};
 use zh_disk::Disk;
+use zh_film::Film;
 use zh_sheet_text::write_sheet;
 
 /// How many bytes a read asks for at most.
@@ -44,49 +48,82 @@ impl From<WriteFault> for ServeFault {
 }
 
 impl<'s> Office<'s> {
-    /// Answers a line, and writes the answer under the desk that asked.
-    fn answer<W: Write, D: Disk>(
-        &mut self,
-        bytes: &[u8],
+    /// Writes an answer under the desk that asked.
+    fn write_answer<W: Write>(
+        &self,
+        desk: u8,
+        answer: &Answer<'s>,
         writer: &mut W,
-        disk: &mut D,
     ) -> Result<(), WriteFault>
-        ensures { WritesAnswer (session (W.contents writer.old) self.old (D.history disk.old)) bytes.now result
-            (session (W.contents writer.new) self.new (D.history disk.new)) }
+        ensures { WritesText (W.contents writer.old) (W.contents writer.new)
+            (answer_text desk self.now.ledger.tally.accepted answer.now) result }
     {
-        let desk = desk_of(bytes);
-        match self.line(disk, bytes) {
+        match answer {
             Answer::Reply(reply) => {
                 let mut text = [0; 64];
-                let len = write_reply(desk, &reply, &mut text);
+                let len = write_reply(desk, reply, &mut text);
                 put(writer, &text[..len])
             }
             Answer::Sheet(sheet, is_final) => {
-                write_sheet(&sheet, desk, is_final, self.count().accepted(), writer)
+                write_sheet(sheet, desk, *is_final, self.count().accepted(), writer)
             }
         }
     }
 
+    /// Answers a line, and then writes the answer under the desk that asked.
+    fn answer<R: Read, W: Write, D: Disk>(
+        &mut self,
+        bytes: &[u8],
+        reader: &R,
+        writer: &mut W,
+        disk: &mut D,
+        film: &mut Film<R, W, D>,
+    ) -> Result<(), WriteFault>
+        ensures { WritesAnswer
+            (session (W.contents writer.old) self.old (D.history disk.old)
+            (R.remaining reader.now) (frames R.Read W.Write D.Disk film.old))
+            bytes.now result
+            (session (W.contents writer.new) self.new (D.history disk.new)
+            (R.remaining reader.now) (frames R.Read W.Write D.Disk film.new)) }
+    {
+        let desk = desk_of(bytes);
+        let answer = self.line(disk, bytes);
+        film.note(reader, writer, disk);
+        self.write_answer(desk, &answer, writer)?;
+        film.note(reader, writer, disk);
+        Ok(())
+    }
+
     /// Answers the lines that end in a block of bytes after those of `line`, and keeps the bytes of the line after them.
-    fn take_block<W: Write, D: Disk>(
+    fn take_block<R: Read, W: Write, D: Disk>(
         &mut self,
         line: &mut PartialLine,
         block: &[u8],
+        reader: &R,
         writer: &mut W,
         disk: &mut D,
+        film: &mut Film<R, W, D>,
     ) -> Result<usize, WriteFault>
         requires { HasNoEnd line.old.items }
         ensures { MatchResult result
-            (TakesBlock (session (W.contents writer.old) self.old (D.history disk.old)) line.old.items block.now
-            (session (W.contents writer.new) self.new (D.history disk.new)) line.new.items)
-            (λ _. BreaksOff (ended_lines (line.old.items ++ block.now)) (session (W.contents writer.old) self.old (D.history disk.old))
-            (session (W.contents writer.new) self.new (D.history disk.new))) }
+            (TakesBlock
+            (session (W.contents writer.old) self.old (D.history disk.old)
+            (R.remaining reader.now) (frames R.Read W.Write D.Disk film.old))
+            line.old.items block.now
+            (session (W.contents writer.new) self.new (D.history disk.new)
+            (R.remaining reader.now) (frames R.Read W.Write D.Disk film.new))
+            line.new.items)
+            (λ _. FilmsFront (ended_lines (line.old.items ++ block.now))
+            (session (W.contents writer.old) self.old (D.history disk.old)
+            (R.remaining reader.now) (frames R.Read W.Write D.Disk film.old))
+            (session (W.contents writer.new) self.new (D.history disk.new)
+            (R.remaining reader.now) (frames R.Read W.Write D.Disk film.new))) }
     {
         let mut rest = block;
         let mut count = 0;
         while let Some((ended, others)) = split_line(rest) {
             extend_line(line, ended);
-            self.answer(line, writer, disk)?;
+            self.answer(line, reader, writer, disk, film)?;
             line.clear();
             rest = others;
             count += 1;
@@ -96,23 +133,30 @@ impl<'s> Office<'s> {
     }
 
     /// Answers a last line that has not ended, if it has a byte, and returns how many lines that is.
-    fn finish<W: Write, D: Disk>(
+    fn finish<R: Read, W: Write, D: Disk>(
         &mut self,
         line: &PartialLine,
+        reader: &R,
         writer: &mut W,
         disk: &mut D,
+        film: &mut Film<R, W, D>,
     ) -> Result<u64, WriteFault>
         ensures { MatchResult result
-            (λ count. (count ≡ length (last_line line.now.items)) × AnswersAll (last_line line.now.items)
-            (session (W.contents writer.old) self.old (D.history disk.old))
-            (session (W.contents writer.new) self.new (D.history disk.new)))
-            (λ _. BreaksOff (last_line line.now.items) (session (W.contents writer.old) self.old (D.history disk.old))
-            (session (W.contents writer.new) self.new (D.history disk.new))) }
+            (λ count. (count ≡ length (last_line line.now.items)) × FilmsAll (last_line line.now.items)
+            (session (W.contents writer.old) self.old (D.history disk.old)
+            (R.remaining reader.now) (frames R.Read W.Write D.Disk film.old))
+            (session (W.contents writer.new) self.new (D.history disk.new)
+            (R.remaining reader.now) (frames R.Read W.Write D.Disk film.new)))
+            (λ _. FilmsFront (last_line line.now.items)
+            (session (W.contents writer.old) self.old (D.history disk.old)
+            (R.remaining reader.now) (frames R.Read W.Write D.Disk film.old))
+            (session (W.contents writer.new) self.new (D.history disk.new)
+            (R.remaining reader.now) (frames R.Read W.Write D.Disk film.new))) }
     {
         if line.is_empty() {
             return Ok(0);
         }
-        self.answer(line, writer, disk)?;
+        self.answer(line, reader, writer, disk, film)?;
         Ok(1)
     }
 
@@ -122,25 +166,40 @@ impl<'s> Office<'s> {
     /// After an error of the reader, or where the end of the input was not met, the lines that were ended by then are
     /// answered, and a line that was not ended is not. After an error of the writer a front of the answers is written.
     /// An interrupted read or write is an error.
+    ///
+    /// The film, which shows nothing yet, notes the order of it all: each line is done on the disk before its answer is
+    /// written, and each is answered before the next one is done, and before more is read.
     pub fn serve<R: Read, W: Write, D: Disk>(
         &mut self,
         reader: &mut R,
         writer: &mut W,
         disk: &mut D,
+        film: &mut Film<R, W, D>,
         turns: u64,
     ) -> Result<u64, ServeFault>
-        ensures ok { IfOk result (ServesAll (R.remaining reader.old) (R.remaining reader.new)
-            (session (W.contents writer.old) self.old (D.history disk.old))
-            (session (W.contents writer.new) self.new (D.history disk.new))) }
-        ensures read { IsErrOf result ServeFault.Read → ServesEnded (R.remaining reader.old) (R.remaining reader.new)
-            (session (W.contents writer.old) self.old (D.history disk.old))
-            (session (W.contents writer.new) self.new (D.history disk.new)) }
-        ensures write { IsErrOf result ServeFault.Write → ServesFront (R.remaining reader.old) (R.remaining reader.new)
-            (session (W.contents writer.old) self.old (D.history disk.old))
-            (session (W.contents writer.new) self.new (D.history disk.new)) }
-        ensures turns { IsErrOf result ServeFault.Turns → ServesEnded (R.remaining reader.old) (R.remaining reader.new)
-            (session (W.contents writer.old) self.old (D.history disk.old))
-            (session (W.contents writer.new) self.new (D.history disk.new)) }
+        requires { scenes film.old ≡ [] }
+        ensures ok { IfOk result (ServesAll
+            (session (W.contents writer.old) self.old (D.history disk.old)
+            (R.remaining reader.old) (frames R.Read W.Write D.Disk film.old))
+            (session (W.contents writer.new) self.new (D.history disk.new)
+            (R.remaining reader.new) (frames R.Read W.Write D.Disk film.new))) }
+        ensures read { IsErrOf result ServeFault.Read → ServesEnded
+            (session (W.contents writer.old) self.old (D.history disk.old)
+            (R.remaining reader.old) (frames R.Read W.Write D.Disk film.old))
+            (session (W.contents writer.new) self.new (D.history disk.new)
+            (R.remaining reader.new) (frames R.Read W.Write D.Disk film.new)) }
+        ensures write { IsErrOf result ServeFault.Write → ServesFront
+            (session (W.contents writer.old) self.old (D.history disk.old)
+            (R.remaining reader.old) (frames R.Read W.Write D.Disk film.old))
+            (session (W.contents writer.new) self.new (D.history disk.new)
+            (R.remaining reader.new) (frames R.Read W.Write D.Disk film.new)) }
+        ensures turns { IsErrOf result ServeFault.Turns → ServesEnded
+            (session (W.contents writer.old) self.old (D.history disk.old)
+            (R.remaining reader.old) (frames R.Read W.Write D.Disk film.old))
+            (session (W.contents writer.new) self.new (D.history disk.new)
+            (R.remaining reader.new) (frames R.Read W.Write D.Disk film.new)) }
+        // The last read failed exactly where it ends with that fault.
+        ensures failed { HasFailedRead (frames R.Read W.Write D.Disk film.new) ↔ IsErrOf result ServeFault.Read }
         // However it ends: the history of the disk goes on from that before, and none of its failures is forgotten.
         ensures disk { Continues (on_disk self.old.ledger (D.history disk.old)) (on_disk self.new.ledger (D.history disk.new)) }
         // Each read but the last took a byte at least. So as many bytes as turns were there, where the turns are used up.
@@ -152,15 +211,16 @@ impl<'s> Office<'s> {
         let mut block = blank_block();
         let mut line = PartialLine::new();
         let mut count: u64 = 0;
+        film.note(reader, writer, disk);
         for _ in 0..turns {
-            let Ok(len) = reader.read(&mut block) else {
+            let Ok(len) = film.read(reader, writer, disk, &mut block) else {
                 return Err(ServeFault::Read);
             };
             if len == 0 {
-                let last = self.finish(&line, writer, disk)?;
+                let last = self.finish(&line, reader, writer, disk, film)?;
                 return Ok(count.saturating_add(last));
             }
-            let lines = self.take_block(&mut line, &block[..len], writer, disk)?;
+            let lines = self.take_block(&mut line, &block[..len], reader, writer, disk, film)?;
             count = count.saturating_add(lines as u64);
         }
         Err(ServeFault::Turns)

@@ -34,13 +34,13 @@ use Rattle.zh_answers.specs.Sheets.{MayAnswerFinal, MayGive, answer_with, sheet_
 use Rattle.zh_answers.specs.declared.answer.Answer.{Answer}
 use Rattle.zh_answers.specs.declared.answer.Answer.TheVariants as answers
 use Rattle.zh_office.specs.Office.{MayAnswer, Office}
-use Rattle.zh_program.specs.Sheets.{FollowsFrom, IsTie}
-use Rattle.zh_program.proofs.TieLemmas.{HasNoSheet, tied_above, tied_below, tied_seats}
+use Rattle.zh_program.specs.Sheets.{FollowsFrom, LeaveNoSeats, IsTie}
+use Rattle.zh_program.proofs.TieLemmas.{tied_above, tied_seats}
 
 -- what an answer says of these totals
 pub record IsFair (totals : VoteTotals) (answer : Answer) : Type 0 where
   pub sheet : (sheet : Distribution) (is_final : Bool) → answer ≡ answers.Sheet sheet is_final → FollowsFrom totals sheet
-  pub tie : IsTie answer → HasNoSheet totals
+  pub tie : IsTie answer → LeaveNoSeats totals
 
 -- and one to what gives no command stores nothing
 pub record StoresNone (totals : VoteTotals) (answer : Answer) : Type 0 where
@@ -71,14 +71,14 @@ pub same_fair : (totals : VoteTotals) (a b : Answer) → a ≡ b → StoresNone 
 same_fair totals a b is fair = subst (StoresNone totals) (sym is) fair
 
 -- a reply to what gives no command, where there is no sheet
-tie_fair : (totals : VoteTotals) (reply : Reply) → ((number : ℕ) → answers.Reply reply ≢ answers.Reply (Stored number)) → HasNoSheet totals → StoresNone totals (answers.Reply reply)
+tie_fair : (totals : VoteTotals) (reply : Reply) → ((number : ℕ) → answers.Reply reply ≢ answers.Reply (Stored number)) → LeaveNoSeats totals → StoresNone totals (answers.Reply reply)
 tie_fair totals reply other none = record { fair = record { sheet = λ sheet is_final is. absurd cc; tie = λ tie. none }; unstored = other }
 
 -- a sheet, or why there is none
 fault_fair : (totals : VoteTotals) (fault : SheetFault) → IsMade totals (Err fault) → StoresNone totals (answers.Reply (Refused (sheet_refusal fault)))
 fault_fair totals faults.TiedSeats made = tie_fair totals _ (λ number is. absurd cc) (tied_seats totals (made.refused.refused faults.TiedSeats refl).holds)
 fault_fair totals faults.TiedUpper made = tie_fair totals _ (λ number is. absurd cc) (tied_above totals (made.refused.refused faults.TiedUpper refl).holds)
-fault_fair totals (faults.TiedLower d g) made = tie_fair totals _ (λ number is. absurd cc) (tied_below totals (made.refused.tied d g refl))
+fault_fair totals (faults.TiedLower d g) made = tie_fair totals _ (λ number is. absurd cc) (made.refused.tied d g refl)
 fault_fair totals faults.Memory made = plain totals _ (λ no. no)
 fault_fair totals (faults.NoSeat d) made = plain totals _ (λ no. no)
 fault_fair totals faults.NoGroup made = plain totals _ (λ no. no)

@@ -11,19 +11,22 @@ use Rattle.zh_ledger.specs.declared.fault.OpenFault.{OpenFault}
 use Rattle.zh_office.specs.Office.{Office}
 use Rattle.zh_tasks.specs.Opened.{IsFrom}
 use Rattle.zh_program.specs.Exchanges.{Exchange}
+use Rattle.zh_tasks.specs.Run.{Streams}
 use Rattle.zh_program.specs.Headline.{Headline}
+use Rattle.zh_program.specs.Order.{Conversation}
 use Rattle.zh_program.specs.Stopped.{Always}
 use Rattle.zh_program.proofs.EmptyLemmas.{always_now}
 use Rattle.zh_program.proofs.HeadlineLemmas.{headline_of}
+use Rattle.zh_program.proofs.OrderLemmas.{IsTold, talking}
 use Rattle.zh_program.proofs.OpensLemmas.{opening_always, opening_holds, started}
 use Rattle.zh_program.proofs.TurnLemmas.{AreTurns, IsAt, at_rest}
 use Rattle.zh_ledger.proofs.CallerLemmas.{has_none}
 
--- what is kept of a disk that began with the one history and has the other, where these exchanges came after its opening; and
--- where no count stood there were none
-pub record Keeps (canton : Canton) (first last : History) (opened : Trail) (xs : List Exchange) : Type 0 where
+-- what is kept of a disk that began with the one history and has the other, where these exchanges came after its opening, in this
+-- conversation; and where no count stood there were none
+pub record Keeps (canton : Canton) (first last : History) (talk : Conversation) (xs : List Exchange) : Type 0 where
   pub office : IsTrue last.honest → (bytes : List ℕ) → first.trail ≡ fresh_trail bytes → (tally : Tally) → IsCanton tally.canton → Holds tally bytes
-      → Headline tally (fresh_trail bytes) opened last.trail xs
+      → Headline tally (fresh_trail bytes) talk xs
   pub idle : IsTrue last.honest → (bytes : List ℕ) → first.trail ≡ fresh_trail bytes → ((tally : Tally) → IsCanton tally.canton → ¬ Stands tally bytes) → xs ≡ []
 
 -- how an office goes on from its start
@@ -31,15 +34,16 @@ abbrev pub GoesOnTo : OnDisk Office → List Exchange → OnDisk Office → Type
 GoesOnTo start xs end = (tally : Tally) → IsTrue end.history.honest → IsAt tally start.history.trail [] start
     → AreTurns tally start.history.trail [] xs × IsAt tally start.history.trail xs end
 
-pub opened_keeps : (canton : Canton) (first last : History) (start end : OnDisk Office) (xs : List Exchange) → IsCanton canton → IsFrom canton first last start end → GoesOnTo start xs end → Keeps canton first last start.history.trail xs
-opened_keeps canton first last start end xs limits from goes = record { office = kept; idle = stood }
+pub opened_keeps : (canton : Canton) (first last : History) (start end : OnDisk Office) (xs : List Exchange) (old new : Streams) → IsCanton canton → IsFrom canton first last start end → GoesOnTo start xs end → IsTold xs (talking old new start.history.trail last.trail)
+    → Keeps canton first last (talking old new start.history.trail last.trail) xs
+opened_keeps canton first last start end xs old new limits from goes told = record { office = kept; idle = stood }
   where
-    kept : IsTrue last.honest → (bytes : List ℕ) → first.trail ≡ fresh_trail bytes → (tally : Tally) → IsCanton tally.canton → Holds tally bytes → Headline tally (fresh_trail bytes) start.history.trail last.trail xs
+    kept : IsTrue last.honest → (bytes : List ℕ) → first.trail ≡ fresh_trail bytes → (tally : Tally) → IsCanton tally.canton → Holds tally bytes → Headline tally (fresh_trail bytes) (talking old new start.history.trail last.trail) xs
     kept honest bytes fresh tally own holds =
         let at = started canton first start from.begun (from.honest honest) bytes fresh tally limits own holds in
         let then = goes tally (subst (λ (h : History). IsTrue h.honest) (sym from.ended) honest) at in
-        headline_of tally start.history.trail (fresh_trail bytes) last.trail xs (opening_always canton first start from.begun (from.honest honest) bytes fresh tally limits own holds) then.0
-        (then.1.disk ∙ ap (λ (h : History). h.trail) from.ended)
+        headline_of tally (fresh_trail bytes) (talking old new start.history.trail last.trail) xs (opening_always canton first start from.begun (from.honest honest) bytes fresh tally limits own holds) then.0
+        (then.1.disk ∙ ap (λ (h : History). h.trail) from.ended) told
 
     stood : IsTrue last.honest → (bytes : List ℕ) → first.trail ≡ fresh_trail bytes → ((tally : Tally) → IsCanton tally.canton → ¬ Stands tally bytes) → xs ≡ []
     stood honest bytes fresh none =
@@ -51,14 +55,15 @@ pub nothing_given : (start : OnDisk Office) → GoesOnTo start [] start
 nothing_given start tally honest at = (at_rest tally start.history.trail [] start at, at)
 
 -- a disk of which each image still holds the count
-pub unchanged_keeps : (canton : Canton) (first last : History) → (IsTrue last.honest → (bytes : List ℕ) → first.trail ≡ fresh_trail bytes → (tally : Tally) → IsCanton tally.canton → Holds tally bytes → Always (Holds tally) (fresh_trail bytes) last.trail) → Keeps canton first last last.trail []
-unchanged_keeps canton first last still = record { office = kept; idle = λ honest bytes fresh none. refl }
+pub unchanged_keeps : (canton : Canton) (first last : History) (old new : Streams) → IsTold [] (talking old new last.trail last.trail)
+    → (IsTrue last.honest → (bytes : List ℕ) → first.trail ≡ fresh_trail bytes → (tally : Tally) → IsCanton tally.canton → Holds tally bytes → Always (Holds tally) (fresh_trail bytes) last.trail) → Keeps canton first last (talking old new last.trail last.trail) []
+unchanged_keeps canton first last old new told still = record { office = kept; idle = λ honest bytes fresh none. refl }
   where
-    kept : IsTrue last.honest → (bytes : List ℕ) → first.trail ≡ fresh_trail bytes → (tally : Tally) → IsCanton tally.canton → Holds tally bytes → Headline tally (fresh_trail bytes) last.trail last.trail []
+    kept : IsTrue last.honest → (bytes : List ℕ) → first.trail ≡ fresh_trail bytes → (tally : Tally) → IsCanton tally.canton → Holds tally bytes → Headline tally (fresh_trail bytes) (talking old new last.trail last.trail) []
     kept honest bytes fresh tally own holds =
         let opening = still honest bytes fresh tally own holds in
-        headline_of tally last.trail (fresh_trail bytes) last.trail [] opening (λ c image. has_none tally [] c (always_now (Holds tally) (fresh_trail bytes) last.trail opening c image)) refl
+        headline_of tally (fresh_trail bytes) (talking old new last.trail last.trail) [] opening (λ c image. has_none tally [] c (always_now (Holds tally) (fresh_trail bytes) last.trail opening c image)) refl told
 
-pub refused_keeps : (canton : Canton) (first last : History) (fault : OpenFault) → IsCanton canton → Opening canton first last (Err fault) → Keeps canton first last last.trail []
-refused_keeps canton first last fault limits opening = unchanged_keeps canton first last (λ honest bytes fresh tally own holds.
+pub refused_keeps : (canton : Canton) (first last : History) (fault : OpenFault) (old new : Streams) → IsCanton canton → Opening canton first last (Err fault) → IsTold [] (talking old new last.trail last.trail) → Keeps canton first last (talking old new last.trail last.trail) []
+refused_keeps canton first last fault old new limits opening told = unchanged_keeps canton first last old new told (λ honest bytes fresh tally own holds.
     opening_holds canton bytes tally limits own holds last.trail (subst (λ (t : Trail). Leaves (MayLeave canton t.now.bytes) t last.trail) fresh (opening.call.did honest).moments))

@@ -28,6 +28,10 @@ log_more [] x = log_none (log_by x.command x.answer) ∙ sym (nothing-followed_b
 log_more (y ∷ ys) x =
     ap (followed_by (log_by y.command y.answer)) (log_more ys x) ∙ sym (followed_by-assoc (log_by y.command y.answer) (log_of ys) (log_by x.command x.answer))
 
+pub log_append : (xs ys : List Exchange) → log_of (xs ++ ys) ≡ followed_by (log_of xs) (log_of ys)
+log_append [] ys = sym (nothing-followed_by (log_of ys))
+log_append (x ∷ xs) ys = ap (followed_by (log_by x.command x.answer)) (log_append xs ys) ∙ sym (followed_by-assoc (log_by x.command x.answer) (log_of xs) (log_of ys))
+
 pub disk_more : (t : Trail) (xs : List Exchange) (x : Exchange) → disk_by t (xs ++ x ∷ []) ≡ x.disk
 disk_more t [] x = refl
 disk_more t (y ∷ ys) x = disk_more y.disk ys x

@@ -24,24 +24,25 @@ use Rattle.zh_answers.specs.declared.answer.Answer.{Answer}
 use Rattle.zh_answers.specs.declared.answer.Answer.TheVariants as answers
 use Rattle.zh_program.specs.Exchanges.{Exchange, count_by, disk_by, log_by, log_of}
 use Rattle.zh_program.specs.Headline.{Headline}
+use Rattle.zh_program.specs.Order.{Conversation}
 use Rattle.zh_program.specs.Stopped.{Always}
 use Rattle.zh_program.proofs.AlwaysLemmas.{AtMoment}
 use Rattle.zh_program.proofs.EmptyLemmas.{now_first}
 use Rattle.zh_program.proofs.ExchangeLemmas.{log_more}
 
 -- Commands that are acceptable in turn are counted once each.
-abbrev AreJudged : Tally → List Command → Type 0
+abbrev pub AreJudged : Tally → List Command → Type 0
 AreJudged t [] = Unit {0}
 AreJudged t (c ∷ cs) = (judge t c ≡ verdicts.Accept) × AreJudged (step t c) cs
 
-judged_number : (t : Tally) (cs : List Command) → AreJudged t cs → (after t cs).accepted ≡ t.accepted + length cs
+pub judged_number : (t : Tally) (cs : List Command) → AreJudged t cs → (after t cs).accepted ≡ t.accepted + length cs
 judged_number t [] judged = omega arith
 judged_number t (c ∷ cs) judged =
     let one : (step t c).accepted ≡ t.accepted + 1 = ap (λ (v : Verdict). (on_verdict v (changed t c) t).accepted) judged.0 in
     let more = judged_number (step t c) cs judged.1 in
     omega arith
 
-judged_take : (t : Tally) (n : ℕ) (cs : List Command) → AreJudged t cs → AreJudged t (take n cs)
+pub judged_take : (t : Tally) (n : ℕ) (cs : List Command) → AreJudged t cs → AreJudged t (take n cs)
 judged_take t zero cs judged = tt
 judged_take t (suc n) [] judged = tt
 judged_take t (suc n) (c ∷ cs) judged = (judged.0, judged_take (step t c) n cs judged.1)
@@ -60,14 +61,14 @@ after_canton t [] = refl
 after_canton t (c ∷ cs) = after_canton (step t c) cs ∙ on_verdict_canton (judge t c) (changed t c) t refl
 
 -- an exchange adds one command at most
-one_at_most : (command : Option Command) (answer : Answer) → ((log_by command answer).accepted ≡ []) ⊎ ((c : Command) × ((log_by command answer).accepted ≡ c ∷ []))
+pub one_at_most : (command : Option Command) (answer : Answer) → ((log_by command answer).accepted ≡ []) ⊎ ((c : Command) × ((log_by command answer).accepted ≡ c ∷ []))
 one_at_most None answer = inl refl
 one_at_most (Some c) (answers.Reply (Stored number)) = inr (c, refl)
 one_at_most (Some c) (answers.Reply (Refused refusals.Device)) = inr (c, refl)
 one_at_most (Some c) answer = inl refl
 
 -- two images for counts of one set-up hold one count
-same_held : (c : List ℕ) (t u : Tally) → Holds t c → Holds u c → t.canton ≡ u.canton → t ≡ u
+pub same_held : (c : List ℕ) (t u : Tally) → Holds t c → Holds u c → t.canton ≡ u.canton → t ≡ u
 same_held c t u one other own = (one_count c one.content other.content one.end other.end one.format other.format t u one.clean.framed other.clean.framed one.stands other.stands own).1
 
 -- what is so at each moment is so where a stop comes
@@ -75,7 +76,7 @@ all_back : {X : Type 0} (P : X → Type 0) (xs ys : List X) → All P (xs ++ ys)
 all_back P [] ys all = all
 all_back P (x ∷ xs) ys all = all_back P xs ys (All-tail P x (xs ++ ys) all)
 
-always_at : (P : List ℕ → Type 0) (old new : Trail) (c : List ℕ) → Always P old new → StopsWithin old new c → P c
+pub always_at : (P : List ℕ → Type 0) (old new : Trail) (c : List ℕ) → Always P old new → StopsWithin old new c → P c
 always_at P old new c always stop =
     let later = stop.due.0 in
     let before = stop.begun.0 in
@@ -85,7 +86,7 @@ always_at P old new c always stop =
     let from : All (AtMoment P) (before ++ old.now ∷ []) = all_back (AtMoment P) later (before ++ old.now ∷ []) (subst (All (AtMoment P)) (append_assoc later before (old.now ∷ [])) each) in
     now_first P old stop.at before stop.begun.1 from c stop.image
 
-module _ (tally : Tally) (first opened last : Trail) (exchanges : List Exchange) (promise : Headline tally first opened last exchanges) where
+module _ (tally : Tally) (before : Trail) (talk : Conversation) (exchanges : List Exchange) (promise : Headline tally before talk exchanges) where
   judged_from : (done xs rest : List Exchange) → exchanges ≡ done ++ (xs ++ rest) → AreJudged tally (log_of done).accepted → AreJudged tally (log_of (done ++ xs)).accepted
   judged_from done [] rest is judged = subst (λ (d : List Exchange). AreJudged tally (log_of d).accepted) (sym (append-nil done)) judged
   judged_from done (x ∷ xs) rest is judged =
@@ -101,11 +102,11 @@ module _ (tally : Tally) (first opened last : Trail) (exchanges : List Exchange)
       (one_at_most x.command x.answer))
       ))
 
-  all_judged : (done rest : List Exchange) → exchanges ≡ done ++ rest → AreJudged tally (log_of done).accepted
+  pub all_judged : (done rest : List Exchange) → exchanges ≡ done ++ rest → AreJudged tally (log_of done).accepted
   all_judged done rest is = judged_from [] done rest is tt
 
   -- no image without the last acknowledged command
-  pub none_lost : (done rest : List Exchange) (c : List ℕ) (n : ℕ) → exchanges ≡ done ++ rest → IsImage (disk_by opened done).now c → n < (log_of done).acknowledged → n ≤ length (log_of done).accepted → Holds (after tally (take n (log_of done).accepted)) c → ⊥
+  pub none_lost : (done rest : List Exchange) (c : List ℕ) (n : ℕ) → exchanges ≡ done ++ rest → IsImage (disk_by talk.first.disk done).now c → n < (log_of done).acknowledged → n ≤ length (log_of done).accepted → Holds (after tally (take n (log_of done).accepted)) c → ⊥
   none_lost done rest c n is image fewer within holds =
       let commands = (log_of done).accepted in
       let some = promise.stopped_between done rest is c image in
@@ -116,11 +117,11 @@ module _ (tally : Tally) (first opened last : Trail) (exchanges : List Exchange)
       omega (arith, fewer, within, some.at_least, some.within, length-take n commands, length-take some.number commands, one, other, ap (λ (t : Tally). t.accepted) same)
 
   -- none of another count than that after a prefix of what is accepted by then, with all that was acknowledged before
-  pub none_other : (done rest : List Exchange) (x : Exchange) (c : List ℕ) (count : Tally) → exchanges ≡ done ++ x ∷ rest → StopsWithin (disk_by opened done) x.disk c → Holds count c → count.canton ≡ tally.canton
+  pub none_other : (done rest : List Exchange) (x : Exchange) (c : List ℕ) (count : Tally) → exchanges ≡ done ++ x ∷ rest → StopsWithin (disk_by talk.first.disk done) x.disk c → Holds count c → count.canton ≡ tally.canton
       → ((n : ℕ) → (log_of done).acknowledged ≤ n → n ≤ length (log_of (done ++ x ∷ [])).accepted → count ≢ after tally (take n (log_of (done ++ x ∷ [])).accepted)) → ⊥
   none_other done rest x c count is stop holds own other =
       let commands = (log_of (done ++ x ∷ [])).accepted in
-      let some = always_at (HasSome tally commands (log_of done).acknowledged) (disk_by opened done) x.disk c (promise.stopped_within done rest x is) stop in
+      let some = always_at (HasSome tally commands (log_of done).acknowledged) (disk_by talk.first.disk done) x.disk c (promise.stopped_within done rest x is) stop in
       other some.number some.at_least some.within (same_held c count (after tally (take some.number commands)) holds some.holds (own ∙ sym (after_canton tally (take some.number commands))))
 
 -- what rounds lies on no half

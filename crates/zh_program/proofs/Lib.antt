@@ -8,11 +8,15 @@ mod ExchangeLemmas
 mod TurnLemmas
 mod RunLemmas
 mod OpensLemmas
+mod OrderLemmas
 mod HeadlineLemmas
 mod EmptyLemmas
 mod ConductLemmas
 mod ServedLemmas
 mod LoadedLemmas
 mod PartLemmas
+mod TouchLemmas
 mod PromiseLemmas
+mod RehearsalLemmas
 mod ExcludeLemmas
+mod ToldLemmas

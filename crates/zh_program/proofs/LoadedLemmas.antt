@@ -21,15 +21,18 @@ use Rattle.zh_answers.specs.declared.answer.Answer.{Answer}
 use Rattle.zh_answers.specs.declared.answer.Answer.TheVariants as answers
 use Rattle.zh_office.specs.Load.{LoadTurn, command_loaded, load_refusal, load_reply}
 use Rattle.zh_office.specs.Office.{Office}
-use Rattle.zh_tasks.specs.Load.{LoadsFile, LoadsText, Replied, WritesPart, printed}
+use Rattle.zh_tasks.specs.Load.{GivenText, LoadsFile, LoadsText, Replied, WritesPart, printed}
 use Rattle.zh_tasks.specs.Opened.{IsFrom, IsOnlyOpened}
+use Rattle.zh_tasks.specs.Run.{Streams}
 use Rattle.zh_tasks.specs.declared.fault.TaskFault.{TaskFault}
 use Rattle.zh_tasks.specs.declared.fault.TaskFault.TheVariants as faults
 use Rattle.zh_program.specs.Due.{AnswerText}
 use Rattle.zh_program.specs.Exchanges.{Exchange, IsReadRight, command_given}
 use Rattle.zh_program.specs.Exchanges.Given.{text}
+use Rattle.zh_program.specs.Order.{Conversation}
 use Rattle.zh_program.proofs.AnsweredLemmas.{IsMarked, StoresNone, plain, same_fair}
 use Rattle.zh_program.proofs.ConductLemmas.{GoesOnTo, Keeps, nothing_given, opened_keeps, refused_keeps}
+use Rattle.zh_program.proofs.OrderLemmas.{IsTold, talking, told_none}
 use Rattle.zh_program.proofs.ServedLemmas.{appends_none}
 use Rattle.zh_program.proofs.TurnLemmas.{at_rest, one_is, one_then}
 
@@ -82,69 +85,94 @@ text_goes start bytes failed reply end turn whole tally honest at =
     let then = one_then tally opened [] start end (text bytes turn.loaded) (command_loaded broken turn.loaded) May (answers.Reply reply) turn.log at honest turn.acts fair read gives turn.held in
     ((at_rest tally opened [] start at, one, at_rest tally opened (exchange_of_text start bytes failed reply end turn ∷ []) end then), then)
 
-module _ (known bytes w w' : Option (List ℕ)) (read : KeepsBytes known bytes) (status : ℕ) (canton : Canton) (limits : IsCanton canton) (first last : History) where
-  -- the exchange of a load, if there was one, and what is kept
+module _ (known : Option (List ℕ)) (source : GivenText) (old new : Streams) (read : KeepsBytes known source.bytes) (status : ℕ) (canton : Canton) (limits : IsCanton canton) (first last : History) where
+  -- the exchange of a load, if there was one, in its conversation, and what is kept
   pub record HasAnswered : Type 0 where
     pub exchanges : List Exchange
     pub opened : Trail
-    pub due : AnswerText known w w' status exchanges
-    pub kept : Keeps canton first last opened exchanges
+    pub due : AnswerText known (talking old new opened last.trail) status exchanges
+    pub told : IsTold exchanges (talking old new opened last.trail)
+    pub kept : Keeps canton first last (talking old new opened last.trail) exchanges
+
+  -- nothing was read from the input, written or noted
+  pub record IsSilent : Type 0 where
+    pub left : new.left ≡ old.left
+    pub written : new.written ≡ old.written
+    pub film : new.film ≡ []
+
+  none_due : (opened : Trail) → status ≢ 0 → IsSilent → AnswerText known (talking old new opened last.trail) status []
+  none_due opened failed same = record { bytes = source.bytes; read = read; loaded = inl (refl, failed); written = inl (subst (λ (v : Option (List ℕ)). Appends old.written v []) (sym same.written) (appends_none old.written)) }
 
   -- the file gave no text
-  none_given : status ≢ 0 → w' ≡ w → IsOnlyOpened (IsFrom canton first last) → HasAnswered
-  none_given failed written (start, from) = record {
-    exchanges = [];
-    opened = start.history.trail;
-    due = record { bytes = bytes; read = read; loaded = inl (refl, failed); written = inl (subst (λ (v : Option (List ℕ)). Appends w v []) (sym written) (appends_none w)) };
-    kept = opened_keeps canton first last start start [] limits from (nothing_given start);
-  }
+  none_given : status ≢ 0 → IsSilent → IsOnlyOpened (IsFrom canton first last) → HasAnswered
+  none_given failed same (start, from) =
+      let opened = start.history.trail in
+      let told : IsTold [] (talking old new opened last.trail) = subst (λ (h : History). IsTold [] (talking old new opened h.trail)) from.ended (told_none old new opened same.left same.written same.film) in
+      record {
+        exchanges = [];
+        opened = opened;
+        due = none_due opened failed same;
+        told = told;
+        kept = opened_keeps canton first last start start [] old new limits from (nothing_given start) told;
+      }
 
-  pub refused_answered : (fault : OpenFault) → status ≢ 0 → w' ≡ w → Opening canton first last (Err fault) → HasAnswered
-  refused_answered fault failed written opening = record {
-    exchanges = [];
-    opened = last.trail;
-    due = record { bytes = bytes; read = read; loaded = inl (refl, failed); written = inl (subst (λ (v : Option (List ℕ)). Appends w v []) (sym written) (appends_none w)) };
-    kept = refused_keeps canton first last fault limits opening;
-  }
+  pub refused_answered : (fault : OpenFault) → status ≢ 0 → IsSilent → Opening canton first last (Err fault) → HasAnswered
+  refused_answered fault failed same opening =
+      let told = told_none old new last.trail same.left same.written same.film in
+      record {
+        exchanges = [];
+        opened = last.trail;
+        due = none_due last.trail failed same;
+        told = told;
+        kept = refused_keeps canton first last fault old new limits opening told;
+      }
 
   -- it was loaded
-  module _ (reply : Reply) (by : Replied bytes (IsFrom canton first last) reply) where
+  module _ (reply : Reply) (by : Replied source old new (IsFrom canton first last) reply) where
     abbrev x : Exchange
-    x = exchange_of_text by.start bytes by.failed reply by.end by.turn
+    x = exchange_of_text by.start source.bytes source.failed reply by.end by.turn
 
-    kept : Keeps canton first last by.start.history.trail (x ∷ [])
-    kept = opened_keeps canton first last by.start by.end (x ∷ []) limits by.spans (text_goes by.start bytes by.failed reply by.end by.turn by.spans.begun.opening.ready.whole)
+    abbrev talk : Conversation
+    talk = talking old new by.start.history.trail last.trail
 
-    reply_written : Appends w w' (printed reply) → HasAnswered
+    told : IsTold (x ∷ []) talk
+    told = subst (λ (h : History). IsTold (x ∷ []) (talking old new by.start.history.trail h.trail)) by.spans.ended by.order.follow
+
+    kept : Keeps canton first last talk (x ∷ [])
+    kept = opened_keeps canton first last by.start by.end (x ∷ []) old new limits by.spans (text_goes by.start source.bytes source.failed reply by.end by.turn by.spans.begun.opening.ready.whole) told
+
+    reply_written : Appends old.written new.written (printed reply) → HasAnswered
     reply_written written = record {
       exchanges = x ∷ [];
       opened = by.start.history.trail;
-      due = record { bytes = bytes; read = read; loaded = inr (x, by.turn.loaded, refl, refl); written = inl (subst (Appends w w') (sym (append-nil (printed reply))) written) };
+      due = record { bytes = source.bytes; read = read; loaded = inr (x, by.turn.loaded, refl, refl); written = inl (subst (Appends old.written new.written) (sym (append-nil (printed reply))) written) };
+      told = told;
       kept = kept;
     }
 
-    reply_part : status ≢ 0 → WritesPart w w' (printed reply) → HasAnswered
+    reply_part : status ≢ 0 → WritesPart old.written new.written (printed reply) → HasAnswered
     reply_part failed part = record {
       exchanges = x ∷ [];
       opened = by.start.history.trail;
       due = record {
-        bytes = bytes;
+        bytes = source.bytes;
         read = read;
         loaded = inr (x, by.turn.loaded, refl, refl);
         written = inr (failed, record { whole = []; last = x; all = refl; front = part.front; part = part.part; written = part.written });
       };
+      told = told;
       kept = kept;
     }
 
-  text_done : (result : Result (Unit {0}) TaskFault) → ((fault : TaskFault) → result ≡ Err fault → status ≢ 0) → LoadsText bytes w w' (IsFrom canton first last) result → HasAnswered
+  text_done : (result : Result (Unit {0}) TaskFault) → ((fault : TaskFault) → result ≡ Err fault → status ≢ 0) → LoadsText source old new (IsFrom canton first last) result → HasAnswered
   text_done (Ok done) failed (reply, taken, by) = reply_written reply by.replied by.written
   text_done (Err faults.Refused) failed (refusal, by) = reply_written (Refused refusal) by.replied by.written
   text_done (Err faults.Faulted) failed (reply, by) = reply_written reply by.replied by.written
   text_done (Err faults.Write) failed (reply, by, part) = reply_part reply by (failed faults.Write refl) part
   text_done (Err fault) failed by = absurd by
 
-  pub load_done : (unwritten : Type 0) → (unwritten → w' ≡ w) → (result : Result (Unit {0}) TaskFault) → ((fault : TaskFault) → result ≡ Err fault → status ≢ 0)
-      → LoadsFile unwritten (LoadsText bytes w w') (IsFrom canton first last) result → HasAnswered
+  pub load_done : (unwritten : Type 0) → (unwritten → IsSilent) → (result : Result (Unit {0}) TaskFault) → ((fault : TaskFault) → result ≡ Err fault → status ≢ 0)
+      → LoadsFile unwritten (LoadsText source old new) (IsFrom canton first last) result → HasAnswered
   load_done unwritten same (Err faults.CsvFile) failed by = none_given (failed faults.CsvFile refl) (same by.0) by.1
   load_done unwritten same (Err faults.Memory) failed by = none_given (failed faults.Memory refl) (same by.0) by.1
   load_done unwritten same result failed by = text_done result failed by

@@ -1,5 +1,5 @@
 -- What a task on a disk has done, by the task.
-use Rattle.std.proofs.Common.{◌≡◌, ◌≢◌, ◌⊎◌, inl, inr, ⊎_elim, ℕ, List, [], Option, Some, None, Bool, Result, Err, Ok, OnOk, IsTrue, refl, ◌∙◌, ap, subst}
+use Rattle.std.proofs.Common.{◌≡◌, ◌≢◌, ◌⊎◌, inl, inr, ⊎_elim, ℕ, List, [], Option, Some, None, Bool, Result, Err, Ok, OnOk, IsTrue, refl, ◌∙◌, ap, map, subst}
 use Rattle.std.specs.Borrow.{Bor}
 use Rattle.std.specs.Io.KnownBytes.{Keeps as KeepsBytes}
 use Rattle.zh_disk.specs.Disk.{Trail, fresh_trail}
@@ -24,20 +24,26 @@ use Rattle.zh_tasks.specs.Export.{Exported, Exports}
 use Rattle.zh_tasks.specs.Format.{Formatted, FormatsBlank}
 use Rattle.zh_tasks.specs.Load.{HasLoaded, LoadsFile, LoadsText}
 use Rattle.zh_tasks.specs.Opened.{IsFrom, IsOnlyOpened, WithOffice}
-use Rattle.zh_tasks.specs.Run.{Ran, Serves, streams_of}
+use Rattle.zh_film.specs.Frames.{frame_of, frames}
+use Rattle.zh_film.specs.Scenes.{scenes}
+use Rattle.zh_film.specs.declared.film.Film.{Film}
+use Rattle.zh_tasks.specs.Run.{Ran, Serves, Streams, streams_of}
 use Rattle.zh_arguments.specs.declared.seats.Layout.{Layout}
 use Rattle.zh_tasks.specs.Seats.{HasShownSeats, ShowsSeats}
 use Rattle.zh_tasks.specs.Status.{Shown, Shows}
 use Rattle.zh_tasks.specs.World.{IsSetupAt, Known}
 use Rattle.zh_tasks.specs.declared.fault.TaskFault.{TaskFault}
+use Rattle.zh_tasks.specs.declared.used.Filmed.{Filmed}
 use Rattle.zh_tasks.specs.declared.fault.TaskFault.TheVariants as faults
-use Rattle.zh_program.specs.Due.{AreOfTask}
+use Rattle.zh_program.specs.Due.{AnswerLines, AreOfTask, talk_of}
 use Rattle.zh_program.specs.Exchanges.{Exchange}
+use Rattle.zh_program.specs.Order.{Conversation}
 use Rattle.zh_program.specs.Stopped.{MakesEmpty}
 use Rattle.zh_program.proofs.ConductLemmas.{Keeps, nothing_given, opened_keeps, refused_keeps, unchanged_keeps}
 use Rattle.zh_program.proofs.EmptyLemmas.{formatted_left, not_formatted}
 use Rattle.zh_program.proofs.LoadedLemmas.{HasAnswered, load_done, refused_answered}
-use Rattle.zh_program.proofs.ServedLemmas.{HasServed, refused_done, serve_done}
+use Rattle.zh_program.proofs.OrderLemmas.{IsTold, talking, told_none}
+use Rattle.zh_program.proofs.ServedLemmas.{HasServed, none_due, serve_done}
 
 pub setup_limits : (known : Option (List ℕ)) (canton : Canton) → IsSetupAt known canton → IsCanton canton
 setup_limits None canton is = is
@@ -97,79 +103,138 @@ pub none_held : (tally : Tally) (bytes : List ℕ) → bytes ≡ [] → Holds ta
 none_held tally bytes is holds = let gate : ◌≡◌ {A = ℕ} 0 165 = (subst (Holds tally) is holds).clean.framed.gate in absurd cc
 
 module _ {I O E F T D R : Type 0} (of : Known I O E F T D R) where
-  -- the exchanges of a task, which were due, and what is kept of a disk that began with the one history and has the other
-  pub record HasDone (task : Task) (old after : World I O E F) (status : ℕ) (canton : Canton) (first last : History) : Type 0 where
+  -- the exchanges of a task, which were due, in its conversation, and what is kept of a disk that began with this history
+  pub record HasDone (task : Task) (old after : World I O E F) (status : ℕ) (canton : Canton) (first : History) (used : Filmed I O D) : Type 0 where
     pub exchanges : List Exchange
     pub opened : Trail
-    pub due : AreOfTask of task old after status exchanges
-    pub kept : Keeps canton first last opened exchanges
+    pub due : AreOfTask (of.files.text_at old.files) task (talk_of of task old after opened used) status exchanges
+    pub told : IsTold exchanges (talk_of of task old after opened used)
+    pub kept : Keeps canton first (of.disks.history used.disk) (talk_of of task old after opened used) exchanges
 
-  module _ (old after : World I O E F) (files : F) (first last : D) (canton : Canton) (limits : IsCanton canton) (status : ℕ) (result : Result (Unit {0}) TaskFault) (failed : (fault : TaskFault) → result ≡ Err fault → status ≢ 0) where
+  module _ (old after : World I O E F) (files : F) (first last : D) (film : Film I O D) (canton : Canton) (limits : IsCanton canton) (status : ℕ) (result : Result (Unit {0}) TaskFault) (failed : (fault : TaskFault) → result ≡ Err fault → status ≢ 0) where
     abbrev pub begun : History
     begun = of.disks.history first
 
     abbrev pub ended : History
     ended = of.disks.history last
 
-    served : (paths : Paths) → HasServed (streams_of of old) (streams_of of after) status canton limits begun ended → HasDone (Run paths) old after status canton begun ended
-    served paths by = record { exchanges = by.exchanges; opened = by.opened; due = by.due; kept = by.kept }
+    abbrev pub used : Filmed I O D
+    used = record { disk = last; film = film }
 
-    pub run_part : (paths : Paths) → Ran of canton (record old { files = files }, first) (after, last) result → HasDone (Run paths) old after status canton begun ended
+    -- what the streams were, and what they are, with the film
+    abbrev before : Streams
+    before = streams_of of old []
+
+    abbrev now : Streams
+    now = streams_of of after (frames of.readers of.writers of.disks film)
+
+    none_shown : scenes film ≡ [] → frames of.readers of.writers of.disks film ≡ []
+    none_shown none = ap (map (frame_of of.readers of.writers of.disks)) none
+
+    served : (paths : Paths) → HasServed before now status (IsFrom canton begun ended) → HasDone (Run paths) old after status canton begun used
+    served paths by =
+        let told : IsTold by.exchanges (talking before now by.start.history.trail ended.trail) = subst (λ (h : History). IsTold by.exchanges (talking before now by.start.history.trail h.trail)) by.spans.ended by.told in
+        record {
+          exchanges = by.exchanges;
+          opened = by.start.history.trail;
+          due = subst (λ (h : History). AnswerLines (talking before now by.start.history.trail h.trail) status by.exchanges) by.spans.ended by.due;
+          told = told;
+          kept = opened_keeps canton begun ended by.start by.end by.exchanges before now limits by.spans by.goes told;
+        }
+
+    pub run_part : (paths : Paths) → Ran of canton (record old { files = files }, first) (after, last) (result, film) → HasDone (Run paths) old after status canton begun used
     run_part paths ran =
-        by_office canton begun ended ((after.input ≡ old.input) × (after.output ≡ old.output)) (Serves (streams_of of old) (streams_of of after)) result ran.served
-        (λ fault is nothing opening. served paths (refused_done (streams_of of old) (streams_of of after) status canton limits begun ended fault (failed (faults.Open fault) is)
-        (ap of.readers.remaining nothing.0) (ap of.writers.contents nothing.1) opening))
-        (λ serves. served paths (serve_done (streams_of of old) (streams_of of after) status canton limits begun ended result failed serves))
+        by_office canton begun ended ((after.input ≡ old.input) × (after.output ≡ old.output) × (scenes film ≡ [])) (Serves before now) result ran.served
+        (λ fault is nothing opening.
+        let left : now.left ≡ before.left = ap of.readers.remaining nothing.0 in
+        let written : now.written ≡ before.written = ap of.writers.contents nothing.1 in
+        let told = told_none before now ended.trail left written (none_shown nothing.2) in
+        record {
+          exchanges = [];
+          opened = ended.trail;
+          due = none_due before now status ended.trail (failed (faults.Open fault) is) left written;
+          told = told;
+          kept = refused_keeps canton begun ended fault before now limits opening told;
+        })
+        (λ serves. served paths (serve_done before now status (IsFrom canton begun ended) result failed serves))
 
-    pub load_part : (paths : Paths) (csv : Bor (List ℕ)) → of.files.text_at files ≡ of.files.text_at old.files → HasLoaded of csv.now canton (record old { files = files }, first) (after, last) result → HasDone (Load paths csv) old after status canton begun ended
+    pub load_part : (paths : Paths) (csv : Bor (List ℕ)) → of.files.text_at files ≡ of.files.text_at old.files → HasLoaded of csv.now canton (record old { files = files }, first) (after, last) (result, film) → HasDone (Load paths csv) old after status canton begun used
     load_part paths csv texts by =
-        let w = of.writers.contents old.output in
-        let w' = of.writers.contents after.output in
         let known = of.files.text_at old.files csv.now in
-        let read : KeepsBytes known by.text = subst (λ (at : List ℕ → Option (List ℕ)). KeepsBytes (at csv.now) by.text) texts by.read in
-        let answered : HasAnswered known by.text w w' read status canton limits begun ended → HasDone (Load paths csv) old after status canton begun ended = λ a. record { exchanges = a.exchanges; opened = a.opened; due = a.due; kept = a.kept } in
-        by_office canton begun ended (after ≡ record old { files = files }) (LoadsFile (after.output ≡ old.output) (LoadsText by.text w w')) result by.loaded
-        (λ fault is nothing opening. answered (refused_answered known by.text w w' read status canton limits begun ended fault (failed (faults.Open fault) is) (ap (λ (world : World I O E F). of.writers.contents world.output) nothing) opening))
-        (λ loads. answered (load_done known by.text w w' read status canton limits begun ended (after.output ≡ old.output) (λ same. ap of.writers.contents same) result failed loads))
+        let read : KeepsBytes known by.text.bytes = subst (λ (at : List ℕ → Option (List ℕ)). KeepsBytes (at csv.now) by.text.bytes) texts by.read in
+        let left : now.left ≡ before.left = ap (λ (world : World I O E F). of.readers.remaining world.input) by.rest in
+        let answered : HasAnswered known by.text before now read status canton limits begun ended → HasDone (Load paths csv) old after status canton begun used
+        = λ a. record { exchanges = a.exchanges; opened = a.opened; due = a.due; told = a.told; kept = a.kept } in
+        by_office canton begun ended ((after ≡ record old { files = files }) × (scenes film ≡ [])) (LoadsFile ((after.output ≡ old.output) × (scenes film ≡ [])) (LoadsText by.text before now)) result by.loaded
+        (λ fault is nothing opening. answered (refused_answered known by.text before now read status canton limits begun ended fault (failed (faults.Open fault) is)
+        (record { left = left; written = ap (λ (world : World I O E F). of.writers.contents world.output) nothing.0; film = none_shown nothing.1 }) opening))
+        (λ loads. answered (load_done known by.text before now read status canton limits begun ended ((after.output ≡ old.output) × (scenes film ≡ []))
+        (λ same. record { left = left; written = ap of.writers.contents same.0; film = none_shown same.1 }) result failed loads))
+
+    -- what is written of a task that answers nothing is no part of a conversation
+    abbrev apart : Streams
+    apart = streams_of of after []
+
+    abbrev none_told : (opened : Trail) → Conversation
+    none_told opened = talking apart apart opened ended.trail
 
     -- an office was opened and nothing was given to it, or none was
-    only_part : (task : Task) → AreOfTask of task old after status [] → (nothing : Type 0) (Does : (OnDisk Office → OnDisk Office → Type 0) → Result (Unit {0}) TaskFault → Type 0) → (Does (IsFrom canton begun ended) result → IsOnlyOpened (IsFrom canton begun ended))
-        → WithOffice canton begun ended nothing Does result → HasDone task old after status canton begun ended
-    only_part task none nothing Does only by =
+    only_part : (task : Task) → ((text_at : List ℕ → Option (List ℕ)) (talk : Conversation) → AreOfTask text_at task talk status []) → ((opened : Trail) → none_told opened ≡ talk_of of task old after opened used) → (nothing : Type 0) (Does : (OnDisk Office → OnDisk Office → Type 0) → Result (Unit {0}) TaskFault → Type 0) → (Does (IsFrom canton begun ended) result → IsOnlyOpened (IsFrom canton begun ended))
+        → WithOffice canton begun ended nothing Does result → HasDone task old after status canton begun used
+    only_part task none silent nothing Does only by =
         by_office canton begun ended nothing Does result by
-        (λ fault is nothing opening. record { exchanges = []; opened = ended.trail; due = none; kept = refused_keeps canton begun ended fault limits opening })
+        (λ fault is nothing opening.
+        let told = told_none apart apart ended.trail refl refl refl in
+        record {
+          exchanges = [];
+          opened = ended.trail;
+          due = none (of.files.text_at old.files) (talk_of of task old after ended.trail used);
+          told = subst (IsTold []) (silent ended.trail) told;
+          kept = subst (λ (talk : Conversation). Keeps canton begun ended talk []) (silent ended.trail) (refused_keeps canton begun ended fault apart apart limits opening told);
+        })
         (λ does.
         let opens = only does in
-        record { exchanges = []; opened = opens.0.history.trail; due = none; kept = opened_keeps canton begun ended opens.0 opens.0 [] limits opens.1 (nothing_given opens.0) })
+        let opened = opens.0.history.trail in
+        let told : IsTold [] (none_told opened) = subst (λ (h : History). IsTold [] (talking apart apart opened h.trail)) opens.1.ended (told_none apart apart opened refl refl refl) in
+        record {
+          exchanges = [];
+          opened = opened;
+          due = none (of.files.text_at old.files) (talk_of of task old after opened used);
+          told = subst (IsTold []) (silent opened) told;
+          kept = subst (λ (talk : Conversation). Keeps canton begun ended talk []) (silent opened) (opened_keeps canton begun ended opens.0 opens.0 [] apart apart limits opens.1 (nothing_given opens.0) told);
+        })
 
-    pub export_part : (paths : Paths) → Exported of canton (record old { files = files }, first) (after, last) result → HasDone (Export paths) old after status canton begun ended
+    pub export_part : (paths : Paths) → Exported of canton (record old { files = files }, first) (after, last) result → HasDone (Export paths) old after status canton begun used
     export_part paths by =
-        only_part (Export paths) refl (after.output ≡ old.output) (Exports (after.output ≡ old.output) (of.writers.contents old.output) (of.writers.contents after.output))
+        only_part (Export paths) (λ text_at talk. refl) (λ opened. refl) (after.output ≡ old.output) (Exports (after.output ≡ old.output) (of.writers.contents old.output) (of.writers.contents after.output))
         (only_opened (after.output ≡ old.output) (of.writers.contents old.output) (of.writers.contents after.output) (IsFrom canton begun ended) result) by.written
 
-    pub dry_part : (paths : Paths) (csv : Bor (List ℕ)) → HasDryRun of csv.now canton (record old { files = files }, first) (after, last) result → HasDone (tasks.DryRun paths csv) old after status canton begun ended
+    pub dry_part : (paths : Paths) (csv : Bor (List ℕ)) → HasDryRun of csv.now canton (record old { files = files }, first) (after, last) result → HasDone (tasks.DryRun paths csv) old after status canton begun used
     dry_part paths csv by =
-        only_part (tasks.DryRun paths csv) refl (after ≡ record old { files = files }) (DryRuns by.text (of.writers.contents old.output) (of.writers.contents after.output))
+        only_part (tasks.DryRun paths csv) (λ text_at talk. refl) (λ opened. refl) (after ≡ record old { files = files }) (DryRuns by.text (of.writers.contents old.output) (of.writers.contents after.output))
         (only_judged by.text (of.writers.contents old.output) (of.writers.contents after.output) (IsFrom canton begun ended) result) by.judged
 
-    pub status_part : (paths : Paths) (view : View) → Shown of view canton (record old { files = files }, first) (after, last) result → HasDone (tasks.Status paths view) old after status canton begun ended
+    pub status_part : (paths : Paths) (view : View) → Shown of view canton (record old { files = files }, first) (after, last) result → HasDone (tasks.Status paths view) old after status canton begun used
     status_part paths view by =
-        only_part (tasks.Status paths view) refl (after ≡ record old { files = files }) (Shows of view (record old { files = files }) after)
+        only_part (tasks.Status paths view) (λ text_at talk. refl) (λ opened. refl) (after ≡ record old { files = files }) (Shows of view (record old { files = files }) after)
         (only_shown of view (record old { files = files }) after (IsFrom canton begun ended) result) by.shown
 
-    pub seats_part : (paths : Paths) (is_final : Bool) (layout : Layout) → HasShownSeats of (record { is_final = is_final; layout = layout }) canton (record old { files = files }, first) (after, last) result → HasDone (tasks.Seats paths is_final layout) old after status canton begun ended
+    pub seats_part : (paths : Paths) (is_final : Bool) (layout : Layout) → HasShownSeats of (record { is_final = is_final; layout = layout }) canton (record old { files = files }, first) (after, last) result → HasDone (tasks.Seats paths is_final layout) old after status canton begun used
     seats_part paths is_final layout by =
-        only_part (tasks.Seats paths is_final layout) refl (after ≡ record old { files = files }) (ShowsSeats of (record { is_final = is_final; layout = layout }) (record old { files = files }) after)
+        only_part (tasks.Seats paths is_final layout) (λ text_at talk. refl) (λ opened. refl) (after ≡ record old { files = files }) (ShowsSeats of (record { is_final = is_final; layout = layout }) (record old { files = files }) after)
         (λ shows. (shows.0, shows.1)) by.shown
 
-    pub format_part : (paths : Paths) → Formatted of canton (record old { files = files }, first) (after, last) result → HasDone (Format paths) old after status canton begun ended
-    format_part paths by = record {
-      exchanges = [];
-      opened = ended.trail;
-      due = refl;
-      kept = unchanged_keeps canton begun ended (λ honest bytes fresh tally own holds.
-          not_formatted canton tally bytes result ended.trail holds (subst (λ (t : Trail). FormatsBlank canton result t ended.trail) fresh (by.call.did honest)));
-    }
+    pub format_part : (paths : Paths) → Formatted of canton (record old { files = files }, first) (after, last) result → HasDone (Format paths) old after status canton begun used
+    format_part paths by =
+        let told = told_none apart apart ended.trail refl refl refl in
+        record {
+          exchanges = [];
+          opened = ended.trail;
+          due = refl;
+          told = told;
+          kept = unchanged_keeps canton begun ended apart apart told (λ honest bytes fresh tally own holds.
+              not_formatted canton tally bytes result ended.trail holds (subst (λ (t : Trail). FormatsBlank canton result t ended.trail) fresh (by.call.did honest)));
+        }
 
     pub made_empty : Formatted of canton (record old { files = files }, first) (after, last) result → (known : Option (List ℕ)) → BeginsOrIsMade known begun → IsTrue ended.honest → (bytes : List ℕ) → known ≡ Some bytes → MakesEmpty bytes status ended.trail
     made_empty by known begins honest bytes is = ⊎_elim

@@ -3,20 +3,22 @@ use Rattle.std.proofs.Common.{◌≡◌, ◌≢◌, inl, inr, ⊎_elim, ℕ, Boo
 use Rattle.std.proofs.lemmas.List.{append-nil}
 use Rattle.std.specs.Io.KnownBytes.{Appends, Consumes}
 use Rattle.zh_disk.specs.Disk.{Trail}
-use Rattle.zh_disk.specs.History.{History}
-use Rattle.zh_districts.specs.Canton.{Canton, IsCanton}
-use Rattle.zh_ledger.specs.Opening.{Opening}
-use Rattle.zh_ledger.specs.declared.fault.OpenFault.{OpenFault}
+use Rattle.zh_film.specs.Frames.{InOrder}
+use Rattle.zh_ledger.specs.Submissions.{Log, OnDisk}
+use Rattle.zh_office.specs.Office.{Office}
+use Rattle.zh_office.specs.Order.{ComesAfter, Step}
+use Rattle.zh_office.specs.Runs.{Runs}
+use Rattle.zh_office.specs.Served.{IsFilmed, frame_at, step_of, steps_broken, steps_of}
 use Rattle.zh_office.specs.Text.{ended_lines, lines_of}
 use Rattle.zh_office.specs.declared.service.ServeFault.TheVariants as serving
 use Rattle.zh_office.proofs.CallerLemmas.{turn_honest}
-use Rattle.zh_tasks.specs.Opened.{IsFrom}
-use Rattle.zh_tasks.specs.Run.{Served, ServedEnded, ServedFront, Serves, Streams}
+use Rattle.zh_tasks.specs.Run.{Served, ServedEnded, ServedFront, Serves, Streams, beside}
 use Rattle.zh_tasks.specs.declared.fault.TaskFault.{TaskFault}
 use Rattle.zh_tasks.specs.declared.fault.TaskFault.TheVariants as faults
 use Rattle.zh_program.specs.Due.{AnswerLines}
 use Rattle.zh_program.specs.Exchanges.{Exchange, text_of}
-use Rattle.zh_program.proofs.ConductLemmas.{GoesOnTo, Keeps, opened_keeps, refused_keeps}
+use Rattle.zh_program.proofs.ConductLemmas.{GoesOnTo}
+use Rattle.zh_program.proofs.OrderLemmas.{IsTold, step_in, steps-append, talking}
 use Rattle.zh_program.proofs.RunLemmas.{exchanges_of, line_in_exchange, lines_are, run_turns, texts_are, turns_more}
 use Rattle.zh_program.proofs.TurnLemmas.{exchange_of, turn_one, turn_then}
 
@@ -33,63 +35,84 @@ map-append : {X Y : Type 0} (f : X → Y) (xs ys : List X) → map f (xs ++ ys) 
 map-append f [] ys = refl
 map-append f (x ∷ xs) ys = ap (λ (l : List _). f x ∷ l) (map-append f xs ys)
 
-module _ (old new : Streams) (status : ℕ) (canton : Canton) (limits : IsCanton canton) (first last : History) where
-  -- the exchanges of a run, which were due, and what is kept
-  pub record HasServed : Type 0 where
-    pub exchanges : List Exchange
-    pub opened : Trail
-    pub due : AnswerLines old.left new.left old.written new.written status exchanges
-    pub kept : Keeps canton first last opened exchanges
+-- the steps of a run are its exchanges
+steps_are : (old : OnDisk Office) (lines : List (List ℕ)) (out : List ℕ) (log : Log) (new : OnDisk Office) (run : Runs old lines out log new) → steps_of old lines out log new run ≡ map step_in (exchanges_of old lines out log new run)
+steps_are old [] out log new run = refl
+steps_are old (line ∷ lines) out log new run = ap (λ (l : List Step). step_of line run.answer run.mid ∷ l) (steps_are run.mid lines run.rest run.others new run.follows)
 
-  all_served : (faulted : Bool) → Served old new (IsFrom canton first last) faulted → HasServed
+module _ (old new : Streams) (status : ℕ) (Spans : OnDisk Office → OnDisk Office → Type 0) where
+  -- what an office has answered that began so, from its start to its end
+  pub record HasServed : Type 0 where
+    pub start : OnDisk Office
+    pub end : OnDisk Office
+    pub spans : Spans start end
+    pub exchanges : List Exchange
+    pub due : AnswerLines (talking old new start.history.trail end.history.trail) status exchanges
+    pub told : IsTold exchanges (talking old new start.history.trail end.history.trail)
+    pub goes : GoesOnTo start exchanges end
+
+  -- the film of these steps is one of these exchanges
+  told_by : (start end : OnDisk Office) (xs : List Exchange) (steps : List Step) → steps ≡ map step_in xs → IsFilmed steps (beside old start) (beside new end) → IsTold xs (talking old new start.history.trail end.history.trail)
+  told_by start end xs steps same filmed =
+      subst (λ (s : List Step). InOrder (ComesAfter s (frame_at (beside old start))) (frame_at (beside old start)) new.film (frame_at (beside new end))) same filmed.follow
+
+  all_served : (faulted : Bool) → Served old new Spans faulted → HasServed
   all_served faulted by =
       let answers = by.all.answers in
-      let xs = exchanges_of by.start (lines_of by.all.input) answers.out answers.log by.end answers.run in
+      let lines = lines_of by.all.input in
+      let xs = exchanges_of by.start lines answers.out answers.log by.end answers.run in
       record {
+        start = by.start;
+        end = by.end;
+        spans = by.spans;
         exchanges = xs;
-        opened = by.start.history.trail;
         due = record {
           input = by.all.input;
           read = by.all.read;
-          lines = lines_of by.all.input;
+          lines = lines;
           due = inl (by.all.end, refl);
           others = [];
-          answered = sym (lines_are by.start (lines_of by.all.input) answers.out answers.log by.end answers.run) ∙ sym (append-nil (map line_in_exchange xs));
-          written = inl (refl, subst (Appends old.written new.written) (sym (texts_are by.start (lines_of by.all.input) answers.out answers.log by.end answers.run)) answers.written);
+          answered = sym (lines_are by.start lines answers.out answers.log by.end answers.run) ∙ sym (append-nil (map line_in_exchange xs));
+          written = inl (refl, subst (Appends old.written new.written) (sym (texts_are by.start lines answers.out answers.log by.end answers.run)) answers.written);
         };
-        kept = opened_keeps canton first last by.start by.end xs limits by.spans
-            (λ tally honest at. run_turns tally by.start.history.trail [] by.start (lines_of by.all.input) answers.out answers.log by.end answers.run honest at);
+        told = told_by by.start by.end xs (steps_of by.start lines answers.out answers.log by.end answers.run) (steps_are by.start lines answers.out answers.log by.end answers.run) by.all.order;
+        goes = λ tally honest at. run_turns tally by.start.history.trail [] by.start lines answers.out answers.log by.end answers.run honest at;
       }
 
-  ended_served : status ≢ 0 → ServedEnded old new (IsFrom canton first last) → HasServed
+  ended_served : status ≢ 0 → ServedEnded old new Spans → HasServed
   ended_served failed by =
       let answers = by.ended.answers in
-      let xs = exchanges_of by.start (ended_lines by.ended.input) answers.out answers.log by.end answers.run in
+      let lines = ended_lines by.ended.input in
+      let xs = exchanges_of by.start lines answers.out answers.log by.end answers.run in
       record {
+        start = by.start;
+        end = by.end;
+        spans = by.spans;
         exchanges = xs;
-        opened = by.start.history.trail;
         due = record {
           input = by.ended.input;
           read = by.ended.read;
-          lines = ended_lines by.ended.input;
+          lines = lines;
           due = inr (failed, refl);
           others = [];
-          answered = sym (lines_are by.start (ended_lines by.ended.input) answers.out answers.log by.end answers.run) ∙ sym (append-nil (map line_in_exchange xs));
-          written = inl (refl, subst (Appends old.written new.written) (sym (texts_are by.start (ended_lines by.ended.input) answers.out answers.log by.end answers.run)) answers.written);
+          answered = sym (lines_are by.start lines answers.out answers.log by.end answers.run) ∙ sym (append-nil (map line_in_exchange xs));
+          written = inl (refl, subst (Appends old.written new.written) (sym (texts_are by.start lines answers.out answers.log by.end answers.run)) answers.written);
         };
-        kept = opened_keeps canton first last by.start by.end xs limits by.spans
-            (λ tally honest at. run_turns tally by.start.history.trail [] by.start (ended_lines by.ended.input) answers.out answers.log by.end answers.run honest at);
+        told = told_by by.start by.end xs (steps_of by.start lines answers.out answers.log by.end answers.run) (steps_are by.start lines answers.out answers.log by.end answers.run) by.ended.order;
+        goes = λ tally honest at. run_turns tally by.start.history.trail [] by.start lines answers.out answers.log by.end answers.run honest at;
       }
 
-  front_served : status ≢ 0 → ServedFront old new (IsFrom canton first last) → HasServed
+  front_served : status ≢ 0 → ServedFront old new Spans → HasServed
   front_served failed by =
       let breaks = by.front.breaks in
       let whole = exchanges_of by.start breaks.answered breaks.out breaks.log breaks.mid breaks.run in
       let x = exchange_of breaks.mid breaks.last breaks.answer by.end breaks.turn in
       let lines = lines_are by.start breaks.answered breaks.out breaks.log breaks.mid breaks.run in
       record {
+        start = by.start;
+        end = by.end;
+        spans = by.spans;
         exchanges = whole ++ x ∷ [];
-        opened = by.start.history.trail;
         due = record {
           input = by.front.input;
           read = by.front.read;
@@ -111,7 +134,9 @@ module _ (old new : Streams) (status : ℕ) (canton : Canton) (limits : IsCanton
             },
           );
         };
-        kept = opened_keeps canton first last by.start by.end (whole ++ x ∷ []) limits by.spans (λ tally honest at. goes tally honest at);
+        told = told_by by.start by.end (whole ++ x ∷ []) (steps_broken by.front.lines (beside old by.start) (beside new by.end) breaks)
+            (ap (λ (l : List Step). l ++ step_of breaks.last breaks.answer by.end ∷ []) (steps_are by.start breaks.answered breaks.out breaks.log breaks.mid breaks.run) ∙ sym (steps-append whole (x ∷ []))) by.front.order;
+        goes = λ tally honest at. goes tally honest at;
       }
     where
       goes : GoesOnTo by.start (exchanges_of by.start by.front.breaks.answered by.front.breaks.out by.front.breaks.log by.front.breaks.mid by.front.breaks.run ++ exchange_of by.front.breaks.mid by.front.breaks.last by.front.breaks.answer by.end by.front.breaks.turn ∷ []) by.end
@@ -124,7 +149,7 @@ module _ (old new : Streams) (status : ℕ) (canton : Canton) (limits : IsCanton
           let then = turn_then tally opened whole breaks.mid breaks.last breaks.answer by.end breaks.turn honest before.1 in
           (turns_more tally opened [] whole (exchange_of breaks.mid breaks.last breaks.answer by.end breaks.turn) by.end before.0 one breaks.mid before.1 then, then)
 
-  pub serve_done : (result : Result (Unit {0}) TaskFault) → ((fault : TaskFault) → result ≡ Err fault → status ≢ 0) → Serves old new (IsFrom canton first last) result → HasServed
+  pub serve_done : (result : Result (Unit {0}) TaskFault) → ((fault : TaskFault) → result ≡ Err fault → status ≢ 0) → Serves old new Spans result → HasServed
   serve_done (Ok done) failed by = all_served _ by
   serve_done (Err faults.Faulted) failed by = all_served _ by
   serve_done (Err (faults.Serve serving.Read)) failed by = ended_served (failed (faults.Serve serving.Read) refl) by
@@ -132,19 +157,14 @@ module _ (old new : Streams) (status : ℕ) (canton : Canton) (limits : IsCanton
   serve_done (Err (faults.Serve serving.Write)) failed by = front_served (failed (faults.Serve serving.Write) refl) by
   serve_done (Err fault) failed by = absurd by
 
-  -- an office that was refused has answered nothing
-  pub refused_done : (fault : OpenFault) → status ≢ 0 → new.left ≡ old.left → new.written ≡ old.written → Opening canton first last (Err fault) → HasServed
-  refused_done fault failed left written opening = record {
-    exchanges = [];
-    opened = last.trail;
-    due = record {
-      input = [];
-      read = subst (λ (l : Option (List ℕ)). Consumes old.left l []) (sym left) (consumes_none old.left);
-      lines = [];
-      due = inr (failed, refl);
-      others = [];
-      answered = refl;
-      written = inl (refl, subst (λ (w : Option (List ℕ)). Appends old.written w []) (sym written) (appends_none old.written));
-    };
-    kept = refused_keeps canton first last fault limits opening;
-  }
+-- where nothing was read and nothing written no line is due but with status 0
+pub none_due : (old new : Streams) (status : ℕ) (t : Trail) → status ≢ 0 → new.left ≡ old.left → new.written ≡ old.written → AnswerLines (talking old new t t) status []
+none_due old new status t failed left written = record {
+  input = [];
+  read = subst (λ (l : Option (List ℕ)). Consumes old.left l []) (sym left) (consumes_none old.left);
+  lines = [];
+  due = inr (failed, refl);
+  others = [];
+  answered = refl;
+  written = inl (refl, subst (λ (w : Option (List ℕ)). Appends old.written w []) (sym written) (appends_none old.written));
+}

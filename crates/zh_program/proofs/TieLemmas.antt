@@ -1,5 +1,5 @@
--- A tie leaves no seats that could be right.
-use Rattle.std.proofs.Common.{◌≡◌, ℕ, ◌+◌, ◌-◌, ◌≤◌, ◌↔◌, Bool, true, false, List, length, get_or, IsTrue, refl, sym, ◌∙◌, subst, arith}
+-- A tie above the lists leaves no seats that could be right.
+use Rattle.std.proofs.Common.{◌≡◌, ℕ, ◌+◌, ◌-◌, ◌≤◌, ◌↔◌, Bool, true, false, List, length, get_or, IsTrue, refl, sym, ◌∙◌, arith}
 use Rattle.std.proofs.lemmas.List.{ext_get_or}
 use Rattle.zh_districts.specs.Seats.{AreSeats, persons}
 use Rattle.zh_divisors.specs.Fit as fits
@@ -9,12 +9,8 @@ use Rattle.zh_quorum.specs.Quorum.{AreParticipating}
 use Rattle.zh_totals.specs.Totals.{VoteTotals}
 use Rattle.zh_upper.specs.UpperSeats.{of_participants}
 use Rattle.zh_upper.specs.VoterNumbers.{AreVoterSums}
-use Rattle.zh_sheet.specs.Distribution.{Distribution, IsDistribution, Targets}
-use Rattle.zh_sheet.specs.Refusals.{HasNoMatrix, IsTiedAbove}
-
--- no seats follow from these totals without a tie
-abbrev pub HasNoSheet : VoteTotals → Type 0
-HasNoSheet totals = (sheet : Distribution) → sheet.totals ≡ totals → ¬ IsDistribution sheet
+use Rattle.zh_sheet.specs.Refusals.{IsTiedAbove}
+use Rattle.zh_program.specs.Sheets.{LeaveNoSeats}
 
 weak_from_strict : (weights : List ℕ) (house : ℕ) (seats : List ℕ) → IsStrictFit weights house seats → IsFit weights house seats
 weak_from_strict weights house seats fit =
@@ -51,47 +47,16 @@ same_sums totals seats a b one other =
     first ∙ sym second
     )
 
--- what the seats of the lists are to add up to in a distribution
-targets : (totals : VoteTotals) (x : Distribution) → x.totals ≡ totals → IsDistribution x → Targets totals
-targets totals x same is = subst Targets same (record {
-  seats = x.seats.seats;
-  taking = x.taking;
-  voters = x.voters;
-  upper = x.upper.seats;
-  constituencies = is.seats;
-  participation = is.participation;
-  sums = is.voters;
-  groups = is.upper;
-})
-
 -- the seats of the constituencies are tied
-pub tied_seats : (totals : VoteTotals) → fits.IsTied (persons totals.canton) totals.canton.house → HasNoSheet totals
-tied_seats totals tied x same is =
-    no_strict_fit (persons totals.canton) totals.canton.house (targets totals x same is).seats tied (targets totals x same is).constituencies.in_proportion
+pub tied_seats : (totals : VoteTotals) → fits.IsTied (persons totals.canton) totals.canton.house → LeaveNoSeats totals
+tied_seats totals tied a divisors seats strict = no_strict_fit (persons totals.canton) totals.canton.house a.seats tied a.constituencies.in_proportion
 
 -- those of the groups
-pub tied_above : (totals : VoteTotals) → IsTiedAbove totals → HasNoSheet totals
-tied_above totals tied x same is =
-    let a = targets totals x same is in
+pub tied_above : (totals : VoteTotals) → IsTiedAbove totals → LeaveNoSeats totals
+tied_above totals tied a divisors below strict =
     let seats : tied.seats ≡ a.seats = same_seats totals a.seats tied.seats a.constituencies.in_proportion tied.constituencies.in_proportion in
     let taking : tied.taking ≡ a.taking = same_taking totals tied.taking a.taking tied.participation a.participation in
     let sums : AreVoterSums totals a.seats tied.voters = rw (← seats) tied.sums in
     let voters : tied.voters ≡ a.voters = same_sums totals a.seats tied.voters a.voters sums a.sums in
     let here : fits.IsTied (of_participants a.voters a.taking) totals.canton.house = rw (← voters, ← taking) tied.tied in
     no_strict_fit (of_participants a.voters a.taking) totals.canton.house (of_participants a.upper a.taking) here a.groups.in_proportion
-
--- those of the lists
-pub tied_below : (totals : VoteTotals) → ((a : Targets totals) → HasNoMatrix totals a) → HasNoSheet totals
-tied_below totals none x same is = at totals same none
-  where
-    at : (t : VoteTotals) → x.totals ≡ t → ((a : Targets t) → HasNoMatrix t a) → ⊥
-    at t e without = subst (λ (u : VoteTotals). ((a : Targets u) → HasNoMatrix u a)) (sym e) without (record {
-      seats = x.seats.seats;
-      taking = x.taking;
-      voters = x.voters;
-      upper = x.upper.seats;
-      constituencies = is.seats;
-      participation = is.participation;
-      sums = is.voters;
-      groups = is.upper;
-    }) x.lower.divisors x.lower.seats is.lower

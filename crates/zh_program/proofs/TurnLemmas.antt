@@ -1,5 +1,6 @@
 -- What an office leaves of its disk that is given one thing after the other.
-use Rattle.std.proofs.Common.{◌≡◌, ◌≢◌, ℕ, List, [], ◌∷◌, ◌++◌, length, refl, sym, ◌∙◌, ap, subst, IsTrue, Option, None, Result, Ok, Err}
+use Rattle.std.proofs.Common.{◌≡◌, ◌≢◌, ℕ, List, [], ◌∷◌, ◌++◌, length, refl, sym, ◌∙◌, ap, subst, append_assoc, IsTrue, Option, None, Result, Ok, Err}
+use Rattle.std.proofs.lemmas.List.{append-nil}
 use Rattle.std.specs.Prelude.{IfSome}
 use Rattle.zh_disk.specs.Disk.{Trail, IsImage}
 use Rattle.zh_records.specs.declared.command.Command.{Command}
@@ -120,3 +121,30 @@ module _ (tally : Tally) (opened : Trail) (done : List Exchange) (old : OnDisk O
   pub turn_then : IsAt tally opened (done ++ exchange_of old bytes answer new turn ∷ []) new
   turn_then = one_then tally opened done old new (line bytes turn.reading) (command_read old.holder turn.reading) (MayAnswer old.holder turn.reading) answer turn.log at honest turn.acts (may_fair old.holder turn.reading)
       turn.reads (line_gives old.holder bytes turn.reading) (turn.held ∙ line_held old.holder.held bytes turn.reading answer)
+
+module _ (tally : Tally) (opened : Trail) where
+  -- what is so of each in turn is so wherever it stands
+  pub at_one : (done before rest : List Exchange) (x : Exchange) (xs : List Exchange) → AreTurns tally opened done xs → xs ≡ before ++ x ∷ rest → IsOne tally opened (done ++ before) x
+  at_one done [] rest x [] turns is = absurd cc
+  at_one done [] rest x (y ∷ ys) turns is =
+      let same : y ≡ x = cc in
+      subst (λ (d : List Exchange). IsOne tally opened d x) (sym (append-nil done)) (subst (IsOne tally opened done) same turns.1)
+  at_one done (b ∷ before) rest x [] turns is = absurd cc
+  at_one done (b ∷ before) rest x (y ∷ ys) turns is =
+      let same : y ≡ b = cc in
+      let others : ys ≡ before ++ x ∷ rest = cc in
+      subst (λ (d : List Exchange). IsOne tally opened d x) (append_assoc done (b ∷ []) before)
+      (at_one (done ++ b ∷ []) before rest x ys (subst (λ (z : Exchange). AreTurns tally opened (done ++ z ∷ []) ys) same turns.2) others)
+
+  turns_rest : (done xs : List Exchange) → AreTurns tally opened done xs → AtRest tally opened done
+  turns_rest done [] turns = turns
+  turns_rest done (x ∷ xs) turns = turns.0
+
+  pub at_any : (done before rest : List Exchange) (xs : List Exchange) → AreTurns tally opened done xs → xs ≡ before ++ rest → AtRest tally opened (done ++ before)
+  at_any done [] rest xs turns is = subst (AtRest tally opened) (sym (append-nil done)) (turns_rest done xs turns)
+  at_any done (b ∷ before) rest [] turns is = absurd cc
+  at_any done (b ∷ before) rest (y ∷ ys) turns is =
+      let same : y ≡ b = cc in
+      let others : ys ≡ before ++ rest = cc in
+      subst (AtRest tally opened) (append_assoc done (b ∷ []) before)
+      (at_any (done ++ b ∷ []) before rest ys (subst (λ (z : Exchange). AreTurns tally opened (done ++ z ∷ []) ys) same turns.2) others)

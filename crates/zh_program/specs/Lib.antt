@@ -1,7 +1,9 @@
 pub mod Reports
 pub mod Program
 pub mod Exchanges
+pub mod Stopped
+pub mod Order
 pub mod Due
 pub mod Sheets
-pub mod Stopped
 pub mod Headline
+pub mod Promise

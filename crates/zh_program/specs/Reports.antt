@@ -1,14 +1,9 @@
 -- What is reported of a fault, in bytes: 10 is LF, 32 the space.
 use Rattle.std.specs.Prelude.{ℕ, List, [], ◌∷◌, ◌++◌, Option, Some, None, codes, decimal}
+use Rattle.zh_checks.specs.Reports.{held_name, setup_name, setup_place}
 use Rattle.zh_disk.specs.Disk.{disk_length}
 use Rattle.zh_districts.specs.declared.shares.SeatFault.{SeatFault}
 use Rattle.zh_districts.specs.declared.shares.SeatFault.TheVariants as of_seats
-use Rattle.zh_setups.specs.PlaceNames.{key_name, kind_name}
-use Rattle.zh_setups.specs.declared.fault.SetupFault.{SetupFault}
-use Rattle.zh_setups.specs.declared.fault.SetupFault.TheVariants as of_setup
-use Rattle.zh_setups.specs.declared.place.FaultPlace.TheVariants as in_setup
-use Rattle.zh_held.specs.declared.fault.HeldFault.{HeldFault}
-use Rattle.zh_held.specs.declared.fault.HeldFault.TheVariants as of_held
 use Rattle.zh_ledger.specs.declared.fault.OpenFault.{OpenFault}
 use Rattle.zh_ledger.specs.declared.fault.OpenFault.TheVariants as of_opening
 use Rattle.zh_office.specs.declared.service.ServeFault.{ServeFault}
@@ -19,31 +14,13 @@ use Rattle.zh_tasks.specs.declared.fault.TaskFault.TheVariants as faults
 use Rattle.zh_tasks.specs.declared.place.TaskPlace.{TaskPlace}
 use Rattle.zh_tasks.specs.declared.place.TaskPlace.TheVariants as places
 
--- the name of a fault of a set-up
-abbrev pub setup_name : SetupFault → List ℕ
-setup_name of_setup.Memory = codes "memory"
-setup_name of_setup.Text = codes "setup text"
-setup_name of_setup.Missing = codes "setup missing"
-setup_name of_setup.Unknown = codes "setup unknown"
-setup_name of_setup.Range = codes "setup range"
-setup_name of_setup.Double = codes "setup double"
-
--- of the opening of an office
+-- the name of a fault of the opening of an office
 abbrev pub opening_name : OpenFault → List ℕ
 opening_name of_opening.Memory = codes "memory"
 opening_name of_opening.Device = codes "disk device"
 opening_name of_opening.Blank = codes "disk blank"
 opening_name of_opening.Damaged = codes "disk damaged"
 opening_name of_opening.SetupDiffers = codes "disk differs"
-
--- of a record of an export
-abbrev pub held_name : HeldFault → List ℕ
-held_name of_held.Csv = codes "held csv"
-held_name of_held.Syntax = codes "held syntax"
-held_name of_held.Municipality = codes "held municipality"
-held_name of_held.List = codes "held list"
-held_name of_held.Votes = codes "held votes"
-held_name of_held.Twice = codes "held twice"
 
 -- of the seats of the constituencies
 abbrev pub seats_name : SeatFault → List ℕ
@@ -79,13 +56,9 @@ fault_text faults.Write = codes "write"
 fault_text faults.Faulted = codes "disk device"
 fault_text faults.Refused = codes "refused"
 
--- a place: a position, a key at the top or in a table, or how long a file is that is no disk
+-- a place: one in a set-up text, or how long a file is that is no disk
 abbrev pub place_text : TaskPlace → List ℕ
-place_text (places.Setup (in_setup.At position)) =
-    codes "line " ++ decimal position.line ++ codes ", column " ++ decimal position.column
-place_text (places.Setup (in_setup.Top key)) = key_name key
-place_text (places.Setup (in_setup.Table kind number key)) =
-    kind_name kind ++ 32 ∷ decimal number ++ codes ", " ++ key_name key
+place_text (places.Setup place) = setup_place place
 place_text (places.Length found) = decimal found ++ codes " bytes instead of " ++ decimal disk_length
 
 -- the line of a place, if it is known

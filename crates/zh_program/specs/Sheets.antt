@@ -5,7 +5,8 @@ use Rattle.zh_commands.specs.declared.replies.Refusal.TheVariants as refusals
 use Rattle.zh_matrices.specs.Divisors.{Divisors}
 use Rattle.zh_matrices.specs.SeatMatrix.{IsWeak}
 use Rattle.zh_totals.specs.Totals.{VoteTotals}
-use Rattle.zh_sheet.specs.Distribution.{Distribution, IsDistribution, question_of}
+use Rattle.zh_sheet.specs.Distribution.{Distribution, IsDistribution, Targets, question_of}
+use Rattle.zh_sheet.specs.Refusals.{HasNoMatrix}
 use Rattle.zh_answers.specs.declared.answer.Answer.{Answer}
 use Rattle.zh_answers.specs.declared.answer.Answer.TheVariants.{Reply}
 
@@ -15,6 +16,11 @@ pub record FollowsFrom (totals : VoteTotals) (sheet : Distribution) : Type 0 whe
   pub votes : sheet.totals ≡ totals
   pub meets : IsDistribution sheet
   pub one_answer : (divisors : Divisors) (seats : List ℕ) → IsWeak (question_of sheet) divisors seats → seats ≡ sheet.lower.seats
+
+-- No seats of the lists follow from these totals without a half, under any divisors, of any scale, whatever seats of the
+-- constituencies and of the groups they are to add up to.
+abbrev pub LeaveNoSeats : VoteTotals → Type 0
+LeaveNoSeats totals = (targets : Targets totals) → HasNoMatrix totals targets
 
 -- the answer reports a tie: of the constituencies' seats, of the groups', or of the lists'
 abbrev pub IsTie : Answer → Type 0

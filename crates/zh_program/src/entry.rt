@@ -7,9 +7,14 @@ ghost use Rattle.zh_arguments.specs.Arguments.{AsksFor, refusals};
 ghost use Rattle.zh_arguments.specs.declared.arguments.Task.{Task};
 ghost use Rattle.zh_tasks.specs.Remarks.{BecameOf};
 ghost use Rattle.zh_tasks.specs.Tasks.{Does};
+ghost use Rattle.zh_tasks.specs.declared.used.Filmed.{Filmed};
+ghost use Rattle.zh_tasks.specs.declared.used.Used.TheVariants as used_as;
 ghost use Rattle.zh_tasks.specs.World.{known};
-ghost use Rattle.zh_program.specs.Headline.{Promise};
-ghost use Rattle.zh_program.specs.Program.{MetFault, NothingDone, ends};
+ghost use Rattle.zh_disk.specs.declared.memory.MemoryDisk.{MemoryDisk};
+ghost use Rattle.zh_film.specs.declared.film.Film.{Film};
+ghost use Rattle.zh_program.specs.Promise.{Promise, RehearsalPromise};
+ghost use Rattle.zh_program.specs.Program.{MetFault, NothingDone, disk_path, ends};
+ghost use Rattle.zh_world.specs.Places.{Touches};
 ghost use Rattle.zh_program.specs.Reports.{report_text};
 
 use crate::report::report;
@@ -18,7 +23,7 @@ use clap::error::ErrorKind;
 use std::alloc::Global;
 use std::io::{Read, Write};
 use zh_arguments::read_arguments;
-use zh_tasks::{TaskFault, carry_out};
+use zh_tasks::{TaskFault, Used, carry_out};
 use zh_world::{Ended, Files, Remark, World};
 
 /// The status of a task that ended so. A fault is reported, but where it was refused the task has said why.
@@ -61,7 +66,7 @@ fn refuse<I, O, E: Write, F>(refusal: &Error, world: &mut World<I, O, E, F>) -> 
 /// fault, which is reported to `faults`; 2 if the arguments ask for no task, `--help` among them, with the reason on
 /// `faults`. The world's remark says whether that was written whole.
 ///
-/// The disk that it worked on is handed over, with the record of its calls, whatever the status.
+/// The disk that it worked on is handed over, with the record of its calls and the film of its task, whatever the status.
 ///
 /// Without arguments it is a rehearsal. docs/MANUAL.md has the others.
 pub fn program<I: Read, O: Write, E: Write, F: Files>(
@@ -69,7 +74,7 @@ pub fn program<I: Read, O: Write, E: Write, F: Files>(
     arguments: &[String],
     right: F::Right,
     world: &mut World<I, O, E, F>,
-) -> Ended<u8, F::Disk>
+) -> Ended<u8, Used<I, O, F::Disk>>
     ensures status { result.result ≤ 2 }
     ensures done { result.result ≡ 0 → (task : Task) × AsksFor (map string_bytes arguments.now) task
         × Does (known I.Read O.Write E.Write F.Files F.Disk.Disk) task world.old world.new (ends (Ok tt) result.used) }
@@ -78,9 +83,14 @@ pub fn program<I: Read, O: Write, E: Write, F: Files>(
         × BecameOf world.new.remark (E.contents world.old.faults) (E.contents world.new.faults) (report_text TaskFault.Memory))
         ⊎ ((task : Task) × AsksFor (map string_bytes arguments.now) task
         × MetFault (known I.Read O.Write E.Write F.Files F.Disk.Disk) task world.old world.new result.used) }
-    ensures headline { (disk : F.Disk) → result.used ≡ Some disk
+    ensures headline { (used : Filmed I O F.Disk) → result.used ≡ Some (used_as.Disk used)
         → Promise (known I.Read O.Write E.Write F.Files F.Disk.Disk) (map string_bytes arguments.now)
-        world.old world.new result.result disk }
+        world.old world.new result.result used }
+    ensures rehearsed { (film : Film I O MemoryDisk) → result.used ≡ Some (used_as.Rehearsal film)
+        → RehearsalPromise (known I.Read O.Write E.Write F.Files F.Disk.Disk) world.old world.new result.result film }
+    // No file is touched but the one at `--disk` and its companion, and of these only empty ones before the disk's own calls.
+    ensures touches { (world.new.files ≡ world.old.files) ⊎ ((task : Task) × AsksFor (map string_bytes arguments.now) task
+        × Touches (disk_path task) (F.places world.old.files) (F.places world.new.files)) }
     ensures refused { result.result ≡ 2 → (refusals (map string_bytes arguments.now) ≢ []) × NothingDone world.old world.new result.used }
 {
     match read_arguments(alloc, arguments) {

@@ -1,18 +1,22 @@
 //! What the promise of the program comes to.
 
 ghost use Rattle.std.specs.Prelude.{◌≡◌, ◌≢◌, ◌⊎◌, ◌+◌, ◌*◌, ◌<◌, ◌≤◌, ℕ, Bool, IsTrue, MatchResult, Result};
-ghost use Rattle.std.specs.Prelude.{List, [], ◌∷◌, ◌++◌, length, slice_index, take, None, Some};
+ghost use Rattle.std.specs.Prelude.{List, [], ◌∷◌, ◌++◌, flat_map, length, map, slice_index, take, None, Some};
 ghost use Rattle.zh_disk.specs.Disk.{IsImage, Trail};
 ghost use Rattle.zh_districts.specs.Canton.{IsCanton};
+ghost use Rattle.zh_film.specs.Frames.{Frame};
+ghost use Rattle.zh_film.specs.declared.kind.FrameKind.TheVariants.{Asks};
 ghost use Rattle.zh_records.specs.declared.command.Command.{Command};
 ghost use Rattle.zh_returns.specs.Judgement.{judge};
 ghost use Rattle.zh_returns.specs.Step.{after};
 ghost use Rattle.zh_returns.specs.Tally.{Tally};
 ghost use Rattle.zh_returns.specs.declared.verdict.Verdict.TheVariants as verdicts;
 ghost use Rattle.zh_commands.specs.declared.replies.Reply.TheVariants as replies;
+ghost use Rattle.zh_matrices.specs.Divisors.{Divisors};
 ghost use Rattle.zh_matrices.specs.Question.{cell};
+ghost use Rattle.zh_matrices.specs.SeatMatrix.{IsStrict};
 ghost use Rattle.zh_totals.specs.Counting.{totals_of};
-ghost use Rattle.zh_sheet.specs.Distribution.{Distribution, IsDistribution, question_of};
+ghost use Rattle.zh_sheet.specs.Distribution.{Distribution, Targets, lower_question, question_of};
 ghost use Rattle.zh_ledger.specs.Ledger.{Ledger};
 ghost use Rattle.zh_ledger.specs.Night.{StopsWithin};
 ghost use Rattle.zh_ledger.specs.Opening.{Opens};
@@ -20,9 +24,13 @@ ghost use Rattle.zh_ledger.specs.Stands.{Holds, Stands};
 ghost use Rattle.zh_ledger.specs.declared.fault.OpenFault.{OpenFault};
 ghost use Rattle.zh_ledger.specs.declared.fault.OpenFault.TheVariants as faults;
 ghost use Rattle.zh_answers.specs.declared.answer.Answer.TheVariants as answers;
-ghost use Rattle.zh_program.specs.Exchanges.{Exchange, count_by, disk_by, log_of};
+ghost use Rattle.zh_program.specs.Exchanges.{Exchange, count_by, disk_by, line_in, log_of, text_of};
+ghost use Rattle.zh_office.specs.Text.{ended_lines};
 ghost use Rattle.zh_tasks.specs.World.{known};
-ghost use Rattle.zh_program.specs.Headline.{Headline, Promise};
+ghost use Rattle.zh_tasks.specs.declared.used.Filmed.{Filmed};
+ghost use Rattle.zh_program.specs.Headline.{Headline};
+ghost use Rattle.zh_program.specs.Order.{AreNext, Conversation};
+ghost use Rattle.zh_program.specs.Promise.{Promise};
 ghost use Rattle.zh_program.specs.Sheets.{IsTie};
 ghost use Rattle.zh_program.specs.Stopped.{OpensTo};
 
@@ -32,47 +40,65 @@ use zh_world::{Files, World};
 /// What the promise excludes, wherever a stop comes.
 pub fn headline_excludes()
     // An image without the last acknowledged command.
-    ensures lost { (tally : Tally) (first opened last : Trail) (exchanges done rest : List Exchange) (c : List ℕ) (n : ℕ)
-        → Headline tally first opened last exchanges → exchanges ≡ done ++ rest → IsImage (disk_by opened done).now c
+    ensures lost { (tally : Tally) (before : Trail) (talk : Conversation) (exchanges done rest : List Exchange) (c : List ℕ) (n : ℕ)
+        → Headline tally before talk exchanges → exchanges ≡ done ++ rest → IsImage (disk_by talk.first.disk done).now c
         → n < (log_of done).acknowledged → n ≤ length (log_of done).accepted → Holds (after tally (take n (log_of done).accepted)) c → ⊥ }
     // One that skips a command, has them in another order, or has one that was not accepted by then.
-    ensures skipped { (tally count : Tally) (first opened last : Trail) (exchanges done rest : List Exchange) (x : Exchange) (c : List ℕ)
-        → Headline tally first opened last exchanges → exchanges ≡ done ++ x ∷ rest → StopsWithin (disk_by opened done) x.disk c
+    ensures skipped { (tally count : Tally) (before : Trail) (talk : Conversation) (exchanges done rest : List Exchange)
+        (x : Exchange) (c : List ℕ) → Headline tally before talk exchanges → exchanges ≡ done ++ x ∷ rest
+        → StopsWithin (disk_by talk.first.disk done) x.disk c
         → Holds count c → count.canton ≡ tally.canton
         → ((n : ℕ) → (log_of done).acknowledged ≤ n → n ≤ length (log_of (done ++ x ∷ [])).accepted
         → count ≢ after tally (take n (log_of (done ++ x ∷ [])).accepted)) → ⊥ }
     // An answer `stored` where there is no command.
-    ensures nothing_stored { (tally : Tally) (first opened last : Trail) (exchanges done rest : List Exchange) (x : Exchange) (number : ℕ)
-        → Headline tally first opened last exchanges → exchanges ≡ done ++ x ∷ rest
+    ensures nothing_stored { (tally : Tally) (before : Trail) (talk : Conversation) (exchanges done rest : List Exchange)
+        (x : Exchange) (number : ℕ) → Headline tally before talk exchanges → exchanges ≡ done ++ x ∷ rest
         → x.answer ≡ answers.Reply (replies.Stored number) → x.command ≡ None → ⊥ }
     // An answer `same` to a command that is new to the count.
-    ensures not_same { (tally : Tally) (first opened last : Trail) (exchanges done rest : List Exchange) (x : Exchange) (command : Command)
-        → Headline tally first opened last exchanges → exchanges ≡ done ++ x ∷ rest
+    ensures not_same { (tally : Tally) (before : Trail) (talk : Conversation) (exchanges done rest : List Exchange)
+        (x : Exchange) (command : Command) → Headline tally before talk exchanges → exchanges ≡ done ++ x ∷ rest
         → x.answer ≡ answers.Reply replies.Same → x.command ≡ Some command
         → judge (count_by tally (log_of done)) command ≡ verdicts.Accept → ⊥ }
     // A sheet of another count than that at its line.
-    ensures other_count { (tally : Tally) (first opened last : Trail) (exchanges done rest : List Exchange) (x : Exchange)
-        (sheet : Distribution) (is_final : Bool) → Headline tally first opened last exchanges → exchanges ≡ done ++ x ∷ rest
+    ensures other_count { (tally : Tally) (before : Trail) (talk : Conversation) (exchanges done rest : List Exchange) (x : Exchange)
+        (sheet : Distribution) (is_final : Bool) → Headline tally before talk exchanges → exchanges ≡ done ++ x ∷ rest
         → x.answer ≡ answers.Sheet sheet is_final → sheet.totals ≢ totals_of (count_by tally (log_of (done ++ x ∷ []))) → ⊥ }
     // A sheet with the quotient of row d and column g on a half, k and a half.
-    ensures half { (tally : Tally) (first opened last : Trail) (exchanges done rest : List Exchange) (x : Exchange)
-        (sheet : Distribution) (is_final : Bool) (d g k : ℕ) → Headline tally first opened last exchanges
+    ensures half { (tally : Tally) (before : Trail) (talk : Conversation) (exchanges done rest : List Exchange) (x : Exchange)
+        (sheet : Distribution) (is_final : Bool) (d g k : ℕ) → Headline tally before talk exchanges
         → exchanges ≡ done ++ x ∷ rest → x.answer ≡ answers.Sheet sheet is_final
         → d < (question_of sheet).rows → g < (question_of sheet).columns
         → 2 * (cell (question_of sheet).columns (question_of sheet).votes d g * (sheet.lower.divisors.scale * sheet.lower.divisors.scale))
         ≡ (2 * k + 1) * (slice_index sheet.lower.divisors.of_rows d * slice_index sheet.lower.divisors.of_columns g) → ⊥ }
-    // Seats where the answer is a tie.
-    ensures tie { (tally : Tally) (first opened last : Trail) (exchanges done rest : List Exchange) (x : Exchange) (sheet : Distribution)
-        → Headline tally first opened last exchanges → exchanges ≡ done ++ x ∷ rest → IsTie x.answer
-        → sheet.totals ≡ totals_of x.count → IsDistribution sheet → ⊥ }
+    // Seats where the answer is a tie, by whatever divisors.
+    ensures tie { (tally : Tally) (before : Trail) (talk : Conversation) (exchanges done rest : List Exchange) (x : Exchange)
+        (targets : Targets (totals_of x.count)) (divisors : Divisors) (seats : List ℕ)
+        → Headline tally before talk exchanges → exchanges ≡ done ++ x ∷ rest → IsTie x.answer
+        → IsStrict (lower_question (totals_of x.count) targets.seats targets.upper) divisors seats → ⊥ }
+    // Of two times a and b that follow each other: an acknowledgement that is written by b, of a command that a stop between loses.
+    ensures early { (tally : Tally) (before : Trail) (talk : Conversation) (exchanges done rest : List Exchange) (a b : Frame)
+        (text c : List ℕ) (n : ℕ) → Headline tally before talk exchanges → exchanges ≡ done ++ rest → AreNext talk a b
+        → talk.first.written ≡ Some text → b.written ≡ Some (text ++ flat_map text_of done) → StopsWithin a.disk b.disk c
+        → n ≤ length (log_of done).accepted → n < (log_of done).acknowledged → Holds (after tally (take n (log_of done).accepted)) c → ⊥ }
+    // A read that is made while a line that is complete in what was read has no answer, or another one, or two.
+    ensures late { (tally : Tally) (before : Trail) (talk : Conversation) (exchanges done rest : List Exchange) (a b : Frame)
+        (input left text : List ℕ) → Headline tally before talk exchanges → exchanges ≡ done ++ rest → AreNext talk a b → a.kind ≡ Asks
+        → talk.first.left ≡ Some (input ++ left) → a.left ≡ Some left → map (λ x. line_in x.given) done ≡ map Some (ended_lines input)
+        → talk.first.written ≡ Some text → a.written ≢ Some (text ++ flat_map text_of done) → ⊥ }
+    // A moment of the disk with two commands more than those that are answered by then.
+    ensures unanswered { (tally : Tally) (before : Trail) (talk : Conversation) (exchanges done rest : List Exchange) (a b : Frame)
+        (text c : List ℕ) (n : ℕ) → Headline tally before talk exchanges → exchanges ≡ done ++ rest → AreNext talk a b
+        → talk.first.written ≡ Some text → a.written ≡ Some (text ++ flat_map text_of done) → StopsWithin a.disk b.disk c
+        → length (log_of done).accepted + 1 < n → n ≤ length (log_of exchanges).accepted
+        → Holds (after tally (take n (log_of exchanges).accepted)) c → ⊥ }
 {}
 
 /// And an answer where no count stood.
 pub fn promise_excludes<I: Read, O: Write, E: Write, F: Files>()
-    ensures { (arguments : List (List ℕ)) (old new : World I O E F) (status : ℕ) (disk : F.Disk) (bytes : List ℕ)
+    ensures { (arguments : List (List ℕ)) (old new : World I O E F) (status : ℕ) (used : Filmed I O F.Disk) (bytes : List ℕ)
         (x : Exchange) (rest : List Exchange)
-        → (promise : Promise (known I.Read O.Write E.Write F.Files F.Disk.Disk) arguments old new status disk)
-        → IsTrue (F.Disk.history disk).honest → F.disk_at old.files promise.path ≡ Some bytes
+        → (promise : Promise (known I.Read O.Write E.Write F.Files F.Disk.Disk) arguments old new status used)
+        → IsTrue (F.Disk.history used.disk).honest → F.disk_at old.files promise.path ≡ Some bytes
         → ((tally : Tally) → IsCanton tally.canton → ¬ Stands tally bytes) → promise.exchanges ≡ x ∷ rest → ⊥ }
 {}
 

@@ -8,3 +8,4 @@ mod report_parts;
 
 pub use entry::program;
 pub use laws::{headline_excludes, promise_excludes, reopenings};
+pub use zh_tasks::{Filmed, Used};

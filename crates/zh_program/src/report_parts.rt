@@ -1,15 +1,15 @@
 //! The parts of a report, each written after what is there already.
 
 ghost use Rattle.std.specs.Prelude.{◌≡◌, ◌+◌, ◌≤◌, ◌++◌, length, decimal};
-ghost use Rattle.zh_program.specs.Reports.{fault_text, held_name, opening_name, place_text, serving_name, setup_name};
+ghost use Rattle.zh_program.specs.Reports.{fault_text, opening_name, place_text, serving_name};
 
 use arrayvec::ArrayString;
 use itoa::Buffer;
+use zh_checks::{name_of_held, name_of_setup};
 use zh_disk::DISK_LENGTH;
 use zh_districts::SeatFault;
-use zh_held::HeldFault;
 use zh_office::{OpenFault, ServeFault};
-use zh_setups::{FaultPlace, SetupFault};
+use zh_setups::FaultPlace;
 use zh_tasks::{TaskFault, TaskPlace};
 
 /// The lines of a report, which have at most 94 bytes.
@@ -34,20 +34,6 @@ fn push_numbered(lines: &mut ReportLines, word: &str, number: u32)
     push_number(lines, u64::from(number));
 }
 
-fn name_of_setup(fault: SetupFault) -> &'static str
-    ensures name { result.now ≡ setup_name fault }
-    ensures short { length result.now ≤ 13 }
-{
-    match fault {
-        SetupFault::Memory => "memory",
-        SetupFault::Text => "setup text",
-        SetupFault::Missing => "setup missing",
-        SetupFault::Unknown => "setup unknown",
-        SetupFault::Range => "setup range",
-        SetupFault::Double => "setup double",
-    }
-}
-
 fn name_of_opening(fault: OpenFault) -> &'static str
     ensures name { result.now ≡ opening_name fault }
     ensures short { length result.now ≤ 12 }
@@ -58,20 +44,6 @@ fn name_of_opening(fault: OpenFault) -> &'static str
         OpenFault::Blank => "disk blank",
         OpenFault::Damaged => "disk damaged",
         OpenFault::SetupDiffers => "disk differs",
-    }
-}
-
-fn name_of_held(fault: HeldFault) -> &'static str
-    ensures name { result.now ≡ held_name fault }
-    ensures short { length result.now ≤ 17 }
-{
-    match fault {
-        HeldFault::Csv => "held csv",
-        HeldFault::Syntax => "held syntax",
-        HeldFault::Municipality => "held municipality",
-        HeldFault::List => "held list",
-        HeldFault::Votes => "held votes",
-        HeldFault::Twice => "held twice",
     }
 }
 

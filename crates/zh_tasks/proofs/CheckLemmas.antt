@@ -1,7 +1,7 @@
 -- What a check reads, and what it answers.
-use Rattle.std.proofs.Common.{◌≡◌, ◌≢◌, ◌∙◌, ◌≤◌, ◌+◌, ℕ, List, length, take, Option, Some, None, Ok, Err, refl, subst, arith}
+use Rattle.std.proofs.Common.{◌≡◌, ◌∙◌, ◌≤◌, ◌+◌, ℕ, List, length, take, Option, Some, None, Ok, Err, refl, arith}
 use Rattle.std.proofs.lemmas.List.{length-take, take_all}
-use Rattle.std.specs.Io.KnownBytes.{Appends}
+use Rattle.zh_checks.specs.Checks.{Inputs, WritesCheck, check_text}
 use Rattle.zh_csv.specs.declared.fault.LoadFault.{LoadFault}
 use Rattle.zh_csv.specs.declared.fault.LoadFault.TheVariants as loads
 use Rattle.zh_districts.specs.Canton.{Canton}
@@ -9,17 +9,14 @@ use Rattle.zh_held.specs.Faults.{named}
 use Rattle.zh_held.specs.Held.{IsHolding}
 use Rattle.zh_held.specs.declared.held_reader.HeldSums.{HeldSums}
 use Rattle.zh_returns.specs.declared.verdict.Reason.TheVariants as reasons
-use Rattle.zh_check.specs.declared.checked.RightSheet.{RightSheet}
-use Rattle.zh_check.specs.declared.checked.SheetVerdict.{SheetVerdict}
-use Rattle.zh_check.specs.declared.checked.SheetVerdict.TheVariants.{Right}
 use Rattle.zh_verdicts.specs.declared.writer.VerdictFault.{VerdictFault}
 use Rattle.zh_verdicts.specs.declared.writer.VerdictFault.TheVariants as of_verdict
 use Rattle.zh_world.specs.declared.files.Files.{Ghosts as Files}
 use Rattle.zh_tasks.specs.World.{AreCalls}
-use Rattle.zh_tasks.specs.Load.{WritesPart}
-use Rattle.zh_tasks.specs.Check.{Answers, AreSumsAt, ComesTo, HeldFaultAs, Inputs, IsOfHeld, VerdictFaultAs, calls_if_named, check_text}
+use Rattle.zh_tasks.specs.Check.{Answers, AreSumsAt, HeldFaultAs, IsOfHeld, VerdictFaultAs, calls_if_named}
 use Rattle.zh_tasks.specs.declared.fault.TaskFault.{TaskFault}
 use Rattle.zh_tasks.specs.declared.fault.TaskFault.TheVariants as faults
+use Rattle.zh_tasks.proofs.LoadLemmas.{writes_front}
 
 -- a fault of no record, and of no read
 pub other_fault : (why : LoadFault) → named why ≡ None → (why ≡ loads.Read → ⊥) → why ≡ loads.Memory
@@ -46,22 +43,11 @@ wrong_known (Some text) canton why (faults.Held record_fault) held is = (why, is
 wrong_known known canton why fault held is = absurd is
 
 -- a verdict that is not written to its end
-pub not_written : (U : Type 0) (w w' : Option (List ℕ)) (inputs : Inputs) (verdict : SheetVerdict) (fault : VerdictFault) (e : TaskFault)
-    → VerdictFaultAs fault e → ComesTo inputs verdict → (fault ≡ of_verdict.Write → WritesPart w w' (check_text inputs verdict)) → (fault ≡ of_verdict.Memory → U)
-    → Answers U w w' inputs (Err e)
-not_written U w w' inputs verdict of_verdict.Memory e is comes part unwritten = rw is (unwritten refl)
-not_written U w w' inputs verdict of_verdict.Write e is comes part unwritten = rw is ((verdict, comes, part refl))
-
--- a sheet that is right, and one that is not: what the verdict says is written
-pub right_answered : (w w' : Option (List ℕ)) (inputs : Inputs) (verdict : SheetVerdict) (right : RightSheet)
-    → verdict ≡ Right right → ComesTo inputs verdict → Appends w w' (check_text inputs verdict) → Answers (Unit {0}) w w' inputs (Ok tt)
-right_answered w w' inputs verdict right is comes written =
-    (right, subst (ComesTo inputs) is comes, subst (λ (v : SheetVerdict). Appends w w' (check_text inputs v)) is written)
-
-pub wrong_answered : (w w' : Option (List ℕ)) (inputs : Inputs) (verdict : SheetVerdict)
-    → ((right : RightSheet) → verdict ≢ Right right) → ComesTo inputs verdict → Appends w w' (check_text inputs verdict)
-    → Answers (Unit {0}) w w' inputs (Err faults.Refused)
-wrong_answered w w' inputs verdict is_not comes written = (verdict, comes, is_not, written)
+pub not_written : (U : Type 0) (w w' : Option (List ℕ)) (inputs : Inputs) (fault : VerdictFault) (e : TaskFault)
+    → VerdictFaultAs fault e → WritesCheck U w w' inputs (Err fault) → Answers U w w' inputs (Err e)
+not_written U w w' inputs of_verdict.Memory e is written = rw is written
+not_written U w w' inputs of_verdict.Write e is (verdict, comes, part) =
+    rw is (verdict, comes, writes_front w w' (check_text inputs verdict) (check_text inputs verdict) refl part)
 
 -- calls after calls
 pub calls_after : {F T D R : Type 0} (files : Files F T D R) (n m : ℕ) (old mid new : F) → AreCalls files n old mid → AreCalls files m mid new → AreCalls files (n + m) old new
@@ -69,6 +55,7 @@ calls_after files n m old mid new one other = record {
   counted = omega (arith, one.counted, other.counted);
   texts = other.texts ∙ one.texts;
   disks = other.disks ∙ one.disks;
+  stays = other.stays ∙ one.stays;
 }
 
 -- an export is read in one call at most

@@ -1,6 +1,6 @@
 -- What a dry run has done, by how it ended.
-use Rattle.std.proofs.Common.{◌≡◌, ◌≢◌, ℕ, List, Option, Some, Result, Ok, Err, IfErr, subst, sym, refl}
-use Rattle.zh_judgements.specs.Judged.{IsBrokenOff, IsJudged, Judges, bytes_left, records_judged}
+use Rattle.std.proofs.Common.{◌≡◌, ℕ, List, Option, Some, Result, Ok, Err, IfErr, refl}
+use Rattle.zh_judgements.specs.Judged.{IsBrokenOff, IsJudged, bytes_left, records_judged}
 use Rattle.zh_judgements.specs.declared.fault.JudgementFault.{JudgementFault}
 use Rattle.zh_judgements.specs.declared.fault.JudgementFault.TheVariants as judging
 use Rattle.zh_judgements.specs.declared.judgement.Forecast.{Forecast}

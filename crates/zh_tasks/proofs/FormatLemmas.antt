@@ -1,15 +1,18 @@
 -- What a formatting leaves that looks at the disk first, by what it finds there.
-use Rattle.std.proofs.Common.{inl, inr, refl, Ok, Err}
+use Rattle.std.proofs.Common.{◌≡◌, ℕ, List, nat_lt, inl, inr, refl, subst, Ok, Err}
 use Rattle.zh_districts.specs.Canton.{Canton}
 use Rattle.zh_disk.specs.History.{History, Call}
-use Rattle.zh_disk.proofs.CallerLemmas.{followed, handed}
+use Rattle.zh_disk.proofs.CallerLemmas.{followed, handed, leaves_none, no_call}
 use Rattle.zh_journal.specs.Place.{Rest}
 use Rattle.zh_snapshot.specs.Calls.{OpensStore}
 use Rattle.zh_snapshot.specs.Faults.{store_format_fails, store_open_fails}
 use Rattle.zh_snapshot.specs.Store.{State}
 use Rattle.zh_snapshot.specs.declared.fault.OpenFault.TheVariants as opening
 use Rattle.zh_ledger.specs.Opening.{MakesNew}
-use Rattle.zh_tasks.specs.Format.{FormatsBlank, format_fails}
+use Rattle.zh_tables.specs.Problems.{AreProblems, problem_count, problems_line}
+use Rattle.zh_tables.specs.declared.problems.SetupProblems.{SetupProblems}
+use Rattle.zh_tasks.specs.Format.{FormatsBlank, SaysProblems, format_fails}
+use Rattle.zh_tasks.specs.List.{SaysIf}
 use Rattle.zh_tasks.specs.declared.fault.TaskFault.TheVariants as formatting
 
 module _ (canton : Canton) {a b : History} where
@@ -36,3 +39,24 @@ module _ (canton : Canton) {a b c : History} (opened : Call store_open_fails Ope
     settled = by.2.settled;
     in_use = λ is. absurd cc;
   }) (followed refl opened made)
+
+-- before anything was asked of the disk
+pub memory_first : (canton : Canton) {h : History} → Call format_fails (FormatsBlank canton) h h (Err formatting.Memory)
+memory_first canton {h} = no_call refl (λ honest. record {
+  opened = h.trail;
+  opening = leaves_none _ h.trail h.trail refl;
+  after = inl refl;
+  blank = tt;
+  formatted = tt;
+  settled = tt;
+  in_use = λ is. absurd cc;
+})
+
+-- what was said of so many problems in this line
+pub said_of : (canton : Canton) (problems : SetupProblems) (n : ℕ) (text : List ℕ) (Said : List ℕ → Type 0) (unsaid : Type 0) → n ≡ problem_count problems
+    → text ≡ problems_line (problem_count problems) → AreProblems canton problems → SaysIf (nat_lt 0 n) (Said text) unsaid → SaysProblems canton Said unsaid (Ok tt)
+said_of canton problems n text Said unsaid count line are says = (
+  problems,
+  are,
+  subst (λ (t : List ℕ). SaysIf (nat_lt 0 (problem_count problems)) (Said t) unsaid) line (subst (λ (k : ℕ). SaysIf (nat_lt 0 k) (Said text) unsaid) count says),
+)

@@ -6,6 +6,7 @@ mod FrontLemmas
 mod KeptLemmas
 mod ListLemmas
 mod LoadLemmas
+mod OrderLemmas
 mod RehearseLemmas
 mod RunLemmas
 mod SeatsLemmas

@@ -1,5 +1,8 @@
 -- What the loading of a CSV file has done, by how it ended.
-use Rattle.std.proofs.Common.{◌≡◌, ◌≤◌, ◌<◌, ◌+◌, ◌-◌, ◌∙◌, ℕ, List, [], ◌∷◌, ◌++◌, length, take, drop, Option, Some, None, Result, Ok, Err, OnErr, refl, sym, ap, append_assoc, arith, decimal, subst, Bool, ◌==◌, if◌then◌else◌}
+use Rattle.std.proofs.Common.{◌≡◌, ◌≤◌, ◌<◌, ◌+◌, ◌-◌, ◌∙◌, ℕ, List, [], ◌∷◌, ◌++◌, length, take, drop, Option, Some, None, Result, Ok, Err, IfOk, OnErr, refl, sym, ap, append_assoc, arith, decimal, subst, Bool, false, inl, inr, Bor, ◌==◌, if◌then◌else◌}
+use Rattle.std.proofs.lemmas.Bool.{cases_lt}
+use Rattle.std.specs.Prelude.{IfSome}
+use Rattle.std.specs.Result.{is_err}
 use Rattle.std.specs.Io.Buffered.{reader_buffer, reader_capacity, reader_inner, reader_remaining}
 use Rattle.std.specs.Io.KnownBytes.{Appends, Keeps, prepend_known}
 use Rattle.std.specs.declared.io.buffered.BufReader.{BufReader}
@@ -10,8 +13,11 @@ use Rattle.zh_commands.specs.declared.replies.Reply.{Reply}
 use Rattle.zh_office.specs.Load.{LoadTurn}
 use Rattle.zh_ledger.specs.Submissions.{OnDisk}
 use Rattle.zh_office.specs.Office.{Office}
+use Rattle.zh_office.specs.Served.{IsFilmed}
 use Rattle.zh_tasks.specs.Opened.{IsOfDevice, IsThis}
-use Rattle.zh_tasks.specs.Load.{IsUnreadable, Loaded, LoadsText, LoadsFile, Replied, WritesPart, printed}
+use Rattle.zh_film.specs.Frames.{Frame}
+use Rattle.zh_tasks.specs.Load.{GivenText, HasBegun, IsUnreadable, Loaded, LoadsText, LoadsFile, Replied, WritesPart, given_text, printed, step_replied, text_calls}
+use Rattle.zh_tasks.specs.Run.{Streams, beside, streams}
 use Rattle.zh_tasks.specs.declared.fault.TaskFault.{TaskFault}
 use Rattle.zh_tasks.specs.declared.fault.TaskFault.TheVariants as faults
 use Rattle.zh_tasks.proofs.KeptLemmas.{load_is_logged}
@@ -40,13 +46,15 @@ put_front (Ok done) w w' text text' is front = tt
 put_front (Err fault) w w' text text' is front = writes_front w w' text text' is front
 
 -- what an office replied to the text that it was given
-pub replied_to : (start end : OnDisk Office) (text : Option (List ℕ)) (failed : Bool) (reply : Reply) → LoadTurn start text failed reply end → Replied text (IsThis start end.history) reply
-replied_to start end text failed reply turn = record { start = start; end = end; failed = failed; spans = (refl, refl); turn = turn; kept = load_is_logged start text failed reply end turn }
+pub replied_to : (old new : Streams) (start end : OnDisk Office) (text : Option (List ℕ)) (failed : Bool) (reply : Reply) → LoadTurn start text failed reply end → IsFilmed (step_replied reply end ∷ []) (beside old start) (beside new end)
+    → Replied (given_text text failed) old new (IsThis start end.history) reply
+replied_to old new start end text failed reply turn order = record { start = start; end = end; spans = (refl, refl); turn = turn; kept = load_is_logged start text failed reply end turn; order = order }
 
 -- a reply that it wrote
-pub loaded_to : (w w' : Option (List ℕ)) (start end : OnDisk Office) (text : Option (List ℕ)) (failed : Bool) (reply : Reply) (faulted : Bool) → LoadTurn start text failed reply end → Appends w w' (printed reply) → end.holder.ledger.store.broken ≡ faulted → Loaded text w w' (IsThis start end.history) reply faulted
+pub loaded_to : (old new : Streams) (start end : OnDisk Office) (text : Option (List ℕ)) (failed : Bool) (reply : Reply) (faulted : Bool) → LoadTurn start text failed reply end → IsFilmed (step_replied reply end ∷ []) (beside old start) (beside new end)
+    → Appends old.written new.written (printed reply) → end.holder.ledger.store.broken ≡ faulted → Loaded (given_text text failed) old new (IsThis start end.history) reply faulted
 unfolding replied_to
-loaded_to w w' start end text failed reply faulted turn written device = record { replied = replied_to start end text failed reply turn; written = written; device = device }
+loaded_to old new start end text failed reply faulted turn order written device = record { replied = replied_to old new start end text failed reply turn order; written = written; device = device }
 
 -- the file gives no text, and an office was opened
 pub unread : (unwritten : Type 0) (Gives : (OnDisk Office → OnDisk Office → Type 0) → Result (Unit {0}) TaskFault → Type 0) (Spans : OnDisk Office → OnDisk Office → Type 0) (start : OnDisk Office) (fault : TaskFault)
@@ -62,33 +70,65 @@ unread_calm faults.Memory is of_device = of_device
 unread_calm fault is of_device = absurd is
 
 -- the same of an office that began in another way too
-replied_as : (text : Option (List ℕ)) (Spans Spans' : OnDisk Office → OnDisk Office → Type 0) (reply : Reply) → ((start end : OnDisk Office) → Spans start end → Spans' start end) → Replied text Spans reply → Replied text Spans' reply
-replied_as text Spans Spans' reply turn by = record { start = by.start; end = by.end; failed = by.failed; spans = turn by.start by.end by.spans; turn = by.turn; kept = by.kept }
+replied_as : (text : GivenText) (old new : Streams) (Spans Spans' : OnDisk Office → OnDisk Office → Type 0) (reply : Reply) → ((start end : OnDisk Office) → Spans start end → Spans' start end) → Replied text old new Spans reply → Replied text old new Spans' reply
+replied_as text old new Spans Spans' reply turn by = record { start = by.start; end = by.end; spans = turn by.start by.end by.spans; turn = by.turn; kept = by.kept; order = by.order }
 
-loaded_as : (text w w' : Option (List ℕ)) (Spans Spans' : OnDisk Office → OnDisk Office → Type 0) (reply : Reply) (faulted : Bool) → ((start end : OnDisk Office) → Spans start end → Spans' start end) → Loaded text w w' Spans reply faulted → Loaded text w w' Spans' reply faulted
+loaded_as : (text : GivenText) (old new : Streams) (Spans Spans' : OnDisk Office → OnDisk Office → Type 0) (reply : Reply) (faulted : Bool) → ((start end : OnDisk Office) → Spans start end → Spans' start end) → Loaded text old new Spans reply faulted → Loaded text old new Spans' reply faulted
 unfolding replied_as
-loaded_as text w w' Spans Spans' reply faulted turn by = record { replied = replied_as text Spans Spans' reply turn by.replied; written = by.written; device = by.device }
+loaded_as text old new Spans Spans' reply faulted turn by = record { replied = replied_as text old new Spans Spans' reply turn by.replied; written = by.written; device = by.device }
 
-pub loads_as : (text w w' : Option (List ℕ)) (Spans Spans' : OnDisk Office → OnDisk Office → Type 0) (result : Result (Unit {0}) TaskFault)
-    → ((start end : OnDisk Office) → Spans start end → Spans' start end) → LoadsText text w w' Spans result → LoadsText text w w' Spans' result
-loads_as text w w' Spans Spans' (Ok done) turn (reply, taken, loaded) = (reply, taken, loaded_as text w w' Spans Spans' reply _ turn loaded)
-loads_as text w w' Spans Spans' (Err faults.Refused) turn (refusal, loaded) = (refusal, loaded_as text w w' Spans Spans' _ _ turn loaded)
-loads_as text w w' Spans Spans' (Err faults.Faulted) turn (reply, loaded) = (reply, loaded_as text w w' Spans Spans' reply _ turn loaded)
-loads_as text w w' Spans Spans' (Err faults.Write) turn (reply, replied, front) = (reply, replied_as text Spans Spans' reply turn replied, front)
-loads_as text w w' Spans Spans' (Err fault) turn by = absurd by
+pub loads_as : (text : GivenText) (old new : Streams) (Spans Spans' : OnDisk Office → OnDisk Office → Type 0) (result : Result (Unit {0}) TaskFault)
+    → ((start end : OnDisk Office) → Spans start end → Spans' start end) → LoadsText text old new Spans result → LoadsText text old new Spans' result
+loads_as text old new Spans Spans' (Ok done) turn (reply, taken, loaded) = (reply, taken, loaded_as text old new Spans Spans' reply _ turn loaded)
+loads_as text old new Spans Spans' (Err faults.Refused) turn (refusal, loaded) = (refusal, loaded_as text old new Spans Spans' _ _ turn loaded)
+loads_as text old new Spans Spans' (Err faults.Faulted) turn (reply, loaded) = (reply, loaded_as text old new Spans Spans' reply _ turn loaded)
+loads_as text old new Spans Spans' (Err faults.Write) turn (reply, replied, front) = (reply, replied_as text old new Spans Spans' reply turn replied, front)
+loads_as text old new Spans Spans' (Err fault) turn by = absurd by
 
 -- a text that the file gave was loaded
-pub file_loads : (unwritten : Type 0) (text w w' : Option (List ℕ)) (Spans : OnDisk Office → OnDisk Office → Type 0) (result : Result (Unit {0}) TaskFault)
-    → LoadsText text w w' Spans result → LoadsFile unwritten (LoadsText text w w') Spans result
-file_loads unwritten text w w' Spans (Ok done) by = by
-file_loads unwritten text w w' Spans (Err faults.CsvFile) by = absurd by
-file_loads unwritten text w w' Spans (Err faults.Memory) by = absurd by
-file_loads unwritten text w w' Spans (Err fault) by = by
+pub file_loads : (unwritten : Type 0) (text : GivenText) (old new : Streams) (Spans : OnDisk Office → OnDisk Office → Type 0) (result : Result (Unit {0}) TaskFault)
+    → LoadsText text old new Spans result → LoadsFile unwritten (LoadsText text old new) Spans result
+file_loads unwritten text old new Spans (Ok done) by = by
+file_loads unwritten text old new Spans (Err faults.CsvFile) by = absurd by
+file_loads unwritten text old new Spans (Err faults.Memory) by = absurd by
+file_loads unwritten text old new Spans (Err fault) by = by
+
+-- on a film that showed nothing yet
+pub loads_blank : (text : GivenText) (left w : Option (List ℕ)) (film : List Frame) (new : Streams) (Spans : OnDisk Office → OnDisk Office → Type 0) (result : Result (Unit {0}) TaskFault) → film ≡ []
+    → LoadsText text (streams left w film) new Spans result → LoadsText text (streams left w []) new Spans result
+loads_blank text left w film new Spans result blank by = subst (λ (l : List Frame). LoadsText text (streams left w l) new Spans result) blank by
+
+-- the file was looked for
+pub unread_calls : (fault : TaskFault) → IsUnreadable fault → text_calls (Err fault) ≡ 1
+unread_calls faults.CsvFile is = refl
+unread_calls faults.Memory is = refl
+unread_calls fault is = absurd is
+
+pub loaded_calls : (text : GivenText) (old new : Streams) (Spans : OnDisk Office → OnDisk Office → Type 0) (result : Result (Unit {0}) TaskFault) → LoadsText text old new Spans result → text_calls result ≡ 1
+loaded_calls text old new Spans (Ok done) by = refl
+loaded_calls text old new Spans (Err faults.Refused) by = refl
+loaded_calls text old new Spans (Err faults.Faulted) by = refl
+loaded_calls text old new Spans (Err faults.Write) by = refl
+loaded_calls text old new Spans (Err fault) by = absurd by
+
+-- a read that succeeded gave a byte, or found the end
+pub has_begun : {E : Type 0} (known : Option (List ℕ)) (read : List ℕ) (result : Result (Bor (List ℕ)) E) → is_err result ≡ false
+    → IfSome known (λ bytes. IfOk result (λ s. IfSome {T = ℕ} (Some (length read)) (λ n. length s.now ≤ n)))
+    → IfSome known (λ bytes. IfOk result (λ s. length s.now ≡ 0 → bytes ≡ [])) → HasBegun known read
+has_begun None read result ok shown end = tt
+has_begun (Some bytes) read (Err fault) ok shown end = absurd cc
+has_begun (Some bytes) read (Ok s) ok shown end = elim (cases_lt 0 (length s.now)) [
+  | inl some ↦ inr (omega (arith, some, shown))
+  | inr none ↦ inl (end (omega (arith, none)))
+]
 
 -- what is known of a text is kept where it is not read
 pub kept_itself : (text : Option (List ℕ)) → Keeps text text
 kept_itself None = tt
 kept_itself (Some text) = refl
+
+pub kept_in : {X : Type 0} (known : Option (List ℕ)) (remaining : X → Option (List ℕ)) (text other : X) → other ≡ text → Keeps known (remaining text) → Keeps known (remaining other)
+kept_in known remaining text other is kept = subst (λ (x : Option (List ℕ)). Keeps known x) (sym (ap remaining is)) kept
 
 -- what a fresh buffer has left is what its reader has
 pub fresh_buffer : {T A : Type 0} (remaining : T → Option (List ℕ)) (reader : BufReader T A) (inner : T) → reader_capacity reader ≡ 8192 → reader_buffer reader ≡ [] → reader_inner reader ≡ inner

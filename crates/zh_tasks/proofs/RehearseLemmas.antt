@@ -1,9 +1,10 @@
 -- The office of a rehearsal.
-use Rattle.std.proofs.Common.{◌≡◌, ◌∙◌, ℕ, List, Result, Ok, Err, refl, sym, ap, subst, IsTrue}
+use Rattle.std.proofs.Common.{◌≡◌, ◌∙◌, ℕ, List, [], map, Option, Result, Ok, Err, refl, sym, ap, subst, IsTrue}
 use Rattle.zh_districts.specs.Canton.{Canton}
 use Rattle.zh_setups.specs.Rehearsal.{rehearsal}
 use Rattle.zh_disk.specs.Disk.{Moment, IsImage}
 use Rattle.zh_disk.specs.History.{History}
+use Rattle.zh_film.specs.Frames.{Frame}
 use Rattle.zh_returns.specs.Tally.{empty}
 use Rattle.zh_ledger.specs.Ledger.{Ledger}
 use Rattle.zh_ledger.specs.Opened.{IsNew, IsReady}
@@ -15,7 +16,7 @@ use Rattle.zh_office.specs.declared.service.ServeFault.TheVariants as serving
 use Rattle.zh_tasks.specs.Format.{IsOfFormat}
 use Rattle.zh_tasks.specs.Opened.{IsFrom, WithOffice}
 use Rattle.zh_tasks.specs.Rehearse.{IsRehearsal, Rehearsed}
-use Rattle.zh_tasks.specs.Run.{Serves, Streams}
+use Rattle.zh_tasks.specs.Run.{Serves, Streams, streams}
 use Rattle.zh_tasks.specs.declared.fault.TaskFault.{TaskFault}
 use Rattle.zh_tasks.specs.declared.fault.TaskFault.TheVariants as faults
 use Rattle.zh_tasks.proofs.RunLemmas.{serves_as}
@@ -62,3 +63,12 @@ rehearsed nothing old new canton first last result is sure formatted by = at res
     at (Err (faults.Serve serving.Turns)) by = serves_as old new (IsFrom canton first last) IsRehearsal (Err (faults.Serve serving.Turns)) turn by
     at (Err (faults.Serve serving.Write)) by = serves_as old new (IsFrom canton first last) IsRehearsal (Err (faults.Serve serving.Write)) turn by
     at (Err fault) by = absurd by
+
+-- on a film that showed nothing yet
+pub rehearsed_blank : (nothing : Type 0) (left w : Option (List ℕ)) (film : List Frame) (new : Streams) (result : Result (Unit {0}) TaskFault)
+    → Rehearsed nothing (streams left w film) new result → film ≡ [] → Rehearsed nothing (streams left w []) new result
+rehearsed_blank nothing left w film new result by blank = subst (λ (l : List Frame). Rehearsed nothing (streams left w l) new result) blank by
+
+-- no scene gives no frame
+pub blank_frames : {A B : Type 0} (f : A → B) (scenes : List A) → scenes ≡ [] → map f scenes ≡ []
+blank_frames f scenes none = ap (map f) none

@@ -1,7 +1,8 @@
 -- What serving has done, by how it ended.
-use Rattle.std.proofs.Common.{◌≡◌, ℕ, List, Option, Result, Ok, Err, IsErrOf, subst}
+use Rattle.std.proofs.Common.{◌≡◌, ℕ, List, [], Option, Result, Ok, Err, IsErrOf, subst}
 use Rattle.zh_districts.specs.Canton.{Canton}
 use Rattle.zh_disk.specs.History.{History}
+use Rattle.zh_film.specs.Frames.{Frame}
 use Rattle.zh_ledger.specs.declared.fault.OpenFault.{OpenFault}
 use Rattle.zh_ledger.specs.Submissions.{OnDisk}
 use Rattle.zh_office.specs.Office.{Office}
@@ -9,15 +10,15 @@ use Rattle.zh_office.specs.Served.{ServesEnded, ServesFront, TakesFewerReads, Ta
 use Rattle.zh_office.specs.declared.service.ServeFault.{ServeFault}
 use Rattle.zh_office.specs.declared.service.ServeFault.TheVariants as serving
 use Rattle.zh_tasks.specs.Opened.{IsFrom, WithOffice}
-use Rattle.zh_tasks.specs.Run.{IsReadWithin, Serves, Streams, beside}
+use Rattle.zh_tasks.specs.Run.{IsReadWithin, Serves, Streams, beside, streams}
 use Rattle.zh_tasks.specs.declared.fault.TaskFault.{TaskFault}
 use Rattle.zh_tasks.specs.declared.fault.TaskFault.TheVariants as faults
 
 -- a fault of serving
 pub broke_off : (old new : Streams) (Spans : OnDisk Office → OnDisk Office → Type 0) (start end : OnDisk Office) (result : Result ℕ ServeFault) (fault : ServeFault) → Spans start end → result ≡ Err fault
-    → (IsErrOf result serving.Read → ServesEnded old.left new.left (beside old.written start) (beside new.written end))
-    → (IsErrOf result serving.Write → ServesFront old.left new.left (beside old.written start) (beside new.written end))
-    → (IsErrOf result serving.Turns → ServesEnded old.left new.left (beside old.written start) (beside new.written end))
+    → (IsErrOf result serving.Read → ServesEnded (beside old start) (beside new end))
+    → (IsErrOf result serving.Write → ServesFront (beside old start) (beside new end))
+    → (IsErrOf result serving.Turns → ServesEnded (beside old start) (beside new end))
     → Serves old new Spans (Err (faults.Serve fault))
 broke_off old new Spans start end result serving.Read begins is read write turns = record { start = start; end = end; spans = begins; ended = read is }
 broke_off old new Spans start end result serving.Write begins is read write turns = record { start = start; end = end; spans = begins; front = write is }
@@ -58,3 +59,9 @@ pub with_office : (canton : Canton) (first last : History) (nothing : Type 0) (D
 with_office canton first last nothing Does (Ok done) never by = by
 with_office canton first last nothing Does (Err (faults.Open fault)) never by = absurd (never fault by)
 with_office canton first last nothing Does (Err fault) never by = by
+
+-- a film that showed nothing yet
+pub served_blank : (canton : Canton) (first last : History) (nothing : Type 0) (left w : Option (List ℕ)) (film : List Frame) (new : Streams) (result : Result (Unit {0}) TaskFault) → film ≡ []
+    → WithOffice canton first last nothing (Serves (streams left w film) new) result → WithOffice canton first last nothing (Serves (streams left w []) new) result
+served_blank canton first last nothing left w film new result blank by =
+    subst (λ (l : List Frame). WithOffice canton first last nothing (Serves (streams left w l) new) result) blank by

@@ -1,16 +1,11 @@
 -- What the writing of seats has done, by how it ended.
-use Rattle.std.proofs.Common.{ℕ, List, Result, Ok, Err, IfErr, IfOk}
-use Rattle.zh_districts.specs.Canton.{Canton}
+use Rattle.std.proofs.Common.{ℕ, List, Result, Ok, Err, IfErr}
 use Rattle.zh_ledger.specs.Submissions.{OnDisk}
 use Rattle.zh_ledger.specs.declared.fault.OpenFault.{OpenFault}
 use Rattle.zh_office.specs.Office.{Office}
-use Rattle.zh_results.specs.Results.{IsNoSheetOf, IsSheetOn}
-use Rattle.zh_results.specs.declared.outcome.MarkedSheet.{MarkedSheet}
-use Rattle.zh_results.specs.declared.outcome.NoSeats.{NoSeats}
 use Rattle.zh_world.specs.declared.world.World.{World}
 use Rattle.zh_tasks.specs.Opened.{IsOfDevice}
 use Rattle.zh_tasks.specs.Seats.{ShowsSeats, WritesSeats, shown_seats}
-use Rattle.zh_tasks.specs.SheetSeats.{AreSeatsOn}
 use Rattle.zh_tasks.specs.World.{Known}
 use Rattle.zh_tasks.specs.declared.fault.TaskFault.{TaskFault}
 use Rattle.zh_tasks.specs.declared.fault.TaskFault.TheVariants as faults
@@ -23,14 +18,14 @@ module _ {I O E F T D R : Type 0} (of : Known I O E F T D R) (old new : World I 
   writes_calm (Ok text) (Err faults.Write) by = λ no. no
   writes_calm (Ok text) (Err faults.Memory) by = λ no. no
   writes_calm (Ok text) (Err fault) by = absurd by
-  writes_calm (Err text) (Ok done) by = absurd by
+  writes_calm (Err text) (Ok done) by = absurd by.1
   writes_calm (Err text) (Err faults.Refused) by = λ no. no
   writes_calm (Err text) (Err faults.Memory) by = λ no. no
-  writes_calm (Err text) (Err fault) by = absurd by
+  writes_calm (Err text) (Err fault) by = absurd by.1
 
   opens_not : (shown : Result (List ℕ) (List ℕ)) (fault : OpenFault) → WritesSeats of old new shown (Err (faults.Open fault)) → ⊥
   opens_not (Ok text) fault by = by
-  opens_not (Err text) fault by = by
+  opens_not (Err text) fault by = by.1
 
   pub seats_calm : (task : Seats) (Spans : OnDisk Office → OnDisk Office → Type 0) (result : Result (Unit {0}) TaskFault) → ShowsSeats of task old new Spans result → IfErr result (λ fault. IsOfDevice fault → ⊥)
   seats_calm task Spans result (start, spans, seats, are, writes) = writes_calm (shown_seats start.holder.ledger.tally.canton task.layout seats) result writes
@@ -42,8 +37,3 @@ module _ {I O E F T D R : Type 0} (of : Known I O E F T D R) (old new : World I 
   pub seats_as : (task : Seats) (Spans Spans' : OnDisk Office → OnDisk Office → Type 0) (result : Result (Unit {0}) TaskFault)
       → ((start end : OnDisk Office) → Spans start end → Spans' start end) → ShowsSeats of task old new Spans result → ShowsSeats of task old new Spans' result
   seats_as task Spans Spans' result turn (start, spans, seats, are, writes) = (start, turn start start spans, seats, are, writes)
-
--- the seats on a text, whichever there are
-pub seats_on : (canton : Canton) (bytes : List ℕ) (seats : Result MarkedSheet NoSeats) → IfOk seats (IsSheetOn canton bytes) → IfErr seats (IsNoSheetOf canton bytes) → AreSeatsOn canton bytes seats
-seats_on canton bytes (Ok shown) right wrong = right
-seats_on canton bytes (Err why) right wrong = wrong

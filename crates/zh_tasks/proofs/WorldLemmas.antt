@@ -1,22 +1,36 @@
 -- The calls that were made of files before a task has its disk.
 use Rattle.std.proofs.Common.{◌≡◌, ◌∙◌, ℕ, List, Option, subst, sym, arith}
-use Rattle.zh_world.specs.Files.{IsCallOfFiles}
+use Rattle.zh_world.specs.Files.{IsCallOfFiles, IsReadOfFiles}
+use Rattle.zh_world.specs.Places.{TouchesOnly}
+use Rattle.zh_world.specs.Places.{IfKnown}
+use Rattle.zh_world.proofs.CallerLemmas.{after_stay}
 use Rattle.zh_world.specs.declared.files.Files.{Ghosts as Files}
 use Rattle.zh_world.specs.declared.files.FileFault.{FileFault}
 use Rattle.zh_world.specs.declared.files.FileFault.TheVariants as of_files
 use Rattle.zh_tasks.specs.OnDisk.{FoundAs, IsEarly}
-use Rattle.zh_tasks.specs.World.{AreCalls}
+use Rattle.zh_tasks.specs.World.{AreCalls, AsksForDisk}
 use Rattle.zh_tasks.specs.declared.fault.TaskFault.{TaskFault}
 
-pub one_call : {F T D R : Type 0} (files : Files F T D R) (old new : F) → IsCallOfFiles files.text_at files.disk_at files.calls old new → AreCalls files 1 old new
-one_call files old new one = record { counted = one.counted; texts = one.texts; disks = one.disks }
+pub one_call : {F T D R : Type 0} (files : Files F T D R) (old new : F) → IsReadOfFiles files.text_at files.disk_at files.places files.calls old new → AreCalls files 1 old new
+one_call files old new one = record { counted = one.counted; texts = one.texts; disks = one.disks; stays = one.stays }
 
 -- two calls, one after the other
-pub two_calls : {F T D R : Type 0} (files : Files F T D R) (old mid new : F) → IsCallOfFiles files.text_at files.disk_at files.calls old mid → IsCallOfFiles files.text_at files.disk_at files.calls mid new → AreCalls files 2 old new
+pub two_calls : {F T D R : Type 0} (files : Files F T D R) (old mid new : F) → IsReadOfFiles files.text_at files.disk_at files.places files.calls old mid → IsReadOfFiles files.text_at files.disk_at files.places files.calls mid new → AreCalls files 2 old new
 two_calls files old mid new one other = record {
   counted = omega (arith, one.counted, other.counted);
   texts = other.texts ∙ one.texts;
   disks = other.disks ∙ one.disks;
+  stays = other.stays ∙ one.stays;
+}
+
+-- a text, and then the disk at this path
+pub disk_after : {F T D R : Type 0} (files : Files F T D R) (path : List ℕ) (old mid new : F) → IsReadOfFiles files.text_at files.disk_at files.places files.calls old mid
+    → IsCallOfFiles files.text_at files.disk_at files.calls mid new → IfKnown (TouchesOnly path) (files.places mid) (files.places new) → AsksForDisk files path old new
+disk_after files path old mid new one other touches = record {
+  counted = omega (arith, one.counted, other.counted);
+  texts = other.texts ∙ one.texts;
+  disks = other.disks ∙ one.disks;
+  touches = after_stay (TouchesOnly path) (files.places old) (files.places mid) (files.places new) one.stays touches;
 }
 
 -- what is known of a disk stays so with a call before it

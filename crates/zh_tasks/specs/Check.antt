@@ -1,25 +1,23 @@
 -- What the check of a published sheet does.
-use Rattle.std.specs.Prelude.{◌≡◌, ◌≢◌, ◌≤◌, ◌+◌, ℕ, List, take, Option, Some, None, Result, Ok, Err, IsErrAnd, option_map, ◌⊎◌}
+use Rattle.std.specs.Prelude.{◌≡◌, ◌≤◌, ◌+◌, ℕ, List, take, Option, Some, None, Result, Ok, Err, IsErrAnd, option_map, ◌⊎◌}
 use Rattle.std.specs.Io.KnownBytes.{Appends}
 use Rattle.zh_arguments.specs.declared.check.CheckPaths.{CheckPaths}
-use Rattle.zh_check.specs.Verdicts.{IsReasonOf, IsRightExactly}
 use Rattle.zh_check.specs.declared.checked.RightSheet.{RightSheet}
 use Rattle.zh_check.specs.declared.checked.SheetVerdict.{SheetVerdict}
 use Rattle.zh_check.specs.declared.checked.SheetVerdict.TheVariants.{Right}
+use Rattle.zh_checks.specs.Checks.{ComesTo, Inputs, SaysWrong, check_text}
 use Rattle.zh_csv.specs.declared.fault.LoadFault.{LoadFault}
 use Rattle.zh_csv.specs.declared.fault.LoadFault.TheVariants as loads
 use Rattle.zh_districts.specs.Canton.{Canton}
-use Rattle.zh_totals.specs.Totals.{VoteTotals}
 use Rattle.zh_held.specs.Faults.{named}
 use Rattle.zh_held.specs.Held.{AddsUp, AreHeldIn, AreSums}
 use Rattle.zh_held.specs.declared.fault.HeldFault.{HeldFault}
 use Rattle.zh_held.specs.declared.held_reader.HeldSums.{HeldSums}
 use Rattle.zh_held.specs.declared.row.HeldRow.{HeldRow}
-use Rattle.zh_verdicts.specs.Rows.{rows_held}
-use Rattle.zh_verdicts.specs.Text.{verdict_text}
 use Rattle.zh_verdicts.specs.declared.writer.VerdictFault.{VerdictFault}
 use Rattle.zh_verdicts.specs.declared.writer.VerdictFault.TheVariants as of_verdict
 use Rattle.zh_world.specs.declared.world.Ended.{Ended}
+use Rattle.zh_tasks.specs.declared.used.Used.{Used}
 use Rattle.zh_world.specs.declared.world.World.{World}
 use Rattle.zh_tasks.specs.World.{AreCalls, IsSetupAt, Known}
 use Rattle.zh_tasks.specs.Load.{WritesPart}
@@ -82,12 +80,6 @@ IsOfHeldAt text_at canton (Some path) fault = IsOfHeld (text_at path) canton fau
 abbrev pub held_path : CheckPaths → Option (List ℕ)
 held_path paths = option_map (λ path. path.now) paths.held
 
--- what a check was given: a set-up, a sheet, and the sums of an export or none
-pub record Inputs : Type 0 where
-  pub canton : Canton
-  pub sheet : List ℕ
-  pub held : Option HeldSums
-
 -- they were read from the texts at these paths
 pub record AreInputs (text_at : List ℕ → Option (List ℕ)) (paths : CheckPaths) (inputs : Inputs) : Type 0 where
   pub setup : IsSetupAt (text_at paths.setup.now) inputs.canton
@@ -127,25 +119,12 @@ abbrev pub LacksInputs : (ℕ → Type 0) → (List ℕ → Option (List ℕ)) �
 LacksInputs IsAfter text_at paths fault = (IsAfter 1 × IsOfSetup (text_at paths.setup.now) fault)
     ⊎ ((IsAfter 2 × LacksSheet text_at paths fault) ⊎ (IsAfter (calls_for paths) × LacksSums text_at paths fault))
 
--- the totals of the export, where there is one
-abbrev pub totals_held : Inputs → Option VoteTotals
-totals_held inputs = option_map (λ sums. sums.totals) inputs.held
-
--- what the check of it comes to: right exactly if it is, and else why it is not
-pub record ComesTo (inputs : Inputs) (verdict : SheetVerdict) : Type 0 where
-  pub exactly : IsRightExactly inputs.canton (totals_held inputs) inputs.sheet verdict
-  pub reason : IsReasonOf inputs.canton (totals_held inputs) inputs.sheet verdict
-
-abbrev pub check_text : Inputs → SheetVerdict → List ℕ
-check_text inputs verdict = verdict_text (option_map (λ sums. rows_held inputs.canton sums.rows) inputs.held) verdict
-
 -- a check that ended so has written the verdict on what it was given: all of it, a front of it, or nothing
 abbrev pub Answers : Type 0 → Option (List ℕ) → Option (List ℕ) → Inputs → Result (Unit {0}) TaskFault → Type 0
 Answers unwritten w w' inputs (Ok done) =
     (right : RightSheet) × ComesTo inputs (Right right) × Appends w w' (check_text inputs (Right right))
 Answers unwritten w w' inputs (Err faults.Refused) =
-    (verdict : SheetVerdict) × ComesTo inputs verdict × ((right : RightSheet) → verdict ≢ Right right)
-    × Appends w w' (check_text inputs verdict)
+    (verdict : SheetVerdict) × ComesTo inputs verdict × SaysWrong verdict × Appends w w' (check_text inputs verdict)
 Answers unwritten w w' inputs (Err faults.Write) =
     (verdict : SheetVerdict) × ComesTo inputs verdict × WritesPart w w' (check_text inputs verdict)
 Answers unwritten w w' inputs (Err faults.Memory) = unwritten
@@ -159,7 +138,7 @@ module _ {I O E F T D R : Type 0} where
   -- The check of the sheet at a path: the texts at the paths of its arguments are read, a call of the files for each, and
   -- nothing else is. Then the verdict is written. No disk is used.
   pub record Checked (of : Known I O E F T D R) (paths : CheckPaths) (old new : World I O E F)
-      (ended : Ended (Result (Unit {0}) TaskFault) D) : Type 0 where
+      (ended : Ended (Result (Unit {0}) TaskFault) (Used I O D)) : Type 0 where
     pub none : ended.used ≡ None
     pub rest : new ≡ record old { output = new.output; files = new.files }
     pub calls : (n : ℕ) × (n ≤ 3) × AreCalls of.files n old.files new.files

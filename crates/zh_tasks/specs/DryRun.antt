@@ -56,6 +56,7 @@ module _ {I O E F T D R : Type 0} where
       (result : Result (Unit {0}) TaskFault) : Type 0 where
     pub rest : after.0 ≡ record before.0 { output = after.0.output; files = after.0.files }
     pub counted : of.files.calls after.0.files ≤ of.files.calls before.0.files + 1
+    pub stays : of.files.places after.0.files ≡ of.files.places before.0.files
     pub text : Option (List ℕ)
     pub read : Keeps (of.files.text_at before.0.files csv) text
     pub judged : WithOffice canton (of.disks.history before.1) (of.disks.history after.1) (after.0 ≡ before.0)

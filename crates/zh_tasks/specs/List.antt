@@ -8,6 +8,7 @@ use Rattle.zh_tables.specs.declared.fault.ListFault.{ListFault}
 use Rattle.zh_tables.specs.declared.fault.ListFault.TheVariants as lists
 use Rattle.zh_tables.specs.declared.table.Table.{Table}
 use Rattle.zh_world.specs.declared.world.Ended.{Ended}
+use Rattle.zh_tasks.specs.declared.used.Used.{Used}
 use Rattle.zh_world.specs.declared.world.World.{World}
 use Rattle.zh_tasks.specs.Load.{WritesPart}
 use Rattle.zh_tasks.specs.OnDisk.{IsOfSetup}
@@ -58,7 +59,7 @@ WithSetup text nothing Does result =
 module _ {I O E F T D R : Type 0} where
   -- A table of the set-up at this path is written: its text is read, nothing else is, and no disk is opened.
   pub record Listed (of : Known I O E F T D R) (path : List ℕ) (table : Table) (old new : World I O E F)
-      (ended : Ended (Result (Unit {0}) TaskFault) D) : Type 0 where
+      (ended : Ended (Result (Unit {0}) TaskFault) (Used I O D)) : Type 0 where
     pub none : ended.used ≡ None
     pub rest : new ≡ record old { output = new.output; faults = new.faults; remark = new.remark; files = new.files }
     pub call : AreCalls of.files 1 old.files new.files

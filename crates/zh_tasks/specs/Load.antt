@@ -1,19 +1,27 @@
 -- What the loading of a CSV file does.
-use Rattle.std.specs.Prelude.{◌≡◌, ◌≢◌, ◌<◌, ◌≤◌, ◌+◌, ℕ, Bool, true, false, IsTrue}
-use Rattle.std.specs.Prelude.{List, [], ◌∷◌, ◌++◌, length, take, Option, Result, Ok, Err}
+use Rattle.std.specs.Prelude.{◌≡◌, ◌≢◌, ◌⊎◌, ◌<◌, ◌+◌, ℕ, Bool, true, false, IsTrue}
+use Rattle.std.specs.Prelude.{List, [], ◌∷◌, ◌++◌, length, take, Option, Some, None, Result, Ok, Err}
 use Rattle.std.specs.Io.KnownBytes.{Appends, Keeps}
 use Rattle.zh_districts.specs.Canton.{Canton}
 use Rattle.zh_commands.specs.Replies.{answer}
+use Rattle.zh_csv.specs.Noted.{has_failed}
+use Rattle.zh_csv.specs.declared.noted_reader.NotedReader.{NotedReader}
+use Rattle.zh_film.specs.Frames.{frames}
+use Rattle.zh_film.specs.Scenes.{scenes}
+use Rattle.zh_film.specs.declared.film.Film.{Film}
 use Rattle.zh_commands.specs.declared.replies.Reply.{Reply}
 use Rattle.zh_commands.specs.declared.replies.Reply.TheVariants as replies
 use Rattle.zh_commands.specs.declared.replies.Refusal.{Refusal}
 use Rattle.zh_ledger.specs.Submissions.{OnDisk, IsLogged}
 use Rattle.zh_office.specs.Load.{LoadTurn}
 use Rattle.zh_office.specs.Office.{Office}
+use Rattle.zh_office.specs.Order.{Step}
+use Rattle.zh_office.specs.Served.{IsFilmed}
 use Rattle.zh_office.specs.Runs.{its_ledger}
 use Rattle.zh_world.specs.declared.world.World.{World}
 use Rattle.zh_tasks.specs.World.{Known}
 use Rattle.zh_tasks.specs.Opened.{IsOnlyOpened, LeavesDisk, WithOffice}
+use Rattle.zh_tasks.specs.Run.{Streams, beside, streams_of}
 use Rattle.zh_tasks.specs.declared.fault.TaskFault.{TaskFault}
 use Rattle.zh_tasks.specs.declared.fault.TaskFault.TheVariants as faults
 
@@ -21,21 +29,39 @@ use Rattle.zh_tasks.specs.declared.fault.TaskFault.TheVariants as faults
 abbrev pub printed : Reply → List ℕ
 printed reply = answer reply ++ 10 ∷ []
 
--- An office that began so was given this text, which may be unknown and whose reader failed or not, and replied so. On an
--- honest disk its batch is kept as a command of a run is.
-pub record Replied (text : Option (List ℕ)) (Spans : OnDisk Office → OnDisk Office → Type 0) (reply : Reply) : Type 0 where
+-- a loading that is answered, in the order of a conversation
+abbrev pub step_replied : Reply → OnDisk Office → Step
+step_replied reply new = record { line = None; text = printed reply; disk = new.history.trail }
+
+-- what is known of a text that was read: its bytes, or nothing of them; and whether a read of it failed
+pub record GivenText : Type 0 where
+  pub bytes : Option (List ℕ)
+  pub failed : Bool
+
+abbrev pub given_text : Option (List ℕ) → Bool → GivenText
+given_text bytes failed = record { bytes = bytes; failed = failed }
+
+-- a read of this text failed, if there is one
+abbrev pub failed_of : {R : Type 0} → Option (NotedReader R) → Bool
+failed_of None = false
+failed_of (Some reader) = has_failed reader
+
+-- An office that began so was given this text, and replied so. On an honest disk its batch is kept as a command of a run is.
+-- The reply is written, whole or in part, once that is done.
+pub record Replied (text : GivenText) (old new : Streams) (Spans : OnDisk Office → OnDisk Office → Type 0)
+    (reply : Reply) : Type 0 where
   pub start : OnDisk Office
   pub end : OnDisk Office
-  pub failed : Bool
   pub spans : Spans start end
-  pub turn : LoadTurn start text failed reply end
+  pub turn : LoadTurn start text.bytes text.failed reply end
   pub kept : IsTrue end.history.honest → IsLogged (its_ledger start) turn.log (its_ledger end)
+  pub order : IsFilmed (step_replied reply end ∷ []) (beside old start) (beside new end)
 
 -- the reply is written, and the device failed under it or not
-pub record Loaded (text writer writer' : Option (List ℕ)) (Spans : OnDisk Office → OnDisk Office → Type 0)
+pub record Loaded (text : GivenText) (old new : Streams) (Spans : OnDisk Office → OnDisk Office → Type 0)
     (reply : Reply) (faulted : Bool) : Type 0 where
-  pub replied : Replied text Spans reply
-  pub written : Appends writer writer' (printed reply)
+  pub replied : Replied text old new Spans reply
+  pub written : Appends old.written new.written (printed reply)
   pub device : replied.end.holder.ledger.store.broken ≡ faulted
 
 -- a front of a text is written, and not all of it
@@ -45,14 +71,20 @@ pub record WritesPart (writer writer' : Option (List ℕ)) (text : List ℕ) : T
   pub written : Appends writer writer' (take front text)
 
 -- what the loading of this text with this result has done
-abbrev pub LoadsText : Option (List ℕ) → Option (List ℕ) → Option (List ℕ) → (OnDisk Office → OnDisk Office → Type 0)
+abbrev pub LoadsText : GivenText → Streams → Streams → (OnDisk Office → OnDisk Office → Type 0)
     → Result (Unit {0}) TaskFault → Type 0
-LoadsText text w w' Spans (Ok done) =
-    (reply : Reply) × ((refusal : Refusal) → reply ≢ replies.Refused refusal) × Loaded text w w' Spans reply false
-LoadsText text w w' Spans (Err faults.Refused) = (refusal : Refusal) × Loaded text w w' Spans (replies.Refused refusal) false
-LoadsText text w w' Spans (Err faults.Faulted) = (reply : Reply) × Loaded text w w' Spans reply true
-LoadsText text w w' Spans (Err faults.Write) = (reply : Reply) × Replied text Spans reply × WritesPart w w' (printed reply)
-LoadsText text w w' Spans (Err fault) = ⊥
+LoadsText text old new Spans (Ok done) =
+    (reply : Reply) × ((refusal : Refusal) → reply ≢ replies.Refused refusal) × Loaded text old new Spans reply false
+LoadsText text old new Spans (Err faults.Refused) = (refusal : Refusal) × Loaded text old new Spans (replies.Refused refusal) false
+LoadsText text old new Spans (Err faults.Faulted) = (reply : Reply) × Loaded text old new Spans reply true
+LoadsText text old new Spans (Err faults.Write) =
+    (reply : Reply) × Replied text old new Spans reply × WritesPart old.written new.written (printed reply)
+LoadsText text old new Spans (Err fault) = ⊥
+
+-- some of its bytes are read, where it is known to have any
+abbrev pub HasBegun : Option (List ℕ) → List ℕ → Type 0
+HasBegun None read = Unit {0}
+HasBegun (Some bytes) read = (bytes ≡ []) ⊎ (0 < length read)
 
 -- the file gives no text
 abbrev pub IsUnreadable : TaskFault → Type 0
@@ -67,16 +99,23 @@ LoadsFile unwritten Loads Spans (Err faults.CsvFile) = unwritten × IsOnlyOpened
 LoadsFile unwritten Loads Spans (Err faults.Memory) = unwritten × IsOnlyOpened Spans
 LoadsFile unwritten Loads Spans result = Loads Spans result
 
+-- how many calls of the files are made: one, for the text, where an office was opened
+abbrev pub text_calls : Result (Unit {0}) TaskFault → ℕ
+text_calls (Err (faults.Open fault)) = 0
+text_calls result = 1
+
 module _ {I O E F T D R : Type 0} where
-  -- The loading of the CSV file at this path into the office that stands on a disk: that file is looked for once the
+  -- The loading of the CSV file at this path into the office that stands on a disk, and its film: that file is looked for once the
   -- office is opened, and no other one is. It is the text that is loaded, where its bytes are known.
   pub record HasLoaded (of : Known I O E F T D R) (csv : List ℕ) (canton : Canton) (before after : World I O E F × D)
-      (result : Result (Unit {0}) TaskFault) : Type 0 where
+      (done : Result (Unit {0}) TaskFault × Film I O D) : Type 0 where
     pub rest : after.0 ≡ record before.0 { output = after.0.output; files = after.0.files }
-    pub counted : of.files.calls after.0.files ≤ of.files.calls before.0.files + 1
-    pub text : Option (List ℕ)
-    pub read : Keeps (of.files.text_at before.0.files csv) text
-    pub loaded : WithOffice canton (of.disks.history before.1) (of.disks.history after.1) (after.0 ≡ before.0)
-        (LoadsFile (after.0.output ≡ before.0.output)
-        (LoadsText text (of.writers.contents before.0.output) (of.writers.contents after.0.output))) result
-    pub disk : LeavesDisk (of.disks.history before.1) (of.disks.history after.1) result
+    pub counted : of.files.calls after.0.files ≡ of.files.calls before.0.files + text_calls done.0
+    pub stays : of.files.places after.0.files ≡ of.files.places before.0.files
+    pub text : GivenText
+    pub read : Keeps (of.files.text_at before.0.files csv) text.bytes
+    pub loaded : WithOffice canton (of.disks.history before.1) (of.disks.history after.1)
+        ((after.0 ≡ before.0) × (scenes done.1 ≡ []))
+        (LoadsFile ((after.0.output ≡ before.0.output) × (scenes done.1 ≡ []))
+        (LoadsText text (streams_of of before.0 []) (streams_of of after.0 (frames of.readers of.writers of.disks done.1)))) done.0
+    pub disk : LeavesDisk (of.disks.history before.1) (of.disks.history after.1) done.0

@@ -9,10 +9,14 @@ use Rattle.zh_setups.specs.declared.fault.SetupRefusal.{SetupRefusal}
 use Rattle.zh_world.specs.declared.files.FileFault.{FileFault}
 use Rattle.zh_world.specs.declared.files.FileFault.TheVariants as of_files
 use Rattle.zh_world.specs.declared.world.World.{World}
-use Rattle.zh_tasks.specs.World.{AreCalls, IsSetupAt, Sight}
+use Rattle.zh_world.specs.Places.{Touches}
+use Rattle.zh_tasks.specs.World.{AsksForDisk, IsSetupAt, Sight}
+use Rattle.zh_film.specs.declared.film.Film.{Film}
 use Rattle.zh_world.specs.declared.world.Ended.{Ended}
 use Rattle.zh_tasks.specs.declared.fault.TaskFault.{TaskFault}
 use Rattle.zh_tasks.specs.declared.fault.TaskFault.TheVariants as faults
+use Rattle.zh_tasks.specs.declared.used.Used.{Used}
+use Rattle.zh_tasks.specs.declared.used.Used.TheVariants.{Disk}
 use Rattle.zh_tasks.specs.declared.place.TaskPlace.{TaskPlace}
 use Rattle.zh_tasks.specs.declared.place.TaskPlace.TheVariants as places
 
@@ -56,34 +60,44 @@ module _ {F T D R : Type 0} where
   -- the disk at the path of the disk
   pub record Began (sight : Sight F T D R) (paths : Paths) (old new : F) (begun : Canton × D) : Type 0 where
     pub setup : IsSetupAt (sight.files.text_at old paths.setup.now) begun.0
-    pub calls : AreCalls sight.files 2 old new
+    pub calls : AsksForDisk sight.files paths.disk.now old new
     pub begins : sight.Begins (sight.files.disk_at old paths.disk.now) (sight.disks.history begun.1)
 
 module _ {I O E F T D R : Type 0} where
   -- no disk was opened, and nothing was read from the input or written
   pub record EndsEarly (sight : Sight F T D R) (paths : Paths) (old new : World I O E F)
-      (ended : Ended (Result (Unit {0}) TaskFault) D) : Type 0 where
+      (ended : Ended (Result (Unit {0}) TaskFault) (Used I O D)) : Type 0 where
     pub early : IsErrAnd ended.result (IsEarly (sight.files.text_at old.files paths.setup.now))
     pub none : ended.used ≡ None
     pub rest : new ≡ record old { files = new.files }
     pub counted : sight.files.calls new.files ≤ sight.files.calls old.files + 2
+    pub touches : Touches (Some paths.disk.now) (sight.files.places old.files) (sight.files.places new.files)
 
-  -- with this set-up and this disk, which were all that was opened before, this was done, and the disk was handed over
+  -- with this set-up and this disk, which were all that was opened before, this was done, and the disk was handed over with
+  -- the film of it
   pub record HasUsed (sight : Sight F T D R) (paths : Paths) (old new : World I O E F)
-      (Does : Canton → World I O E F × D → World I O E F × D → Type 0) (handed : Option D) : Type 0 where
+      (Does : Canton → World I O E F × D → World I O E F × D → Film I O D → Type 0) (handed : Option (Used I O D)) : Type 0 where
     pub canton : Canton
     pub files : F
     pub first : D
     pub last : D
+    pub film : Film I O D
     pub began : Began sight paths old.files files (canton, first)
-    pub does : Does canton (record old { files = files }, first) (new, last)
-    pub used : handed ≡ Some last
+    pub does : Does canton (record old { files = files }, first) (new, last) film
+    pub used : handed ≡ Some (Disk (record { disk = last; film = film }))
 
-  -- A task on a disk, from a world to a world, where this is what it does with its disk: it ends before it has one, or
-  -- hands over the one that it used, whatever came of it.
+  -- A task on a disk, from a world to a world, where this is what it does with its disk, and its film shows: it ends before it
+  -- has one, or hands over the one that it used, and the film, whatever came of it.
+  abbrev pub UsesFilm : Sight F T D R → Paths → World I O E F → World I O E F
+      → (Canton → World I O E F × D → World I O E F × D → Result (Unit {0}) TaskFault × Film I O D → Type 0)
+      → Ended (Result (Unit {0}) TaskFault) (Used I O D) → Type 0
+  UsesFilm sight paths old new Does ended =
+      EndsEarly sight paths old new ended
+      ⊎ HasUsed sight paths old new (λ canton before after film. Does canton before after (ended.result, film)) ended.used
+
+  -- the same of a task that is not filmed
   abbrev pub UsesDisk : Sight F T D R → Paths → World I O E F → World I O E F
       → (Canton → World I O E F × D → World I O E F × D → Result (Unit {0}) TaskFault → Type 0)
-      → Ended (Result (Unit {0}) TaskFault) D → Type 0
+      → Ended (Result (Unit {0}) TaskFault) (Used I O D) → Type 0
   UsesDisk sight paths old new Does ended =
-      EndsEarly sight paths old new ended
-      ⊎ HasUsed sight paths old new (λ canton before after. Does canton before after ended.result) ended.used
+      UsesFilm sight paths old new (λ canton before after done. Does canton before after done.0) ended

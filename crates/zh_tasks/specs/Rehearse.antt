@@ -1,8 +1,15 @@
 -- What a rehearsal does.
-use Rattle.std.specs.Prelude.{◌≡◌, ℕ, false, List, None, Result, Err, IsTrue, codes, ◌++◌, ◌∷◌, []}
+use Rattle.std.specs.Prelude.{◌≡◌, ℕ, false, List, Some, Result, Err, IsTrue, codes, ◌++◌, ◌∷◌, []}
 use Rattle.zh_setups.specs.Rehearsal.{rehearsal}
 use Rattle.zh_returns.specs.Tally.{empty}
 use Rattle.zh_desks.specs.Batches.{no_batches}
+use Rattle.zh_disk.specs.Disk.{IsImage}
+use Rattle.zh_disk.specs.Memory.{memory_history, memory_trail}
+use Rattle.zh_disk.specs.declared.disk.Disk.{Ghosts as Disks}
+use Rattle.zh_disk.specs.declared.memory.MemoryDisk.{MemoryDisk}
+use Rattle.zh_film.specs.Frames.{Frame, frames}
+use Rattle.zh_film.specs.Scenes.{scenes}
+use Rattle.zh_film.specs.declared.film.Film.{Film}
 use Rattle.zh_ledger.specs.Submissions.{OnDisk}
 use Rattle.zh_office.specs.Office.{Office}
 use Rattle.zh_world.specs.declared.world.World.{World}
@@ -10,6 +17,8 @@ use Rattle.zh_tasks.specs.World.{Known}
 use Rattle.zh_tasks.specs.Remarks.{BecameOf}
 use Rattle.zh_tasks.specs.Run.{Serves, Streams, streams_of}
 use Rattle.zh_world.specs.declared.world.Ended.{Ended}
+use Rattle.zh_tasks.specs.declared.used.Used.{Used}
+use Rattle.zh_tasks.specs.declared.used.Used.TheVariants.{Rehearsal}
 use Rattle.zh_tasks.specs.declared.fault.TaskFault.{TaskFault}
 use Rattle.zh_tasks.specs.declared.fault.TaskFault.TheVariants as faults
 
@@ -32,10 +41,21 @@ Rehearsed nothing old new (Err faults.InUse) = nothing
 Rehearsed nothing old new (Err (faults.Open fault)) = nothing
 Rehearsed nothing old new result = Serves old new IsRehearsal result
 
+-- what is known of a disk in memory
+abbrev pub in_memory : Disks MemoryDisk
+in_memory = record { history = memory_history; leaves = λ d. IsImage (memory_trail d).now }
+
 module _ {I O E F T D R : Type 0} where
-  -- a rehearsal, which says so first; its disk is in memory, and no file is touched
-  pub record Rehearses (of : Known I O E F T D R) (old new : World I O E F) (ended : Ended (Result (Unit {0}) TaskFault) D) : Type 0 where
-    pub none : ended.used ≡ None
+  -- what the film of a rehearsal shows, the latest first
+  abbrev pub rehearsal_shown : Known I O E F T D R → Film I O MemoryDisk → List Frame
+  rehearsal_shown of film = frames of.readers of.writers in_memory film
+
+  -- a rehearsal, which says so first; its disk is in memory, its film is handed over, and no file is touched
+  pub record Rehearses (of : Known I O E F T D R) (old new : World I O E F)
+      (ended : Ended (Result (Unit {0}) TaskFault) (Used I O D)) : Type 0 where
+    pub film : Film I O MemoryDisk
+    pub used : ended.used ≡ Some (Rehearsal film)
     pub rest : new ≡ record old { input = new.input; output = new.output; faults = new.faults; remark = new.remark }
     pub said : BecameOf new.remark (of.errors.contents old.faults) (of.errors.contents new.faults) announcement
-    pub served : Rehearsed ((new.input ≡ old.input) × (new.output ≡ old.output)) (streams_of of old) (streams_of of new) ended.result
+    pub served : Rehearsed ((new.input ≡ old.input) × (new.output ≡ old.output) × (scenes film ≡ []))
+        (streams_of of old []) (streams_of of new (rehearsal_shown of film)) ended.result

@@ -1,6 +1,9 @@
 -- What a run does.
-use Rattle.std.specs.Prelude.{◌≡◌, ◌^◌, ℕ, Bool, true, false, List, Option, Result, Ok, Err}
+use Rattle.std.specs.Prelude.{◌≡◌, ◌^◌, ℕ, Bool, true, false, List, [], Option, Result, Ok, Err}
 use Rattle.zh_districts.specs.Canton.{Canton}
+use Rattle.zh_film.specs.Frames.{Frame, frames}
+use Rattle.zh_film.specs.Scenes.{scenes}
+use Rattle.zh_film.specs.declared.film.Film.{Film}
 use Rattle.zh_ledger.specs.Submissions.{OnDisk}
 use Rattle.zh_office.specs.Office.{Office}
 use Rattle.zh_office.specs.Served.{Session, ServesAll, ServesEnded, ServesFront, TakesFewerReads, TakesReads, TakesReadsUpTo}
@@ -11,17 +14,18 @@ use Rattle.zh_tasks.specs.Opened.{LeavesDisk, WithOffice}
 use Rattle.zh_tasks.specs.declared.fault.TaskFault.{TaskFault}
 use Rattle.zh_tasks.specs.declared.fault.TaskFault.TheVariants as faults
 
--- what the input has left, and what is written of the answers, where that is known
+-- what the input has left, and what is written of the answers, where that is known; and what a film shows
 pub record Streams : Type 0 where
   pub left : Option (List ℕ)
   pub written : Option (List ℕ)
+  pub film : List Frame
 
-abbrev pub streams : Option (List ℕ) → Option (List ℕ) → Streams
-streams left written = record { left = left; written = written }
+abbrev pub streams : Option (List ℕ) → Option (List ℕ) → List Frame → Streams
+streams left written film = record { left = left; written = written; film = film }
 
--- an office, and what is written of its answers, if that is known
-abbrev pub beside : Option (List ℕ) → OnDisk Office → Session
-beside written office = record { written = written; office = office }
+-- an office beside them
+abbrev pub beside : Streams → OnDisk Office → Session
+beside s office = record { written = s.written; office = office; left = s.left; film = s.film }
 
 -- all lines of the input were answered by an office that began so, and the device failed under it or not
 pub record Served (old new : Streams) (Spans : OnDisk Office → OnDisk Office → Type 0) (faulted : Bool) : Type 0 where
@@ -29,7 +33,7 @@ pub record Served (old new : Streams) (Spans : OnDisk Office → OnDisk Office �
   pub end : OnDisk Office
   pub count : ℕ
   pub spans : Spans start end
-  pub all : ServesAll old.left new.left (beside old.written start) (beside new.written end) count
+  pub all : ServesAll (beside old start) (beside new end) count
   pub device : end.holder.ledger.store.broken ≡ faulted
 
 -- the input was not read to its end, and the lines that were ended are answered
@@ -37,14 +41,14 @@ pub record ServedEnded (old new : Streams) (Spans : OnDisk Office → OnDisk Off
   pub start : OnDisk Office
   pub end : OnDisk Office
   pub spans : Spans start end
-  pub ended : ServesEnded old.left new.left (beside old.written start) (beside new.written end)
+  pub ended : ServesEnded (beside old start) (beside new end)
 
 -- the writer failed, and a front of the answers is written
 pub record ServedFront (old new : Streams) (Spans : OnDisk Office → OnDisk Office → Type 0) : Type 0 where
   pub start : OnDisk Office
   pub end : OnDisk Office
   pub spans : Spans start end
-  pub front : ServesFront old.left new.left (beside old.written start) (beside new.written end)
+  pub front : ServesFront (beside old start) (beside new end)
 
 -- what serving with this result has done
 abbrev pub Serves : Streams → Streams → (OnDisk Office → OnDisk Office → Type 0) → Result (Unit {0}) TaskFault → Type 0
@@ -64,15 +68,15 @@ IsReadWithin left left' limit result = TakesFewerReads left left' limit
 
 module _ {I O E F T D R : Type 0} where
   -- the streams of a world
-  abbrev pub streams_of : Known I O E F T D R → World I O E F → Streams
-  streams_of of world = streams (of.readers.remaining world.input) (of.writers.contents world.output)
+  abbrev pub streams_of : Known I O E F T D R → World I O E F → List Frame → Streams
+  streams_of of world film = streams (of.readers.remaining world.input) (of.writers.contents world.output) film
 
-  -- a run on a disk: the lines of the input are served by the office that stands there, and nothing else is touched
+  -- a run on a disk, and its film: the lines of the input are served by the office that stands there, and nothing else is touched
   pub record Ran (of : Known I O E F T D R) (canton : Canton) (before after : World I O E F × D)
-      (result : Result (Unit {0}) TaskFault) : Type 0 where
+      (done : Result (Unit {0}) TaskFault × Film I O D) : Type 0 where
     pub rest : after.0 ≡ record before.0 { input = after.0.input; output = after.0.output }
     pub served : WithOffice canton (of.disks.history before.1) (of.disks.history after.1)
-        ((after.0.input ≡ before.0.input) × (after.0.output ≡ before.0.output))
-        (Serves (streams_of of before.0) (streams_of of after.0)) result
-    pub reads : IsReadWithin (of.readers.remaining before.0.input) (of.readers.remaining after.0.input) (2 ^ 32) result
-    pub disk : LeavesDisk (of.disks.history before.1) (of.disks.history after.1) result
+        ((after.0.input ≡ before.0.input) × (after.0.output ≡ before.0.output) × (scenes done.1 ≡ []))
+        (Serves (streams_of of before.0 []) (streams_of of after.0 (frames of.readers of.writers of.disks done.1))) done.0
+    pub reads : IsReadWithin (of.readers.remaining before.0.input) (of.readers.remaining after.0.input) (2 ^ 32) done.0
+    pub disk : LeavesDisk (of.disks.history before.1) (of.disks.history after.1) done.0

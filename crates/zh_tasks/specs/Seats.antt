@@ -9,6 +9,7 @@ use Rattle.zh_totals.specs.Counting.{totals_of}
 use Rattle.zh_ledger.specs.Submissions.{OnDisk}
 use Rattle.zh_office.specs.Office.{Office}
 use Rattle.zh_seats.specs.Lists.{seats_text}
+use Rattle.zh_seats.specs.declared.mark.Source.TheVariants as sources
 use Rattle.zh_seats.specs.Table.{table_text}
 use Rattle.zh_results.specs.Results.{IsReasonFor, MayAnswerAs, answer_of}
 use Rattle.zh_results.specs.Texts.{refusal_text}
@@ -37,10 +38,17 @@ shown_seats canton layout (Err why) = Err (refusal_text canton why)
 -- are none
 pub record AreSeatsOf (tally : Tally) (is_final : Bool) (seats : Result MarkedSheet NoSeats) : Type 0 where
   pub answer : MayAnswerAs tally is_final (answer_of seats)
-  pub mark : IfOk seats (λ shown. shown.mark ≡ record { is_final = is_final; accepted = tally.accepted })
+  pub mark : IfOk seats (λ shown. shown.mark ≡ record { is_final = is_final; accepted = tally.accepted; source = sources.Count })
   pub reason : IfErr seats (IsReasonFor (totals_of tally))
 
 module _ {I O E F T D R : Type 0} where
+  -- What a report of why there are no seats has done: it is the remark. Where memory was refused there is none.
+  abbrev pub ReportsNone : Known I O E F T D R → World I O E F → World I O E F → List ℕ → Result (Unit {0}) TaskFault → Type 0
+  ReportsNone of old new text (Err faults.Refused) =
+      BecameOf new.remark (of.errors.contents old.faults) (of.errors.contents new.faults) text
+  ReportsNone of old new text (Err faults.Memory) = new ≡ old
+  ReportsNone of old new text result = ⊥
+
   -- What a writing of seats with this result has done: they are written, or a part of them; or there are none, and the
   -- remark says why. Where memory was refused nothing is written.
   abbrev pub WritesSeats : Known I O E F T D R → World I O E F → World I O E F → Result (List ℕ) (List ℕ)
@@ -49,10 +57,9 @@ module _ {I O E F T D R : Type 0} where
       Appends (of.writers.contents old.output) (of.writers.contents new.output) text × (new ≡ record old { output = new.output })
   WritesSeats of old new (Ok text) (Err faults.Write) =
       WritesPart (of.writers.contents old.output) (of.writers.contents new.output) text × (new ≡ record old { output = new.output })
-  WritesSeats of old new (Err text) (Err faults.Refused) =
-      (new.output ≡ old.output) × BecameOf new.remark (of.errors.contents old.faults) (of.errors.contents new.faults) text
-  WritesSeats of old new shown (Err faults.Memory) = new ≡ old
-  WritesSeats of old new shown result = ⊥
+  WritesSeats of old new (Ok text) (Err faults.Memory) = new ≡ old
+  WritesSeats of old new (Ok text) result = ⊥
+  WritesSeats of old new (Err text) result = (new.output ≡ old.output) × ReportsNone of old new text result
 
   -- The seats of a count, or why there are none, are written. An office was opened for it, and nothing else was done to the disk.
   abbrev pub ShowsSeats : Known I O E F T D R → Seats → World I O E F → World I O E F

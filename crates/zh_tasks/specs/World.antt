@@ -7,6 +7,7 @@ use Rattle.zh_disk.specs.declared.disk.Disk.{Ghosts as Disks}
 use Rattle.zh_districts.specs.Canton.{Canton, IsCanton}
 use Rattle.zh_setups.specs.SetupText.{reading_of}
 use Rattle.zh_world.specs.Files as opened
+use Rattle.zh_world.specs.Places.{Touches}
 use Rattle.zh_world.specs.declared.files.Files.{Ghosts as Files}
 
 module _ (I O E F T D R : Type 0) where
@@ -37,11 +38,19 @@ module _ {F T D R : Type 0} where
   abbrev pub making : Files F T D R → Disks D → Sight F T D R
   making files disks = record { files = files; disks = disks; Begins = opened.BeginsOrIsMade }
 
-  -- so many calls were made of the files, of which the same is known
+  -- so many calls were made of the files, of which the same is known, and nothing that stands anywhere was touched
   pub record AreCalls (files : Files F T D R) (count : ℕ) (old new : F) : Type 0 where
     pub counted : files.calls new ≡ files.calls old + count
     pub texts : files.text_at new ≡ files.text_at old
     pub disks : files.disk_at new ≡ files.disk_at old
+    pub stays : files.places new ≡ files.places old
+
+  -- a text was read, and then the disk at this path opened or asked for
+  pub record AsksForDisk (files : Files F T D R) (path : List ℕ) (old new : F) : Type 0 where
+    pub counted : files.calls new ≡ files.calls old + 2
+    pub texts : files.text_at new ≡ files.text_at old
+    pub disks : files.disk_at new ≡ files.disk_at old
+    pub touches : Touches (Some path) (files.places old) (files.places new)
 
 -- these are the first bytes of a text, where that is known
 abbrev pub IsFrontAt : Option (List ℕ) → List ℕ → Type 0

@@ -2,24 +2,22 @@
 
 ghost use Rattle.std.specs.Prelude.{◌≡◌, ◌≤◌, ℕ, IfErr, IfOk, IsErrAnd, option_map};
 ghost use Rattle.std.specs.Option.{option_copied};
-ghost use Rattle.zh_world.specs.Files.{IsCallOfFiles};
+ghost use Rattle.zh_world.specs.Files.{IsReadOfFiles};
 ghost use Rattle.zh_tasks.specs.Check.{Answers, AreSumsAt, AreSumsIfNamed, Checked, Checks, HeldFaultAs};
 ghost use Rattle.zh_tasks.specs.Check.{IsOfHeld, IsOfHeldAt, IsOfSheet, IsSheetAt, LacksInputs, ReadsInputs, calls_if_named};
 ghost use Rattle.zh_tasks.specs.World.{AreCalls, known};
-ghost use Rattle.zh_verdicts.specs.Rows.{rows_held};
 
 use crate::fault::TaskFault;
 use crate::front::read_front;
 use crate::setup::setup_at;
+use crate::used::Used;
 use std::alloc::Global;
 use std::io::{Read, Write};
 use zh_arguments::CheckPaths;
-use zh_check::{SheetVerdict, check};
+use zh_checks::write_check;
 use zh_csv::{LoadFault, NotedReader};
 use zh_districts::Setup;
 use zh_held::{HeldFault, HeldSums, read_held};
-use zh_totals::Totals;
-use zh_verdicts::{HeldRows, write_verdict};
 use zh_world::{Ended, Files, World};
 
 /// The front of the sheet at this path.
@@ -28,14 +26,15 @@ pub(crate) fn sheet_at<F: Files>(
     files: &mut F,
     path: &str,
 ) -> Result<Vec<u8>, TaskFault>
-    ensures call { IsCallOfFiles F.text_at F.disk_at F.calls files.old files.new }
+    ensures call { IsReadOfFiles F.text_at F.disk_at F.places F.calls files.old files.new }
     ensures sheet { IfOk result (λ text. IsSheetAt (F.text_at files.old path.now) text.items) }
     ensures fault { IfErr result IsOfSheet }
 {
-    let Ok(mut file) = files.text(path) else {
+    let Ok(file) = files.text(path) else {
         return Err(TaskFault::SheetFile);
     };
-    read_front(alloc, &mut file)
+    let mut text = NotedReader::new(file);
+    read_front(alloc, &mut text)
 }
 
 /// The fault of an export, as the task's.
@@ -56,7 +55,7 @@ fn held_at<'s, F: Files>(
     setup: &'s Setup,
     path: &str,
 ) -> Result<HeldSums<'s>, TaskFault>
-    ensures call { IsCallOfFiles F.text_at F.disk_at F.calls files.old files.new }
+    ensures call { IsReadOfFiles F.text_at F.disk_at F.places F.calls files.old files.new }
     ensures sums { IfOk result (AreSumsAt (F.text_at files.old path.now) setup.now) }
     ensures fault { IfErr result (IsOfHeld (F.text_at files.old path.now) setup.now) }
 {
@@ -90,26 +89,6 @@ fn held_if_named<'s, F: Files>(
     }
 }
 
-/// The sums of an export, where there is one.
-fn totals_in<'a, 's>(held: Option<&'a HeldSums<'s>>) -> Option<&'a Totals<'s>>
-    ensures { option_copied result ≡ option_map (λ sums. sums.totals) (option_copied held.entry) }
-{
-    match held {
-        Some(sums) => Some(&sums.totals),
-        None => None,
-    }
-}
-
-/// How many rows it has, of those that can be held.
-fn rows_in(setup: &Setup, held: Option<&HeldSums<'_>>) -> Option<HeldRows>
-    ensures { result ≡ option_map (λ sums. rows_held setup.now sums.rows) (option_copied held.entry) }
-{
-    match held {
-        Some(sums) => Some(HeldRows::new(setup, sums.rows)),
-        None => None,
-    }
-}
-
 /// Checks a sheet, and writes the verdict on it.
 fn answer<O: Write>(
     alloc: Global,
@@ -121,11 +100,11 @@ fn answer<O: Write>(
     ensures { Answers (out.new ≡ out.old) (O.contents out.old) (O.contents out.new)
         (record { canton = setup.now; sheet = sheet.now; held = option_copied held.entry }) result }
 {
-    let verdict = check(alloc, setup, sheet, totals_in(held))?;
-    write_verdict(alloc, &verdict, rows_in(setup, held), out)?;
-    match verdict {
-        SheetVerdict::Right(_) => Ok(()),
-        _ => Err(TaskFault::Refused),
+    let is_right = write_check(alloc, setup, sheet, held, out)?;
+    if is_right {
+        Ok(())
+    } else {
+        Err(TaskFault::Refused)
     }
 }
 
@@ -153,7 +132,7 @@ pub(crate) fn check_sheet<I: Read, O: Write, E: Write, F: Files>(
     alloc: Global,
     paths: CheckPaths<'_>,
     world: &mut World<I, O, E, F>,
-) -> Ended<Result<(), TaskFault>, F::Disk>
+) -> Ended<Result<(), TaskFault>, Used<I, O, F::Disk>>
     ensures { Checked (known I.Read O.Write E.Write F.Files F.Disk.Disk) paths.entry world.old world.new result }
 {
     Ended {

@@ -1,19 +1,23 @@
 //! Formatting a disk.
 
-ghost use Rattle.std.specs.Prelude.{IfErr};
+ghost use Rattle.std.specs.Prelude.{◌≡◌, nat_lt, IfErr};
 ghost use Rattle.zh_disk.specs.History.{Call};
 ghost use Rattle.zh_tasks.specs.Format.{Formatted, FormatsBlank, IsOfFormat, format_fails};
+ghost use Rattle.zh_tasks.specs.List.{SaysIf};
+ghost use Rattle.zh_tasks.specs.Remarks.{BecameOf};
 ghost use Rattle.zh_tasks.specs.World.{known};
 
 use crate::fault::TaskFault;
 use crate::on_disk::Middle;
+use crate::remark::make_remark;
 use std::alloc::Global;
 use std::io::{Read, Write};
 use zh_disk::Disk;
 use zh_districts::Setup;
 use zh_office::Office;
 use zh_snapshot::{OpenFault, Store};
-use zh_world::{Files, World};
+use zh_tables::{problems_line, setup_problems};
+use zh_world::{Files, Remark, World};
 
 /// Formats a disk that is blank.
 pub fn format_blank<D: Disk>(alloc: Global, setup: &Setup, disk: &mut D) -> Result<(), TaskFault>
@@ -29,6 +33,39 @@ pub fn format_blank<D: Disk>(alloc: Global, setup: &Setup, disk: &mut D) -> Resu
     }
 }
 
+/// Says how many problems there are, if there are any. Where that can't be written the disk is made all the same.
+fn say_problems<E: Write>(count: usize, line: &str, faults: &mut E, remark: &mut Remark)
+    ensures { SaysIf (nat_lt 0 count) (BecameOf remark.new (E.contents faults.old) (E.contents faults.new) line.now)
+        ((faults.new ≡ faults.old) × (remark.new ≡ remark.old)) }
+{
+    if count == 0 {
+        return;
+    }
+    *remark = make_remark(line.as_bytes(), faults);
+}
+
+/// Formats a disk that is blank, and says how many problems the set-up has.
+fn format_with<I: Read, O: Write, E: Write, F: Files>(
+    alloc: Global,
+    setup: &Setup,
+    world: &mut World<I, O, E, F>,
+    disk: &mut F::Disk,
+) -> Result<(), TaskFault>
+    ensures { Formatted (known I.Read O.Write E.Write F.Files F.Disk.Disk) setup.now
+        (world.old, disk.old) (world.new, disk.new) result }
+{
+    let problems = setup_problems(alloc, setup)?;
+    let line = problems_line(alloc, &problems)?;
+    format_blank(alloc, setup, disk)?;
+    say_problems(
+        problems.count(),
+        line.as_str(),
+        &mut world.faults,
+        &mut world.remark,
+    );
+    Ok(())
+}
+
 /// Formats the disk.
 pub struct FormatDisk;
 
@@ -39,9 +76,9 @@ impl<I: Read, O: Write, E: Write, F: Files> Middle<World<I, O, E, F>, F::Disk> f
         &self,
         alloc: Global,
         setup: &Setup,
-        _world: &mut World<I, O, E, F>,
+        world: &mut World<I, O, E, F>,
         disk: &mut F::Disk,
     ) -> Result<(), TaskFault> {
-        format_blank(alloc, setup, disk)
+        format_with(alloc, setup, world, disk)
     }
 }

@@ -2,11 +2,13 @@
 
 ghost use Rattle.std.specs.Prelude.{◌≡◌, ◌≤◌, ◌+◌, ◌++◌, ◌⊎◌, ℕ, List, IfErr, IfOk, false, length};
 ghost use Rattle.std.specs.Io.KnownBytes.{Consumes, IsAtEnd};
+ghost use Rattle.zh_csv.specs.Noted.{has_failed, inner_reader};
 ghost use Rattle.zh_tasks.specs.Check.{IsOfSheet, IsSheetAt};
 
 use crate::fault::TaskFault;
 use std::alloc::Global;
 use std::io::{Error, ErrorKind, Read};
+use zh_csv::NotedReader;
 
 /// How many bytes of a sheet's file are read at most: one more than a sheet may have, so that a longer one is noticed.
 const LONGEST_READ: usize = 280_065;
@@ -24,13 +26,16 @@ fn read_fault(error: Error) -> TaskFault
     }
 }
 
-/// Reads the next piece of a file to the end of a text, and returns whether there may be more of its front. A read that is
-/// interrupted reads nothing.
-fn read_piece<R: Read>(file: &mut R, text: &mut Vec<u8>) -> Result<bool, TaskFault>
-    requires { length text.old.items ≤ 280065 }
-    ensures read { (bytes : List ℕ) × Consumes (R.remaining file.old) (R.remaining file.new) bytes
+/// Reads the next piece of a file to the end of a text, and returns whether there may be more of its front. A read that
+/// fails, an interrupted one too, is the last.
+fn read_piece<R: Read>(file: &mut NotedReader<R>, text: &mut Vec<u8>) -> Result<bool, TaskFault>
+    requires few { length text.old.items ≤ 280065 }
+    requires unfailed { has_failed file.old ≡ false }
+    ensures read { (bytes : List ℕ) × Consumes (R.remaining (inner_reader file.old)) (R.remaining (inner_reader file.new)) bytes
         × (length text.old.items + length bytes ≤ 280065) × IfOk result (λ _. text.new.items ≡ text.old.items ++ bytes) }
-    ensures end { IfOk result (λ more. (more ≡ false) → IsAtEnd (R.remaining file.new) ⊎ (length text.new.items ≡ 280065)) }
+    ensures end { IfOk result (λ more. (more ≡ false)
+        → IsAtEnd (R.remaining (inner_reader file.new)) ⊎ (length text.new.items ≡ 280065)) }
+    ensures unfailed { IfOk result (λ _. has_failed file.new ≡ false) }
     ensures fault { IfErr result IsOfSheet }
 {
     let mut piece = [0; PIECE];
@@ -41,16 +46,21 @@ fn read_piece<R: Read>(file: &mut R, text: &mut Vec<u8>) -> Result<bool, TaskFau
             text.extend_from_slice(&piece[..length])?;
             Ok(true)
         }
-        Err(error) if error.kind() == ErrorKind::Interrupted => Ok(true),
         Err(error) => Err(read_fault(error)),
     }
 }
 
 /// The front of a sheet's file, of which no more is read.
-pub(crate) fn read_front<R: Read>(alloc: Global, file: &mut R) -> Result<Vec<u8>, TaskFault>
-    ensures read { (bytes : List ℕ) × Consumes (R.remaining file.old) (R.remaining file.new) bytes × (length bytes ≤ 280065) }
+pub(crate) fn read_front<R: Read>(
+    alloc: Global,
+    file: &mut NotedReader<R>,
+) -> Result<Vec<u8>, TaskFault>
+    requires { has_failed file.old ≡ false }
+    ensures read { (bytes : List ℕ) × Consumes (R.remaining (inner_reader file.old)) (R.remaining (inner_reader file.new)) bytes
+        × (length bytes ≤ 280065) }
     ensures few { IfOk result (λ text. length text.items ≤ 280065) }
-    ensures sheet { IfOk result (λ text. IsSheetAt (R.remaining file.old) text.items) }
+    ensures sheet { IfOk result (λ text. IsSheetAt (R.remaining (inner_reader file.old)) text.items) }
+    ensures unfailed { IfOk result (λ _. has_failed file.new ≡ false) }
     ensures fault { IfErr result IsOfSheet }
 {
     let mut text = Vec::new(alloc);

@@ -8,6 +8,7 @@ ghost use Rattle.zh_tasks.specs.World.{AreCalls, known};
 use crate::fault::TaskFault;
 use crate::remark::make_remark;
 use crate::setup::setup_at;
+use crate::used::Used;
 use std::alloc::Global;
 use std::io::{Read, Write};
 use zh_commands::put;
@@ -75,7 +76,7 @@ pub(crate) fn list<I: Read, O: Write, E: Write, F: Files>(
     path: &str,
     table: Table,
     world: &mut World<I, O, E, F>,
-) -> Ended<Result<(), TaskFault>, F::Disk>
+) -> Ended<Result<(), TaskFault>, Used<I, O, F::Disk>>
     ensures { Listed (known I.Read O.Write E.Write F.Files F.Disk.Disk) path.now table world.old world.new result }
 {
     Ended {

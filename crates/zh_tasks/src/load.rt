@@ -1,20 +1,27 @@
 //! Loading a CSV file.
 
-ghost use Rattle.std.specs.Prelude.{◌≡◌, false, IfErr, IfOk, OnErr, OnOk};
+ghost use Rattle.std.specs.Prelude.{◌≡◌, [], false, IfErr, IfOk, OnErr, OnOk};
+ghost use Rattle.std.specs.Io.Buffered.{reader_buffer};
 ghost use Rattle.std.specs.Io.KnownBytes.{Appends, Keeps};
+ghost use Rattle.zh_csv.specs.Noted.{has_failed, inner_reader};
+ghost use Rattle.zh_film.specs.Frames.{frames};
+ghost use Rattle.zh_film.specs.Scenes.{scenes};
 ghost use Rattle.zh_ledger.specs.Submissions.{on_disk};
-ghost use Rattle.zh_world.specs.Files.{IsCallOfFiles};
-ghost use Rattle.zh_tasks.specs.Load.{HasLoaded, IsUnreadable, LoadsText, WritesPart, printed};
+ghost use Rattle.zh_world.specs.Files.{IsReadOfFiles};
+ghost use Rattle.zh_tasks.specs.Load.{HasBegun, HasLoaded, IsUnreadable, LoadsText, WritesPart};
+ghost use Rattle.zh_tasks.specs.Load.{failed_of, given_text, printed};
 ghost use Rattle.zh_tasks.specs.Opened.{IsThis, LeavesDisk};
+ghost use Rattle.zh_tasks.specs.Run.{streams};
 ghost use Rattle.zh_tasks.specs.World.{known};
 
 use crate::fault::TaskFault;
-use crate::on_disk::Middle;
+use crate::on_disk::FilmedMiddle;
 use std::alloc::Global;
 use std::io::{BufRead, BufReader, Read, Write};
 use zh_commands::{Reply, WriteFault, put, write_reply};
 use zh_disk::Disk;
 use zh_districts::Setup;
+use zh_film::Film;
 use zh_office::{NotedReader, Office};
 use zh_world::{Files, World};
 
@@ -24,8 +31,9 @@ pub(crate) fn text_at<F: Files>(
     files: &mut F,
     path: &str,
 ) -> Result<BufReader<F::Text>, TaskFault>
-    ensures call { IsCallOfFiles F.text_at F.disk_at F.calls files.old files.new }
+    ensures call { IsReadOfFiles F.text_at F.disk_at F.places F.calls files.old files.new }
     ensures text { IfOk result (λ text. Keeps (F.text_at files.old path.now) (⟦<BufReader<F::Text> as Read>⟧.remaining text)) }
+    ensures begun { IfOk result (λ text. HasBegun (F.text_at files.old path.now) (reader_buffer text)) }
     ensures fault { IfErr result IsUnreadable }
 {
     let Ok(file) = files.text(path) else {
@@ -50,21 +58,28 @@ fn print_reply<O: Write>(reply: &Reply, out: &mut O) -> Result<(), WriteFault>
     put(out, &text[2..length])
 }
 
-/// Gives an office a text, and writes the reply.
-fn load_text<R: Read + Drop, O: Write, D: Disk>(
+/// Gives an office a text, and writes the reply. The film notes that the reply comes last.
+fn load_text<I: Read, R: Read, O: Write, D: Disk>(
     office: &mut Office<'_>,
     disk: &mut D,
-    text: R,
+    reader: &mut NotedReader<R>,
+    input: &I,
     out: &mut O,
+    film: &mut Film<I, O, D>,
 ) -> Result<(), TaskFault>
-    requires { office.old.ledger.store.broken ≡ false }
+    requires whole { office.old.ledger.store.broken ≡ false }
+    requires film { scenes film.old ≡ [] }
     ensures disk { LeavesDisk (D.history disk.old) (D.history disk.new) result }
-    ensures loaded { LoadsText (R.remaining text) (O.contents out.old) (O.contents out.new)
+    ensures loaded { LoadsText (given_text (R.remaining (inner_reader reader.old)) (has_failed reader.new))
+        (streams (I.remaining input.now) (O.contents out.old) (frames I.Read O.Write D.Disk film.old))
+        (streams (I.remaining input.now) (O.contents out.new) (frames I.Read O.Write D.Disk film.new))
         (IsThis (on_disk office.old (D.history disk.old)) (D.history disk.new)) result }
 {
-    let mut reader = NotedReader::new(text);
-    let reply = office.load(disk, &mut reader);
+    film.note(input, out, disk);
+    let reply = office.load(disk, reader);
+    film.note(input, out, disk);
     print_reply(&reply, out)?;
+    film.note(input, out, disk);
     if office.faulted() {
         return Err(TaskFault::Faulted);
     }
@@ -74,20 +89,34 @@ fn load_text<R: Read + Drop, O: Write, D: Disk>(
     }
 }
 
-/// Opens the office on the disk, gives it the text at this path, and writes the reply.
+/// Opens the office on the disk, gives it the text at this path, and writes the reply. `reader` is then that of the text, of
+/// which a clause asks whether a read failed.
 fn load_from<I: Read, O: Write, E: Write, F: Files>(
     alloc: Global,
     setup: &Setup,
     world: &mut World<I, O, E, F>,
     disk: &mut F::Disk,
     csv: &str,
+    film: &mut Film<I, O, F::Disk>,
+    reader: &mut Option<NotedReader<BufReader<F::Text>>>,
 ) -> Result<(), TaskFault>
-    ensures { HasLoaded (known I.Read O.Write E.Write F.Files F.Disk.Disk) csv.now setup.now
-        (world.old, disk.old) (world.new, disk.new) result }
+    requires { scenes film.old ≡ [] }
+    ensures { (by : HasLoaded (known I.Read O.Write E.Write F.Files F.Disk.Disk) csv.now setup.now
+        (world.old, disk.old) (world.new, disk.new) (result, film.new)) × (by.text.failed ≡ failed_of reader.new) }
 {
     let mut office = Office::open(alloc, setup, disk)?;
     let text = text_at(alloc, &mut world.files, csv)?;
-    load_text(&mut office, disk, text, &mut world.output)
+    let mut noted = NotedReader::new(text);
+    let result = load_text(
+        &mut office,
+        disk,
+        &mut noted,
+        &world.input,
+        &mut world.output,
+        film,
+    );
+    *reader = Some(noted);
+    result
 }
 
 /// Loads the CSV file at a path.
@@ -96,16 +125,22 @@ pub struct Load<'a> {
     pub csv: &'a str,
 }
 
-impl<'a, I: Read, O: Write, E: Write, F: Files> Middle<World<I, O, E, F>, F::Disk> for Load<'a> {
+impl<'a, I: Read, O: Write, E: Write, F: Files> FilmedMiddle<
+    World<I, O, E, F>,
+    F::Disk,
+    Film<I, O, F::Disk>,
+> for Load<'a> {
     ghost does = { λ task. HasLoaded (known I.Read O.Write E.Write F.Files F.Disk.Disk) task.csv.now };
 
-    fn on(
+    fn on_film(
         &self,
         alloc: Global,
         setup: &Setup,
         world: &mut World<I, O, E, F>,
         disk: &mut F::Disk,
-    ) -> Result<(), TaskFault> {
-        load_from(alloc, setup, world, disk, self.csv)
+    ) -> (Result<(), TaskFault>, Film<I, O, F::Disk>) {
+        let mut film = Film::new();
+        let result = load_from(alloc, setup, world, disk, self.csv, &mut film, &mut None);
+        (result, film)
     }
 }

@@ -1,16 +1,19 @@
 //! What each task on a disk does before it and after it.
 
-ghost use Rattle.std.specs.Prelude.{◌≤◌, ◌+◌, IfErr, IfOk, Result};
+ghost use Rattle.std.specs.Prelude.{◌≤◌, ◌+◌, IfErr, IfOk, Result, Some};
 ghost use Rattle.zh_districts.specs.Canton.{Canton};
-ghost use Rattle.zh_tasks.specs.OnDisk.{Began, IsEarly, UsesDisk};
+ghost use Rattle.zh_world.specs.Places.{Touches};
+ghost use Rattle.zh_tasks.specs.OnDisk.{Began, IsEarly, UsesDisk, UsesFilm};
 ghost use Rattle.zh_tasks.specs.World.{finding, making};
 ghost use Rattle.zh_tasks.specs.declared.fault.TaskFault.{TaskFault};
 
 use crate::fault::TaskFault;
 use crate::setup::setup_at;
+use crate::used::{Filmed, Used};
 use std::alloc::Global;
 use zh_arguments::Paths;
 use zh_districts::Setup;
+use zh_film::Film;
 use zh_world::{Ended, Files, World};
 
 /// What a task does with its disk.
@@ -23,6 +26,22 @@ pub trait Middle<W, D> {
         ensures { does self.now setup.now (world.old, disk.old) (world.new, disk.new) result };
 }
 
+/// What a task does with its disk that answers lines, or loads a text, and is filmed.
+pub trait FilmedMiddle<W, D, S> {
+    /// It takes a world and a disk to these on this set-up, ends so, and its film shows this.
+    ghost does: { Self → Canton → W × D → W × D → Result (Unit {0}) TaskFault × S → Type 0 };
+
+    /// Does it, and hands over the film.
+    fn on_film(
+        &self,
+        alloc: Global,
+        setup: &Setup,
+        world: &mut W,
+        disk: &mut D,
+    ) -> (Result<(), TaskFault>, S)
+        ensures { does self.now setup.now (world.old, disk.old) (world.new, disk.new) result };
+}
+
 /// Reads the set-up, and opens the disk.
 fn begin<F: Files>(
     alloc: Global,
@@ -32,6 +51,7 @@ fn begin<F: Files>(
 ) -> Result<(Setup, F::Disk), TaskFault>
     ensures began { IfOk result (Began (finding F.Files F.Disk.Disk) paths.entry files.old files.new) }
     ensures counted { F.calls files.new ≤ F.calls files.old + 2 }
+    ensures touches { Touches (Some paths.entry.disk.now) (F.places files.old) (F.places files.new) }
     ensures early { IfErr result (IsEarly (F.text_at files.old paths.entry.setup.now)) }
 {
     let setup = setup_at(alloc, files, paths.setup)?;
@@ -48,6 +68,7 @@ fn begin_made<F: Files>(
 ) -> Result<(Setup, F::Disk), TaskFault>
     ensures began { IfOk result (Began (making F.Files F.Disk.Disk) paths.entry files.old files.new) }
     ensures counted { F.calls files.new ≤ F.calls files.old + 2 }
+    ensures touches { Touches (Some paths.entry.disk.now) (F.places files.old) (F.places files.new) }
     ensures early { IfErr result (IsEarly (F.text_at files.old paths.entry.setup.now)) }
 {
     let setup = setup_at(alloc, files, paths.setup)?;
@@ -62,15 +83,47 @@ pub(crate) fn on_disk<I, O, E, F: Files, M: Middle<World<I, O, E, F>, F::Disk>>(
     right: F::Right,
     world: &mut World<I, O, E, F>,
     middle: &M,
-) -> Ended<Result<(), TaskFault>, F::Disk>
+) -> Ended<Result<(), TaskFault>, Used<I, O, F::Disk>>
     ensures { UsesDisk (finding F.Files F.Disk.Disk) paths.entry world.old world.new (M.does middle.now) result }
 {
     match begin(alloc, paths, right, &mut world.files) {
         Ok((setup, mut disk)) => {
             let result = middle.on(alloc, &setup, world, &mut disk);
+            let film = Film::new();
             Ended {
                 result,
-                used: Some(disk),
+                used: Some(Used::Disk(Filmed { disk, film })),
+            }
+        }
+        Err(fault) => Ended {
+            result: Err(fault),
+            used: None,
+        },
+    }
+}
+
+/// The same of a task that is filmed. Its film is handed over with the disk.
+pub(crate) fn on_filmed_disk<
+    I,
+    O,
+    E,
+    F: Files,
+    M: FilmedMiddle<World<I, O, E, F>, F::Disk, Film<I, O, F::Disk>>,
+>(
+    alloc: Global,
+    paths: Paths<'_>,
+    right: F::Right,
+    world: &mut World<I, O, E, F>,
+    middle: &M,
+) -> Ended<Result<(), TaskFault>, Used<I, O, F::Disk>>
+    ensures { UsesFilm (finding F.Files F.Disk.Disk) paths.entry world.old world.new (M.does middle.now) result }
+{
+    match begin(alloc, paths, right, &mut world.files) {
+        Ok((setup, mut disk)) => {
+            let (result, film) = middle.on_film(alloc, &setup, world, &mut disk);
+            Ended {
+                result,
+                used: Some(Used::Disk(Filmed { disk, film })),
             }
         }
         Err(fault) => Ended {
@@ -87,15 +140,16 @@ pub(crate) fn on_made_disk<I, O, E, F: Files, M: Middle<World<I, O, E, F>, F::Di
     right: F::Right,
     world: &mut World<I, O, E, F>,
     middle: &M,
-) -> Ended<Result<(), TaskFault>, F::Disk>
+) -> Ended<Result<(), TaskFault>, Used<I, O, F::Disk>>
     ensures { UsesDisk (making F.Files F.Disk.Disk) paths.entry world.old world.new (M.does middle.now) result }
 {
     match begin_made(alloc, paths, right, &mut world.files) {
         Ok((setup, mut made)) => {
             let result = middle.on(alloc, &setup, world, &mut made);
+            let film = Film::new();
             Ended {
                 result,
-                used: Some(made),
+                used: Some(Used::Disk(Filmed { disk: made, film })),
             }
         }
         Err(fault) => Ended {

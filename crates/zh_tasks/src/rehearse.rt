@@ -1,6 +1,8 @@
 //! A rehearsal.
 
-ghost use Rattle.std.specs.Prelude.{◌≡◌};
+ghost use Rattle.std.specs.Prelude.{◌≡◌, []};
+ghost use Rattle.zh_film.specs.Frames.{frames};
+ghost use Rattle.zh_film.specs.Scenes.{scenes};
 ghost use Rattle.zh_tasks.specs.Rehearse.{Rehearsed, Rehearses, announcement};
 ghost use Rattle.zh_tasks.specs.Remarks.{BecameOf};
 ghost use Rattle.zh_tasks.specs.Run.{streams};
@@ -10,9 +12,11 @@ use crate::fault::TaskFault;
 use crate::format::format_blank;
 use crate::remark::make_remark;
 use crate::run::serve_on;
+use crate::used::Used;
 use std::alloc::Global;
 use std::io::{Read, Write};
-use zh_disk::MemoryDisk;
+use zh_disk::{Disk, MemoryDisk};
+use zh_film::Film;
 use zh_setups::rehearsal;
 use zh_world::{Ended, Files, Remark, World};
 
@@ -28,26 +32,31 @@ fn serve_rehearsal<I: Read, O: Write>(
     alloc: Global,
     input: &mut I,
     out: &mut O,
+    film: &mut Film<I, O, MemoryDisk>,
 ) -> Result<(), TaskFault>
-    ensures { Rehearsed ((input.new ≡ input.old) × (out.new ≡ out.old))
-        (streams (I.remaining input.old) (O.contents out.old)) (streams (I.remaining input.new) (O.contents out.new)) result }
+    requires { scenes film.old ≡ [] }
+    ensures { Rehearsed ((input.new ≡ input.old) × (out.new ≡ out.old) × (scenes film.new ≡ []))
+        (streams (I.remaining input.old) (O.contents out.old) (frames I.Read O.Write ⟦<MemoryDisk as Disk>⟧ film.old))
+        (streams (I.remaining input.new) (O.contents out.new) (frames I.Read O.Write ⟦<MemoryDisk as Disk>⟧ film.new)) result }
 {
     let setup = rehearsal(alloc)?;
     let mut disk = MemoryDisk::blank(alloc)?;
     format_blank(alloc, &setup, &mut disk)?;
-    serve_on(alloc, &setup, &mut disk, input, out)
+    serve_on(alloc, &setup, &mut disk, input, out, film)
 }
 
-/// Rehearses, and keeps nothing.
+/// Rehearses, keeps nothing, and hands over the film of it.
 pub(crate) fn rehearse<I: Read, O: Write, E: Write, F: Files>(
     alloc: Global,
     world: &mut World<I, O, E, F>,
-) -> Ended<Result<(), TaskFault>, F::Disk>
+) -> Ended<Result<(), TaskFault>, Used<I, O, F::Disk>>
     ensures { Rehearses (known I.Read O.Write E.Write F.Files F.Disk.Disk) world.old world.new result }
 {
     world.remark = announce(&mut world.faults);
+    let mut film = Film::new();
+    let result = serve_rehearsal(alloc, &mut world.input, &mut world.output, &mut film);
     Ended {
-        result: serve_rehearsal(alloc, &mut world.input, &mut world.output),
-        used: None,
+        result,
+        used: Some(Used::Rehearsal(film)),
     }
 }

@@ -1,17 +1,20 @@
 //! Serving on a disk.
 
-ghost use Rattle.std.specs.Prelude.{◌≡◌, ◌^◌, false};
+ghost use Rattle.std.specs.Prelude.{◌≡◌, ◌^◌, [], false};
+ghost use Rattle.zh_film.specs.Frames.{frames};
+ghost use Rattle.zh_film.specs.Scenes.{scenes};
 ghost use Rattle.zh_ledger.specs.Submissions.{on_disk};
 ghost use Rattle.zh_tasks.specs.Opened.{IsThis, LeavesDisk, WithOffice};
 ghost use Rattle.zh_tasks.specs.Run.{IsReadWithin, Ran, Serves, streams};
 ghost use Rattle.zh_tasks.specs.World.{known};
 
 use crate::fault::TaskFault;
-use crate::on_disk::Middle;
+use crate::on_disk::FilmedMiddle;
 use std::alloc::Global;
 use std::io::{Read, Write};
 use zh_disk::Disk;
 use zh_districts::Setup;
+use zh_film::Film;
 use zh_office::Office;
 use zh_world::{Files, World};
 
@@ -29,14 +32,18 @@ pub fn serve_on<I: Read, O: Write, D: Disk>(
     disk: &mut D,
     input: &mut I,
     out: &mut O,
+    film: &mut Film<I, O, D>,
 ) -> Result<(), TaskFault>
-    ensures served { WithOffice setup.now (D.history disk.old) (D.history disk.new) ((input.new ≡ input.old) × (out.new ≡ out.old))
-        (Serves (streams (I.remaining input.old) (O.contents out.old)) (streams (I.remaining input.new) (O.contents out.new))) result }
+    requires { scenes film.old ≡ [] }
+    ensures served { WithOffice setup.now (D.history disk.old) (D.history disk.new)
+        ((input.new ≡ input.old) × (out.new ≡ out.old) × (scenes film.new ≡ []))
+        (Serves (streams (I.remaining input.old) (O.contents out.old) (frames I.Read O.Write D.Disk film.old))
+        (streams (I.remaining input.new) (O.contents out.new) (frames I.Read O.Write D.Disk film.new))) result }
     ensures reads { IsReadWithin (I.remaining input.old) (I.remaining input.new) (2 ^ 32) result }
     ensures disk { LeavesDisk (D.history disk.old) (D.history disk.new) result }
 {
     let mut office = Office::open(alloc, setup, disk)?;
-    serve_lines(&mut office, disk, input, out)
+    serve_lines(&mut office, disk, input, out, film)
 }
 
 /// Serves the lines of the input on an office.
@@ -45,33 +52,61 @@ fn serve_lines<I: Read, O: Write, D: Disk>(
     disk: &mut D,
     input: &mut I,
     out: &mut O,
+    film: &mut Film<I, O, D>,
 ) -> Result<(), TaskFault>
-    requires { office.old.ledger.store.broken ≡ false }
+    requires whole { office.old.ledger.store.broken ≡ false }
+    requires film { scenes film.old ≡ [] }
     ensures disk { LeavesDisk (D.history disk.old) (D.history disk.new) result }
-    ensures served { Serves (streams (I.remaining input.old) (O.contents out.old)) (streams (I.remaining input.new) (O.contents out.new))
+    ensures served { Serves (streams (I.remaining input.old) (O.contents out.old) (frames I.Read O.Write D.Disk film.old))
+        (streams (I.remaining input.new) (O.contents out.new) (frames I.Read O.Write D.Disk film.new))
         (IsThis (on_disk office.old (D.history disk.old)) (D.history disk.new)) result }
     ensures reads { IsReadWithin (I.remaining input.old) (I.remaining input.new) (2 ^ 32) result }
 {
-    office.serve(input, out, disk, most_reads())?;
+    office.serve(input, out, disk, film, most_reads())?;
     if office.faulted() {
         return Err(TaskFault::Faulted);
     }
     Ok(())
 }
 
+/// Serves the lines of the input on the office on the disk, and hands over the film of it.
+fn run_from<I: Read, O: Write, E: Write, F: Files>(
+    alloc: Global,
+    setup: &Setup,
+    world: &mut World<I, O, E, F>,
+    disk: &mut F::Disk,
+) -> (Result<(), TaskFault>, Film<I, O, F::Disk>)
+    ensures { Ran (known I.Read O.Write E.Write F.Files F.Disk.Disk) setup.now (world.old, disk.old) (world.new, disk.new) result }
+{
+    let mut film = Film::new();
+    let result = serve_on(
+        alloc,
+        setup,
+        disk,
+        &mut world.input,
+        &mut world.output,
+        &mut film,
+    );
+    (result, film)
+}
+
 /// Serves the lines of the input on the office on the disk.
 pub struct Run;
 
-impl<I: Read, O: Write, E: Write, F: Files> Middle<World<I, O, E, F>, F::Disk> for Run {
+impl<I: Read, O: Write, E: Write, F: Files> FilmedMiddle<
+    World<I, O, E, F>,
+    F::Disk,
+    Film<I, O, F::Disk>,
+> for Run {
     ghost does = { λ task. Ran (known I.Read O.Write E.Write F.Files F.Disk.Disk) };
 
-    fn on(
+    fn on_film(
         &self,
         alloc: Global,
         setup: &Setup,
         world: &mut World<I, O, E, F>,
         disk: &mut F::Disk,
-    ) -> Result<(), TaskFault> {
-        serve_on(alloc, setup, disk, &mut world.input, &mut world.output)
+    ) -> (Result<(), TaskFault>, Film<I, O, F::Disk>) {
+        run_from(alloc, setup, world, disk)
     }
 }

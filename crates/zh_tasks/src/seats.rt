@@ -3,7 +3,8 @@
 ghost use Rattle.std.specs.Prelude.{◌≡◌, IfErr, IfOk};
 ghost use Rattle.zh_ledger.specs.Submissions.{OnDisk};
 ghost use Rattle.zh_office.specs.Office as offices;
-ghost use Rattle.zh_tasks.specs.Seats.{HasShownSeats, ShowsSeats, WritesSeats, laid_out, shown_seats};
+ghost use Rattle.zh_results.specs.Texts.{refusal_text};
+ghost use Rattle.zh_tasks.specs.Seats.{HasShownSeats, ReportsNone, ShowsSeats, WritesSeats, laid_out, shown_seats};
 ghost use Rattle.zh_tasks.specs.World.{known};
 ghost use Rattle.zh_tasks.specs.declared.fault.TaskFault.TheVariants as faults;
 
@@ -21,7 +22,11 @@ use zh_seats::{seat_table, write_seats};
 use zh_world::{Files, World};
 
 /// The text of seats in a form.
-fn text_of(alloc: Global, seats: &MarkedSheet<'_>, layout: Layout) -> Result<Vec<u8>, TaskFault>
+pub(crate) fn text_of(
+    alloc: Global,
+    seats: &MarkedSheet<'_>,
+    layout: Layout,
+) -> Result<Vec<u8>, TaskFault>
     ensures text { IfOk result (λ text. text.items ≡ laid_out layout seats.now) }
     ensures fault { IfErr result (λ fault. fault ≡ faults.Memory) }
 {
@@ -55,12 +60,24 @@ pub(crate) fn write_result<I: Read, O: Write, E: Write, F: Files>(
             put(&mut world.output, &text)?;
             Ok(())
         }
-        Err(why) => {
-            let text = refusal_text(alloc, setup, &why)?;
-            world.remark = make_remark(&text, &mut world.faults);
-            Err(TaskFault::Refused)
-        }
+        Err(why) => report_none(alloc, setup, &why, world),
     }
+}
+
+/// Reports why there are no seats to the standard error.
+pub(crate) fn report_none<I: Read, O: Write, E: Write, F: Files>(
+    alloc: Global,
+    setup: &Setup,
+    why: &NoSeats,
+    world: &mut World<I, O, E, F>,
+) -> Result<(), TaskFault>
+    ensures rest { world.new ≡ record world.old { faults = world.new.faults; remark = world.new.remark } }
+    ensures reported { ReportsNone (known I.Read O.Write E.Write F.Files F.Disk.Disk) world.old world.new
+        (refusal_text setup.now why.now) result }
+{
+    let text = refusal_text(alloc, setup, why)?;
+    world.remark = make_remark(&text, &mut world.faults);
+    Err(TaskFault::Refused)
 }
 
 /// Writes the seats of the count that the office on the disk holds.

@@ -1,7 +1,7 @@
 //! The set-up of a task.
 
 ghost use Rattle.std.specs.Prelude.{IfErr, IfOk};
-ghost use Rattle.zh_world.specs.Files.{IsCallOfFiles};
+ghost use Rattle.zh_world.specs.Files.{IsReadOfFiles};
 ghost use Rattle.zh_tasks.specs.OnDisk.{IsOfSetup};
 ghost use Rattle.zh_tasks.specs.World.{IsFrontAt, IsSetupAt};
 
@@ -17,7 +17,7 @@ const LONGEST_READ: u64 = 1_048_577;
 
 /// The front of the text at this path.
 fn front_of_text<F: Files>(alloc: Global, files: &mut F, path: &str) -> Result<Vec<u8>, TaskFault>
-    ensures call { IsCallOfFiles F.text_at F.disk_at F.calls files.old files.new }
+    ensures call { IsReadOfFiles F.text_at F.disk_at F.places F.calls files.old files.new }
     ensures front { IfOk result (λ text. IsFrontAt (F.text_at files.old path.now) text.items) }
     ensures fault { IfErr result (IsOfSetup (F.text_at files.old path.now)) }
 {
@@ -38,7 +38,7 @@ pub(crate) fn setup_at<F: Files>(
     files: &mut F,
     path: &str,
 ) -> Result<Setup, TaskFault>
-    ensures call { IsCallOfFiles F.text_at F.disk_at F.calls files.old files.new }
+    ensures call { IsReadOfFiles F.text_at F.disk_at F.places F.calls files.old files.new }
     ensures setup { IfOk result (IsSetupAt (F.text_at files.old path.now)) }
     ensures fault { IfErr result (IsOfSetup (F.text_at files.old path.now)) }
 {

@@ -1,21 +1,28 @@
 //! Writing the seats of a published sheet.
 
-ghost use Rattle.std.specs.Prelude.{◌≡◌, ◌≤◌, ℕ, IfErr, IfOk, Result};
-ghost use Rattle.zh_results.specs.declared.outcome.MarkedSheet.{MarkedSheet};
+ghost use Rattle.std.specs.Prelude.{◌≡◌, ◌≤◌, ℕ, IfErr, IfOk, Ok, Result};
+ghost use Rattle.zh_check.specs.declared.checked.RightSheet.{RightSheet};
+ghost use Rattle.zh_districts.specs.Canton.{Canton};
 ghost use Rattle.zh_results.specs.declared.outcome.NoSeats.{NoSeats};
-ghost use Rattle.zh_tasks.specs.Seats.{WritesSeats, shown_seats};
-ghost use Rattle.zh_tasks.specs.SheetSeats.{AreBothRead, AreSeatsOn, FindsNoSheet, HasShownSheet};
+ghost use Rattle.zh_tasks.specs.SheetSeats.{AreBothRead, AreSeatsOn, FindsNoSheet, HasShownSheet, WritesStated, stated};
+ghost use Rattle.zh_tasks.specs.SheetSeats.{stated_text};
 ghost use Rattle.zh_tasks.specs.World.{AreCalls, known};
 
 use crate::check::sheet_at;
 use crate::fault::TaskFault;
-use crate::seats::write_result;
+use crate::remark::make_remark;
+use crate::seats::{report_none, text_of};
 use crate::setup::setup_at;
+use crate::used::Used;
 use std::alloc::Global;
 use std::io::{Read, Write};
 use zh_arguments::Layout;
+use zh_check::RightSheet;
+use zh_commands::put;
 use zh_districts::Setup;
-use zh_results::seats_by_sheet;
+use zh_results::{MarkedSheet, seats_by_sheet};
+use zh_seats::{Mark, Source};
+use zh_verdicts::unchecked_line;
 use zh_world::{Ended, Files, World};
 
 /// The files of a set-up and of a published sheet, and the form in which its seats are shown.
@@ -41,6 +48,40 @@ fn read_both<F: Files>(
     Ok((setup, text))
 }
 
+/// The seats of a sheet, marked as it states.
+fn stated(right: RightSheet<'_>) -> MarkedSheet<'_>
+    ensures { result ≡ stated right.entry }
+{
+    let mark = Mark {
+        is_final: right.is_final,
+        accepted: right.accepted,
+        source: Source::Sheet,
+    };
+    MarkedSheet {
+        sheet: right.sheet,
+        mark,
+    }
+}
+
+/// Writes the seats of a right sheet, and then what no check can tell of them to the standard error. Where that can't be
+/// written the seats stand all the same.
+fn write_stated<I: Read, O: Write, E: Write, F: Files>(
+    alloc: Global,
+    right: RightSheet<'_>,
+    layout: Layout,
+    world: &mut World<I, O, E, F>,
+) -> Result<(), TaskFault>
+    ensures rest { world.new ≡ record world.old { output = world.new.output; faults = world.new.faults; remark = world.new.remark } }
+    ensures written { (canton : Canton) → WritesStated (known I.Read O.Write E.Write F.Files F.Disk.Disk) world.old world.new
+        (stated_text canton layout (Ok right.entry)) result }
+{
+    let line = unchecked_line(alloc, &right)?;
+    let text = text_of(alloc, &stated(right), layout)?;
+    put(&mut world.output, &text)?;
+    world.remark = make_remark(&line, &mut world.faults);
+    Ok(())
+}
+
 /// Writes the seats on a text, if it is a right sheet of a set-up, or else why there are none.
 fn show_text<I: Read, O: Write, E: Write, F: Files>(
     alloc: Global,
@@ -50,12 +91,14 @@ fn show_text<I: Read, O: Write, E: Write, F: Files>(
     world: &mut World<I, O, E, F>,
 ) -> Result<(), TaskFault>
     ensures rest { world.new ≡ record world.old { output = world.new.output; faults = world.new.faults; remark = world.new.remark } }
-    ensures shown { (seats : Result MarkedSheet NoSeats) × AreSeatsOn setup.now text.now seats
-        × WritesSeats (known I.Read O.Write E.Write F.Files F.Disk.Disk) world.old world.new
-        (shown_seats setup.now layout seats) result }
+    ensures shown { (seats : Result RightSheet NoSeats) × AreSeatsOn setup.now text.now seats
+        × WritesStated (known I.Read O.Write E.Write F.Files F.Disk.Disk) world.old world.new
+        (stated_text setup.now layout seats) result }
 {
-    let seats = seats_by_sheet(alloc, setup, text);
-    write_result(alloc, setup, seats, layout, world)
+    match seats_by_sheet(alloc, setup, text) {
+        Ok(right) => write_stated(alloc, right, layout, world),
+        Err(why) => report_none(alloc, setup, &why, world),
+    }
 }
 
 /// Writes the seats of a published sheet, if it is right. No disk is opened.
@@ -63,7 +106,7 @@ pub(crate) fn sheet_seats<I: Read, O: Write, E: Write, F: Files>(
     alloc: Global,
     paths: SheetPaths<'_>,
     world: &mut World<I, O, E, F>,
-) -> Ended<Result<(), TaskFault>, F::Disk>
+) -> Ended<Result<(), TaskFault>, Used<I, O, F::Disk>>
     ensures { HasShownSheet (known I.Read O.Write E.Write F.Files F.Disk.Disk) paths.entry world.old world.new result }
 {
     match read_both(alloc, paths, &mut world.files) {

@@ -14,10 +14,10 @@ use std::io::{Read, Write};
 use zh_commands::put;
 use zh_districts::Setup;
 use zh_office::Office;
-use zh_status::{View, summary_line, write_status};
+use zh_status::{View, said_of, write_status};
 use zh_world::{Files, World};
 
-/// Writes a view of what an office holds, and then the summary. Where the summary can't be written the view stands all the
+/// Writes a view of what an office holds, and then what is said beside it. Where that can't be written the view stands all the
 /// same.
 fn show<I: Read, O: Write, E: Write, F: Files>(
     alloc: Global,
@@ -30,10 +30,10 @@ fn show<I: Read, O: Write, E: Write, F: Files>(
         → Shows (known I.Read O.Write E.Write F.Files F.Disk.Disk) view world.old world.new
         (λ first last. (first ≡ start) × (last ≡ start)) result }
 {
-    let text = write_status(office.count(), view, Vec::new(alloc))?;
-    let line = summary_line(alloc, office.count())?;
+    let text = write_status(alloc, office.count(), view, Vec::new(alloc))?;
+    let said = said_of(alloc, office.count(), view)?;
     put(&mut world.output, &text)?;
-    world.remark = make_remark(line.as_bytes(), &mut world.faults);
+    world.remark = make_remark(said.as_bytes(), &mut world.faults);
     Ok(())
 }
 

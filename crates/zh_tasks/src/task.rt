@@ -10,18 +10,19 @@ use crate::fault::TaskFault;
 use crate::format::FormatDisk;
 use crate::list::list;
 use crate::load::Load;
-use crate::on_disk::{on_disk, on_made_disk};
+use crate::on_disk::{on_disk, on_filmed_disk, on_made_disk};
 use crate::rehearse::rehearse;
 use crate::run::Run;
 use crate::seats::Seats;
 use crate::sheet_seats::{SheetPaths, sheet_seats};
 use crate::status::Status;
+use crate::used::Used;
 use std::alloc::Global;
 use std::io::{Read, Write};
 use zh_arguments::Task;
 use zh_world::{Ended, Files, World};
 
-/// Carries out a task. The disk that it worked on is handed over, whatever the result.
+/// Carries out a task. The disk that it worked on is handed over with its film, whatever the result.
 ///
 /// An error says why the task was not done. The program reports it (docs/MANUAL.md).
 pub fn carry_out<I: Read, O: Write, E: Write, F: Files>(
@@ -29,14 +30,14 @@ pub fn carry_out<I: Read, O: Write, E: Write, F: Files>(
     task: Task<'_>,
     right: F::Right,
     world: &mut World<I, O, E, F>,
-) -> Ended<Result<(), TaskFault>, F::Disk>
+) -> Ended<Result<(), TaskFault>, Used<I, O, F::Disk>>
     ensures { Does (known I.Read O.Write E.Write F.Files F.Disk.Disk) task.entry world.old world.new result }
 {
     match task {
         Task::Rehearse => rehearse(alloc, world),
         Task::Format(paths) => on_made_disk(alloc, paths, right, world, &FormatDisk),
-        Task::Run(paths) => on_disk(alloc, paths, right, world, &Run),
-        Task::Load { paths, csv } => on_disk(alloc, paths, right, world, &Load { csv }),
+        Task::Run(paths) => on_filmed_disk(alloc, paths, right, world, &Run),
+        Task::Load { paths, csv } => on_filmed_disk(alloc, paths, right, world, &Load { csv }),
         Task::DryRun { paths, csv } => on_disk(alloc, paths, right, world, &DryRun { csv }),
         Task::Export(paths) => on_disk(alloc, paths, right, world, &Export),
         Task::Status { paths, view } => on_disk(alloc, paths, right, world, &Status { view }),

@@ -8,7 +8,7 @@ use std::process::ExitCode;
 use std::{env, io};
 use unknown::UnknownContent;
 use zh_file::Start;
-use zh_host::HostFiles;
+use zh_host::{FolderFiles, HostFolder};
 use zh_program::program;
 use zh_world::{Remark, World};
 
@@ -27,7 +27,7 @@ fn run<S: Start>(rt: HostRuntime, start: S) -> ExitCode {
                 output: rt.stdout(),
                 faults: rt.stderr(),
                 remark: Remark::Whole,
-                files: HostFiles::<S>::new(&rt),
+                files: FolderFiles::new(HostFolder::<S>::new(&rt)),
             };
             ExitCode::from(program(alloc, &arguments, start, &mut world).result)
         }

@@ -1,7 +1,9 @@
-use Rattle.std.proofs.Common.{◌≡◌, inl, inr, refl}
+use Rattle.std.proofs.Common.{◌≡◌, inl, inr, refl, ap}
 use Rattle.zh_tasks.specs.World.{known}
 use Rattle.zh_program.proofs.EndingLemmas.{fails, met_fault, was_done}
 use Rattle.zh_program.proofs.PromiseLemmas.{promise_of}
+use Rattle.zh_program.proofs.RehearsalLemmas.{rehearsed_of}
+use Rattle.zh_program.proofs.TouchLemmas.{touched_after}
 use Rattle.zh_program.proofs.entry.program.Goals as goal
 
 pub returns-in-Ok-clause-done : goal.returns-in-Ok-clause-done
@@ -23,3 +25,18 @@ returns-in-Ok-clause-headline g c = λ disk used.
     promise_of of _ c.args.world.now c.carry_out-result.new.world c.end.new.world c.end.ensures.rest c.end.result c.carry_out-result.result.result
     (fails c.carry_out-result.result.result c.end.result (c.end.new.world ≡ c.carry_out-result.new.world) c.end.ensures.status)
     c.carry_out-result.result.used disk used c.in-Ok.task c.in-Ok.ensures c.carry_out-result.ensures
+
+pub returns-in-Ok-clause-rehearsed : goal.returns-in-Ok-clause-rehearsed
+returns-in-Ok-clause-rehearsed g c = λ film used.
+    let of = known g.I.Read g.O.Write g.E.Write g.F.Files g.F.Disk.Disk in
+    rehearsed_of of c.args.world.now c.carry_out-result.new.world c.end.result c.carry_out-result.result.result
+    (fails c.carry_out-result.result.result c.end.result (c.end.new.world ≡ c.carry_out-result.new.world) c.end.ensures.status)
+    c.carry_out-result.result.used film used c.end.new.world c.end.ensures.rest c.in-Ok.task c.carry_out-result.ensures
+
+pub returns-in-Ok-clause-touches : goal.returns-in-Ok-clause-touches
+returns-in-Ok-clause-touches g c =
+    let of = known g.I.Read g.O.Write g.E.Write g.F.Files g.F.Disk.Disk in
+    inr (c.in-Ok.task, c.in-Ok.ensures, touched_after of c.in-Ok.task c.args.world.now c.carry_out-result.new.world c.end.new.world c.carry_out-result.result c.carry_out-result.ensures c.end.ensures.rest)
+
+pub returns-in-Err-clause-touches : goal.returns-in-Err-clause-touches
+returns-in-Err-clause-touches g c = inl (ap (λ w. w.files) c.refuse.ensures.rest)

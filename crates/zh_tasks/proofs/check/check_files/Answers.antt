@@ -1,7 +1,8 @@
 use Rattle.std.proofs.Common.{◌≡◌, ◌∙◌, ℕ, List, Option, sym, subst, refl, rules, Err, inl, inr, arith, lit≤}
 use Rattle.std.specs.Option.{option_copied}
 use Rattle.zh_held.specs.declared.held_reader.HeldSums.{HeldSums}
-use Rattle.zh_tasks.specs.Check.{AreSumsIfNamed, Inputs, IsOfHeldAt, IsSheetAt, calls_for, calls_if_named, held_path}
+use Rattle.zh_checks.specs.Checks.{Inputs}
+use Rattle.zh_tasks.specs.Check.{AreSumsIfNamed, IsOfHeldAt, IsSheetAt, calls_for, calls_if_named, held_path}
 use Rattle.zh_tasks.proofs.CheckLemmas.{calls_after, few_calls}
 use Rattle.zh_tasks.proofs.WorldLemmas.{known_before, one_call, two_calls}
 use Rattle.zh_tasks.proofs.check.check_files.Goals as goal

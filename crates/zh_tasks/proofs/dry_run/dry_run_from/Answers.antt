@@ -18,6 +18,7 @@ returns-in_err-office g c =
     rw is (record {
       rest = refl;
       counted = omega arith;
+      stays = refl;
       text = g.F.Files.text_at c.args.world.now.files c.args.csv.now;
       read = kept_itself _;
       judged = (refl, c.in_err-office.ensures.opening);
@@ -38,6 +39,7 @@ returns-in_err-text g c =
     rw is (record {
       rest = refl;
       counted = omega (arith, c.text_at.ensures.call.counted);
+      stays = c.text_at.ensures.call.stays;
       text = text;
       read = kept_itself _;
       judged = with_office canton first last _ (DryRuns text w w) (Err c.in_err-text.field-0.0) (λ fault none. none) (unread_runs text w From start begins c.in_err-text.field-0.0 c.in_err-text.ensures.fault);
@@ -60,6 +62,7 @@ returns g c =
     record {
       rest = refl;
       counted = omega (arith, c.text_at.ensures.call.counted);
+      stays = c.text_at.ensures.call.stays;
       text = _;
       read = c.in_ok-text.ensures.text;
       judged = with_office canton first last _ (DryRuns _ w w') c.judge_text.result (λ fault none. none) runs;

@@ -2,13 +2,15 @@ use Rattle.std.proofs.Common.{◌≡◌, ◌++◌, length, List, ℕ, false, sym
 use Rattle.std.proofs.KnownBytes.{Consumes-nil, Consumes-trans}
 use Rattle.std.proofs.lemmas.List.{length-append}
 use Rattle.std.specs.Io.KnownBytes.{Consumes}
+use Rattle.zh_csv.specs.Noted.{inner_reader}
 use Rattle.zh_tasks.proofs.FrontLemmas.{front_read}
 use Rattle.zh_tasks.proofs.front.read_front.Goals as goal
 
 pub loop-init : goal.loop-init
 loop-init g c = record {
-  read = subst (λ (l : List ℕ). Consumes (g.R.Read.remaining c.args.file.now) (g.R.Read.remaining c.args.file.now) l) (sym c.new-text.ensures.items) (Consumes-nil _);
+  read = subst (λ (l : List ℕ). Consumes (g.R.Read.remaining (inner_reader c.args.file.now)) (g.R.Read.remaining (inner_reader c.args.file.now)) l) (sym c.new-text.ensures.items) (Consumes-nil _);
   few = omega (arith, ap length c.new-text.ensures.items);
+  unfailed = c.requires;
 }
 
 pub loop-preserved : goal.loop-preserved
@@ -16,8 +18,9 @@ loop-preserved g c =
     let more = c.read_piece.ensures.read in
     let text : c.read_piece.new.text.items ≡ c.loop.text.items ++ more.0 = rw c.in_ok-read_piece.was at more.3 in
     record {
-      read = subst (λ (l : List ℕ). Consumes (g.R.Read.remaining c.args.file.now) (g.R.Read.remaining c.read_piece.new.file) l) (sym text) (Consumes-trans _ _ _ c.loop.text.items more.0 c.loop.invariant.read more.1);
+      read = subst (λ (l : List ℕ). Consumes (g.R.Read.remaining (inner_reader c.args.file.now)) (g.R.Read.remaining (inner_reader c.read_piece.new.file)) l) (sym text) (Consumes-trans _ _ _ c.loop.text.items more.0 c.loop.invariant.read more.1);
       few = omega (arith, more.2, ap length text, length-append c.loop.text.items more.0);
+      unfailed = rw c.in_ok-read_piece.was at c.read_piece.ensures.unfailed;
     }
 
 pub returns-in_err-read_piece-clause-read : goal.returns-in_err-read_piece-clause-read
@@ -41,7 +44,7 @@ returns-then-not-branch-clause-sheet g c =
     let more = c.read_piece.ensures.read in
     let gone : c.in_ok-read_piece.field-0 ≡ false = search rules in
     let text : c.read_piece.new.text.items ≡ c.loop.text.items ++ more.0 = rw c.in_ok-read_piece.was at more.3 in
-    let read = subst (λ (l : List ℕ). Consumes (g.R.Read.remaining c.args.file.now) (g.R.Read.remaining c.read_piece.new.file) l) (sym text) (Consumes-trans _ _ _ c.loop.text.items more.0 c.loop.invariant.read more.1) in
+    let read = subst (λ (l : List ℕ). Consumes (g.R.Read.remaining (inner_reader c.args.file.now)) (g.R.Read.remaining (inner_reader c.read_piece.new.file)) l) (sym text) (Consumes-trans _ _ _ c.loop.text.items more.0 c.loop.invariant.read more.1) in
     front_read _ _ c.read_piece.new.text.items read (omega (arith, more.2, ap length text, length-append c.loop.text.items more.0)) ((rw c.in_ok-read_piece.was at c.read_piece.ensures.end) gone)
 
 pub returns-clause-read : goal.returns-clause-read

@@ -1,13 +1,15 @@
 use Rattle.std.proofs.Common.{rules, ◌≡◌, Err, List, ℕ, Option}
 use Rattle.zh_world.specs.Files.{Begins}
+use Rattle.zh_world.specs.Places.{TouchesOnly}
+use Rattle.zh_world.proofs.CallerLemmas.{after_stay, stays_untouched}
 use Rattle.zh_tasks.proofs.SetupLemmas.{is_early}
-use Rattle.zh_tasks.proofs.WorldLemmas.{known_before, two_calls}
+use Rattle.zh_tasks.proofs.WorldLemmas.{disk_after, known_before}
 use Rattle.zh_tasks.proofs.on_disk.begin.Goals as goal
 
 pub returns-clause-began : goal.returns-clause-began
 returns-clause-began g c = record {
   setup = c.in_ok-setup.ensures.setup;
-  calls = two_calls g.F.Files c.args.files.now c.setup_at.new.files c.disk.new.self c.setup_at.ensures.call c.disk.ensures.call;
+  calls = disk_after g.F.Files c.args.paths.disk.now c.args.files.now c.setup_at.new.files c.disk.new.self c.setup_at.ensures.call c.disk.ensures.call c.disk.ensures.touches;
   begins = known_before g.F.Files.disk_at c.args.files.now c.setup_at.new.files c.args.paths.disk.now (λ (k : Option (List ℕ)). Begins k (g.F.Disk.Disk.history c.in_ok-disk.disk)) c.setup_at.ensures.call.disks c.in_ok-disk.ensures.begins;
 }
 
@@ -15,3 +17,16 @@ pub returns-in_err-setup-clause-early : goal.returns-in_err-setup-clause-early
 returns-in_err-setup-clause-early g c =
     let is : c.from_residual.result ≡ Err c.in_err-setup.field-0.0 = search rules in
     rw is (is_early (g.F.Files.text_at c.args.files.now c.args.paths.setup.now) c.in_err-setup.field-0.0 c.in_err-setup.ensures.fault)
+
+pub returns-in_err-setup-clause-touches : goal.returns-in_err-setup-clause-touches
+returns-in_err-setup-clause-touches g c = stays_untouched c.args.paths.disk.now (g.F.Files.places c.args.files.now) (g.F.Files.places c.setup_at.new.files) c.setup_at.ensures.call.stays
+
+pub returns-in_err-disk-clause-touches : goal.returns-in_err-disk-clause-touches
+returns-in_err-disk-clause-touches g c =
+    let at = g.F.Files.places in
+    after_stay (TouchesOnly c.args.paths.disk.now) (at c.args.files.now) (at c.setup_at.new.files) (at c.disk.new.self) c.setup_at.ensures.call.stays c.disk.ensures.touches
+
+pub returns-clause-touches : goal.returns-clause-touches
+returns-clause-touches g c =
+    let at = g.F.Files.places in
+    after_stay (TouchesOnly c.args.paths.disk.now) (at c.args.files.now) (at c.setup_at.new.files) (at c.disk.new.self) c.setup_at.ensures.call.stays c.disk.ensures.touches

@@ -7,6 +7,7 @@ returns-in-Ok g c = inr (record {
   files = c.begin.new.files;
   first = c.in-Ok.disk;
   last = c.on-result.new.disk;
+  film = c.new-film.result;
   began = c.in-Ok.ensures.began;
   does = c.on-result.ensures;
   used = refl;
@@ -18,4 +19,5 @@ returns-in-Err g c = inl (record {
   none = refl;
   rest = refl;
   counted = c.begin.ensures.counted;
+  touches = c.begin.ensures.touches;
 })

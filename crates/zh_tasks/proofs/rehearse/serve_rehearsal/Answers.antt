@@ -1,16 +1,16 @@
 use Rattle.std.proofs.Common.{rules, ◌≡◌, Err, refl}
 use Rattle.zh_disk.specs.Memory.{memory_history}
-use Rattle.zh_tasks.specs.Run.{streams}
 use Rattle.zh_tasks.proofs.RehearseLemmas.{rehearsed, unformatted}
 use Rattle.zh_tasks.proofs.rehearse.serve_rehearsal.Goals as goal
 
 pub returns-in_err-format_blank : goal.returns-in_err-format_blank
 returns-in_err-format_blank g c =
     let is : c.from_residual-in_err-format_blank.result ≡ Err c.in_err-format_blank.field-0.0 = search rules in
-    rw is (unformatted _ _ _ c.in_err-format_blank.field-0.0 c.in_err-format_blank.ensures.fault (refl, refl))
+    rw is (unformatted _ _ _ c.in_err-format_blank.field-0.0 c.in_err-format_blank.ensures.fault (refl, refl, c.requires))
 
 pub returns : goal.returns
 returns g c =
-    let old = streams (g.I.Read.remaining c.args.input.now) (g.O.Write.contents c.args.out.now) in
-    let new = streams (g.I.Read.remaining c.serve_on.new.input) (g.O.Write.contents c.serve_on.new.out) in
-    rehearsed _ old new c.in_ok-setup.setup (memory_history c.format_blank.new.disk) (memory_history c.serve_on.new.disk) c.serve_on.result c.in_ok-setup.ensures refl (c.in_ok-format_blank.ensures.call.did refl).formatted c.serve_on.ensures.served
+    rehearsed _ _ _ c.in_ok-setup.setup (memory_history c.format_blank.new.disk) (memory_history c.serve_on.new.disk) c.serve_on.result c.in_ok-setup.ensures refl (c.in_ok-format_blank.ensures.call.did refl).formatted c.serve_on.ensures.served
+
+pub serve_on-requires : goal.serve_on-requires
+serve_on-requires g c = c.requires

@@ -1,4 +1,5 @@
 use Rattle.std.proofs.Common.{rules, refl, ◌≡◌, Err}
+use Rattle.zh_film.specs.Frames.{frames}
 use Rattle.zh_ledger.specs.Submissions.{on_disk}
 use Rattle.zh_tasks.specs.Opened.{IsThis}
 use Rattle.zh_tasks.specs.Run.{streams}
@@ -12,7 +13,7 @@ returns-in_err-serve-clause-disk g c =
     rw is (record { kept = c.serve.ensures.disk.kept; later = c.serve.ensures.disk.later; cause = λ none. absurd none })
 
 pub returns-then-faulted-clause-disk : goal.returns-then-faulted-clause-disk
-returns-then-faulted-clause-disk g c = record { kept = c.serve.ensures.disk.kept; later = c.serve.ensures.disk.later; cause = λ _. c.serve.ensures.disk.cause c.requires (search rules) }
+returns-then-faulted-clause-disk g c = record { kept = c.serve.ensures.disk.kept; later = c.serve.ensures.disk.later; cause = λ _. c.serve.ensures.disk.cause c.requires.whole (search rules) }
 
 pub returns-clause-disk : goal.returns-clause-disk
 returns-clause-disk g c = record { kept = c.serve.ensures.disk.kept; later = c.serve.ensures.disk.later; cause = tt }
@@ -22,8 +23,9 @@ returns-in_err-serve-clause-served g c =
     let is : c.from_residual.result ≡ Err (faults.Serve c.in_err-serve.field-0.0) = search rules in
     let start = on_disk c.args.office.now (g.D.Disk.history c.args.disk.now) in
     let end = on_disk c.serve.new.self (g.D.Disk.history c.serve.new.disk) in
+    let shown = frames g.I.Read g.O.Write g.D.Disk in
     let this : IsThis start (g.D.Disk.history c.serve.new.disk) start end = (refl, refl) in
-    rw is (broke_off (streams (g.I.Read.remaining c.args.input.now) (g.O.Write.contents c.args.out.now)) (streams (g.I.Read.remaining c.serve.new.reader) (g.O.Write.contents c.serve.new.writer)) (IsThis start (g.D.Disk.history c.serve.new.disk)) start end c.serve.result c.in_err-serve.field-0.0 this (search rules) c.serve.ensures.read c.serve.ensures.write c.serve.ensures.turns)
+    rw is (broke_off (streams (g.I.Read.remaining c.args.input.now) (g.O.Write.contents c.args.out.now) (shown c.args.film.now)) (streams (g.I.Read.remaining c.serve.new.reader) (g.O.Write.contents c.serve.new.writer) (shown c.serve.new.film)) (IsThis start (g.D.Disk.history c.serve.new.disk)) start end c.serve.result c.in_err-serve.field-0.0 this (search rules) c.serve.ensures.read c.serve.ensures.write c.serve.ensures.turns)
 
 pub returns-then-faulted-clause-served : goal.returns-then-faulted-clause-served
 returns-then-faulted-clause-served g c = record {
@@ -55,3 +57,6 @@ returns-then-faulted-clause-reads g c = rw (← c.most_reads.ensures) c.in_ok-se
 
 pub returns-clause-reads : goal.returns-clause-reads
 returns-clause-reads g c = rw (← c.most_reads.ensures) c.in_ok-serve.ensures.most
+
+pub serve-requires : goal.serve-requires
+serve-requires g c = c.requires.film

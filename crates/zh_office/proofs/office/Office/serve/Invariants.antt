@@ -1,3 +1,4 @@
+use Rattle.zh_film.specs.Frames.{frames}
 use Rattle.zh_office.specs.Served.{session, TakesReads}
 use Rattle.zh_office.proofs.InputLemmas.{Serving}
 use Rattle.zh_office.proofs.office.Office.serve.Given as goal
@@ -7,7 +8,8 @@ invariant-loop g l =
     let remaining = g.R.Read.remaining in
     let contents = g.W.Write.contents in
     let history = g.D.Disk.history in
+    let shown = frames g.R.Read g.W.Write g.D.Disk in
     record {
-      serving : Serving (remaining l.fn.reader) (remaining l.reader) (session (contents l.fn.writer) l.fn.self (history l.fn.disk)) (session (contents l.writer) l.self (history l.disk)) l.line.items l.count;
+      serving : Serving (session (contents l.fn.writer) l.fn.self (history l.fn.disk) (remaining l.fn.reader) (shown l.fn.film)) (session (contents l.writer) l.self (history l.disk) (remaining l.reader) (shown l.film)) l.line.items l.count;
       reads : TakesReads (remaining l.fn.reader) (remaining l.reader) l.counter;
     }

@@ -1,5 +1,6 @@
 use Rattle.std.proofs.Common.{length, length-append, ap, arith, ◌∙◌}
 use Rattle.std.proofs.lemmas.Grind.{common_steps}
+use Rattle.zh_film.specs.Frames.{frames}
 use Rattle.zh_office.specs.Served.{session}
 use Rattle.zh_office.proofs.BlockLemmas.{Progress-start, Progress-answered, Progress-failed, Progress-end}
 use Rattle.std.proofs.lemmas.Result.{err_from_is_err_and}
@@ -7,7 +8,7 @@ use Rattle.zh_office.proofs.office.Office.take_block.Goals as goal
 
 pub loop-ended-init : goal.loop-ended-init
 loop-ended-init g c = record {
-  progress = Progress-start (session (g.W.Write.contents c.args.writer.now) c.args.self.now (g.D.Disk.history c.args.disk.now)) c.args.line.now.items c.args.block.now c.requires;
+  progress = Progress-start (session (g.W.Write.contents c.args.writer.now) c.args.self.now (g.D.Disk.history c.args.disk.now) (g.R.Read.remaining c.args.reader.now) (frames g.R.Read g.W.Write g.D.Disk c.args.film.now)) c.args.line.now.items c.args.block.now c.requires;
   room = omega arith;
 }
 

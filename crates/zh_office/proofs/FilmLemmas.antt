@@ -1,0 +1,198 @@
+-- A film that is in order, frame by frame.
+use Rattle.std.proofs.Common.{◌≡◌, ◌≢◌, ◌≤◌, inl, inr, ℕ, List, [], ◌∷◌, ◌++◌, map, take, drop, length, refl, sym, ap, ◌∙◌, subst, arith, append_assoc, append-nil, take-append-drop, Option, Some, Result, Ok, Err}
+use Rattle.std.specs.Prelude.{◌↔◌, IsErrOf}
+use Rattle.std.specs.Io.KnownBytes.{Appends, Consumes}
+use Rattle.zh_disk.specs.Disk.{Trail}
+use Rattle.zh_film.specs.Frames.{FailsLast, Frame, InOrder, NoneFailed, now_at}
+use Rattle.zh_film.specs.declared.kind.FrameKind.{FrameKind}
+use Rattle.zh_film.specs.declared.kind.FrameKind.TheVariants.{Asks, Between, Failed}
+use Rattle.zh_office.specs.Filmed.{IsOn, FilmsSteps, FilmsFrontSteps}
+use Rattle.zh_ledger.specs.Submissions.{OnDisk}
+use Rattle.zh_office.specs.Office.{Office}
+use Rattle.zh_office.specs.Order.{Step, ComesAfter, IsInOrder, disk_after, texts}
+use Rattle.zh_office.specs.Served.{HasFailedRead, Session, frame_at}
+use Rattle.zh_office.specs.declared.service.ServeFault.{ServeFault}
+use Rattle.zh_office.specs.declared.service.ServeFault.TheVariants as faults
+use Rattle.zh_office.specs.Text.{ended_lines}
+use Rattle.std.proofs.KnownBytes.{Appends-nil, Appends-trans}
+use Rattle.zh_office.proofs.StepLemmas.{disk-append, texts-append}
+
+-- two frames between which no step is done or answered
+pub rests : (first a b : Frame) (done rest : List Step) → Appends first.written a.written (texts done) → a.disk ≡ disk_after first.disk done → b.written ≡ a.written → b.disk ≡ a.disk
+    → (a.kind ≢ Asks → b.left ≡ a.left) → (a.kind ≡ Asks → (input : List ℕ) × Consumes first.left a.left input × (map Some (ended_lines input) ≡ map (λ s. s.line) done))
+    → ComesAfter (done ++ rest) first a b
+rests first a b done rest written disk text still unread answered = record {
+  done = done;
+  one = [];
+  rest = rest;
+  parts = refl;
+  single = omega arith;
+  written = written;
+  disk = still ∙ disk ∙ ap (disk_after first.disk) (sym (append-nil done));
+  moves = inl (record { still = disk; unwritten = text });
+  unread = unread;
+  answered = answered;
+}
+
+-- what is in order up to now is so with the last frame
+pub over : (first : Frame) (done : List Step) (s : Session) → IsOn first done s → (rest : List Step) → InOrder (ComesAfter (done ++ rest) first) first s.film (frame_at s)
+over first done s on rest =
+    subst (λ (l : List Frame). InOrder (ComesAfter (done ++ rest) first) first l (frame_at s)) (sym on.noted)
+    (rests first (frame_at s) (frame_at s) done rest on.written on.disk refl refl (λ is. refl) (λ asks. absurd cc), on.order rest)
+
+-- and no read failed at all
+fails_last : (fs : List Frame) → NoneFailed fs → FailsLast fs
+fails_last [] none = tt
+fails_last (f ∷ fs) none = none.1
+
+-- the beginning
+pub starts : (s : Session) → s.film ≡ frame_at s ∷ [] → IsOn (frame_at s) [] s
+starts s noted = record {
+  before = [];
+  noted = noted;
+  calm = subst NoneFailed (sym noted) ((λ is. cc), tt);
+  order = λ rest. rests (frame_at s) (frame_at s) (frame_at s) [] rest (Appends-nil s.written) refl refl refl (λ is. refl) (λ asks. absurd cc);
+  written = Appends-nil s.written;
+  disk = refl;
+}
+
+-- the end
+pub film_ends : (first : Frame) (done : List Step) (s : Session) → IsOn first done s → IsInOrder done first s.film (frame_at s)
+film_ends first done s on = record {
+  follow = subst (λ (steps : List Step). InOrder (ComesAfter steps first) first s.film (frame_at s)) (append-nil done) (over first done s on []);
+  failed = fails_last s.film on.calm;
+}
+
+-- steps, and others after them
+pub FilmsSteps-none : (s : Session) → FilmsSteps s [] s
+FilmsSteps-none s = λ first done on. subst (λ (steps : List Step). IsOn first steps s) (sym (append-nil done)) on
+
+pub FilmsSteps-append : (old mid new : Session) (xs ys : List Step) → FilmsSteps old xs mid → FilmsSteps mid ys new → FilmsSteps old (xs ++ ys) new
+FilmsSteps-append old mid new xs ys a b = λ first done on.
+    subst (λ (steps : List Step). IsOn first steps new) (append_assoc done xs ys) (b first (done ++ xs) (a first done on))
+
+pub FilmsFrontSteps-after : (old mid new : Session) (xs ys : List Step) → FilmsSteps old xs mid → FilmsFrontSteps mid ys new → FilmsFrontSteps old (xs ++ ys) new
+FilmsFrontSteps-after old mid new xs ys a b = λ first done on.
+    let then = b first (done ++ xs) (a first done on) in
+    (subst (λ (steps : List Step). IsInOrder steps first new.film (frame_at new)) (append_assoc done xs ys) then.0, then.1)
+
+-- a step is done, and that is noted; then its answer is written, or a front of it
+module _ (first : Frame) (done : List Step) (old mid new : Session) (x : Step) (on : IsOn first done old)
+    (left : mid.left ≡ old.left) (unwritten : mid.written ≡ old.written) (disk : mid.office.history.trail ≡ x.disk)
+    (left' : new.left ≡ mid.left) (disk' : new.office.history.trail ≡ x.disk) where
+  after_it : x.disk ≡ disk_after first.disk (done ++ x ∷ [])
+  after_it = sym (disk-append first.disk done (x ∷ []))
+
+  works : (rest : List Step) → ComesAfter (done ++ x ∷ rest) first (frame_at old) (frame_at mid)
+  works rest = record {
+    done = done;
+    one = x ∷ [];
+    rest = rest;
+    parts = refl;
+    single = omega arith;
+    written = on.written;
+    disk = disk ∙ after_it;
+    moves = inl (record { still = on.disk; unwritten = unwritten });
+    unread = λ is. left;
+    answered = λ asks. absurd cc;
+  }
+
+  tells : (rest : List Step) (text more : List ℕ) → text ++ more ≡ texts (x ∷ []) → Appends mid.written new.written text → ComesAfter (done ++ x ∷ rest) first (frame_at mid) (frame_at new)
+  tells rest text more front written = record {
+    done = done;
+    one = x ∷ [];
+    rest = rest;
+    parts = refl;
+    single = omega arith;
+    written = subst (λ (w : Option (List ℕ)). Appends first.written w (texts done)) (sym unwritten) on.written;
+    disk = disk' ∙ after_it;
+    moves = inr (record { rests = disk ∙ sym disk'; text = text; more = more; front = front; written = written });
+    unread = λ is. left';
+    answered = λ asks. absurd cc;
+  }
+
+  until : (rest : List Step) (text more : List ℕ) → text ++ more ≡ texts (x ∷ []) → Appends mid.written new.written text
+      → InOrder (ComesAfter (done ++ x ∷ rest) first) first (frame_at mid ∷ old.film) (frame_at new)
+  until rest text more front written =
+      (tells rest text more front written, subst (λ (l : List Frame). InOrder (ComesAfter (done ++ x ∷ rest) first) first l (frame_at mid)) (sym on.noted) (works rest, on.order (x ∷ rest)))
+
+  pub answered : mid.film ≡ frame_at mid ∷ old.film → new.film ≡ frame_at new ∷ mid.film → Appends mid.written new.written x.text → IsOn first (done ++ x ∷ []) new
+  answered noted noted' written =
+      let whole : x.text ++ [] ≡ texts (x ∷ []) = refl in
+      let all : new.film ≡ frame_at new ∷ (frame_at mid ∷ old.film) = noted' ∙ ap (λ (l : List Frame). frame_at new ∷ l) noted in
+      record {
+        before = frame_at mid ∷ old.film;
+        noted = all;
+        calm = subst NoneFailed (sym all) ((λ is. cc), ((λ is. cc), on.calm));
+        order = λ rest. subst (λ (steps : List Step). InOrder (ComesAfter steps first) first (frame_at mid ∷ old.film) (frame_at new)) (sym (append_assoc done (x ∷ []) rest))
+            (until rest x.text [] whole written);
+        written = subst (Appends first.written new.written) (ap (λ (l : List ℕ). texts done ++ l) (sym (append-nil x.text)) ∙ sym (texts-append done (x ∷ [])))
+            (Appends-trans first.written old.written new.written (texts done) x.text on.written (subst (λ (w : Option (List ℕ)). Appends w new.written x.text) unwritten written));
+        disk = disk' ∙ after_it;
+      }
+
+  pub broken : mid.film ≡ frame_at mid ∷ old.film → new.film ≡ mid.film → (front : ℕ) → Appends mid.written new.written (take front x.text) → IsInOrder (done ++ x ∷ []) first new.film (frame_at new) × NoneFailed new.film
+  broken noted same front written =
+      let all : new.film ≡ frame_at mid ∷ old.film = same ∙ noted in (
+        record {
+          follow = subst (λ (l : List Frame). InOrder (ComesAfter (done ++ x ∷ []) first) first l (frame_at new)) (sym all)
+              (until [] (take front x.text) (drop front x.text) (take-append-drop front x.text ∙ sym (append-nil x.text)) written);
+          failed = subst FailsLast (sym all) on.calm;
+        },
+        subst NoneFailed (sym all) ((λ is. cc), on.calm),
+      )
+
+-- a read is made, and noted
+module _ (first : Frame) (done : List Step) (old new : Session) (kind : FrameKind) (input : List ℕ) (on : IsOn first done old)
+    (taken : Consumes first.left old.left input) (lines : map Some (ended_lines input) ≡ map (λ s. s.line) done)
+    (written : new.written ≡ old.written) (disk : new.office ≡ old.office) where
+  abbrev asking : Frame
+  asking = record { kind = Asks; left = old.left; written = old.written; disk = old.office.history.trail }
+
+  abbrev then : Frame
+  then = record { kind = kind; left = new.left; written = new.written; disk = new.office.history.trail }
+
+  trail : new.office.history.trail ≡ old.office.history.trail
+  trail = ap (λ (o : OnDisk Office). o.history.trail) disk
+
+  asks : (rest : List Step) → ComesAfter (done ++ rest) first (frame_at old) asking
+  asks rest = rests first (frame_at old) asking done rest on.written on.disk refl refl (λ is. refl) (λ asks. absurd cc)
+
+  takes : (rest : List Step) → ComesAfter (done ++ rest) first asking then
+  takes rest = rests first asking then done rest on.written on.disk written trail (λ other. absurd (other refl)) (λ is. (input, taken, lines))
+
+  until_read : (rest : List Step) → InOrder (ComesAfter (done ++ rest) first) first (asking ∷ old.film) then
+  until_read rest = (takes rest, subst (λ (l : List Frame). InOrder (ComesAfter (done ++ rest) first) first l asking) (sym on.noted) (asks rest, on.order rest))
+
+  pub was_read : kind ≡ Between → new.film ≡ then ∷ (asking ∷ old.film) → IsOn first done new
+  was_read between noted =
+      let same : then ≡ frame_at new = ap (λ (e : FrameKind). record { kind = e; left = new.left; written = new.written; disk = new.office.history.trail }) between in
+      let all : new.film ≡ frame_at new ∷ (asking ∷ old.film) = noted ∙ ap (λ (f : Frame). f ∷ (asking ∷ old.film)) same in
+      record {
+        before = asking ∷ old.film;
+        noted = all;
+        calm = subst NoneFailed (sym all) ((λ is. cc), ((λ is. cc), on.calm));
+        order = λ rest. subst (InOrder (ComesAfter (done ++ rest) first) first (asking ∷ old.film)) same (until_read rest);
+        written = subst (λ (w : Option (List ℕ)). Appends first.written w (texts done)) (sym written) on.written;
+        disk = trail ∙ on.disk;
+      }
+
+  pub read_failed : kind ≡ Failed → new.film ≡ then ∷ (asking ∷ old.film) → IsInOrder done first new.film (frame_at new)
+  read_failed failed noted = record {
+    follow = subst (λ (steps : List Step). InOrder (ComesAfter steps first) first new.film (frame_at new)) (append-nil done)
+        (subst (λ (l : List Frame). InOrder (ComesAfter (done ++ []) first) first l (frame_at new)) (sym noted) (
+          rests first then (frame_at new) done [] (subst (λ (w : Option (List ℕ)). Appends first.written w (texts done)) (sym written) on.written) (trail ∙ on.disk) refl refl (λ is. refl)
+              (λ asked. let wrong : Failed ≡ Asks = sym failed ∙ asked in absurd cc),
+          until_read [],
+        ));
+    failed = subst FailsLast (sym noted) ((λ is. cc), on.calm);
+  }
+
+-- where no read failed, the result is not that one did
+pub unfailed : (film : List Frame) (result : Result ℕ ServeFault) → NoneFailed film → (result ≡ Err faults.Read → ⊥) → HasFailedRead film ↔ IsErrOf result faults.Read
+unfailed [] result none other = ((λ no. absurd no), (λ is. absurd (other is)))
+unfailed (f ∷ fs) result none other = ((λ failed. absurd (none.0 failed)), (λ is. absurd (other is)))
+
+-- nor where a write did
+pub unfailed_write : (film : List Frame) (result : Result ℕ ServeFault) → NoneFailed film → result ≡ Err faults.Write → HasFailedRead film ↔ IsErrOf result faults.Read
+unfailed_write film result none is = unfailed film result none (λ other. let wrong : Err faults.Write ≡ Err faults.Read = sym is ∙ other in absurd cc)

@@ -1,0 +1,59 @@
+-- What answering lines does to a film that is in order.
+use Rattle.std.specs.Prelude.{◌≡◌, ◌<◌, ℕ, List, [], ◌∷◌, ◌++◌, length, take, Option, Result, OnOk, OnErr}
+use Rattle.std.specs.Io.KnownBytes.{Appends}
+use Rattle.zh_commands.specs.declared.output.WriteFault.{WriteFault}
+use Rattle.zh_film.specs.Frames.{Frame, InOrder, NoneFailed}
+use Rattle.zh_answers.specs.declared.answer.Answer.{Answer}
+use Rattle.zh_office.specs.Order.{Step, ComesAfter, IsInOrder, disk_after, texts}
+use Rattle.zh_office.specs.Runs.{Turn, text_after}
+use Rattle.zh_office.specs.Served.{Session, AnswersAll, BreaksOff, frame_at, step_of, steps_broken, steps_in}
+use Rattle.zh_office.specs.Text.{ended_lines, truncated, unfinished}
+
+-- All is in order up to now, which the film shows, whatever comes after it: these steps are done and answered, and no read failed.
+pub record IsOn (first : Frame) (done : List Step) (s : Session) : Type 0 where
+  pub before : List Frame
+  pub noted : s.film ≡ frame_at s ∷ before
+  pub calm : NoneFailed s.film
+  pub order : (rest : List Step) → InOrder (ComesAfter (done ++ rest) first) first before (frame_at s)
+  pub written : Appends first.written s.written (texts done)
+  pub disk : s.office.history.trail ≡ disk_after first.disk done
+
+-- these steps more are done and answered
+abbrev pub FilmsSteps : Session → List Step → Session → Type 0
+FilmsSteps old more new = (first : Frame) (done : List Step) → IsOn first done old → IsOn first (done ++ more) new
+
+-- of these steps more the last is not answered whole, and nothing comes after it
+abbrev pub FilmsFrontSteps : Session → List Step → Session → Type 0
+FilmsFrontSteps old more new =
+    (first : Frame) (done : List Step) → IsOn first done old → IsInOrder (done ++ more) first new.film (frame_at new) × NoneFailed new.film
+
+-- these lines are answered, and the answers written
+pub record FilmsAll (lines : List (List ℕ)) (old new : Session) : Type 0 where
+  pub answers : AnswersAll lines old new
+  pub shown : FilmsSteps old (steps_in lines old new answers) new
+
+-- of these lines some are answered, and of the answer to the next a front is written, and not all
+pub record FilmsFront (lines : List (List ℕ)) (old new : Session) : Type 0 where
+  pub breaks : BreaksOff lines old new
+  pub shown : FilmsFrontSteps old (steps_broken lines old new breaks) new
+
+-- all of a text is written, or at a fault a front of it and not all
+pub record WritesText (old new : Option (List ℕ)) (text : List ℕ) (result : Result (Unit {0}) WriteFault) : Type 0 where
+  pub all : OnOk result (Appends old new text)
+  pub front : OnErr result ((n : ℕ) × (n < length text) × Appends old new (take n text))
+
+-- a line is answered, and all of its answer is written, or a front of it and not all
+pub record WritesAnswer (old : Session) (bytes : List ℕ) (result : Result (Unit {0}) WriteFault) (new : Session) : Type 0 where
+  pub answer : Answer
+  pub turn : Turn old.office bytes answer new.office
+  pub ok : OnOk result (Appends old.written new.written (text_after bytes answer new.office))
+  pub err : OnErr result ((front : ℕ) × (front < length (text_after bytes answer new.office))
+      × Appends old.written new.written (take front (text_after bytes answer new.office)))
+  pub shown : OnOk result (FilmsSteps old (step_of bytes answer new.office ∷ []) new)
+  pub broken : OnErr result (FilmsFrontSteps old (step_of bytes answer new.office ∷ []) new)
+
+-- the block of bytes after these of a line gave so many lines; they are answered, and these bytes of a line are left
+pub record TakesBlock (old : Session) (line block : List ℕ) (new : Session) (line' : List ℕ) (count : ℕ) : Type 0 where
+  pub films : FilmsAll (ended_lines (line ++ block)) old new
+  pub left : line' ≡ truncated (unfinished (line ++ block))
+  pub counted : count ≡ length (ended_lines (line ++ block))

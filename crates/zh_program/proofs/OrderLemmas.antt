@@ -1,0 +1,228 @@
+-- The exchanges of a conversation that is in order.
+use Rattle.std.proofs.Common.{◌≡◌, ◌≤◌, ◌⊎◌, inl, inr, ⊎_elim, ℕ, List, [], ◌∷◌, ◌++◌, map, length, refl, sym, ◌∙◌, ap, subst, arith, append_assoc, Option, None, Some}
+use Rattle.std.proofs.lemmas.List.{append-nil}
+use Rattle.std.specs.Prelude.{flat_map}
+use Rattle.std.specs.Io.KnownBytes.{Appends, Consumes}
+use Rattle.std.proofs.KnownBytes.{Appends-nil, Appends-trans}
+use Rattle.zh_disk.specs.Disk.{IsImage, Trail}
+use Rattle.zh_film.specs.Frames.{Frame, InOrder, now_at}
+use Rattle.zh_returns.specs.Tally.{Tally}
+use Rattle.zh_ledger.specs.Images.{HasSome}
+use Rattle.zh_office.specs.Order as steps
+use Rattle.zh_office.specs.Order.{ComesAfter, IsDone, Step, disk_after, texts}
+use Rattle.zh_office.specs.Text.{ended_lines}
+use Rattle.zh_tasks.specs.Run.{Streams}
+use Rattle.zh_program.specs.Exchanges.{Exchange, disk_by, line_in, log_of, text_of}
+use Rattle.zh_program.specs.Order.{AnswersBeforeReading, Conversation, KeepsWhatIsTold, Throughout}
+use Rattle.zh_program.specs.Stopped.{Always}
+use Rattle.zh_program.proofs.AlwaysLemmas.{always_same}
+use Rattle.zh_program.proofs.ExchangeLemmas.{disk_more}
+use Rattle.zh_program.proofs.TurnLemmas.{AreTurns, AtRest, IsOne, at_any, at_one}
+
+-- an exchange, as a step
+abbrev pub step_in : Exchange → Step
+step_in x = record { line = line_in x.given; text = text_of x; disk = x.disk }
+
+-- the conversation is one of these exchanges, and in order
+abbrev pub IsTold : List Exchange → Conversation → Type 0
+IsTold xs talk = Throughout (ComesAfter (map step_in xs) talk.first) talk
+
+texts_in : (xs : List Exchange) → texts (map step_in xs) ≡ flat_map text_of xs
+texts_in [] = refl
+texts_in (x ∷ xs) = ap (λ (l : List ℕ). text_of x ++ l) (texts_in xs)
+
+disk_in : (t : Trail) (xs : List Exchange) → disk_after t (map step_in xs) ≡ disk_by t xs
+disk_in t [] = refl
+disk_in t (x ∷ xs) = disk_in x.disk xs
+
+lines_in : (xs : List Exchange) → map (λ (s : Step). s.line) (map step_in xs) ≡ map (λ (x : Exchange). line_in x.given) xs
+lines_in [] = refl
+lines_in (x ∷ xs) = ap (λ (l : List (Option (List ℕ))). line_in x.given ∷ l) (lines_in xs)
+
+length_in : (xs : List Exchange) → length (map step_in xs) ≡ length xs
+length_in [] = refl
+length_in (x ∷ xs) = omega (arith, length_in xs)
+
+pub steps-append : (xs ys : List Exchange) → map step_in (xs ++ ys) ≡ map step_in xs ++ map step_in ys
+steps-append [] ys = refl
+steps-append (x ∷ xs) ys = ap (λ (l : List Step). step_in x ∷ l) (steps-append xs ys)
+
+-- where steps have a first part, exchanges have it
+record HasParts (xs : List Exchange) (front back : List Step) : Type 0 where
+  done : List Exchange
+  rest : List Exchange
+  parts : xs ≡ done ++ rest
+  front_is : map step_in done ≡ front
+  back_is : map step_in rest ≡ back
+
+has_parts : (xs : List Exchange) (front back : List Step) → map step_in xs ≡ front ++ back → HasParts xs front back
+has_parts xs [] back is = record { done = []; rest = xs; parts = refl; front_is = refl; back_is = is }
+has_parts [] (s ∷ front) back is = absurd cc
+has_parts (x ∷ xs) (s ∷ front) back is =
+    let one : step_in x ≡ s = cc in
+    let others : map step_in xs ≡ front ++ back = cc in
+    let by = has_parts xs front back others in
+    record {
+      done = x ∷ by.done;
+      rest = by.rest;
+      parts = ap (λ (l : List Exchange). x ∷ l) by.parts;
+      front_is = ap (λ (l : List Step). step_in x ∷ l) by.front_is ∙ ap (λ (z : Step). z ∷ front) one;
+      back_is = by.back_is;
+    }
+
+-- two times that follow each other, by the exchanges
+record Comes (xs : List Exchange) (first a b : Frame) : Type 0 where
+  done : List Exchange
+  one : List Exchange
+  rest : List Exchange
+  parts : xs ≡ done ++ (one ++ rest)
+  single : length one ≤ 1
+  written : Appends first.written a.written (flat_map text_of done)
+  disk : b.disk ≡ disk_by first.disk (done ++ one)
+  moves : IsDone (disk_by first.disk done) a b ⊎ steps.IsTold (flat_map text_of one) a b
+
+module _ (xs : List Exchange) (first a b : Frame) (by : ComesAfter (map step_in xs) first a b) where
+  front : HasParts xs by.done (by.one ++ by.rest)
+  front = has_parts xs by.done (by.one ++ by.rest) by.parts
+
+  -- and of what is left the one
+  next_one : (f : HasParts xs by.done (by.one ++ by.rest)) → HasParts f.rest by.one by.rest
+  next_one f = has_parts f.rest by.one by.rest f.back_is
+
+  comes_by : (f : HasParts xs by.done (by.one ++ by.rest)) → HasParts f.rest by.one by.rest → Comes xs first a b
+  comes_by f n =
+      let told : texts by.done ≡ flat_map text_of f.done = ap texts (sym f.front_is) ∙ texts_in f.done in
+      let others : texts by.one ≡ flat_map text_of n.done = ap texts (sym n.front_is) ∙ texts_in n.done in
+      let before : disk_after first.disk by.done ≡ disk_by first.disk f.done = ap (disk_after first.disk) (sym f.front_is) ∙ disk_in first.disk f.done in
+      let both : map step_in (f.done ++ n.done) ≡ by.done ++ by.one = steps-append f.done n.done ∙ ap (λ (l : List Step). l ++ map step_in n.done) f.front_is ∙ ap (λ (l : List Step). by.done ++ l) n.front_is in
+      record {
+        done = f.done;
+        one = n.done;
+        rest = n.rest;
+        parts = f.parts ∙ ap (λ (l : List Exchange). f.done ++ l) n.parts;
+        single = omega (arith, by.single, length_in n.done, ap length n.front_is);
+        written = subst (Appends first.written a.written) told by.written;
+        disk = by.disk ∙ ap (disk_after first.disk) (sym both) ∙ disk_in first.disk (f.done ++ n.done);
+        moves = ⊎_elim
+            (λ (w : IsDone (disk_after first.disk by.done) a b). inl (subst (λ (t : Trail). IsDone t a b) before w))
+            (λ (w : steps.IsTold (texts by.one) a b). inr (subst (λ (l : List ℕ). steps.IsTold l a b) others w))
+            by.moves;
+      }
+
+  comes : Comes xs first a b
+  comes = comes_by front (next_one front)
+
+  -- a read comes once all lines are answered
+  pub before_reading : AnswersBeforeReading xs first a b
+  before_reading = record {
+    reads = λ asks.
+        let all = by.answered asks in
+        record {
+          input = all.0;
+          read = all.1;
+          done = front.done;
+          rest = front.rest;
+          parts = front.parts;
+          lines = sym (lines_in front.done) ∙ ap (map (λ (s : Step). s.line)) front.front_is ∙ sym all.2;
+          written = subst (Appends first.written a.written) (ap texts (sym front.front_is) ∙ texts_in front.done) by.written;
+        };
+    unread = by.unread;
+  }
+
+-- what each moment of the disk has
+module _ (tally : Tally) (first : Frame) (xs : List Exchange) (turns : AreTurns tally first.disk [] xs) (a b : Frame) where
+  -- while the disk is at work on one more, or on none
+  at_work : (done one rest : List Exchange) → xs ≡ done ++ (one ++ rest) → length one ≤ 1 → b.disk ≡ disk_by first.disk (done ++ one) → a.disk ≡ disk_by first.disk done
+      → Always (HasSome tally (log_of (done ++ one)).accepted (log_of done).acknowledged) a.disk b.disk
+  at_work done [] rest parts single disk still =
+      let same : b.disk ≡ a.disk = disk ∙ ap (disk_by first.disk) (append-nil done) ∙ sym still in
+      let rested = at_any tally first.disk [] done rest xs turns parts in
+      always_same (HasSome tally (log_of (done ++ [])).accepted (log_of done).acknowledged) a.disk b.disk same
+      (λ c image. subst (λ (d : List Exchange). HasSome tally (log_of d).accepted (log_of done).acknowledged c) (sym (append-nil done))
+      (rested c (subst (λ (t : Trail). IsImage t.now c) still image)))
+  at_work done (x ∷ []) rest parts single disk still =
+      let P = HasSome tally (log_of (done ++ x ∷ [])).accepted (log_of done).acknowledged in
+      let stopped = (at_one tally first.disk [] done rest x xs turns parts).stopped in
+      subst (λ (t : Trail). Always P t b.disk) (sym still) (subst (Always P (disk_by first.disk done)) (sym (disk ∙ disk_more first.disk done x)) stopped)
+  at_work done (x ∷ (y ∷ more)) rest parts single disk still = absurd (omega (arith, single))
+
+  -- while an answer is written
+  at_rest_of : (done one rest : List Exchange) → xs ≡ done ++ (one ++ rest) → b.disk ≡ disk_by first.disk (done ++ one) → a.disk ≡ b.disk
+      → Always (HasSome tally (log_of (done ++ one)).accepted (log_of (done ++ one)).acknowledged) a.disk b.disk
+  at_rest_of done one rest parts disk rests =
+      let rested = at_any tally first.disk [] (done ++ one) rest xs turns (parts ∙ sym (append_assoc done one rest)) in
+      always_same (HasSome tally (log_of (done ++ one)).accepted (log_of (done ++ one)).acknowledged) a.disk b.disk (sym rests)
+      (λ c image. rested c (subst (λ (t : Trail). IsImage t.now c) (rests ∙ disk) image))
+
+  flat-append : (ys zs : List Exchange) → flat_map text_of (ys ++ zs) ≡ flat_map text_of ys ++ flat_map text_of zs
+  flat-append [] zs = refl
+  flat-append (y ∷ ys) zs = ap (λ (l : List ℕ). text_of y ++ l) (flat-append ys zs) ∙ sym (append_assoc (text_of y) (flat_map text_of ys) (flat_map text_of zs))
+
+  keeps : Comes xs first a b → KeepsWhatIsTold tally xs first a b
+  keeps by = ⊎_elim
+      (λ (w : IsDone (disk_by first.disk by.done) a b). record {
+        done = by.done;
+        answered = by.written;
+        one = by.one;
+        single = by.single;
+        rest = by.rest;
+        parts = by.parts;
+        told = by.done;
+        with_it = inl refl;
+        text = flat_map text_of by.done;
+        more = [];
+        front = append-nil (flat_map text_of by.done);
+        written = subst (λ (o : Option (List ℕ)). Appends first.written o (flat_map text_of by.done)) (sym w.unwritten) by.written;
+        kept = at_work by.done by.one by.rest by.parts by.single by.disk w.still;
+      })
+      (λ (w : steps.IsTold (flat_map text_of by.one) a b). record {
+        done = by.done;
+        answered = by.written;
+        one = by.one;
+        single = by.single;
+        rest = by.rest;
+        parts = by.parts;
+        told = by.done ++ by.one;
+        with_it = inr refl;
+        text = flat_map text_of by.done ++ w.text;
+        more = w.more;
+        front = append_assoc (flat_map text_of by.done) w.text w.more ∙ ap (λ (l : List ℕ). flat_map text_of by.done ++ l) w.front ∙ sym (flat-append by.done by.one);
+        written = Appends-trans first.written a.written b.written (flat_map text_of by.done) w.text by.written w.written;
+        kept = at_rest_of by.done by.one by.rest by.parts by.disk w.rests;
+      })
+      by.moves
+
+in_order_map : (P Q : Frame → Frame → Type 0) → ((a b : Frame) → P a b → Q a b) → (first : Frame) (film : List Frame) (last : Frame) → InOrder P first film last → InOrder Q first film last
+in_order_map P Q so first [] last order = so first last order
+in_order_map P Q so first (f ∷ film) last order = (so f last order.0, in_order_map P Q so first film f order.1)
+
+pub awaited_of : (talk : Conversation) (xs : List Exchange) → IsTold xs talk → Throughout (AnswersBeforeReading xs talk.first) talk
+awaited_of talk xs told =
+    in_order_map (ComesAfter (map step_in xs) talk.first) (AnswersBeforeReading xs talk.first) (λ a b by. before_reading xs talk.first a b by) talk.first talk.noted talk.last told
+
+pub order_of : (tally : Tally) (talk : Conversation) (xs : List Exchange) → AreTurns tally talk.first.disk [] xs → IsTold xs talk
+    → Throughout (λ a b. KeepsWhatIsTold tally xs talk.first a b × AnswersBeforeReading xs talk.first a b) talk
+order_of tally talk xs turns told =
+    in_order_map (ComesAfter (map step_in xs) talk.first) (λ a b. KeepsWhatIsTold tally xs talk.first a b × AnswersBeforeReading xs talk.first a b)
+    (λ a b by. (keeps tally talk.first xs turns a b (comes xs talk.first a b by), before_reading xs talk.first a b by)) talk.first talk.noted talk.last told
+
+-- the conversation from these streams to those, in which the disk went from the one trail to the other
+abbrev pub talking : Streams → Streams → Trail → Trail → Conversation
+talking old new opened last = record { first = now_at old.left old.written opened; noted = new.film; last = now_at new.left new.written last }
+
+-- nothing is read, done or written
+pub told_none : (old new : Streams) (t : Trail) → new.left ≡ old.left → new.written ≡ old.written → new.film ≡ [] → IsTold [] (talking old new t t)
+told_none old new t unread unwritten blank =
+    let first = now_at old.left old.written t in
+    subst (λ (fs : List Frame). InOrder (ComesAfter [] first) first fs (now_at new.left new.written t)) (sym blank) (record {
+      done = [];
+      one = [];
+      rest = [];
+      parts = refl;
+      single = omega arith;
+      written = Appends-nil old.written;
+      disk = refl;
+      moves = inl (record { still = refl; unwritten = unwritten });
+      unread = λ is. unread;
+      answered = λ asks. absurd cc;
+    })

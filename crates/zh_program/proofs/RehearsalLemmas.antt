@@ -1,0 +1,110 @@
+-- What a rehearsal has read and answered.
+use Rattle.std.proofs.Common.{◌≡◌, ◌≢◌, ◌∙◌, ℕ, List, [], map, Option, Some, None, Result, Ok, Err, ⊎_elim, refl, sym, ap, subst}
+use Rattle.zh_disk.specs.Disk.{Trail, fresh_trail}
+use Rattle.zh_disk.specs.declared.memory.MemoryDisk.{MemoryDisk}
+use Rattle.zh_districts.specs.Canton.{Canton}
+use Rattle.zh_film.specs.Frames.{frame_of}
+use Rattle.zh_film.specs.Scenes.{scenes}
+use Rattle.zh_film.specs.declared.film.Film.{Film}
+use Rattle.zh_arguments.specs.declared.arguments.Paths.{Paths}
+use Rattle.zh_arguments.specs.declared.arguments.Task.{Task}
+use Rattle.zh_arguments.specs.declared.arguments.Task.TheVariants as tasks
+use Rattle.zh_world.specs.declared.world.World.{World}
+use Rattle.zh_tasks.specs.DryRun.{HasDryRun}
+use Rattle.zh_tasks.specs.Export.{Exported}
+use Rattle.zh_tasks.specs.Format.{Formatted}
+use Rattle.zh_tasks.specs.Load.{HasLoaded}
+use Rattle.zh_tasks.specs.OnDisk.{HasUsed, UsesFilm}
+use Rattle.zh_tasks.specs.Rehearse.{IsRehearsal, Rehearsed as HasRehearsed, Rehearses, in_memory, rehearsal_shown}
+use Rattle.zh_tasks.specs.Run.{Ran, Serves, Streams, streams_of}
+use Rattle.zh_tasks.specs.Seats.{HasShownSeats}
+use Rattle.zh_tasks.specs.Status.{Shown}
+use Rattle.zh_tasks.specs.Tasks.{Does}
+use Rattle.zh_tasks.specs.World.{Known, Sight, finding, making}
+use Rattle.zh_tasks.specs.declared.fault.TaskFault.{TaskFault}
+use Rattle.zh_tasks.specs.declared.fault.TaskFault.TheVariants as faults
+use Rattle.zh_tasks.specs.declared.used.Filmed.{Filmed}
+use Rattle.zh_tasks.specs.declared.used.Used.{Used}
+use Rattle.zh_tasks.specs.declared.used.Used.TheVariants.{Disk, Rehearsal}
+use Rattle.zh_office.specs.declared.service.ServeFault.TheVariants as serving
+use Rattle.zh_program.specs.Program.{ends}
+use Rattle.zh_program.specs.Promise.{RehearsalPromise}
+use Rattle.zh_program.proofs.OrderLemmas.{awaited_of, talking, told_none}
+use Rattle.zh_program.proofs.ServedLemmas.{none_due, serve_done}
+use Rattle.zh_program.proofs.TouchLemmas.{unfilmed}
+
+-- what was done is served, or nothing was done
+by_case : {X : Type 0} (nothing : Type 0) (old new : Streams) (result : Result (Unit {0}) TaskFault) → HasRehearsed nothing old new result
+    → ((fault : TaskFault) → result ≡ Err fault → nothing → X) → (Serves old new IsRehearsal result → X) → X
+by_case nothing old new (Err faults.Memory) by none serves = none faults.Memory refl by
+by_case nothing old new (Err faults.Device) by none serves = none faults.Device refl by
+by_case nothing old new (Err faults.InUse) by none serves = none faults.InUse refl by
+by_case nothing old new (Err (faults.Open fault)) by none serves = none (faults.Open fault) refl by
+by_case nothing old new result by none serves = serves by
+
+module _ {I O E F T D R : Type 0} (of : Known I O E F T D R) where
+  rehearsed : (old after : World I O E F) (film : Film I O MemoryDisk) (status : ℕ) (result : Result (Unit {0}) TaskFault) → ((fault : TaskFault) → result ≡ Err fault → status ≢ 0)
+      → HasRehearsed ((after.input ≡ old.input) × (after.output ≡ old.output) × (scenes film ≡ [])) (streams_of of old []) (streams_of of after (rehearsal_shown of film)) result → RehearsalPromise of old after status film
+  rehearsed old after film status result failed by =
+      let before = streams_of of old [] in
+      let now = streams_of of after (rehearsal_shown of film) in
+      by_case ((after.input ≡ old.input) × (after.output ≡ old.output) × (scenes film ≡ [])) before now result by
+      (λ fault is nothing.
+      let left : now.left ≡ before.left = ap of.readers.remaining nothing.0 in
+      let written : now.written ≡ before.written = ap of.writers.contents nothing.1 in
+      let blank : now.film ≡ [] = ap (map (frame_of of.readers of.writers in_memory)) nothing.2 in
+      let at = fresh_trail [] in
+      record {
+        exchanges = [];
+        opened = at;
+        last = at;
+        due = none_due before now status at (failed fault is) left written;
+        awaited = awaited_of (talking before now at at) [] (told_none before now at left written blank);
+      })
+      (λ serves.
+      let served = serve_done before now status IsRehearsal result failed serves in
+      record {
+        exchanges = served.exchanges;
+        opened = served.start.history.trail;
+        last = served.end.history.trail;
+        due = served.due;
+        awaited = awaited_of (talking before now served.start.history.trail served.end.history.trail) served.exchanges served.told;
+      })
+
+  -- only a rehearsal hands over such a film
+  module _ (old after : World I O E F) (status : ℕ) (result : Result (Unit {0}) TaskFault) (failed : (fault : TaskFault) → result ≡ Err fault → status ≢ 0) (used : Option (Used I O D)) (film : Film I O MemoryDisk) (handed : used ≡ Some (Rehearsal film)) where
+    none_other : {X : Type 0} → used ≡ None → X
+    none_other is = let wrong : Some (Rehearsal film) ≡ None = sym handed ∙ is in absurd cc
+
+    none_filmed : {X : Type 0} (filmed : Filmed I O D) → used ≡ Some (Disk filmed) → X
+    none_filmed filmed is = let wrong : Some (Rehearsal film) ≡ Some (Disk filmed) = sym handed ∙ is in absurd cc
+
+    on_a_disk : {X : Type 0} (sight : Sight F T D R) (paths : Paths) (DoesOn : Canton → World I O E F × D → World I O E F × D → Result (Unit {0}) TaskFault × Film I O D → Type 0) → UsesFilm sight paths old after DoesOn (ends result used) → X
+    on_a_disk {X} sight paths DoesOn by = ⊎_elim {B = HasUsed sight paths old after (λ canton before end film. DoesOn canton before end (result, film)) used} {C = X}
+        (λ early. none_other early.none)
+        (λ uses. none_filmed (record { disk = uses.last; film = uses.film }) uses.used)
+        by
+
+    rehearsed_after : Rehearses of old after (ends result used) → RehearsalPromise of old after status film
+    rehearsed_after by =
+        let same : by.film ≡ film = (let one : Some (Rehearsal by.film) ≡ Some (Rehearsal film) = sym by.used ∙ handed in cc) in
+        subst (RehearsalPromise of old after status) same (rehearsed old after by.film status result failed by.served)
+
+    said : (task : Task) → Does of task old after (ends result used) → RehearsalPromise of old after status film
+    said tasks.Rehearse by = rehearsed_after by
+    said (tasks.List setup table) by = none_other by.none
+    said (tasks.SheetSeats setup sheet layout) by = none_other by.none
+    said (tasks.Check paths) by = none_other by.none
+    said (tasks.Run paths) by = on_a_disk (finding of.files of.disks) paths (Ran of) by
+    said (tasks.Load paths csv) by = on_a_disk (finding of.files of.disks) paths (HasLoaded of csv.now) by
+    said (tasks.DryRun paths csv) by = on_a_disk (finding of.files of.disks) paths (unfilmed (HasDryRun of csv.now)) by
+    said (tasks.Export paths) by = on_a_disk (finding of.files of.disks) paths (unfilmed (Exported of)) by
+    said (tasks.Status paths view) by = on_a_disk (finding of.files of.disks) paths (unfilmed (Shown of view)) by
+    said (tasks.Seats paths is_final layout) by = on_a_disk (finding of.files of.disks) paths (unfilmed (HasShownSeats of (record { is_final = is_final; layout = layout }))) by
+    said (tasks.Format paths) by = on_a_disk (making of.files of.disks) paths (unfilmed (Formatted of)) by
+
+    -- and no more changed after it than what was said of it
+    pub rehearsed_of : (new : World I O E F) → new ≡ record after { faults = new.faults; remark = new.remark } → (task : Task) → Does of task old after (ends result used) → RehearsalPromise of old new status film
+    rehearsed_of new rest task by =
+        let here = said task by in
+        subst (λ (w : World I O E F). RehearsalPromise of old w status film) (sym rest) (record { exchanges = here.exchanges; opened = here.opened; last = here.last; due = here.due; awaited = here.awaited })
