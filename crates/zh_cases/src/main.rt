@@ -2,6 +2,7 @@
 #![tactic(auto)]
 
 mod device;
+mod disks;
 mod fault;
 mod files;
 mod fixture;
@@ -10,6 +11,7 @@ mod memory;
 mod opening;
 mod program;
 mod question;
+mod refusals;
 mod serving;
 mod setups;
 mod streams;
@@ -69,7 +71,7 @@ fn run_with(
     lines: &[NumberedLine],
     progress: &mut Progress,
 ) -> Result<(), Fault> {
-    let mut fixture = Fixture::new(rt.alloc(), setups)?;
+    let mut fixture = Fixture::new(rt, setups)?;
     run_lines(rt, &mut fixture, lines, progress)
 }
 

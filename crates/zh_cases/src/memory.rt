@@ -6,7 +6,7 @@ use crate::program::{answer_of, arguments_in, input_in};
 use crate::streams::{SlowInput, SlowOutput};
 use std::alloc::Global;
 use std::fs;
-use zh_program::program;
+use zh_program::{Filmed, Used, program};
 use zh_transcripts::read_number;
 use zh_world::{Ended, MemoryFiles, Named, Remark, World};
 
@@ -130,14 +130,20 @@ fn run_on(
         output: SlowOutput {
             bytes: Vec::new(alloc),
             left: passes.output,
+            takes: 1,
         },
         faults: Vec::new(alloc),
         remark: Remark::Whole,
         files,
     };
     let Ended { result, used } = program(alloc, &given.arguments, OneDisk, &mut world);
-    if let Some(disk) = used {
-        fixture.take_over(disk.into_inner());
+    match used {
+        Some(Used::Disk(filmed)) => {
+            let Filmed { disk, film: _film } = filmed;
+            fixture.take_over(disk.into_inner());
+        }
+        Some(Used::Rehearsal(_film)) => {}
+        None => {}
     }
     answer_of(alloc, result, ", ", &world.output.bytes, &world.faults)
 }

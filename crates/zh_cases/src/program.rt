@@ -6,7 +6,7 @@ use crate::fault::Fault;
 use std::alloc::Global;
 use std::fs;
 use zh_file::Start;
-use zh_host::HostFiles;
+use zh_host::{FolderFiles, HostFolder};
 use zh_program::program;
 use zh_world::{Remark, World};
 
@@ -38,6 +38,13 @@ pub(crate) fn push_lines(answer: &mut String, separator: &str, text: &[u8]) -> R
         answer.push_str(line)?;
     }
     Ok(())
+}
+
+/// The lines of a text, with a separator between them.
+pub(crate) fn lines_in(alloc: Global, text: &[u8]) -> Result<String, Fault> {
+    let mut lines = String::new(alloc);
+    push_lines(&mut lines, "; ", text)?;
+    Ok(lines)
 }
 
 /// What stands in a file, nothing where none is named.
@@ -83,7 +90,7 @@ fn run_on<S: Start>(
         output: Vec::new(alloc),
         faults: Vec::new(alloc),
         remark: Remark::Whole,
-        files: HostFiles::<S>::new(rt),
+        files: FolderFiles::new(HostFolder::<S>::new(rt)),
     };
     let status = program(alloc, arguments, start, &mut world).result;
     answer_of(alloc, status, "; ", &world.output, &world.faults)

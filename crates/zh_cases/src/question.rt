@@ -1,31 +1,51 @@
 //! Turns on questions, and on why there are no seats.
 
 use crate::fault::Fault;
-use std::alloc::{AllocError, Global};
-use std::fs;
-use zh_questions::{answer_to, impossible};
+use crate::fixture::Fixture;
+use std::alloc::Global;
+use std::fs::{self, File};
+use zh_questions::{QuestionFault, answer_to, impossible};
 use zh_returns::Count;
-use zh_sheet::{ExhaustedReason, SheetFault, explain};
+use zh_sheet::{ExhaustedReason, explain};
 use zh_totals::Totals;
 
-/// What becomes of the question in a file.
-pub(crate) fn ask(rt: &HostRuntime, name: &str) -> Result<String, Fault> {
-    let text = fs::read_to_string(rt, name)?;
-    Ok(answer_to(rt.alloc(), text.as_str())?)
+/// The answer where memory was refused.
+fn memory(alloc: Global) -> Result<String, Fault> {
+    Ok(String::from_str(alloc, "memory")?)
 }
 
-/// Why the seats of the lists of a count are exhausted, or the fault before.
-pub(crate) fn reason_of(alloc: Global, count: &Count<'_>) -> Result<String, Fault> {
-    let totals = Totals::of(alloc, count)?;
-    match explain(alloc, &totals) {
+/// What becomes of the question in a file.
+pub(crate) fn ask(rt: &HostRuntime, fixture: &Fixture<'_>, name: &str) -> Result<String, Fault> {
+    let text = fs::read_to_string(rt, name)?;
+    let mark = fixture.mark()?;
+    let answer = answer_to(rt.alloc(), text.as_str());
+    drop(mark);
+    match answer {
+        Err(QuestionFault::Memory(_)) => memory(rt.alloc()),
+        answer => Ok(answer?),
+    }
+}
+
+/// Why the seats of the lists of a count are exhausted, or the fault before. `mark` stands round the calls.
+pub(crate) fn reason_of(
+    alloc: Global,
+    count: &Count<'_>,
+    mark: Option<File>,
+) -> Result<String, Fault> {
+    let Ok(totals) = Totals::of(alloc, count) else {
+        drop(mark);
+        return memory(alloc);
+    };
+    let explained = explain(alloc, &totals);
+    drop(mark);
+    match explained {
         Ok(ExhaustedReason::Impossible(marked)) => {
             Ok(impossible(alloc, &marked, totals.setup().constituencies())?)
         }
         Ok(ExhaustedReason::NearlyTied(constituency, group)) => {
             Ok(format!(in alloc; "nearly tied {constituency} {group}")?)
         }
-        Ok(ExhaustedReason::Undecided) => Ok(String::from_str(alloc, "undecided")?),
-        Err(SheetFault::Memory) => Err(Fault::Memory(AllocError)),
+        Ok(ExhaustedReason::Undecided(_left)) => Ok(String::from_str(alloc, "undecided")?),
         Err(fault) => Ok(format!(in alloc; "{fault}")?),
     }
 }

@@ -2,40 +2,52 @@
 
 use crate::device::Device;
 use crate::fault::Fault;
-use crate::program::push_lines;
+use crate::program::{lines_in, push_lines};
 use crate::streams::{SlowInput, SlowOutput};
 use std::alloc::Global;
+use zh_commands::{Reply, write_reply};
+use zh_film::Film;
 use zh_office::Office;
 use zh_transcripts::read_number;
 
 /// How many reads an office may make of a line.
-const READS_OF_LINE: u64 = 1_000;
+pub(crate) const READS_OF_LINE: u64 = 1_000;
 
-/// After how many reads serving a text ends, and after how many bytes its input and its output fail.
+/// Room for the answer to most lines, so that no memory is taken for it while it is written.
+pub(crate) const ROOM: usize = 4_000;
+
+/// After how many reads serving a text ends, and after how many bytes its input and writes its output fail.
 #[derive(Clone, Copy)]
 pub(crate) struct Limits {
     reads: u64,
     input: u64,
     output: u64,
+    /// The most bytes that a write takes.
+    takes: usize,
 }
 
-/// What an office answers to these bytes and a line's end.
-pub(crate) fn answer_to(
-    alloc: Global,
-    office: &mut Office<'_>,
-    disk: &mut Device,
-    bytes: &[u8],
-) -> Result<String, Fault> {
-    let mut text = bytes.to_vec(alloc)?;
-    text.push(b'\n')?;
-    let mut reader = text.as_slice();
-    let mut out = Vec::new(alloc);
-    let served = office.serve(&mut reader, &mut out, disk, READS_OF_LINE);
-    if served.is_err() {
-        return Err(Fault::Text("the line is too long"));
+impl Limits {
+    pub(crate) fn input_of<'t>(self, text: &'t [u8]) -> SlowInput<'t> {
+        SlowInput {
+            text,
+            left: self.input,
+        }
     }
-    let mut answer = String::new(alloc);
-    push_lines(&mut answer, "; ", &out)?;
+}
+
+/// The reply to a text that was loaded, without its desk, and after a limit how many of its bytes were not read.
+pub(crate) fn loaded(
+    alloc: Global,
+    reply: &Reply,
+    limits: Limits,
+    input: &SlowInput<'_>,
+) -> Result<String, Fault> {
+    let mut line = [0; 64];
+    let length = write_reply(0, reply, &mut line);
+    let mut answer = lines_in(alloc, line.get(2..length).unwrap_or(&[]))?;
+    if limits.input < u64::MAX {
+        answer.push_str(format!(in alloc; "; {} left", input.text.len())?.as_str())?;
+    }
     Ok(answer)
 }
 
@@ -45,6 +57,7 @@ pub(crate) fn read_limits(text: &str) -> Result<(&str, Limits), Fault> {
         reads: u64::MAX,
         input: u64::MAX,
         output: u64::MAX,
+        takes: 1,
     };
     let Some((name, limit)) = text.split_once(' ') else {
         return Ok((text, limits));
@@ -55,6 +68,10 @@ pub(crate) fn read_limits(text: &str) -> Result<(&str, Limits), Fault> {
         "reads" => limits.reads = number,
         "input" => limits.input = number,
         "output" => limits.output = number,
+        "writes" => {
+            limits.output = number;
+            limits.takes = usize::MAX;
+        }
         _ => return Err(Fault::Text("there is no such limit")),
     }
     Ok((name, limits))
@@ -68,15 +85,19 @@ pub(crate) fn serve_within(
     text: &[u8],
     limits: Limits,
 ) -> Result<String, Fault> {
-    let mut input = SlowInput {
-        text,
-        left: limits.input,
-    };
+    let mut input = limits.input_of(text);
     let mut out = SlowOutput {
         bytes: Vec::new(alloc),
         left: limits.output,
+        takes: limits.takes,
     };
-    let mut answer = match office.serve(&mut input, &mut out, disk, limits.reads) {
+    let mut answer = match office.serve(
+        &mut input,
+        &mut out,
+        disk,
+        &mut Film::new(),
+        limits.reads,
+    ) {
         Ok(lines) => format!(in alloc; "{lines}")?,
         Err(fault) => format!(in alloc; "{fault}")?,
     };

@@ -1,4 +1,4 @@
-//! An input that gives one byte of each read, and an output that takes one of each write. Both may fail.
+//! An input that gives one byte of each read, and an output that takes so many of each write. Both may fail.
 
 use std::io::{self, ErrorKind, Read, Write};
 
@@ -27,11 +27,13 @@ impl Read for SlowInput<'_> {
     }
 }
 
-/// Takes one byte of each write, as long as bytes are left to take, and then fails.
+/// Takes bytes of each write, as long as writes are left to take, and then fails.
 #[derive(Drop)]
 pub(crate) struct SlowOutput {
     pub(crate) bytes: Vec<u8>,
     pub(crate) left: u64,
+    /// The most bytes that a write takes.
+    pub(crate) takes: usize,
 }
 
 impl Write for SlowOutput {
@@ -39,12 +41,12 @@ impl Write for SlowOutput {
         if self.left == 0 {
             return Err(ErrorKind::BrokenPipe.into());
         }
-        let Some(byte) = buf.first() else {
-            return Ok(0);
-        };
-        self.bytes.push(*byte)?;
-        self.left -= 1;
-        Ok(1)
+        let taken = buf.get(..self.takes).unwrap_or(buf);
+        if !taken.is_empty() {
+            self.bytes.extend_from_slice(taken)?;
+            self.left -= 1;
+        }
+        Ok(taken.len())
     }
 
     fn flush(&mut self) -> io::Result<()> {

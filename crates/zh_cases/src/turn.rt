@@ -6,6 +6,7 @@ use crate::fixture::Fixture;
 use crate::memory::run_within;
 use crate::program::run_program;
 use crate::question::ask;
+use crate::refusals::refuse;
 use crate::serving::read_limits;
 use crate::words::read_stop;
 use std::fs;
@@ -20,7 +21,11 @@ fn line_in<'t>(text: &'t str) -> Option<&'t str> {
 }
 
 /// Makes a turn, and gives the answer.
-fn act(rt: &HostRuntime, fixture: &mut Fixture<'_>, text: &str) -> Result<String, Fault> {
+pub(crate) fn act(
+    rt: &HostRuntime,
+    fixture: &mut Fixture<'_>,
+    text: &str,
+) -> Result<String, Fault> {
     if let Some(line) = line_in(text) {
         return fixture.send(line.as_bytes());
     }
@@ -29,12 +34,16 @@ fn act(rt: &HostRuntime, fixture: &mut Fixture<'_>, text: &str) -> Result<String
         "hex" => fixture.send(&read_bytes(rt.alloc(), rest)?),
         "holds" => fixture.holds(rest),
         "calls" => fixture.calls(),
-        "csv" => fixture.load(&fs::read(rt, rest)?),
+        "export" => fixture.export(),
+        "csv" => {
+            let (name, limits) = read_limits(rest)?;
+            fixture.load(&fs::read(rt, name)?, limits)
+        }
         "serve" => {
             let (name, limits) = read_limits(rest)?;
             fixture.serve(&fs::read(rt, name)?, limits)
         }
-        "question" => ask(rt, rest),
+        "question" => ask(rt, fixture, rest),
         "reason" => fixture.reason(),
         "zhcount" => run_program(rt, rest),
         "within" => run_within(rt, fixture, rest),
@@ -54,7 +63,9 @@ fn act_on_office(
         "setup" => fixture.take_setup(rest),
         "format" => fixture.format(),
         "open" => fixture.open(),
-        "mark" => fixture.mark(),
+        "hold" => fixture.hold(),
+        "held" => fixture.compare(),
+        "mark" => fixture.keep(),
         "back" => fixture.back(rest),
         _ => act_on_disk(rt, fixture, word, rest),
     }
@@ -88,6 +99,22 @@ fn is_expected(expected: &str, found: &str) -> bool {
     }
 }
 
+/// Sees that a turn is answered as is expected.
+pub(crate) fn see(
+    rt: &HostRuntime,
+    fixture: &Fixture<'_>,
+    turn: &str,
+    expected: &str,
+    found: &str,
+) -> Result<(), Fault> {
+    if is_expected(expected, found) {
+        return Ok(());
+    }
+    let place = fixture.place.as_str();
+    let wrong = format!(in rt.alloc(); "'{turn}'{place}: expected '{expected}', found '{found}'")?;
+    Err(Fault::Wrong(wrong))
+}
+
 /// Makes a turn, `TURN -> ANSWER`. Without an arrow the answer is to be `ok`.
 pub(crate) fn run_turn(
     rt: &HostRuntime,
@@ -95,15 +122,16 @@ pub(crate) fn run_turn(
     line: &NumberedLine,
 ) -> Result<(), Fault> {
     let text = line.text.as_str();
+    if fixture.is_over && !text.starts_with("case ") {
+        return Ok(());
+    }
     let (turn, expected) = match text.rsplit_once("->") {
         Some((turn, expected)) => (turn.trim_end(), expected.trim_start()),
         None => (text, "ok"),
     };
-    let found = act(rt, fixture, turn)?;
-    if is_expected(expected, found.as_str()) {
-        return Ok(());
+    if let Some(turn) = turn.strip_prefix("refuse ") {
+        return refuse(rt, fixture, line.number, turn, expected);
     }
-    let place = fixture.place.as_str();
-    let wrong = format!(in rt.alloc(); "'{turn}'{place}: expected '{expected}', found '{found}'")?;
-    Err(Fault::Wrong(wrong))
+    let found = act(rt, fixture, turn)?;
+    see(rt, fixture, turn, expected, found.as_str())
 }

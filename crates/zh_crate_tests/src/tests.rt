@@ -1,10 +1,8 @@
 mod counts;
-mod elections;
 mod files;
+mod folders;
 mod halves;
-mod matrices;
 mod records;
 mod refused_memory;
 mod replies;
 mod shares;
-mod sheets;

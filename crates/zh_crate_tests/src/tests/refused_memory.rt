@@ -1,18 +1,12 @@
 //! Allocations that are refused, one in each run: tests/refused_allocations.sh runs these tests once for each that is
 //! made. What is called is called once more where memory was refused to it.
 
-use super::elections::{setup_of, totals_of};
-use std::alloc::{AllocError, Global};
+use std::alloc::Global;
 use std::process::Abort;
 use std::test::Fail;
 use zh_disk::{Disk, DiskFault, MemoryDisk, Stop};
 use zh_districts::{SeatFault, Setup, seats, setup_bytes};
-use zh_quorum::participating;
-use zh_returns::Count;
-use zh_setups::{SetupFault, SetupRefusal, read_setup, rehearsal};
-use zh_sheet::{ExhaustedReason, SheetFault, explain};
-use zh_totals::Totals;
-use zh_upper::{UpperFault, upper, voters};
+use zh_setups::{SetupFault, SetupRefusal, read_setup};
 
 // The text of docs/FORMATS.md, "Set-up text", with a canton-wide quorum.
 const TEXT: &str = r#"version = 2
@@ -63,7 +57,10 @@ const BYTES: [u8; 63] = [
 ];
 
 fn see_bytes(rt: &impl Abort, alloc: Global, setup: &Setup) -> Result<(), Fail> {
-    let bytes = setup_bytes(alloc, setup).or_else(|_| setup_bytes(alloc, setup))?;
+    let bytes = match setup_bytes(alloc, setup) {
+        Ok(bytes) => bytes,
+        Err(_) => setup_bytes(alloc, setup)?,
+    };
     assert!(rt; bytes.as_slice() == BYTES.as_slice());
     Ok(())
 }
@@ -91,94 +88,6 @@ fn a_set_up_is_read(rt: HostRuntime) -> Result<(), Fail> {
     };
     see_bytes(&rt, rt.alloc(), &setup)?;
     see_seats(&rt, rt.alloc(), &setup)
-}
-
-/// The totals of an empty count, made for this call alone.
-fn none_counted(alloc: Global, setup: &Setup) -> Result<bool, AllocError> {
-    let count = Count::new(alloc, setup)?;
-    let totals = Totals::of(alloc, &count)?;
-    Ok(totals.setup().constituencies() == 3 && totals.constituency(3) == 0)
-}
-
-#[test]
-fn totals_are_made(rt: HostRuntime) -> Result<(), Fail> {
-    let setup = match rehearsal(rt.alloc()) {
-        Ok(setup) => setup,
-        Err(_) => rehearsal(rt.alloc())?,
-    };
-    let is_none = match none_counted(rt.alloc(), &setup) {
-        Ok(is_none) => is_none,
-        Err(_) => none_counted(rt.alloc(), &setup)?,
-    };
-    assert!(rt; is_none);
-    Ok(())
-}
-
-/// Whether the first two of three groups take part.
-fn two_take_part(alloc: Global, totals: &Totals<'_>) -> Result<bool, AllocError> {
-    Ok(participating(alloc, totals)?.as_slice() == [true, true, false].as_slice())
-}
-
-#[test]
-fn groups_take_part(rt: HostRuntime) -> Result<(), Fail> {
-    let setup = rehearsal(rt.alloc())?;
-    // In Nord 570 votes for A and 30 for B, which are 5 percent.
-    let totals = totals_of(&rt, rt.alloc(), &setup, &[&[570, 30]])?;
-    let do_take_part = match two_take_part(rt.alloc(), &totals) {
-        Ok(do_take_part) => do_take_part,
-        Err(AllocError) => two_take_part(rt.alloc(), &totals)?,
-    };
-    assert!(rt; do_take_part);
-    Ok(())
-}
-
-/// Whether these are the voters where 3 constituencies have 5, 3 and 2 seats.
-fn are_voters(alloc: Global, totals: &Totals<'_>, wanted: &[u64]) -> Result<bool, AllocError> {
-    if totals.setup().constituencies() != 3 {
-        return Ok(false);
-    }
-    Ok(voters(alloc, totals, &[5, 3, 2])?.as_slice() == wanted)
-}
-
-#[test]
-fn voters_are_counted(rt: HostRuntime) -> Result<(), Fail> {
-    let setup = rehearsal(rt.alloc())?;
-    let totals = totals_of(&rt, rt.alloc(), &setup, &[&[525]])?;
-    let wanted = [105, 0, 0];
-    let are_counted = match are_voters(rt.alloc(), &totals, &wanted) {
-        Ok(are_counted) => are_counted,
-        Err(AllocError) => are_voters(rt.alloc(), &totals, &wanted)?,
-    };
-    assert!(rt; are_counted);
-    Ok(())
-}
-
-/// The numerator and the denominator of the divisor.
-fn divisor(alloc: Global) -> Result<(u64, u32), UpperFault> {
-    let all = upper(alloc, &[230, 200, 70], &[true, true, true], 10)?;
-    Ok((all.num(), all.den()))
-}
-
-#[test]
-fn groups_get_seats(rt: HostRuntime) -> Result<(), Fail> {
-    let found = match divisor(rt.alloc()) {
-        Err(UpperFault::Memory) => divisor(rt.alloc())?,
-        found => found?,
-    };
-    assert!(rt; found == (300, 6));
-    Ok(())
-}
-
-#[test]
-fn an_exhausted_search_is_explained(rt: HostRuntime) -> Result<(), Fail> {
-    let setup = setup_of(rt.alloc(), 4, &[1000, 3000], 2)?;
-    let totals = totals_of(&rt, rt.alloc(), &setup, &[&[1, 1], &[1, 1]])?;
-    let reason = match explain(rt.alloc(), &totals) {
-        Err(SheetFault::Memory) => explain(rt.alloc(), &totals)?,
-        reason => reason?,
-    };
-    assert!(rt; matches!(reason, ExhaustedReason::NearlyTied(1, 1)));
-    Ok(())
 }
 
 /// Keeps a byte in the place of the one before, and then writes one that a stop takes away. Says whether the first write

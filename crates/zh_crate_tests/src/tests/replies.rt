@@ -29,7 +29,10 @@ struct SlowWriter {
 impl Write for SlowWriter {
     fn write(&mut self, buf: &[u8]) -> io::Result<usize> {
         if self.writes == 0 {
-            return self.fault.map_or(Ok(0), |kind| Err(kind.into()));
+            return match self.fault {
+                Some(kind) => Err(kind.into()),
+                None => Ok(0),
+            };
         }
         let Some(byte) = buf.first() else {
             return Ok(0);
@@ -57,27 +60,15 @@ fn all_is_written_byte_by_byte(rt: HostRuntime) -> Result<(), Fail> {
 }
 
 #[test]
-fn the_fifth_write_fails(rt: HostRuntime) -> Result<(), Fail> {
-    let mut out = SlowWriter {
-        bytes: Vec::new(rt.alloc()),
-        writes: 4,
-        fault: Some(ErrorKind::Interrupted),
-    };
-    assert!(rt;
-        put(&mut out, b"1 none\n") == Err(WriteFault) && out.bytes.as_slice() == b"1 no".as_slice()
-    );
-    Ok(())
-}
-
-#[test]
-fn the_fifth_write_takes_no_byte(rt: HostRuntime) -> Result<(), Fail> {
-    let mut out = SlowWriter {
-        bytes: Vec::new(rt.alloc()),
-        writes: 4,
-        fault: None,
-    };
-    assert!(rt;
-        put(&mut out, b"1 none\n") == Err(WriteFault) && out.bytes.as_slice() == b"1 no".as_slice()
-    );
+fn the_fifth_write_fails_or_takes_no_byte(rt: HostRuntime) -> Result<(), Fail> {
+    for fault in [Some(ErrorKind::Interrupted), None] {
+        let mut out = SlowWriter {
+            bytes: Vec::new(rt.alloc()),
+            writes: 4,
+            fault,
+        };
+        assert!(rt; put(&mut out, b"1 none\n") == Err(WriteFault), "{fault:?}");
+        assert!(rt; out.bytes.as_slice() == b"1 no".as_slice(), "{fault:?}");
+    }
     Ok(())
 }
