@@ -19,28 +19,33 @@ function changesOf(before, now) {
   note(say('quorumCanton'), before.quorum?.perMille, now.quorum?.perMille);
   note(say('allVotesWord'), allVotes(before), allVotes(now));
   each('groups', (name, old, next) => {
-    note(say('takesPartIn', { name }), yes(old), yes(next));
-    note(say('seatsIn', { name }), old?.seats, next?.seats);
+    note(pieces('takesPartIn', { name: isolated(name) }), yes(old), yes(next));
+    note(pieces('seatsIn', { name: isolated(name) }), old?.seats, next?.seats);
   });
   each('constituencies', (name, old, next) => {
-    note(say('seatsIn', { name }), old?.seats, next?.seats);
-    note(say('votesIn', { name }), old?.votes, next?.votes);
+    note(pieces('seatsIn', { name: isolated(name) }), old?.seats, next?.seats);
+    note(pieces('votesIn', { name: isolated(name) }), old?.votes, next?.votes);
   });
-  const named = (sheet) => new Map(sheet.lists.map((list) => [
-    `${constituencyFor(sheet, list).name}, ${groupFor(sheet, list).name}`, list]));
-  const [old, next] = [named(before), named(now)];
-  for (const name of new Set([...old.keys(), ...next.keys()])) note(say('seatsIn', { name }), old.get(name)?.seats, next.get(name)?.seats);
-  for (const name of new Set([...old.keys(), ...next.keys()])) note(say('votesIn', { name }), old.get(name)?.votes, next.get(name)?.votes);
+  const lists = (sheet) => new Map(sheet.lists.map((list) => [
+    `${constituencyFor(sheet, list).name}\n${groupFor(sheet, list).name}`, list]));
+  const [old, next] = [lists(before), lists(now)];
+  const both = (name) => { const [first, second] = name.split('\n'); return [isolated(first), ', ', isolated(second)]; };
+  for (const [key, what] of [['seatsIn', 'seats'], ['votesIn', 'votes']]) {
+    for (const name of new Set([...old.keys(), ...next.keys()])) {
+      note(pieces(key, { name: both(name) }), old.get(name)?.[what], next.get(name)?.[what]);
+    }
+  }
   return found;
 }
 
-const signed = (number) => (number > 0n ? `+${number}` : `${number}`.replace('-', '−'));
+const signed = (number) => grouped(number > 0n ? `+${number}` : `${number}`.replace('-', '−'));
+const cell = (value) => make('td', {}, typeof value === 'bigint' ? grouped(value) : value);
 
 function changes({ sheet, before, beforeParts }) {
   if (!sheet || !before) return null;
   const fault = before.fault ?? beforeParts.flatMap(({ faults }) => faults)[0];
   const warning = fault ? make('p', { class: 'said wrong' }, say('beforeWrong', { line: fault.line })) : null;
-  const heading = [make('h2', {}, say('changes')), warning];
+  const heading = [make('h2', { id: 'changes-title' }, say('changes')), warning];
   if (!before.found) return make('section', { id: 'changes' }, heading);
   const found = changesOf(before.found, sheet);
   const names = (one) => [...one.constituencies, ...one.groups].map(({ name }) => name).join('\n');
@@ -50,9 +55,10 @@ function changes({ sheet, before, beforeParts }) {
     const text = lines.length > 0 ? say('onlyLines', { lines: lines.join(', ') }) : say('nothingChanged');
     return make('section', { id: 'changes' }, heading, make('p', {}, text));
   }
-  return make('section', { id: 'changes' }, heading, other, make('div', { class: 'scroll' }, make('table', {},
+  return make('section', { id: 'changes' }, heading, other, make('div', { class: 'scroll' }, make('table', {
+    'aria-labelledby': 'changes-title' },
     make('thead', {}, make('tr', {}, ['what', 'was', 'now', 'difference'].map((key) => make('th', { scope: 'col' }, say(key))))),
     make('tbody', {}, found.map((one) => make('tr', {},
-      make('th', { scope: 'row' }, one.what), make('td', {}, `${one.was}`), make('td', {}, `${one.now}`),
+      make('th', { scope: 'row' }, one.what), cell(one.was), cell(one.now),
       make('td', {}, one.difference === null ? '' : signed(one.difference))))))));
 }

@@ -29,6 +29,9 @@ function takesPart(sheet, group) {
 
 // The divisors of a list's quotient, multiplied, and its votes, in millionths of millionths.
 const MILLION = 1000000n;
+// The limits of divisors, in millionths.
+const MOST_OF_CONSTITUENCY = 10n ** 18n;
+const MOST_OF_GROUP = 10n ** 12n;
 const unitOf = (sheet, list) => constituencyFor(sheet, list).divisor * groupFor(sheet, list).divisor;
 const twiceVotes = (list) => 2n * list.votes * MILLION * MILLION;
 
@@ -56,18 +59,20 @@ function formPart(sheet, setup) {
 
 // The sheet is one of this set-up: its house, quorum and names, and a line for each list that stands.
 function sameSetup(part, sheet, setup) {
-  part.expect(sheet.house.seats === setup.house, sheet.house, 'setupSays', { should: setup.house });
+  part.expect(sheet.house.seats === setup.house, sheet.house, 'setupHouse', { should: setup.house, is: sheet.house.seats });
   const perMille = sheet.quorum ? sheet.quorum.perMille : null;
   const where = sheet.quorum ?? sheet.constituencies[0];
-  part.expect(perMille === setup.quorum, where, setup.quorum === null ? 'noQuorum' : 'setupQuorum', { should: setup.quorum });
+  const quorum = setup.quorum === null ? 'noQuorum' : perMille === null ? 'setupNoQuorum' : 'setupQuorum';
+  part.expect(perMille === setup.quorum, where, quorum, { should: setup.quorum, is: perMille });
   for (const kind of ['constituencies', 'groups']) {
     const rows = sheet[kind];
     rows.forEach((row, i) => {
       const should = setup[kind][i]?.name;
-      part.expect(row.name === should, row, should === undefined ? 'notInSetup' : 'setupSays', { should });
+      const reason = should === undefined ? 'notInSetup' : 'setupSays';
+      part.expect(row.name === should, row, reason, { should: named(should), is: named(row.name) });
     });
     const missing = setup[kind][rows.length];
-    if (missing) part.expect(false, rows[rows.length - 1], 'nextMissing', { name: missing.name });
+    if (missing) part.expect(false, rows[rows.length - 1], 'nextMissing', { name: named(missing.name) });
   }
   const stand = setup.constituencies.flatMap((_, d) => setup.groups.flatMap(({ stands }, g) => (
     stands.has(d + 1) ? [`${d + 1} ${g + 1}`] : [])));
@@ -87,17 +92,17 @@ function votesPart(sheet, setup, held) {
   const part = new Part('votes');
   for (const constituency of sheet.constituencies) {
     const votes = sum(listsWithin(sheet, constituency).map((list) => list.votes));
-    part.expect(votes === constituency.votes, constituency, 'votesSum', { should: votes });
+    part.expect(votes === constituency.votes, constituency, 'votesSum', { should: votes, is: constituency.votes });
   }
   const most = 10n ** 14n;
-  part.expect(allVotes(sheet) <= most, sheet.constituencies[sheet.constituencies.length - 1], 'allVotes', { most });
+  part.expect(allVotes(sheet) <= most, sheet.constituencies[sheet.constituencies.length - 1], 'allVotes', { most, is: allVotes(sheet) });
   if (!held) {
     part.left.push(setup ? 'leftVotes' : 'leftVotesSetup');
     return part;
   }
   for (const list of sheet.lists) {
     const votes = held.votes.get(`${list.constituency} ${list.group}`) ?? 0n;
-    part.expect(list.votes === votes, list, 'votesHeld', { should: votes });
+    part.expect(list.votes === votes, list, 'votesHeld', { should: votes, votes: list.votes });
   }
   return part;
 }
@@ -109,19 +114,22 @@ function singlePart(part, rows, key, total, lineOfTotal) {
   const rule = keyOf(weights, seats);
   const fits = (one) => one !== null && one.a > 0n && one.b > 0n
     && weights.every((weight, i) => rounds(2n * weight * one.b, one.a, seats[i]));
+  const is = `${key.a}/${key.b}`;
   const isRule = rule !== null && rule.a === key.a && rule.b === key.b;
   // Where the seats are right, it is the key that is wrong.
-  if (!fits(key) && fits(rule) && sum(seats) === total) part.expect(false, key, 'keyIs', { should: `${rule.a}/${rule.b}` });
+  if (!fits(key) && fits(rule) && sum(seats) === total) part.expect(false, key, 'keyIs', { should: `${rule.a}/${rule.b}`, is });
   else {
     for (const row of rows) {
       const holds = key.a > 0n && key.b > 0n && rounds(2n * row.weight * key.b, key.a, row.seats);
       const found = quotient(row.weight * key.b, key.a);
-      part.expect(holds, row, found.half ? 'keyHalf' : 'keyRounds', { weight: row.weight, key: `${key.a}/${key.b}`, ...found });
+      part.expect(holds, row, found.half ? 'keyHalf' : 'keyRounds', {
+        weight: row.weight, key: `${key.a}/${key.b}`, seats: row.seats, ...found,
+      });
     }
   }
   part.expect(sum(seats) === total, lineOfTotal, 'seatsSum', { sum: sum(seats), total });
   if (part.faults.length === 0) {
-    part.expect(isRule, key, 'keyIs', { should: rule ? `${rule.a}/${rule.b}` : '-' });
+    part.expect(isRule, key, 'keyIs', { should: rule ? `${rule.a}/${rule.b}` : '-', is });
   }
 }
 
@@ -131,7 +139,7 @@ function seatsPart(sheet, setup) {
     part.expect(row.persons >= 1n && row.persons <= 10000000n, row, 'range', { least: 1, most: 10000000 });
     if (setup?.constituencies[i]) {
       const should = setup.constituencies[i].persons;
-      part.expect(row.persons === should, row, 'setupPersons', { should });
+      part.expect(row.persons === should, row, 'setupPersons', { should, is: row.persons });
     }
     part.expect(row.seats >= 1n, row, 'noSeat');
   });
@@ -155,17 +163,17 @@ function votersPart(sheet) {
   const part = new Part('voters');
   for (const list of sheet.lists) {
     const { seats } = constituencyFor(sheet, list);
-    if (!groupFor(sheet, list).takesPart) part.expect(list.voters === null, list, 'votersDash');
+    if (!groupFor(sheet, list).takesPart) part.expect(list.voters === null, list, 'votersDash', { is: list.voters });
     else if (seats > 0n) {
       const should = voterNumber(list.votes, seats);
-      part.expect(list.voters === should, list, 'votersRound', { votes: list.votes, seats, should });
+      part.expect(list.voters === should, list, 'votersRound', { votes: list.votes, seats, should, is: list.voters });
     }
   }
   for (const group of sheet.groups) {
-    if (!group.takesPart) part.expect(group.voters === null, group, 'votersDash');
+    if (!group.takesPart) part.expect(group.voters === null, group, 'votersDash', { is: group.voters });
     else {
       const should = sum(listsOf(sheet, group).map(({ voters }) => voters ?? 0n));
-      part.expect(group.voters === should, group, 'votersSum', { should });
+      part.expect(group.voters === should, group, 'votersOther', { should, is: group.voters });
     }
   }
   return part;
@@ -174,7 +182,7 @@ function votersPart(sheet) {
 function groupsPart(sheet) {
   const part = new Part('groups');
   for (const group of sheet.groups) {
-    if (!group.takesPart) part.expect(group.seats === 0n, group, 'noPartNoSeats');
+    if (!group.takesPart) part.expect(group.seats === 0n, group, 'noPartNoSeats', { is: group.seats });
     const needsDivisor = group.seats > 0n;
     part.expect((group.divisor !== null) === needsDivisor, group, needsDivisor ? 'divisorMissing' : 'divisorDash');
   }
@@ -185,8 +193,11 @@ function groupsPart(sheet) {
 
 function listsPart(sheet) {
   const part = new Part('lists');
-  for (const row of [...sheet.constituencies, ...sheet.groups]) {
-    if (row.divisor !== null) part.expect(row.divisor > 0n, row, 'divisorZero');
+  for (const [rows, most] of [[sheet.constituencies, MOST_OF_CONSTITUENCY], [sheet.groups, MOST_OF_GROUP]]) {
+    for (const row of rows.filter(({ divisor }) => divisor !== null)) {
+      part.expect(row.divisor > 0n, row, 'divisorZero');
+      part.expect(row.divisor <= most, row, 'divisorMost', { most: most / MILLION, is: row.divisorText });
+    }
   }
   for (const list of sheet.lists) checkList(part, sheet, list);
   const total = (row, lists) => {
@@ -200,12 +211,12 @@ function listsPart(sheet) {
 
 function checkList(part, sheet, list) {
   const group = groupFor(sheet, list);
-  if (group.divisor === null) part.expect(list.seats === 0n, list, 'groupWithout');
+  if (group.divisor === null) part.expect(list.seats === 0n, list, 'groupWithout', { is: list.seats });
   else {
     const unit = unitOf(sheet, list);
     const found = quotient(list.votes * MILLION * MILLION, unit);
     part.expect(unit > 0n && rounds(twiceVotes(list), unit, list.seats), list, found.half ? 'listHalf' : 'listRounds', {
-      votes: list.votes, first: constituencyFor(sheet, list).divisorText, second: group.divisorText, ...found,
+      seats: list.seats, votes: list.votes, first: constituencyFor(sheet, list).divisorText, second: group.divisorText, ...found,
     });
   }
 }

@@ -3,18 +3,23 @@
 const row = (name, ...what) => [make('dt', {}, name), make('dd', {}, what)];
 
 // That twice the votes lie between the two ends of the interval, in whole numbers.
-function wholeNumbers(twice, unit, seats, names) {
+function wholeNumbers(twice, unit, seats, names, marked = true) {
   const holds = rounds(twice, unit, seats);
   const low = seats > 0n ? `${2n * seats - 1n} × ${names.unit} = ${names.show(lowEnd(unit, seats))}` : null;
   const high = `${2n * seats + 1n} × ${names.unit} = ${names.show(highEnd(unit, seats))}`;
   const key = { true: low ? 'lies' : 'liesBelow', false: low ? 'liesNot' : 'liesNotBelow' }[holds];
-  return row(say('whole'), say(key, { twice: `2 × ${names.amount} = ${names.show(twice)}`, low, high }), ' ', mark(holds));
+  const values = { twice: grouped(`2 × ${names.amount} = ${names.show(twice)}`), low: low && grouped(low), high: grouped(high) };
+  return row(say('whole'), say(key, values), ' ', marked ? mark(holds) : null);
 }
 
-function detail(title, line, holds, rows, extra = null) {
+// The faults are those of the line, by which the table marks the cell: the panel's own mark, and what does not hold.
+function detail(title, line, faults, rows, extra = null) {
+  const holds = faults.length === 0;
   return [
     make('h2', {}, title, ' ', mark(holds),
       make('span', { class: holds ? 'said right' : 'said wrong' }, ` ${say(holds ? 'ok' : 'wrong')}`)),
+    holds ? null : make('div', { class: 'fault' }, make('p', {}, `${say('wrongHere')}:`),
+      faults.map((fault) => make('p', { class: 'reason' }, reasonOf(fault)))),
     make('dl', {}, rows), extra,
     make('p', { class: 'source' }, `${say('lineIs', { line: line.line })}: `, code(line.text)),
   ];
@@ -22,33 +27,47 @@ function detail(title, line, holds, rows, extra = null) {
 
 const seatsWord = (seats) => `${seats} ${say(seats === 1n ? 'seatOne' : 'seatsOf')}`;
 
-function listDetail(sheet, constituency, group, list) {
-  const title = `${constituency.name}, ${group.name}: ${seatsWord(list.seats)}`;
+// The seats that follow, as far as they were looked for: where the sheet is wrong.
+const followRow = (follow, kind, place) => (
+  follow ? row(say(follow.isOther ? 'seatsFollowOther' : 'seatsFollow'),
+    seatsWord((kind === 'lists' ? follow.lists.get(place) : follow[kind][place - 1]) ?? 0n)) : null);
+
+function listDetail(sheet, [constituency, group, list], faults, follow) {
+  const title = [isolated(constituency.name), ', ', isolated(group.name), `: ${seatsWord(list.seats)}`];
+  const right = followRow(follow, 'lists', `${constituency.number} ${group.number}`);
   if (group.divisor === null) {
-    return detail(title, list, list.seats === 0n, row(say('votesWord'), `${list.votes}`), make('p', {}, say('noSeats')));
+    return detail(title, list, faults, [row(say('votesWord'), grouped(list.votes)), right], make('p', {}, say('noSeats')));
   }
   const unit = unitOf(sheet, list);
   const twice = twiceVotes(list);
   const product = `${constituency.divisorText} × ${group.divisorText}`;
-  const ends = { low: exact(5n * (list.seats > 0n ? lowEnd(unit, list.seats) : 0n), 13), high: exact(5n * highEnd(unit, list.seats), 13) };
-  return detail(title, list, rounds(twice, unit, list.seats), [
-    row(say('votesWord'), `${list.votes}`),
-    row(say('quotientWord'), `${list.votes} / (${product}) = `, say('roundsTo', quotient(twice, 2n * unit))),
+  const ends = {
+    low: grouped(exact(5n * (list.seats > 0n ? lowEnd(unit, list.seats) : 0n), 13)),
+    high: grouped(exact(5n * highEnd(unit, list.seats), 13)),
+  };
+  return detail(title, list, faults, [
+    row(say('votesWord'), grouped(list.votes)),
+    row(say('quotientWord'), grouped(`${list.votes} / (${product}) = `), roundsTo(quotient(twice, 2n * unit))),
     row(say('interval'), say(list.seats > 0n ? 'between' : 'below', { ...ends, unit: say('unitVotes') })),
     wholeNumbers(twice, unit, list.seats, { unit: product, amount: list.votes, show: (number) => exact(number, 12) }),
+    right,
   ]);
 }
 
-// Seats by one key: the weight over it, and its interval in whole numbers.
-function keyRows(word, unit, weight, key, seats) {
+const roundsTo = (found) => say('roundsTo', { quotient: grouped(found.quotient), rounded: grouped(found.rounded) });
+
+// Seats by one key: the weight over it, and its interval in whole numbers. Of a key that is wrong itself this decides nothing.
+function keyRows([word, unit], weight, key, seats, isKeyWrong) {
+  const low = cutOff(seats > 0n ? lowEnd(key.a, seats) : 0n, 2n * key.b || 1n);
+  const high = cutOff(highEnd(key.a, seats), 2n * key.b || 1n);
   return [
-    row(word, `${weight}`),
-    row(say('keyWord'), `${key.a}/${key.b}`),
+    row(word, grouped(weight)),
+    row(say('keyWord'), grouped(`${key.a}/${key.b}`),
+      isKeyWrong ? make('span', { class: 'said wrong' }, ` ${say('keyWrong', { line: key.line })}`) : null),
     key.a > 0n && key.b > 0n ? [
-      row(say('quotientWord'), `${weight} / (${key.a}/${key.b}) = `, say('roundsTo', quotient(weight * key.b, key.a))),
-      row(say('interval'), say(seats > 0n ? 'between' : 'below', {
-        low: cutOff(seats > 0n ? lowEnd(key.a, seats) : 0n, 2n * key.b), high: cutOff(highEnd(key.a, seats), 2n * key.b), unit })),
-      wholeNumbers(2n * weight * key.b, key.a, seats, { unit: key.a, amount: `${key.b} × ${weight}`, show: String }),
+      row(say('quotientWord'), grouped(`${weight} / (${key.a}/${key.b}) = `), roundsTo(quotient(weight * key.b, key.a))),
+      row(say('interval'), say(seats > 0n ? 'between' : 'below', { low: grouped(low), high: grouped(high), unit })),
+      wholeNumbers(2n * weight * key.b, key.a, seats, { unit: key.a, amount: `${key.b} × ${weight}`, show: String }, !isKeyWrong),
     ] : null,
   ];
 }
@@ -58,37 +77,38 @@ function addUp(name, lists, total) {
   return row(name, `${lists.map((list) => list.seats).join(' + ')} = ${seats} `, mark(seats === total));
 }
 
-function constituencyDetail(sheet, constituency) {
-  const { persons, seats, line } = constituency;
+function constituencyDetail(sheet, constituency, faults, { keys, follow }) {
+  const { persons, seats } = constituency;
   const lists = listsWithin(sheet, constituency);
-  const key = sheet.seatsKey;
   const votes = sum(lists.map((list) => list.votes));
-  const holds = key.b > 0n && rounds(2n * persons * key.b, key.a, seats) && sum(lists.map((list) => list.seats)) === seats
-    && votes === constituency.votes;
-  return detail(`${constituency.name}: ${seatsWord(seats)}`, { line, text: constituency.text }, holds, [
-    keyRows(say('personsWord'), say('unitPersons'), persons, key, seats),
+  return detail([isolated(constituency.name), `: ${seatsWord(seats)}`], constituency, faults, [
+    keyRows([say('personsWord'), say('unitPersons')], persons, sheet.seatsKey, seats, keys.seats),
     addUp(say('sumRowC'), lists, seats),
-    row(say('votesWord'), `${lists.map((list) => list.votes).join(' + ')} = ${votes} `, mark(votes === constituency.votes)),
+    row(say('votesWord'), grouped(`${lists.map((list) => list.votes).join(' + ')} = ${votes} `), mark(votes === constituency.votes)),
+    followRow(follow, 'constituencies', constituency.number),
   ]);
 }
 
-function groupDetail(sheet, group) {
-  const lists = listsOf(sheet, group);
+// How the group reaches a quorum.
+function quorumRow(sheet, group, lists) {
   const reached = lists.filter((list) => reachesQuorum(list.votes, constituencyFor(sheet, list).votes));
   const should = takesPart(sheet, group);
-  const names = reached.map((list) => constituencyFor(sheet, list).name).join(', ');
-  const how = reached.length > 0 ? say('reached', { names }) : say(should ? 'reachedCanton' : 'notReached');
-  const quorum = row(say('quorumWord'), `${how} `, mark(should === group.takesPart));
-  const key = sheet.upperKey;
+  const names = reached.flatMap((list, i) => [i > 0 ? ', ' : '', isolated(constituencyFor(sheet, list).name)]);
+  const how = reached.length > 0 ? pieces('reached', { names }) : say(should ? 'reachedCanton' : 'notReached');
+  return row(say('quorumWord'), how, ' ', mark(should === group.takesPart));
+}
+
+function groupDetail(sheet, group, faults, { keys, follow }) {
+  const lists = listsOf(sheet, group);
   const added = sum(lists.map(({ voters }) => voters ?? 0n));
-  const seatsHold = sum(lists.map((list) => list.seats)) === group.seats && should === group.takesPart;
-  const holds = seatsHold && (group.voters === null ? group.seats === 0n
-    : added === group.voters && key.b > 0n && rounds(2n * group.voters * key.b, key.a, group.seats));
-  return detail(`${group.name}: ${seatsWord(group.seats)}`, group, holds, [
-    quorum,
-    group.voters === null ? null : keyRows(say('votersWord'), say('unitVoters'), group.voters, key, group.seats),
-    group.voters === null ? null : row(`${say('votersWord')} =`, say('votersSum', { should: added }), ' ', mark(added === group.voters)),
+  return detail([isolated(group.name), `: ${seatsWord(group.seats)}`], group, faults, [
+    quorumRow(sheet, group, lists),
+    group.voters === null ? null : [
+      keyRows([say('votersWord'), say('unitVoters')], group.voters, sheet.upperKey, group.seats, keys.upper),
+      row(`${say('votersWord')} =`, say('votersSum', { should: added }), ' ', mark(added === group.voters)),
+    ],
     addUp(say('sumRow'), lists, group.seats),
+    followRow(follow, 'groups', group.number),
   ]);
 }
 

@@ -16,13 +16,80 @@ const make = (tag, attributes = {}, ...children) => fill(document.createElement(
 const draw = (tag, attributes = {}, ...children) => (
   fill(document.createElementNS('http://www.w3.org/2000/svg', tag), attributes, children));
 
-const mark = (holds) => make('span', { class: holds ? 'mark right' : 'mark wrong', 'aria-hidden': 'true' }, holds ? '✓' : '✗');
-const code = (text) => make('code', {}, text);
+const SIGNS = { right: '✓', wrong: '✗', mismatch: '≠', damaged: '!', unsure: '!', answer: 'i' };
+const signFor = (state) => make('span', { class: `mark ${state}`, 'aria-hidden': 'true' }, SIGNS[state]);
+const mark = (holds) => signFor(holds ? 'right' : 'wrong');
 
-// A sentence of WORDS in which one value is an element.
-function sentence(key, name, element) {
-  const [before, after] = say(key, { [name]: '\u0000' }).split('\u0000');
-  return [before, element, after];
+// ---- Texts that others wrote: names, lines and files' names
+
+// Characters that are not seen, or that turn a text round, are shown as signs; what is longer than this is cut.
+const UNSEEN = /[\u0000-\u001f\u007f-\u009f\u00ad\u061c\u200b-\u200f\u2028-\u202e\u2060-\u206f\ufeff]/gu;
+
+function shown(text, most = 120) {
+  const sign = (character) => {
+    const code = character.codePointAt(0);
+    return code < 0x20 ? String.fromCharCode(0x2400 + code) : `<U+${code.toString(16).toUpperCase().padStart(4, '0')}>`;
+  };
+  return text.slice(0, most).replace(UNSEEN, sign) + (text.length > most ? '…' : '');
 }
 
-const reasonOf = ({ reason, values }) => say(reason, values);
+// Isolated from the text round it, whatever direction it has: as an element, and within an attribute.
+const isolated = (text, most) => make('bdi', {}, shown(text, most));
+const isolatedText = (text) => `\u2068${shown(text)}\u2069`;
+const code = (text) => make('code', {}, isolated(text, 400));
+
+// A long word may be parted by a hyphen after a vowel, before the last consonant that follows it; so it needs not break elsewhere.
+const CONSONANT = '[bcdfghjklmnpqrstvwxzß]';
+const VOWEL = '[aeiouyäöüéèà]';
+const SYLLABLES = new RegExp(`(${VOWEL}${CONSONANT}{0,4}?)(?=(?:sch|ch|ck|ph|th|qu|${CONSONANT})${VOWEL})`, 'giu');
+const parted = (text) => shown(text).replace(/\p{L}{13,}/gu, (word) => (
+  word.slice(0, 2) + word.slice(2, -1).replace(SYLLABLES, '$1\u00ad') + word.slice(-1)));
+
+// A name in a narrow place: its longest word says how small its letters are.
+function narrowName(name) {
+  const longest = Math.max(...shown(name).split(/[\s-]/u).map((word) => word.length));
+  const size = longest > 16 ? ' longest' : longest > 10 ? ' long' : '';
+  return make('span', { class: `name${size}` }, make('bdi', {}, parted(name)));
+}
+
+// A sentence of WORDS in which one value is an element.
+const sentence = (key, name, element) => pieces(key, { [name]: element });
+
+// Marks a value of a fault as a name.
+const named = (name) => (name === undefined ? undefined : { name });
+
+// So many seats that change, or rows that are missing, are named.
+const MOST_CHANGES = 4;
+
+// The lists of a municipality whose rows are missing.
+function missingShown({ name, lists, isAll }) {
+  const which = isAll ? say('allLists') : lists.length > MOST_CHANGES ? say('manyLists', { count: lists.length }) : namesShown(lists);
+  return [isolated(name), ': ', which];
+}
+
+const namesShown = (names) => names.flatMap((it, i) => [i > 0 ? ', ' : '', isolated(it)]);
+
+// Some of these, parted by semicolons, and how many more there are.
+function someShown(all, one) {
+  const few = all.length > MOST_CHANGES ? all.slice(0, MOST_CHANGES - 1) : all;
+  const left = all.length - few.length;
+  return [...few.map(one), ...(left > 0 ? [pieces('moreChanges', { count: left })] : [])].flatMap((it, i) => [i > 0 ? '; ' : '', it]);
+}
+
+// Seats that change, each by its names, with what follows and what the sheet says.
+const changesShown = (changes) => someShown(changes, ({ names, is, should }) => (
+  pieces(names.length > 1 ? 'oneChange' : 'oneTotal', { name: namesShown(names), is, should })));
+
+// A reason in words. Its names are isolated, its numbers have their thousands set apart.
+function reasonOf({ reason, key = reason, values = {} }) {
+  const isShown = (value) => {
+    if (value?.number !== undefined) return [value.number, ' (', isolated(value.name), ')'];
+    if (value?.name !== undefined) return isolated(value.name);
+    if (value?.word) return say(value.word);
+    if (value?.strong) return make('strong', {}, say(value.strong));
+    if (value?.changes) return changesShown(value.changes);
+    if (value?.rows) return someShown(value.rows, missingShown);
+    return typeof value === 'string' ? make('bdi', {}, grouped(shown(value, 200))) : value;
+  };
+  return pieces(key, Object.fromEntries(Object.entries(values).map(([name, value]) => [name, isShown(value)])));
+}

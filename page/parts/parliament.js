@@ -2,20 +2,28 @@
 
 const COLOURS = 8;
 
+// A seat has a thin edge, so that light colours stand out; every second shape is a ring, with an edge on either side.
 function seatShape(number, x, y, radius) {
   const index = number - 1;
-  const look = `seat colour${index % COLOURS} look${Math.floor(index / COLOURS)}`;
-  const square = index >= 2 * COLOURS;
-  const outline = Math.floor(index / COLOURS) % 2 === 1;
-  const r = outline ? radius * 0.86 : radius;
-  const side = r * 1.84;
-  const shape = square
-    ? draw('rect', { x: x - side / 2, y: y - side / 2, width: side, height: side, rx: r * 0.2, class: look, 'stroke-width': radius * 0.28 })
-    : draw('circle', { cx: x, cy: y, r, class: look, 'stroke-width': radius * 0.28 });
+  const look = `colour${index % COLOURS} look${Math.floor(index / COLOURS)}`;
+  const shape = (r, name) => {
+    const all = { class: `${name} ${look}`, 'stroke-width': radius * 0.1 };
+    const side = r * 1.84;
+    return index >= 2 * COLOURS
+      ? draw('rect', { x: x - side / 2, y: y - side / 2, width: side, height: side, rx: r * 0.2, ...all })
+      : draw('circle', { cx: x, cy: y, r, ...all });
+  };
+  const isRing = Math.floor(index / COLOURS) % 2 === 1;
   const size = radius * (number > 9 ? 0.95 : 1.15);
-  return [shape, draw('text', {
-    x, y: y + size * 0.36, 'font-size': size, class: `number colour${index % COLOURS} look${Math.floor(index / COLOURS)}`,
-  }, `${number}`)];
+  return [shape(radius * 0.95, 'seat'), isRing ? shape(radius * 0.68, 'hole') : null,
+    draw('text', { x, y: y + size * 0.36, 'font-size': size, class: `number ${look}` }, `${number}`)];
+}
+
+// A seat that the group would not have: a cross over it where that is sure, else one stroke.
+function disputed(x, y, r, isSure) {
+  const stroke = `M${x - r} ${y + r} L${x + r} ${y - r}`;
+  const other = isSure ? ` M${x - r} ${y - r} L${x + r} ${y + r}` : '';
+  return draw('path', { d: stroke + other, class: 'disputed', 'stroke-width': r * 0.25 });
 }
 
 // The places of so many seats in a half circle of radius 1 about (0, 0), from left to right, and the radius of a seat.
@@ -44,7 +52,11 @@ function places(count) {
   return { found, seat };
 }
 
-function parliament(sheet) {
+// Of a sheet that is wrong, the seats that follow are named where they are others.
+function parliament({ sheet, own }) {
+  const follow = own.follow?.groups;
+  const isOther = own.follow && otherSeats(sheet, own.follow).length > 0;
+  const rightly = (group) => follow?.[group.number - 1] ?? (follow ? 0n : group.seats);
   const total = Number(sum(sheet.groups.map(({ seats }) => seats)));
   const { found, seat } = places(total);
   const scale = 100;
@@ -55,20 +67,36 @@ function parliament(sheet) {
   });
   let next = 0;
   for (const group of sheet.groups) {
-    const block = draw('g', {}, draw('title', {}, `${group.number} ${group.name}: ${group.seats}`));
+    const block = draw('g', {}, draw('title', {}, `${group.number} ${isolatedText(group.name)}: ${group.seats}`));
     for (let i = 0n; i < group.seats; i += 1n) {
       const { x, y } = found[next];
       next += 1;
-      block.append(...seatShape(group.number, x * scale, y * scale, seat * scale));
+      block.append(...seatShape(group.number, x * scale, y * scale, seat * scale).filter(Boolean));
+      if (i >= rightly(group)) block.append(disputed(x * scale, y * scale, seat * scale, !own.follow.isOther));
     }
     arc.append(block);
   }
   arc.append(draw('text', { x: 0, y: -2, class: 'middle', 'font-size': 22 }, `${total}`));
   const rows = sheet.groups.map((group) => make('li', { class: group.seats === 0n ? 'none' : null },
-    swatch(group.number), make('span', { class: 'name' }, group.name), make('span', { class: 'count' }, `${group.seats}`)));
+    swatch(group.number), narrowName(group.name), make('span', { class: 'count' }, `${group.seats}`),
+    rightly(group) !== group.seats ? make('span', { class: `said ${own.kind.colour}` },
+      say(own.follow.says.key, { ...own.follow.says.values, should: rightly(group) })) : null));
   return make('section', { id: 'parliament' },
-    make('h2', {}, say('parliament')),
-    make('div', { class: 'halves' }, arc, make('ol', { class: 'legend' }, rows)));
+    make('h2', { id: 'parliament-title' }),
+    make('div', { class: 'halves' }, arc, make('ol', { class: isOther ? 'legend other' : 'legend' }, rows)));
+}
+
+// The heading of the picture: what the sheet is said to be, and what is to be said against it.
+function parliamentHeading({ sheet, own, rows, returns }, colour) {
+  if (colour === 'right') return sheet.kind === 'final' ? say('parliament') : say('parliamentProvisional');
+  if (colour === 'mismatch') return say('asItSaysMismatch');
+  if (own.follow && otherSeats(sheet, own.follow).length > 0) return say('asItSaysWrong');
+  if (colour === 'wrong') return say('asItSays');
+  return rows.is === 'compared' && returns.rows < returns.possible ? say('parliamentSoFar', returns) : say('asItSaysUnsure');
+}
+
+function nameParliament(answer, colour) {
+  find('parliament-title')?.replaceChildren(parliamentHeading(answer, colour));
 }
 
 const swatch = (number) => draw('svg', { viewBox: '-11 -11 22 22', class: 'swatch', 'aria-hidden': 'true' },

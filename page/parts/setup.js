@@ -1,47 +1,126 @@
-// ---- Reading a set-up and the rows held (FORMATS, "Set-up text" and "CSV")
+// ---- Reading a set-up (FORMATS, "Set-up text")
 
 // Of TOML the part that FORMATS shows. Any other line is a fault of that line.
-const TOML = {
-  nothing: /^\s*(#.*)?$/u,
-  table: /^\s*\[\[(constituency|municipality|group)\]\]\s*(#.*)?$/u,
-  number: /^\s*([a-z_]+)\s*=\s*(0|[1-9][0-9]{0,11})\s*(#.*)?$/u,
-  name: /^\s*([a-z_]+)\s*=\s*"((?:[^"\\\u0000-\u001f\u007f]|\\["\\])*)"\s*(#.*)?$/u,
-  numbers: /^\s*([a-z_]+)\s*=\s*\[\s*((?:[0-9]{1,4}\s*,\s*)*[0-9]{1,4})\s*,?\s*\]\s*(#.*)?$/u,
-};
 const KEYS = {
   top: { version: 'number', house: 'number', canton_quorum: 'number' },
   constituency: { name: 'name', persons: 'number' },
   municipality: { name: 'name', constituency: 'number' },
   group: { name: 'name', stands: 'numbers' },
 };
+const MOST = { constituency: 32, municipality: 512, group: 32 };
+const KEY = /[a-z_]+/uy;
+const NUMBER = /0|[1-9][0-9]{0,11}/uy;
 
-function valueOf(kind, word) {
-  if (kind === 'numbers') return word.split(',').map((part) => Number(part));
-  return kind === 'number' ? Number(word) : word.replace(/\\(["\\])/gu, '$1');
+// Goes along a line once, from left to right, and never back by more than a word.
+class Along {
+  constructor(line) { Object.assign(this, { line, at: 0 }); }
+
+  // Only spaces and tabs are blanks.
+  blanks() { while (this.line[this.at] === ' ' || this.line[this.at] === '\t') this.at += 1; }
+
+  takes(text) {
+    this.blanks();
+    if (!this.line.startsWith(text, this.at)) return false;
+    this.at += text.length;
+    return true;
+  }
+
+  word(pattern) {
+    this.blanks();
+    pattern.lastIndex = this.at;
+    const word = pattern.exec(this.line)?.[0] ?? '';
+    this.at += word.length;
+    return word;
+  }
+
+  // A text in quotation marks; null where there is none, or one with other escapes than those of the mark and of \.
+  quoted() {
+    if (!this.takes('"')) return null;
+    for (let text = ''; this.at < this.line.length;) {
+      let next = this.line[this.at];
+      if (next === '"') { this.at += 1; return text; }
+      if (next === '\\') { this.at += 1; next = this.line[this.at]; if (next !== '"' && next !== '\\') return null; }
+      if (next < ' ' || next === '\u007f') return null;
+      text += next;
+      this.at += 1;
+    }
+    return null;
+  }
+
+  // Numbers in brackets, one at least; null where there are none.
+  numbers() {
+    const found = [];
+    if (!this.takes('[')) return null;
+    do {
+      const word = this.word(NUMBER);
+      if (word === '') return found.length > 0 && this.takes(']') ? found : null;
+      found.push(Number(word));
+    } while (this.takes(','));
+    return this.takes(']') ? found : null;
+  }
+
+  // Nothing more comes, or a comment.
+  ends() { return this.takes('#') || this.at === this.line.length; }
+}
+
+// What stands on a line: the head of a table, a value under its key, or nothing. Null where it is not understood.
+function standing(line) {
+  const along = new Along(line);
+  if (along.ends()) return {};
+  if (along.takes('[[')) {
+    const table = along.word(KEY);
+    return Object.hasOwn(MOST, table) && along.takes(']]') && along.ends() ? { table } : null;
+  }
+  const key = along.word(KEY);
+  if (key === '' || !along.takes('=')) return null;
+  const begun = along.at;
+  const number = along.word(NUMBER);
+  if (number !== '') return along.ends() ? { key, kind: 'number', value: Number(number) } : null;
+  const name = along.quoted();
+  if (name !== null) return along.ends() ? { key, kind: 'name', value: name } : null;
+  along.at = begun;
+  const value = along.numbers();
+  return value !== null && along.ends() ? { key, kind: 'numbers', value } : null;
+}
+
+// The lines of a text with their numbers, without LF and CR LF.
+function* linesOf(text) {
+  let number = 0;
+  for (let start = 0; start < text.length;) {
+    number += 1;
+    const found = text.indexOf('\n', start);
+    const end = found < 0 ? text.length : found;
+    yield [number, text.slice(start, found > start && text[end - 1] === '\r' ? end - 1 : end)];
+    start = end + 1;
+  }
+}
+
+// What stands on a line, or its fault.
+function understood(number, line) {
+  if (line.includes('\r')) throw new Fault(number, line, 'loneReturn');
+  const found = standing(line);
+  if (!found) throw new Fault(number, line, 'notUnderstood');
+  if (/[\u0000-\u0008\u000b-\u001f\u007f]/u.test(line)) throw new Fault(number, line, 'inComment');
+  return found;
 }
 
 // The tables of the text: the top one, and those of each kind in order. Each has its line, and its values with theirs.
 function tablesOf(text) {
   const top = { kind: 'top', line: 1, text: '', values: {} };
-  const tables = [];
+  const tables = { constituency: [], municipality: [], group: [] };
   let table = top;
-  text.split('\n').forEach((ended, index) => {
-    const line = ended.replace(/\r$/u, '');
-    if (TOML.nothing.test(line)) return;
-    const begun = TOML.table.exec(line);
-    if (begun) {
-      table = { kind: begun[1], line: index + 1, text: line, values: {} };
-      tables.push(table);
-      return;
+  for (const [number, line] of linesOf(text)) {
+    const { table: kind, key, kind: is, value } = understood(number, line);
+    if (kind) {
+      table = { kind, line: number, text: line, values: {} };
+      if (tables[kind].push(table) > MOST[kind]) throw new Fault(number, line, 'tables', { most: MOST[kind] });
+    } else if (key) {
+      if (!Object.hasOwn(KEYS[table.kind], key)) throw new Fault(number, line, 'unknownKey', { key });
+      if (KEYS[table.kind][key] !== is) throw new Fault(number, line, 'otherKind', { key });
+      if (table.values[key]) throw new Fault(number, line, 'keyTwice', { key });
+      table.values[key] = { value, line: number, text: line };
     }
-    const kind = ['number', 'name', 'numbers'].find((form) => TOML[form].test(line));
-    if (!kind) throw new Fault(index + 1, line, 'notUnderstood');
-    const [, key, word] = TOML[kind].exec(line);
-    if (!KEYS[table.kind][key]) throw new Fault(index + 1, line, 'unknownKey', { key });
-    if (KEYS[table.kind][key] !== kind) throw new Fault(index + 1, line, 'otherKind', { key });
-    if (table.values[key]) throw new Fault(index + 1, line, 'keyTwice', { key });
-    table.values[key] = { value: valueOf(kind, word), line: index + 1, text: line };
-  });
+  }
   return { top, tables };
 }
 
@@ -77,17 +156,16 @@ function readSetup(text) {
   const quorum = top.values.canton_quorum;
   if (quorum && top.values.version.value !== 2) throw new Fault(quorum.line, quorum.text, 'unknownKey', { key: 'canton_quorum' });
   if (quorum) inRange(quorum, 1, 49);
-  const of = (kind, most) => {
-    const found = tables.filter((table) => table.kind === kind);
+  const of = (kind) => {
+    const found = tables[kind];
     found.forEach((table) => needed(table, Object.keys(KEYS[kind])));
     if (found.length === 0) throw new Fault(1, '', 'missing', { key: kind });
-    if (found.length > most) throw new Fault(found[most].line, found[most].text, 'range', { least: 1, most });
     namesOf(found);
     return found.map((table) => table.values);
   };
-  const constituencies = of('constituency', 32);
-  const municipalities = of('municipality', 512);
-  const groups = of('group', 32);
+  const constituencies = of('constituency');
+  const municipalities = of('municipality');
+  const groups = of('group');
   constituencies.forEach(({ persons }) => inRange(persons, 1, 10000000));
   municipalities.forEach(({ constituency }) => inRange(constituency, 1, constituencies.length));
   for (const { stands } of groups) {
@@ -98,32 +176,7 @@ function readSetup(text) {
     house: BigInt(top.values.house.value), quorum: quorum ? BigInt(quorum.value) : null,
     constituencies: constituencies.map(({ name, persons }) => ({ name: name.value, persons: BigInt(persons.value) })),
     municipalities: municipalities.map(({ constituency }) => constituency.value),
+    municipalityNames: municipalities.map(({ name }) => name.value),
     groups: groups.map(({ name, stands }) => ({ name: name.value, stands: new Set(stands.value) })),
   };
-}
-
-// The rows held: the votes of each list (`d g`), how many rows there are, and how many there may be.
-function readHeld(text, setup) {
-  const lines = text.split('\n').map((line) => line.replace(/\r$/u, ''));
-  if (lines[0] !== 'municipality,list,number,votes') throw new Fault(1, lines[0], 'csvHead');
-  const votes = new Map();
-  const seen = new Set();
-  lines.forEach((line, index) => {
-    if (index === 0 || line === '') return;
-    const fault = (reason) => new Fault(index + 1, line, reason);
-    const fields = /^(0|[1-9][0-9]{0,9}),(0|[1-9][0-9]{0,9}),([1-9][0-9]{0,9}),(0|[1-9][0-9]{0,9}|withdrawn)$/u.exec(line);
-    if (!fields) throw fault('csvRow');
-    const [, municipality, list, , count] = fields;
-    const constituency = setup.municipalities[Number(municipality) - 1];
-    if (!constituency) throw fault('noMunicipality');
-    if (!setup.groups[Number(list) - 1]?.stands.has(constituency)) throw fault('noListThere');
-    const entry = count === 'withdrawn' ? 0n : BigInt(count);
-    if (entry > 1000000000n) throw fault('manyVotes');
-    if (seen.has(`${municipality} ${list}`)) throw fault('rowTwice');
-    seen.add(`${municipality} ${list}`);
-    const place = `${constituency} ${list}`;
-    votes.set(place, (votes.get(place) ?? 0n) + entry);
-  });
-  const possible = setup.municipalities.reduce((sum, d) => sum + setup.groups.filter(({ stands }) => stands.has(d)).length, 0);
-  return { votes, rows: seen.size, possible };
 }

@@ -8,21 +8,29 @@ class Fault extends Error {
   }
 }
 
-// The text of a file. Bytes that are not UTF-8, and a mark at the beginning, are a fault of their line.
-function decoded(bytes) {
-  const decoder = new TextDecoder('utf-8', { fatal: true, ignoreBOM: true });
-  let line = 1;
-  for (let start = 0; start < bytes.length; line += 1) {
-    const found = bytes.indexOf(10, start);
-    const end = found < 0 ? bytes.length : found;
-    try {
-      decoder.decode(bytes.subarray(start, end));
-    } catch {
-      throw new Fault(line, new TextDecoder().decode(bytes.subarray(start, end)), 'notText');
-    }
-    start = end + 1;
+// The bytes as UTF-8, a mark at the beginning among them; null where they are not. Those of a part may end within a character.
+function textOf(bytes, isPart = false) {
+  try {
+    return new TextDecoder('utf-8', { fatal: true, ignoreBOM: true }).decode(bytes, { stream: isPart });
+  } catch {
+    return null;
   }
-  return decoder.decode(bytes);
+}
+
+// The text of a file. Bytes that are not UTF-8 are a fault of their line, which is found by halves.
+function decoded(bytes) {
+  const text = textOf(bytes);
+  if (text !== null) return text;
+  let good = 0;
+  for (let bad = bytes.length + 1; bad - good > 1;) {
+    const middle = (good + bad) >> 1;
+    if (textOf(bytes.subarray(0, middle), true) === null) bad = middle;
+    else good = middle;
+  }
+  const start = bytes.subarray(0, good).lastIndexOf(10) + 1;
+  const end = bytes.indexOf(10, good);
+  const line = bytes.subarray(0, start).reduce((count, byte) => count + Number(byte === 10), 1);
+  throw new Fault(line, new TextDecoder().decode(bytes.subarray(start, end < 0 ? bytes.length : end)), 'notText');
 }
 
 const NUMERAL = '(0|[1-9][0-9]{0,19})';
@@ -45,6 +53,28 @@ const SHOWN_FORMS = {
   group: 'group g quorum Q voters V seats U divisor X NAME',
   list: 'list d g votes V voters W seats S', end: 'end',
 };
+
+// A second line says why a search was exhausted.
+const REFUSAL = /^(?:[1-8]|zhcount:) refused ([a-z]+(?:[ -][a-z]+)?)((?: [1-9][0-9]{0,9}){0,2})(?:\r?\n.{0,200})?(?:\r?\n)?$/u;
+
+// The office's answer in place of a sheet (FORMATS, "Replies"), where the text is one that is about seats: its name and numbers.
+function refusalIn(text) {
+  const match = REFUSAL.exec(text.slice(0, 400));
+  const reason = match && `refused ${match[1]}`;
+  if (!match || text.length > 400 || !Object.hasOwn(WORDS, reason)) return null;
+  const [first, second] = match[2].trim().split(' ');
+  return { reason, values: { first, second } };
+}
+
+// Refusals that name a constituency first, and then perhaps a group: their numbers with the names of the set-up.
+const NAMING = ['refused noseat', 'refused novotes', 'refused tied lower'];
+
+function namedBy(setup, { reason, values: { first, second } }) {
+  const withName = (rows, number) => (rows?.[number - 1] ? { number, name: rows[number - 1].name } : number);
+  const isNaming = setup && NAMING.includes(reason);
+  const values = isNaming ? { first: withName(setup.constituencies, first), second: withName(setup.groups, second) } : { first, second };
+  return { reason, values };
+}
 
 // Goes through the lines of a sheet, one after the other.
 class Lines {

@@ -1,42 +1,54 @@
 // ---- The table of constituencies and groups
 
-function cellButton(shown, holds, label, details) {
+// A cell's mark and its panel say the same: whether there are faults on its line.
+function cellButton(content, faults, label, details) {
+  const holds = faults.length === 0;
   return make('button', {
     type: 'button', tabindex: -1, class: holds ? 'cell' : 'cell bad', 'aria-label': `${label}, ${say(holds ? 'ok' : 'wrong')}`,
-    onclick: (event) => showDetail(details(), event.currentTarget),
-  }, shown, holds ? null : make('span', { class: 'mark wrong', 'aria-hidden': 'true' }, '✗'));
+    onclick: (event) => showDetail(details(faults), event.currentTarget),
+  }, content, holds ? null : mark(false));
 }
 
-function seatsTable(sheet, parts) {
-  const bad = new Set(parts.flatMap(({ faults }) => faults.map(({ line }) => line)));
+function seatsTable({ sheet, own: { follow }, faultsAt }) {
+  const of = ({ line }) => faultsAt.get(line) ?? [];
   const crowded = sheet.groups.length > 12;
-  const groupHead = (group) => cellButton([swatch(group.number), make('span', { class: 'name' }, group.name)],
-    !bad.has(group.line), `${say('group')} ${group.name}`, () => groupDetail(sheet, group));
+  const more = { keys: { seats: of(sheet.seatsKey).length > 0, upper: of(sheet.upperKey).length > 0 }, follow };
+  const groupHead = (group) => cellButton([swatch(group.number), narrowName(group.name)],
+    of(group), `${say('group')} ${isolatedText(group.name)}`, (faults) => groupDetail(sheet, group, faults, more));
   const head = make('tr', {}, make('th', { scope: 'col', class: 'corner' }, say('constituency')),
     sheet.groups.map((group) => make('th', { scope: 'col', class: crowded ? 'narrow' : null }, groupHead(group))),
     make('th', { scope: 'col', class: 'sum' }, say('total')));
   const body = sheet.constituencies.map((constituency) => make('tr', {},
-    make('th', { scope: 'row' }, cellButton(make('span', { class: 'name' }, constituency.name), !bad.has(constituency.line),
-      `${say('constituency')} ${constituency.name}`, () => constituencyDetail(sheet, constituency))),
-    sheet.groups.map((group) => listCell(sheet, constituency, group, bad)),
+    make('th', { scope: 'row' }, cellButton(narrowName(constituency.name), of(constituency),
+      `${say('constituency')} ${isolatedText(constituency.name)}`, (faults) => constituencyDetail(sheet, constituency, faults, more))),
+    sheet.groups.map((group) => listCell(sheet, [constituency, group], of, follow)),
     make('td', { class: 'sum' }, `${constituency.seats}`)));
   const foot = make('tr', {}, make('th', { scope: 'row', class: 'sum' }, say('total')),
     sheet.groups.map((group) => make('td', { class: 'sum' }, `${group.seats}`)),
-    make('td', { class: 'sum' }, `${sheet.house.seats}`));
+    make('td', { class: of(sheet.house).length > 0 ? 'sum bad' : 'sum' }, `${sheet.house.seats}`,
+      of(sheet.house).length > 0 ? mark(false) : null));
   const table = make('table', {
     id: 'seats', class: crowded ? 'crowded' : null, 'aria-labelledby': 'seats-title', 'aria-describedby': 'seats-hint' },
     make('thead', {}, head), make('tbody', {}, body), make('tfoot', {}, foot));
   arrows(table);
   return make('section', { id: 'table' }, make('h2', { id: 'seats-title' }, say('seatsTable')),
-    make('p', { id: 'seats-hint', class: 'screen hint' }, say('tableHint')), make('div', { class: 'scroll' }, table));
+    make('p', { id: 'seats-hint', class: 'screen hint' }, say('tableHint')),
+    make('p', { id: 'scrolls', class: 'screen', hidden: true }, say('scrolls')), make('div', { class: 'scroll', id: 'seats-part' }, table));
 }
 
-function listCell(sheet, constituency, group, bad) {
+// Says that the table goes on where it does.
+function hintAtScrolling() {
+  const part = find('seats-part');
+  if (part) find('scrolls').hidden = part.scrollWidth <= part.clientWidth + 1 && part.scrollHeight <= part.clientHeight + 1;
+}
+
+function listCell(sheet, [constituency, group], of, follow) {
   const list = sheet.at.get(`${constituency.number} ${group.number}`);
   if (!list) return make('td', { class: 'empty' }, make('span', { 'aria-label': say('noList'), role: 'img' }, '·'));
-  const label = say('cellName', { constituency: constituency.name, group: group.name, seats: list.seats });
+  const label = say('cellName', {
+    constituency: isolatedText(constituency.name), group: isolatedText(group.name), seats: list.seats });
   return make('td', { class: list.seats === 0n ? 'zero' : null },
-    cellButton(`${list.seats}`, !bad.has(list.line), label, () => listDetail(sheet, constituency, group, list)));
+    cellButton(`${list.seats}`, of(list), label, (faults) => listDetail(sheet, [constituency, group, list], faults, follow)));
 }
 
 // One of the table's buttons can be reached with the tabulator, and the others from there with the arrows.

@@ -17,6 +17,8 @@ PAGE = TOP / "page" / "index.html"
 # No test is about time: a machine may be slow, and have other work. So many seconds mean that nothing comes any more.
 PATIENCE = 600
 STARTS = 5
+# A hyphen that is seen only where a word is parted.
+HYPHEN = "\u00ad"
 
 
 def options_for(language, size):
@@ -48,6 +50,30 @@ def started(language="en-GB", dark=False, size=(1280, 900)):
     return driver
 
 
+def proved(driver, cases, in_worker=False):
+    """What the proved check of the page that is open answers on each of these cases, as the page asks it: in a worker of its own; or
+    the same call in the page, with the module compiled once, which is faster."""
+    coded = [[None if text is None else base64.b64encode(text).decode() for text in case] for case in cases]
+    answers = driver.execute_async_script("""
+        const [cases, inWorker, done] = arguments;
+        const bytes = (text) => (text === null ? null : Uint8Array.from(atob(text), (c) => c.charCodeAt(0)));
+        const coded = (text) => btoa(Array.from(text, (c) => String.fromCharCode(c)).join(''));
+        (async () => {
+          const answers = [];
+          const module = inWorker ? null : await WebAssembly.compile(moduleBytes());
+          const ask = inWorker ? asked : (texts) => provedCheck(module, texts);
+          for (const [setup, sheet, held] of cases) {
+            const { status, text } = await ask({ setup: bytes(setup), sheet: bytes(sheet), held: bytes(held) });
+            answers.push([status, coded(text)]);
+          }
+          return answers;
+        })().then(done, (fault) => done(String(fault)));
+    """, coded, in_worker)
+    if isinstance(answers, str):
+        raise AssertionError(answers)
+    return [(status, base64.b64decode(text)) for status, text in answers]
+
+
 class Page:
     """The page in a browser, with the files that it was given."""
 
@@ -74,7 +100,7 @@ class Page:
         # What is shown is marked, so that it can be seen to be replaced, also where the same is shown again.
         self.driver.execute_script("document.body.dataset.shown = ''")
         self.driver.find_element(By.ID, "pick").send_keys("\n".join(paths))
-        self.wait("return document.body.dataset.shown !== ''")
+        self.wait("return document.body.dataset.shown !== '' && document.body.dataset.proved !== 'runs'")
         return self
 
     def sheet(self, sheet, setup=None, held=None):
@@ -85,16 +111,17 @@ class Page:
         return self.open().choose(*files)
 
     def states(self, sheets, setup=None, held=None):
-        """The state after each of these sheets, with one set-up and rows held: they are shown one after the other, and not
-        chosen, which takes longer."""
+        """What the page's own check says of each of these sheets, with one set-up and rows held: they are shown one after the
+        other, and not chosen, which takes longer."""
         return self.open().driver.execute_script("""
             const [sheets, setup, held] = arguments;
+            asked = () => new Promise(() => {});
             const file = (name, text) => opened(name, new TextEncoder().encode(text));
             takeFiles([['setup.toml', setup], ['held.csv', held]].filter(([, text]) => text !== null).map((it) => file(...it)));
             return sheets.map((sheet) => {
               Object.assign(files, { sheet: file('sheet.txt', sheet), before: null });
               show();
-              return document.body.dataset.state;
+              return document.body.dataset.own;
             });
         """, sheets, setup, held)
 
@@ -109,14 +136,23 @@ class Page:
     def text(self, css):
         """The text that is seen there; '' where there is none."""
         found = self.driver.find_elements(By.CSS_SELECTOR, css)
-        return found[0].text if found else ""
+        return found[0].text.replace(HYPHEN, "") if found else ""
 
     def texts(self, css):
-        return [element.text for element in self.driver.find_elements(By.CSS_SELECTOR, css)]
+        return [element.text.replace(HYPHEN, "") for element in self.driver.find_elements(By.CSS_SELECTOR, css)]
 
     def state(self):
-        """'right', 'wrong' or 'unsure'; 'none' without a sheet."""
+        """The colour of the bar: 'right', 'wrong' or 'unsure'; 'none' without a sheet."""
         return self.driver.find_element(By.TAG_NAME, "body").get_attribute("data-state")
+
+    def own(self):
+        """What the page's own check says: 'right', 'wrong' or 'refused'; 'none' without a sheet."""
+        return self.driver.find_element(By.TAG_NAME, "body").get_attribute("data-own")
+
+    def proved(self, state, why=""):
+        """The bar as it is where the proved check says this of the files that are open."""
+        self.driver.execute_script("showBar(judge(), { state: arguments[0], why: arguments[1] })", state, why)
+        return self
 
     def failing(self):
         """The parts of the check that fail."""

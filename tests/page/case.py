@@ -30,7 +30,9 @@ list 3 3 votes 50 voters 25 seats 0
 end
 """
 EXAMPLE_SETUP = sheets.setup("rehearsal")
+ROWS = model.Election(10, [5000, 3000, 2000], [[525, 300, 175], [240, 330, 30], [90, 60, 50]]).held()
 LARGEST = model.made_up(1, 32, 32, 400, quorum=1)
+HEADINGS = {"wrong": "✗ Wrong: ", "mismatch": "≠ Does not match the ", "damaged": "! This file is "}
 HOSTILE = "<img src=x onerror=alert(1)>"
 
 
@@ -38,6 +40,9 @@ def changed(text, old, new):
     """The text with this in the place of that, which stands there once."""
     assert text.count(old) == 1, old
     return text.replace(old, new)
+
+
+WRONG = changed(EXAMPLE, "list 1 1 votes 525 voters 105 seats 3", "list 1 1 votes 525 voters 105 seats 2")
 
 
 class Case(unittest.TestCase):
@@ -54,17 +59,21 @@ class Case(unittest.TestCase):
         cls.driver.quit()
 
     def holds(self, sheet, setup=None, held=None):
+        """The page's own check says right. Which colour the bar has depends on what was given (test_bar.py)."""
         page = self.page.sheet(sheet, setup, held)
-        self.assertEqual(page.state(), "right", page.text("#problems"))
-        self.assertRegex(page.text("#verdict"), r"^✓ all [1-9]\d* checks hold$")
+        self.assertEqual(page.own(), "right", page.text("#problems"))
+        self.assertIn(page.state(), ("right", "unsure"))
         self.assertEqual(page.failing(), [])
+        self.assertEqual(page.texts(".fault"), [])
         return page
 
-    def fails(self, part, line, reason, sheet, setup=None, held=None):
-        """The first fault is of this part (None: the sheet can't be read), in this line, and for this reason."""
+    def fails(self, part, line, reason, sheet, setup=None, held=None, state="wrong"):
+        """The first fault is of this part (None: the sheet can't be read), in this line, and for this reason. The bar has this state,
+        by whether the sheet itself is wrong, does not match another file, or was damaged."""
         page = self.page.sheet(sheet, setup, held)
-        self.assertEqual(page.state(), "wrong")
-        self.assertIn(f"line {line} is wrong", page.text("#verdict"))
+        self.assertEqual(page.state(), state)
+        self.assertEqual(page.own(), "wrong")
+        self.assertTrue(page.text("#verdict").startswith(HEADINGS[state]), page.text("#verdict"))
         self.assertIn(reason, page.text(".fault .reason"))
         self.assertRegex(page.text(".fault pre"), rf"^{line}: ")
         self.assertEqual(page.failing()[:1], [] if part is None else [part])

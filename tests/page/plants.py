@@ -1,6 +1,6 @@
-"""Wrong lines, planted one by one in a copy of the page: each has to make a test fail. The last line is 'N passed, M failed'."""
-import importlib.machinery
-import importlib.util
+"""Wrong lines, planted one by one in a copy of the page: each has to make a test fail; or those with one of these texts in their
+title. The last line is 'N passed, M failed'."""
+import concurrent.futures
 import os
 import pathlib
 import shutil
@@ -8,8 +8,12 @@ import subprocess
 import sys
 import tempfile
 
+import seals
+
 HERE = pathlib.Path(__file__).resolve().parent
 PAGE = HERE.parents[1] / "page"
+# So many are tried at once.
+AT_ONCE = os.cpu_count() or 2
 
 # What is wrong, the file, the test that has to see it, the line's right text, and the wrong one.
 PLANTS = [
@@ -58,18 +62,207 @@ PLANTS = [
     ("what follows the end is not looked at", "sheet.js", "Wrong.test_what_follows_and_what_is_no_line",
      "if (lines.at < lines.lines.length || lines.rest !== '') throw",
      "if (false) throw"),
-    ("a name is markup", "parliament.js", "Use.test_hostile_names_are_text",
-     "make('span', { class: 'name' }, group.name), make('span', { class: 'count' }",
-     "((e) => { e.innerHTML = group.name; return e; })(make('span', { class: 'name' })), make('span', { class: 'count' }"),
+    ("verdict_of_the_last_sheet", "proved.js", "Shown.test_the_verdict_is_that_of_this_sheet",
+     "given.every((file, i) => file === proved.given[i])",
+     "[0, 2].every((i) => given[i] === proved.given[i])"),
+    ("verdict of a sheet before, which comes late", "proved.js", "Shown.test_an_answer_that_comes_late_is_not_shown",
+     "if (run !== proved.run) return;",
+     "if (run > proved.run) return;"),
+    ("module_that_fails_is_green", "bar.js", "Failing.test_the_module_is_taken_out",
+     "return ticks.every(({ state }) =>",
+     "return ticks.slice(0, 2).every(({ state }) =>"),
+    ("an answer is shown before it comes", "proved.js", "Shown.test_while_it_runs_nothing_is_green",
+     "become(known ?? { state: 'runs' });",
+     "become(known ?? { state: 'right' });"),
+    ("rows held are not handed over", "worker.js", "Shown.test_the_verdict_is_that_of_this_sheet",
+     "Number(held !== null)",
+     "0"),
+    ("a name is markup", "elements.js", "Use.test_hostile_names_are_text",
+     "const isolated = (text, most) => make('bdi', {}, shown(text, most));",
+     "const isolated = (text, most) => { const name = make('bdi'); name.innerHTML = shown(text, most); return name; };"),
+    ("rows_without_a_setup_are_compared", "bar.js", "Bar.test_rows_without_a_set_up",
+     "if (rows.is === 'given') return tick('unsure',",
+     "if (rows.is === 'given') return tick('right',"),
+    ("limits_are_not_looked_at", "check.js", "Limits.test_divisors",
+     "part.expect(row.divisor <= most, row, 'divisorMost'",
+     "part.expect(true, row, 'divisorMost'"),
+    ("a constituency's divisor may be a millionth too large", "check.js", "Limits.test_divisors",
+     "const MOST_OF_CONSTITUENCY = 10n ** 18n;",
+     "const MOST_OF_CONSTITUENCY = 10n ** 18n + 1n;"),
+    ("a group's divisor is one millionth short", "check.js", "Limits.test_divisors",
+     "const MOST_OF_GROUP = 10n ** 12n;",
+     "const MOST_OF_GROUP = 10n ** 12n - 1n;"),
+    ("missing_returns_are_green", "bar.js", "Bar.test_returns_that_are_missing",
+     "return missing > 0 ? tick('unsure',",
+     "return false ? tick('unsure',"),
+    ("one return that is missing is green", "bar.js", "Bar.test_green_only_where_all_was_given_and_both_say_right",
+     "return missing > 0 ? tick('unsure',",
+     "return missing > 1 ? tick('unsure',"),
+    ("a proved check that did not run is green", "bar.js", "Bar.test_both_checks",
+     "return tick(unless, 'tickOne', said, why);",
+     "return tick(own.verdict, 'tickOne', said, why);"),
+    ("checks that differ are not said to", "bar.js", "Bar.test_both_checks",
+     "if (hasVerdict(proved) && proved.state !== own.verdict)",
+     "if (false)"),
+    ("a sheet alone is green", "bar.js", "Bar.test_green_only_where_all_was_given_and_both_say_right",
+     "if (is === 'read') return own",
+     "if (is !== 'unread') return own"),
+    ("sheets without rows are not said to be", "bar.js", "Bar.test_without_rows",
+     "if (rows.is === 'none') return tick('unsure',",
+     "if (rows.is === 'none') return tick('right',"),
+    ("the number of missing returns is one too few", "bar.js", "Bar.test_returns_that_are_missing",
+     "heading: words('barMissing', { ...returns, missing }),",
+     "heading: words('barMissing', { ...returns, missing: missing - 1 }),"),
+    ("a refusal is a wrong sheet", "sheet.js", "Bar.test_a_refusal_is_the_answer_of_the_office",
+     "if (!match || text.length > 400",
+     "if (true || text.length > 400"),
+    ("the first fault alone is listed", "report.js", "Bar.test_all_faults_are_listed",
+     "const boxes = [...byLine(faults)]",
+     "const boxes = [...byLine(faults)].slice(0, 1)"),
+    ("a panel has a mark of its own", "details.js", "Panels.test_of_forged_sheets",
+     "  const holds = faults.length === 0;",
+     "  const holds = faults.filter(({ reason }) => reason !== 'votesHeld' && reason !== 'votersRound').length === 0;"),
+    ("each blank of Unicode is one", "setup.js", "Limits.test_only_spaces_and_tabs_are_blanks",
+     "while (this.line[this.at] === ' ' || this.line[this.at] === '\\t')",
+     "while (this.at < this.line.length && this.line[this.at].trim() === '')"),
+    ("numbers may begin with 0", "setup.js", "Limits.test_no_leading_zeros",
+     "const NUMBER = /0|[1-9][0-9]{0,11}/uy;",
+     "const NUMBER = /[0-9]{1,12}/uy;"),
+    ("comments may have control characters", "setup.js", "Limits.test_no_control_characters_in_comments",
+     "throw new Fault(number, line, 'inComment');",
+     ";"),
+    ("a carriage return may stand alone", "setup.js", "Limits.test_no_carriage_return_alone",
+     "if (line.includes('\\r')) throw new Fault(number, line, 'loneReturn');",
+     "if (line.includes('\\r')) return {};"),
+    ("a set-up may be a byte longer", "files.js", "Limits.test_the_longest_set_up",
+     "setup: 1048576,",
+     "setup: 1048577,"),
+    ("a sheet may be a byte longer", "files.js", "Limits.test_the_longest_sheet_and_rows",
+     "const LONGEST = { sheet: 280064,",
+     "const LONGEST = { sheet: 280065,"),
+    ("rows may be a byte longer", "files.js", "Limits.test_the_longest_sheet_and_rows",
+     "held: 467103 + 16385 };",
+     "held: 467103 + 16386 };"),
+    ("numbers of rows may have more than 32 bits", "held.js", "Limits.test_the_numbers_of_rows",
+     "Number(text) <= 4294967295;",
+     "Number(text) <= 4294967296;"),
+    ("blanks are gone through again and again", "files.js", "Hostile.test_sheets",
+     "if (/^[\\t ]*(?:\\[\\[|",
+     "if (/^\\s*(?:\\[\\[|"),
+    ("names are not isolated", "elements.js", "Sight.test_names_are_isolated",
+     "const isolated = (text, most) => make('bdi', {}, shown(text, most));",
+     "const isolated = (text, most) => make('span', {}, shown(text, most));"),
+    ("names in attributes are not isolated", "elements.js", "Sight.test_names_are_isolated",
+     "const isolatedText = (text) => `\\u2068${shown(text)}\\u2069`;",
+     "const isolatedText = (text) => shown(text);"),
+    ("characters that turn a text round are left", "elements.js", "Sight.test_names_are_isolated",
+     "\\u200b-\\u200f\\u2028-\\u202e\\u2060",
+     "\\u200b-\\u200f\\u2028-\\u202d\\u2060"),
+    ("what is wrong can be signed", "main.js", "Paper.test_what_is_not_right_is_not_to_be_signed",
+     "...(colour === 'right' ? ['place',",
+     "...(colour !== 'unsure' ? ['place',"),
+    ("what is not fully checked can be signed", "main.js", "Paper.test_what_is_not_right_is_not_to_be_signed",
+     "...(colour === 'right' ? ['place',",
+     "...(colour !== 'wrong' ? ['place',"),
+    ("a wrong sheet has a clean FINAL", "main.js", "Paper.test_what_is_not_right_is_not_to_be_signed",
+     "const kind = colour === 'right'",
+     "const kind = colour !== 'unsure'"),
+    ("what is not fully checked has a clean FINAL", "main.js", "Paper.test_what_is_not_right_is_not_to_be_signed",
+     "const kind = colour === 'right'",
+     "const kind = colour !== 'wrong'"),
+    ("a verdict of other files stays where the page fails", "main.js", "Failing.test_the_page_itself_fails",
+     "Object.assign(document.body.dataset, { state: 'unsure', own: 'failed' });",
+     "document.body.dataset.own = 'failed';"),
+    ("a wrong divisor is called wrong seats", "kinds.js", "Kinds.test_a_divisor",
+     "if (changes?.length > 0) {",
+     "if (changes) {"),
+    ("a sheet that does not match is called wrong", "kinds.js", "Kinds.test_votes_of_other_rows",
+     "const kind = { colour: 'mismatch' };",
+     "const kind = { colour: 'wrong' };"),
+    ("a wrong sheet beside another set-up is said only not to match", "kinds.js",
+     "Kinds.test_a_sheet_that_is_wrong_itself_stays_so_beside_other_files",
+     "const own = faults.filter((fault) => !isOfOther(fault));",
+     "const own = faults.some(isOfOther) ? [] : faults;"),
+    ("seats by other rows are called right", "kinds.js", "Kinds.test_votes_of_other_rows",
+     "follows: words('followsRows')",
+     "follows: words('follows')"),
+    ("a damaged file is called a wrong sheet", "kinds.js", "Kinds.test_what_can_not_be_read",
+     "colour: 'damaged',",
+     "colour: 'wrong',"),
+    ("the proved check's “sheet wrong” is not explained", "proved.js", "Kinds.test_what_can_not_be_read",
+     "const key = (state === 'wrong' && wrongs[wrong]) || keys[state];",
+     "const key = keys[state];"),
+    ("other returns are named as missing", "held.js", "Bar.test_returns_that_are_missing",
+     "filter(({ row }) => !seen.has(row))",
+     "filter(({ row }) => seen.has(row))"),
+    ("seats that change are said to stay", "kinds.js", "Kinds.test_seats",
+     "const key = changes.length > 0 ? 'seatsOther' : 'seatsSame';",
+     "const key = 'seatsSame';"),
+    ("newer rows are called older", "kinds.js", "Kinds.test_votes_of_other_rows",
+     "more[0] ? 'rowsMore' : 'rowsFewer'",
+     "more[0] ? 'rowsFewer' : 'rowsMore'"),
+    ("the seats that follow are not those of the rows held", "follow.js", "Kinds.test_votes_of_other_rows",
+     "(held ? held.votes.get(place) ?? 0n",
+     "(false ? 0n"),
+    ("seats follow at a tie", "follow.js", "Kinds.test_seats_that_are_not_found",
+     "weights.every((weight, i) => rounds(2n * weight * key.b, key.a, seats[i])) ? seats",
+     "true ? seats"),
+    ("the quorum of the canton counts for no seats that follow", "follow.js",
+     "Kinds.test_the_seats_that_follow_are_those_of_right_sheets",
+     "(quorum !== null && reachesCanton(",
+     "(false && reachesCanton("),
+    ("the set-up's number stands alone", "reasons.js", "Kinds.test_another_set_up",
+     "{should:seat|seats} in all, the sheet {is}',",
+     "{should:seat|seats} in all',"),
+    ("the parliament is below the files", "main.js", "Kinds.test_the_first_screen",
+     "? ['shown', 'files', 'opinion']",
+     "? ['files', 'shown', 'opinion']"),
+    ("1 lines", "words.js", "Kinds.test_one_and_more",
+     "(isOne(name) ? one : more)",
+     "more"),
+    ("a refusal looks as not fully checked", "bar.js", "Bar.test_a_refusal_is_the_answer_of_the_office",
+     "return { colour: 'answer',",
+     "return { colour: 'unsure',"),
+    ("the sums are not on paper", "files.js", "Paper.test_the_files_and_their_sums",
+     "...(had.length === 0 ? [] :",
+     "...(true ? [] :"),
+    ("a sum forgets the length", "hash.js", "Limits.test_sums",
+     "BigInt(bytes.length) * 8n);",
+     "BigInt(bytes.length));"),
+    ("yellow seats have no edge", "style.css", "Sight.test_edges_of_seats",
+     " --edge: var(--edge6); }",
+     " }"),
+    ("edges are those of the dark on paper", "style.css", "Sight.test_edges_of_seats",
+     "    --edge1: #8a5f00; --edge3: #a35c82; --edge4: #1f77a8; --edge6: #7d7500;\n  }\n  html",
+     "  }\n  html"),
+    ("the totals scroll away", "style.css", "Sight.test_the_totals_stay_in_sight",
+     "#seats .sum:last-child { right: 0;",
+     "#seats .sum:last-child {"),
+    ("the row of totals scrolls away", "style.css", "Sight.test_the_totals_stay_in_sight",
+     "#seats tfoot :is(th, td) { bottom: 0;",
+     "#seats tfoot :is(th, td) { bottom: auto;"),
+    ("no hint that the table goes on", "table.js", "Sight.test_a_table_that_goes_on_says_so",
+     "part.scrollWidth <= part.clientWidth + 1",
+     "part.scrollWidth <= part.clientWidth + 9999"),
+    ("the table of checks has no name", "report.js", "Sight.test_tables_have_names",
+     "{ id: 'parts', 'aria-labelledby': 'checks-title' }",
+     "{ id: 'parts' }"),
+    ("the panel takes more than half", "style.css", "Sight.test_the_panel_leaves_half_of_a_phone",
+     "max-height: 45vh; overflow: auto;",
+     "max-height: 60vh; overflow: auto;"),
+    ("words break where they will", "style.css", "Sight.test_words_are_not_broken",
+     ".name { overflow-wrap: break-word; }",
+     ".name { word-break: break-all; }"),
+    ("a long word gets no hyphen", "elements.js", "Sight.test_words_are_not_broken",
+     "word.slice(2, -1).replace(SYLLABLES, '$1\\u00ad')",
+     "word.slice(2, -1)"),
+    ("thousands stand together", "words.js", "Sight.test_thousands_are_set_apart",
+     "THOUSANDS[language])));",
+     "'')));"),
+    ("the German page says Set-up", "words.js", "GermanBar.test_the_set_up_has_its_german_word",
+     "setup: ['Set-up', 'Grunddaten'],",
+     "setup: ['Set-up', 'Set-up'],"),
 ]
-
-
-def loaded_seal():
-    """page/seal as a module."""
-    loader = importlib.machinery.SourceFileLoader("seal", str(PAGE / "seal"))
-    module = importlib.util.module_from_spec(importlib.util.spec_from_loader("seal", loader))
-    loader.exec_module(module)
-    return module
 
 
 def unseen(seal, file, test, right, wrong):
@@ -88,16 +281,17 @@ def unseen(seal, file, test, right, wrong):
         return "" if "FAIL  " in ran.stdout and "ERROR " not in ran.stdout else f"{test} does not fail\n{ran.stdout[-2000:]}"
 
 
-def main():
-    seal = loaded_seal()
+def main(words):
+    seal = seals.loaded()
     failed = 0
-    for title, *plant in PLANTS:
-        why = unseen(seal, *plant)
-        failed += why != ""
-        print(f"FAIL  {title}: {why}" if why else f"ok    {title}", flush=True)
-    print(f"{len(PLANTS) - failed} passed, {failed} failed")
+    plants = [plant for plant in PLANTS if not words or any(word in plant[0] for word in words)]
+    with concurrent.futures.ThreadPoolExecutor(AT_ONCE) as pool:
+        for (title, *_), why in zip(plants, pool.map(lambda plant: unseen(seal, *plant[1:]), plants)):
+            failed += why != ""
+            print(f"FAIL  {title}: {why}" if why else f"ok    {title}", flush=True)
+    print(f"{len(plants) - failed} passed, {failed} failed")
     sys.exit(failed > 0)
 
 
 if __name__ == "__main__":
-    main()
+    main(sys.argv[1:])

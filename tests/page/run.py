@@ -1,18 +1,26 @@
 """Runs the tests of the page, or those that are named, as `Wrong` or `Wrong.test_a_half`; `--first` ends with the first
-that fails. The last line is 'N passed, M failed'."""
+that fails. Each line ends with the seconds that the test took; the last is 'N passed, M failed'."""
 import sys
+import time
 import unittest
 
 import case
+import test_bar
+import test_kinds
+import test_limits
 import test_numbers
 import test_others
 import test_paper
 import test_program
+import test_proved
 import test_right
+import test_shown
+import test_sight
 import test_use
 import test_wrong
 
-MODULES = (test_right, test_program, test_numbers, test_wrong, test_others, test_use, test_paper)
+MODULES = (test_right, test_bar, test_kinds, test_shown, test_proved, test_program, test_numbers, test_wrong, test_limits, test_others,
+           test_use, test_sight, test_paper)
 
 
 class Lines(unittest.TestResult):
@@ -20,12 +28,16 @@ class Lines(unittest.TestResult):
 
     def __init__(self):
         super().__init__()
-        self.passed = 0
+        self.passed, self.begun = 0, 0
 
     def tell(self, word, test, error=None):
-        print(f"{word:<5} {test.id().split('.', 1)[-1]}", flush=True)
+        print(f"{word:<5} {test.id().split('.', 1)[-1]} ({time.monotonic() - self.begun:.1f} s)", flush=True)
         if error:
             print("      " + self._exc_info_to_string(error, test).strip().replace("\n", "\n      "), flush=True)
+
+    def startTest(self, test):
+        super().startTest(test)
+        self.begun = time.monotonic()
 
     def addSuccess(self, test):
         self.passed += 1

@@ -54,6 +54,7 @@ class Held:
         self.rows, self.known = {}, True
 
     def turn(self, words, expected, files):
+        words = words[words[0] == "refuse":]
         if expected.startswith("closed"):
             return
         if words[0].isdigit() and words[1:2] == ["return"] and " stored " in expected:

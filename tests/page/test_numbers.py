@@ -4,7 +4,7 @@ from fractions import Fraction
 
 import sheets
 from browser import By
-from case import EXAMPLE, Case, changed
+from case import EXAMPLE, EXAMPLE_SETUP, ROWS, Case, changed
 
 
 class Numbers(Case):
@@ -20,8 +20,8 @@ class Numbers(Case):
         self.page.sheet(EXAMPLE)
         text = self.details("#seats tbody tr:nth-child(1) td:nth-child(2) button")
         for part in ("Nord, A: 3 seats ✓ holds", "525 / (205.000000 × 1.000000) = 2.560.., which rounds to 3",
-                     "more than 512.5 and less than 717.5 votes", "2 × 525 = 1050 lies between 5 × 205.000000 × 1.000000 = 1025 and "
-                     "7 × 205.000000 × 1.000000 = 1435 ✓", "Line 11 of the sheet: list 1 1 votes 525 voters 105 seats 3"):
+                     "more than 512.5 and less than 717.5 votes", "2 × 525 = 1,050 lies between 5 × 205.000000 × 1.000000 = 1,025 and "
+                     "7 × 205.000000 × 1.000000 = 1,435 ✓", "Line 11 of the sheet: list 1 1 votes 525 voters 105 seats 3"):
             self.assertIn(part, text)
         text = self.details("#seats tbody tr:nth-child(2) td:nth-child(4) button")
         for part in ("Mitte, C: 0 seats ✓", "= 0.157.., which rounds to 0", "less than 95 votes", "60 is less than 1 × "):
@@ -30,8 +30,8 @@ class Numbers(Case):
     def test_a_constituency_and_a_group(self):
         self.page.sheet(EXAMPLE)
         text = self.details("#seats tbody tr:nth-child(1) th button")
-        for part in ("Nord: 5 seats ✓", "5000 / (10000/10) = 5, which rounds to 5", "more than 4500 and less than 5500 persons",
-                     "3 + 1 + 1 = 5 ✓", "525 + 300 + 175 = 1000 ✓"):
+        for part in ("Nord: 5 seats ✓", "5,000 / (10,000/10) = 5, which rounds to 5", "more than 4,500 and less than 5,500 persons",
+                     "3 + 1 + 1 = 5 ✓", "525 + 300 + 175 = 1,000 ✓"):
             self.assertIn(part, text)
         text = self.details("#seats thead th:nth-child(4) button")
         for part in ("C: 1 seat ✓", "reached in Nord, Mitte, West ✓", "70 / (300/6) = 1.4, which rounds to 1",
@@ -45,6 +45,7 @@ class Numbers(Case):
         for d, g, seats in re.findall(r"^list (\d) (\d) .* seats (\d+)$", sheets.zurich(), re.M)[::7]:
             text = self.details(f"#seats tbody tr:nth-child({d}) td:nth-child({int(g) + 1}) button")
             unit = x[int(d) - 1] * y[int(g) - 1]
+            text = text.replace(",", "")
             high = Fraction(re.search(r"less than ([\d.]+) votes", text)[1])
             self.assertEqual(high, unit * (2 * int(seats) + 1) / 2)
             low = re.search(r"more than ([\d.]+) and", text)
@@ -54,7 +55,7 @@ class Numbers(Case):
     def test_a_wrong_one_has_a_red_mark(self):
         self.page.sheet(changed(EXAMPLE, "votes 525 voters 105 seats 3", "votes 525 voters 105 seats 4"))
         text = self.details("#seats tbody tr:nth-child(1) td:nth-child(2) button")
-        for part in ("Nord, A: 4 seats ✗ wrong", "1050 does not lie between 7 × ", "✗"):
+        for part in ("Nord, A: 4 seats ✗ wrong", "1,050 does not lie between 7 × ", "✗"):
             self.assertIn(part, text)
         colour = self.page.driver.find_element(By.CSS_SELECTOR, "#detail .mark").value_of_css_property("color")
         self.assertEqual(colour, "rgba(176, 0, 32, 1)")
@@ -65,3 +66,64 @@ class Numbers(Case):
                                    .replace("divisor 205.000000", "divisor 200.000000"))
             self.assertIn("wrong", self.details("#seats tbody tr:nth-child(1) td:nth-child(2) button").split("\n")[1], (votes, seats))
             self.assertIn("lists", page.failing())
+
+
+class Panels(Case):
+    """A cell's mark and its panel have one source."""
+
+    def panels(self, sheet, *others):
+        """Of each cell: whether the table marks it, what its panel says, how many marks there are red, and how many reasons."""
+        self.page.sheet(sheet, *others)
+        return self.page.driver.execute_script("""
+            return [...document.querySelectorAll('#seats button')].map((button) => {
+              button.click();
+              const count = (css) => document.querySelectorAll(`#detail ${css}`).length;
+              const wrong = count('h2 .said.wrong') === 1;
+              return [button.classList.contains('bad'), button.querySelector('.mark.wrong') !== null,
+                button.getAttribute('aria-label').endsWith(', wrong'), wrong, count('dl .mark.wrong'), count('.reason')];
+            });
+        """)
+
+    def same(self, sheet, *others):
+        found = self.panels(sheet, *others)
+        for bad, marked, named, wrong, red, reasons in found:
+            self.assertEqual((bad, marked, named), (wrong, wrong, wrong))
+            self.assertEqual(reasons > 0, wrong)
+            if not wrong:
+                self.assertEqual(red, 0)
+        return sum(bad for bad, *_ in found), len(found)
+
+    def test_of_forged_sheets(self):
+        """Votes, voters, seats, divisors, quorums, keys, persons and names, changed one by one, with set-up and rows and without."""
+        marked = cells = 0
+        for old, new in (("votes 525 ", "votes 526 "), ("votes 525 voters 105", "votes 525 voters 104"), ("voters 230", "voters 231"),
+                         ("voters 105 seats 3", "voters 105 seats 4"), ("205.000000", "210.000000"), ("205.000000", "0.000000"),
+                         ("205.000000", "2000000000000.000000"), ("quorum yes voters 70", "quorum no voters 70"),
+                         ("10000/10", "10000/9"), ("10000/10", "0/10"), ("10000/10", "10000/0"), ("300/6", "310/6"), ("300/6", "0/0"),
+                         ("persons 5000", "persons 5001"), ("Nord", "Sued"), ("house 10", "house 11"), ("votes 1000", "votes 999"),
+                         ("list 1 2 votes 300 voters 60 seats 1\n", ""),
+                         ("seats 5 divisor 1.000000 A", "seats 5 divisor - A"),
+                         ("seats 5 divisor 1.000000 A", "seats 6 divisor 1.000000 A"),
+                         ("quorum yes voters 230", "quorum yes voters -"), ("voters 105 seats 3", "voters - seats 3"),
+                         ("persons 5000 seats 5", "persons 5000 seats 6"), ("persons 5000 seats 5", "persons 5000 seats 0")):
+            for others in ((), (EXAMPLE_SETUP,), (EXAMPLE_SETUP, ROWS)):
+                with self.subTest(new=new, others=len(others)):
+                    found = self.same(EXAMPLE.replace(old, new, 1), *others)
+                    marked, cells = marked + found[0], cells + found[1]
+        self.assertGreater(marked, 100)
+        self.assertGreater(cells, 1000)
+        self.same(EXAMPLE, EXAMPLE_SETUP, ROWS)
+
+    def test_of_votes_other_than_the_rows(self):
+        self.page.sheet(EXAMPLE, EXAMPLE_SETUP, changed(ROWS, "1,1,1,525", "1,1,1,526"))
+        self.page.driver.find_element(By.CSS_SELECTOR, "#seats tbody td button.bad").click()
+        self.assertIn("wrong\nWhat does not hold:\nthe rows make 526 votes", self.page.text("#detail"))
+
+    def test_a_key_that_is_wrong_itself_is_named(self):
+        self.page.sheet(changed(EXAMPLE, "seats key 10000/10", "seats key 10000/9"), EXAMPLE_SETUP)
+        self.page.driver.find_element(By.CSS_SELECTOR, "#seats tbody th button").click()
+        self.assertIn("This key itself is wrong: line 3.", self.page.text("#detail"))
+
+    def test_a_wrong_house_is_marked_at_the_total(self):
+        page = self.page.sheet(changed(EXAMPLE, "house 10", "house 11"), EXAMPLE_SETUP)
+        self.assertEqual(page.texts("#seats tfoot td")[-1], "11✗")

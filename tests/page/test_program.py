@@ -1,40 +1,23 @@
-"""The page against `zhcount check`: both say right, or both say wrong. ZHCOUNT names the program; if it is not set, it is
-crates/zhcount/out/zhcount. As long as FORMATS names no task `check` there is nothing to compare."""
-import os
-import pathlib
+"""The page's own check against `zhcount check`: both say right, or both say wrong."""
 import random
 import re
-import subprocess
-import tempfile
-import unittest
 
-import browser
 import model
+import program
 import sheets
 from case import EXAMPLE, EXAMPLE_SETUP, Case
 
-PROGRAM = os.environ.get("ZHCOUNT") or str(browser.TOP / "crates" / "zhcount" / "out" / "zhcount")
-STANDS = "`check --setup" in (browser.TOP / "docs" / "FORMATS.md").read_text()
 # So many changes of each larger sheet, from this seed. Of the smallest all are taken.
 SAMPLE, SEED = 20, 2027
 
 
-def verdict(*files):
-    """What `zhcount check` says of a sheet, with its set-up and the rows held."""
-    with tempfile.TemporaryDirectory() as room:
-        arguments = []
-        for name, content in zip(("sheet", "setup", "held"), files):
-            if content is not None:
-                path = pathlib.Path(room, name)
-                path.write_bytes(content.encode())
-                arguments += [f"--{name}", str(path)]
-        ran = subprocess.run([PROGRAM, "check", *arguments], stdin=subprocess.DEVNULL, stdout=subprocess.PIPE,
-                             stderr=subprocess.PIPE)
-    if ran.returncode == 0:
+def verdict(status, text):
+    """What an answer of `zhcount check` says of a sheet."""
+    if status == 0:
         return "right"
-    if ran.returncode == 1 and ran.stdout.endswith(b"sheet wrong\n"):
+    if status == 1 and text.endswith(b"sheet wrong\n"):
         return "wrong"
-    raise AssertionError(f"status {ran.returncode}: {ran.stdout}{ran.stderr}")
+    raise AssertionError(f"status {status}: {text}")
 
 
 def changes(sheet):
@@ -54,13 +37,13 @@ def changes(sheet):
     yield from (sheet[:-1], sheet + "\n", sheet + sheet, sheet.replace("\n", "\r\n"), "\ufeff" + sheet, "")
 
 
-@unittest.skipUnless(STANDS, "FORMATS names no task check")
 class Program(Case):
-    def same(self, texts, *others):
+    def same(self, texts, setup, held=None):
         """The page and the program say the same of each of these sheets, with one set-up, and perhaps the rows held."""
-        for text, state in zip(texts, self.page.states(texts, *others), strict=True):
+        answers = program.answers([program.utf8(setup, text, held) for text in texts])
+        for text, state, answer in zip(texts, self.page.states(texts, setup, held), answers, strict=True):
             with self.subTest(text[:400]):
-                self.assertEqual(state, verdict(text, *others))
+                self.assertEqual(state, verdict(*answer))
 
     def test_each_sheet_of_the_repository(self):
         for _, sheet, setup, held in sheets.all_sheets():

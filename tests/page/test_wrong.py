@@ -3,13 +3,13 @@ import re
 
 import model
 import sheets
-from case import EXAMPLE, EXAMPLE_SETUP, Case, changed
+from case import EXAMPLE, EXAMPLE_SETUP, ROWS, Case, changed
 
 
 class Wrong(Case):
     def test_a_wrong_seat(self):
         sheet = changed(sheets.zurich(), "list 1 1 votes 28518 voters 2377 seats 4", "list 1 1 votes 28518 voters 2377 seats 5")
-        self.fails("lists", 22, "28518 / (7242.666666 × 1.007187) = 3.909.. rounds to 4", sheet, sheets.zurich_setup())
+        self.fails("lists", 22, "28,518 / (7,242.666666 × 1.007187) = 3.909.. rounds to 4", sheet, sheets.zurich_setup())
 
     def test_seats_exchanged_so_that_all_totals_are_met(self):
         sheet = EXAMPLE
@@ -24,7 +24,7 @@ class Wrong(Case):
         page = self.fails("lists", 5, "the seats of its lists make 6, and not 5", changed(EXAMPLE, "205.000000", "186.000000")
                           .replace("voters 60 seats 1", "voters 60 seats 2", 1), EXAMPLE_SETUP)
         self.assertEqual(page.failing(), ["lists"])
-        self.assertIn("and 1 more", page.text("#problems"))
+        self.assertEqual(page.texts(".fault .reason")[1:], ["the seats of its lists make 5, and not 4"])
 
     def test_a_half(self):
         self.fails("lists", 11, "525 / (210.000000 × 1.000000) = 2.5 lies on a half", changed(EXAMPLE, "205.000000", "210.000000"))
@@ -32,12 +32,12 @@ class Wrong(Case):
 
     def test_the_ends_of_each_apportionment(self):
         """Seats by keys and by persons, on each side."""
-        self.fails("seats", 3, "the key should be 10000/10", changed(EXAMPLE, "seats key 10000/10", "seats key 10000/9"))
-        self.fails("seats", 3, "the key should be 10000/10", changed(EXAMPLE, "seats key 10000/10", "seats key 1000/1"))
-        self.fails("seats", 3, "the key should be 10000/10", changed(EXAMPLE, "seats key 10000/10", "seats key 10001/10"))
+        self.fails("seats", 3, "the key should be 10,000/10, and not 10,000/9", changed(EXAMPLE, "seats key 10000/10", "seats key 10000/9"))
+        self.fails("seats", 3, "the key should be 10,000/10", changed(EXAMPLE, "seats key 10000/10", "seats key 1000/1"))
+        self.fails("seats", 3, "the key should be 10,000/10", changed(EXAMPLE, "seats key 10000/10", "seats key 10001/10"))
         self.fails("groups", 4, "the key should be 300/6", changed(EXAMPLE, "upper key 300/6", "upper key 50/1"))
-        self.fails("seats", 5, "5000 / (10000/10) = 5 rounds to 5", changed(EXAMPLE, "persons 5000 seats 5", "persons 5000 seats 6"))
-        self.fails("seats", 5, "5000 / (10000/10) = 5 rounds to 5", changed(EXAMPLE, "persons 5000 seats 5", "persons 5000 seats 4"))
+        self.fails("seats", 5, "5,000 / (10,000/10) = 5 rounds to 5", changed(EXAMPLE, "persons 5000 seats 5", "persons 5000 seats 6"))
+        self.fails("seats", 5, "5,000 / (10,000/10) = 5 rounds to 5", changed(EXAMPLE, "persons 5000 seats 5", "persons 5000 seats 4"))
         self.fails("groups", 8, "230 / (300/6) = 4.6 rounds to 5", changed(EXAMPLE, "voters 230 seats 5", "voters 230 seats 4"))
         self.fails("groups", 8, "230 / (300/6) = 4.6 rounds to 5", changed(EXAMPLE, "voters 230 seats 5", "voters 230 seats 6"))
         self.fails("seats", 2, "the seats make 10, and the house has 11", changed(EXAMPLE, "house 10", "house 11"))
@@ -79,7 +79,8 @@ class Wrong(Case):
         self.fails("form", 19, "before it the line “list 3 3 ..” is missing", self.without(EXAMPLE, 19), EXAMPLE_SETUP)
         whole = model.made_up(3, 6, 5, 60)
         whole.votes[5][1] = None
-        page = self.fails("form", 41, "before it the line “list 6 2 ..” is missing", whole.sheet(), model.made_up(3, 6, 5, 60).setup())
+        page = self.fails("form", 41, "before it the line “list 6 2 ..” is missing", whole.sheet(), model.made_up(3, 6, 5, 60).setup(),
+                          state="mismatch")
         self.assertEqual(page.failing(), ["form"])
 
     @staticmethod
@@ -91,15 +92,16 @@ class Wrong(Case):
         lines = EXAMPLE.splitlines(keepends=True)
         for count in range(len(lines)):
             with self.subTest(count):
-                page = self.fails(None, count + 1, "the sheet is cut off here", "".join(lines[:count]))
-                self.assertEqual(page.text("#kind"), "THIS IS NO SHEET")
-        self.fails(None, 12, "cut off within this line", EXAMPLE[:EXAMPLE.index("list 1 2") + 12])
-        self.fails(None, 20, "its line end is missing", EXAMPLE[:-1])
+                page = self.fails(None, count + 1, "the sheet is cut off here", "".join(lines[:count]), state="damaged")
+                self.assertEqual(page.text("#kind"), "NOT READABLE AS A SHEET")
+                self.assertEqual(page.text("#verdict"), "! This file is cut off: get it again")
+        self.fails(None, 12, "cut off within this line", EXAMPLE[:EXAMPLE.index("list 1 2") + 12], state="damaged")
+        self.fails(None, 20, "its line end is missing", EXAMPLE[:-1], state="damaged")
 
     def test_line_ends_marks_and_bytes(self):
-        self.fails(None, 1, "it ends in a carriage return (CR LF)", EXAMPLE.replace("\n", "\r\n"))
-        self.fails(None, 7, "it ends in a carriage return (CR LF)", changed(EXAMPLE, "West\n", "West\r\n"))
-        self.fails(None, 1, "byte order mark", "\ufeff" + EXAMPLE)
+        self.fails(None, 1, "it ends in a carriage return (CR LF)", EXAMPLE.replace("\n", "\r\n"), state="damaged")
+        self.fails(None, 7, "it ends in a carriage return (CR LF)", changed(EXAMPLE, "West\n", "West\r\n"), state="damaged")
+        self.fails(None, 1, "byte order mark", "\ufeff" + EXAMPLE, state="damaged")
         self.fails(None, 6, "it is not UTF-8", EXAMPLE.encode().replace(b"Mitte", b"Mitt\xe9"))
 
     def test_what_follows_and_what_is_no_line(self):
@@ -116,24 +118,24 @@ class Wrong(Case):
         self.fails(None, 6, "its number should be 2", changed(EXAMPLE, "constituency 2", "constituency 3"))
         for text in ("", "\n", "hello", "\0\0\0", "<b>bold</b>\n"):
             with self.subTest(text):
-                self.fails(None, 1, "", text)
+                self.fails(None, 1, "", text, state="wrong" if text.endswith("\n") else "damaged")
 
     def test_each_number_changed_by_one(self):
         """Only the desk, K and divisors may be others."""
-        rows = model.Election(10, [5000, 3000, 2000], [[525, 300, 175], [240, 330, 30], [90, 60, 50]]).held()
-        page = self.page.sheet(EXAMPLE, EXAMPLE_SETUP, rows)
-        lines = EXAMPLE.splitlines(keepends=True)
+        lines, changes = EXAMPLE.splitlines(keepends=True), []
         for at, line in enumerate(lines):
             for match in re.finditer(r"\d+", line):
-                for change in (-1, 1):
-                    number = int(match[0]) + change
-                    text = line[:match.start()] + str(number) + line[match.end():]
-                    page.choose(("sheet.txt", "".join(lines[:at] + [text] + lines[at + 1:])))
-                    with self.subTest(text):
-                        if at == 0 and number >= 1:
-                            self.assertEqual(page.state(), "right")
-                        elif "divisor" not in line[:match.start()]:
-                            self.assertEqual(page.state(), "wrong")
+                for number in (int(match[0]) - 1, int(match[0]) + 1):
+                    text = f"{line[:match.start()]}{number}{line[match.end():]}"
+                    if at == 0 and number >= 1:
+                        changes.append((text, at, "right"))
+                    elif "divisor" not in line[:match.start()]:
+                        changes.append((text, at, "wrong"))
+        self.assertGreater(len(changes), 140)
+        states = self.page.states(["".join(lines[:at] + [text] + lines[at + 1:]) for text, at, _ in changes], EXAMPLE_SETUP, ROWS)
+        for (text, _, wanted), state in zip(changes, states, strict=True):
+            with self.subTest(text):
+                self.assertEqual(state, wanted)
 
     def test_limits(self):
         self.fails("form", 2, "it should be from 1 to 400", changed(EXAMPLE, "house 10", "house 401"))

@@ -1,0 +1,103 @@
+// ---- The bar: its colour, heading and sentences, and three ticks, by what the checks found. Pure functions, which look at nothing else.
+
+const words = (key, values = {}) => ({ key, values });
+const hasVerdict = ({ state }) => state === 'right' || state === 'wrong';
+const tick = (state, key, values, ...sentence) => ({ state, heading: words(key, values), sentence });
+
+function setupTick({ own, setup: { is, line } }) {
+  if (is === 'read') return own.kind?.isSetup ? tick('mismatch', 'tickSetupOther') : tick('right', 'tickSetup');
+  return is === 'none'
+    ? tick('unsure', 'tickNoSetup', {}, words('barNoSetup')) : tick('unsure', 'tickSetupUnread', { line }, words('barSetupUnread'));
+}
+
+// Rows are compared only where their set-up is read.
+function rowsTick({ own, rows, returns }) {
+  const others = own.votesDiffer && rows.is === 'compared';
+  if (rows.is === 'none') return tick('unsure', 'tickNoRows', {}, words('barNoRows'));
+  if (rows.is === 'unread') return tick('unsure', 'tickRowsUnread', { line: rows.line }, words('barRowsUnread'));
+  if (rows.is === 'given') return tick('unsure', 'tickRowsAlone', {}, words('barRowsAlone'));
+  if (others) return tick(own.kind.colour, 'tickRowsOther', returns, words('rowIs'));
+  const missing = returns.possible - returns.rows;
+  return missing > 0 ? tick('unsure', 'tickRowsSome', returns, words('rowIs')) : tick('right', 'tickRows', returns, words('rowIs'));
+}
+
+// Which checks the two are, and what they found.
+function whatBoth({ kind }) {
+  if (kind?.colour === 'mismatch') return words('bothMismatch');
+  return kind?.what ? words(kind.isAlone ? 'bothWrongAlone' : 'bothWrong', { what: kind.what }) : words('bothAre');
+}
+
+function checksTick({ own, proved, setup, rows, returns }) {
+  const right = rows.is === 'compared' && returns.rows < returns.possible ? 'saysRightSoFar' : 'saysRight';
+  const wrong = own.kind?.colour === 'mismatch' ? 'saysMismatch' : 'saysWrong';
+  const said = { said: { word: own.verdict === 'wrong' ? wrong : right } };
+  const agree = proved.state === own.verdict;
+  const unless = own.verdict === 'wrong' ? own.kind.colour : 'unsure';
+  if (hasVerdict(proved)) return agree ? tick(own.kind?.colour ?? 'right', 'tickBoth', said, whatBoth(own)) : tick('wrong', 'barDiffer');
+  if (proved.state === 'runs') return tick(unless, 'barRunning', {}, words('barOwnSays', said));
+  const isAlone = proved.state === 'alone' && setup.is === 'none';
+  const why = proved.state === 'absent' ? words('barAbsent') : isAlone ? words('barAlone') : words('barNotRun', { why: proved.why });
+  return tick(unless, 'tickOne', said, why);
+}
+
+// Three ticks: the set-up and the rows held were given, and both checks say the same.
+const ticksOf = (found) => [setupTick(found), rowsTick(found), checksTick(found)];
+
+// Files that were not opened.
+function notOpened({ setup, rows }) {
+  if (setup.is === 'none') return [words(rows.is === 'none' ? 'barOpenBoth' : 'barOpenSetup')];
+  return rows.is === 'none' ? [words('barOpenRows')] : [];
+}
+
+// What is said of a sheet that is right by this page's own check, and of which not all is checked: a heading, and what limits it.
+function unsureSays(found) {
+  const { setup, rows, returns, proved } = found;
+  const [caveat] = notOpened(found);
+  if (setup.is !== 'read') return { heading: words('barOwnVotes'), caveat, sentence: [words('barUnsureSays')] };
+  if (rows.is !== 'compared') return { heading: words('barTheseVotes'), caveat, sentence: [words('barUnsureSays')] };
+  const missing = returns.possible - returns.rows;
+  if (missing > 0) {
+    const sentence = [words('barMissingAre', { missingRows: { rows: returns.missing } }), words('barUnsureSays')];
+    return { heading: words('barMissing', { ...returns, missing }), caveat: words('barMissingSays'), sentence };
+  }
+  return { heading: words(proved.state === 'runs' ? 'barRunning' : 'barOneCheck'), sentence: [words('barUnsureSays')] };
+}
+
+// The two checks have different verdicts.
+function differing(own, { setup, rows }) {
+  if (own.verdict === 'wrong') return { heading: words('barDiffer'), sentence: [words('barDifferWrong', { line: own.fault.line })] };
+  const lookedAtAll = setup.is === 'read' && (rows.is === 'compared' || rows.is === 'none');
+  return lookedAtAll
+    ? { heading: words('barDiffer'), sentence: [words('barDifferRight')] }
+    : { heading: words('barProvedWrong'), sentence: [words('barProvedWrongSays')] };
+}
+
+// - own: what this page's own check says: { verdict: 'none' (no sheet), 'right', 'refused' with the `refusal` that stands in place of a
+//   sheet, or 'wrong' with its `kind` (kindOfWrong), the first `fault` (of line 0: of the whole file), the `count` of those that fail, and
+//   whether its `votesDiffer` from the rows held }
+// - proved: what the proved check says: { state: 'right', 'wrong', 'runs', 'none' (no sheet), 'alone' (no set-up), 'absent' (this
+//   copy of the page has none), or any other: it did not run, and `why` }
+// - setup: { is: 'none', 'read', or 'unread' at a `line` }
+// - rows: { is: 'none', 'compared', 'unread' at a `line`, or 'given', not compared, for that needs a set-up that is read }
+// - returns: where rows are compared, { rows } held of { possible } ones, and the names of those that are { missing }
+// Gives the colour ('none', 'right', 'wrong', 'mismatch' of two files, 'damaged', 'unsure', or 'answer' of the office), and keys of WORDS
+// with their values: of the heading, of what limits it or takes it back, of each sentence, and of each tick.
+function barOf(found) {
+  const { own, proved } = found;
+  if (own.verdict === 'none') return { colour: 'none', heading: words('noSheet'), sentence: [], ticks: [] };
+  if (own.verdict === 'refused') {
+    const sentence = [words(own.refusal.reason, own.refusal.values), words('barRefusedSays')];
+    return { colour: 'answer', heading: words('barRefused'), sentence, ticks: [] };
+  }
+  const ticks = own.kind?.isUnread ? [] : ticksOf(found);
+  if (hasVerdict(proved) && proved.state !== own.verdict) return { colour: 'wrong', ...differing(own, found), ticks };
+  if (own.verdict === 'wrong') {
+    const named = own.kind.sentence.filter(({ fault }) => fault).length;
+    const more = own.count > Math.max(1, named) ? [words('barFails', { count: own.count })] : [];
+    const { colour, heading, caveat, sentence } = own.kind;
+    return { colour, heading, caveat, sentence: [...sentence, ...more], ticks };
+  }
+  return ticks.every(({ state }) => state === 'right')
+    ? { colour: 'right', heading: words('barRight'), sentence: [words('barRightSays', found.returns)], ticks }
+    : { colour: 'unsure', ...unsureSays(found), ticks };
+}

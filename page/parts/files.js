@@ -1,0 +1,116 @@
+// ---- The files that were opened
+
+const files = { sheet: null, before: null, setup: null, held: null };
+
+// The most bytes of each kind (FORMATS): of an export all lines may end in CR LF.
+const LONGEST = { sheet: 280064, before: 280064, setup: 1048576, held: 467103 + 16385 };
+const MOST_READ = LONGEST.setup + 1;
+
+// What kind of file this is, by its text and then its name.
+function kindOf(name, text) {
+  if (/^\ufeff?(?:[0-9]+ sheet |(?:[0-9]|zhcount:) refused )/u.test(text)) return 'sheet';
+  if (/^\ufeff?municipality,list/u.test(text) || /\.csv$/iu.test(name)) return 'held';
+  if (/^[\t ]*(?:\[\[|version[\t ]*=|house[\t ]*=)/mu.test(text) || /\.toml$/iu.test(name)) return 'setup';
+  return 'sheet';
+}
+
+// A file that was opened: its bytes as far as they were read, and its text or the fault that it has none.
+function opened(name, bytes) {
+  const file = { name, bytes, text: '', lines: 0, hash: bytes.length < MOST_READ ? sha256(bytes) : null };
+  const begin = new TextDecoder('utf-8', { ignoreBOM: true }).decode(bytes.subarray(0, MOST_READ));
+  file.kind = kindOf(name, begin);
+  if (bytes.length > LONGEST[file.kind]) return { ...file, fault: new Fault(0, '', 'tooLong', { most: LONGEST[file.kind] }) };
+  bytes.forEach((byte) => { file.lines += Number(byte === 10); });
+  try {
+    return { ...file, text: decoded(bytes) };
+  } catch (fault) {
+    return { ...file, text: begin, fault };
+  }
+}
+
+// A text that was pasted or dropped. Its last line is ended.
+function pasted(text) {
+  const cut = text.slice(0, MOST_READ);
+  return opened(say('pasted'), new TextEncoder().encode(cut.endsWith('\n') ? cut : `${cut}\n`).subarray(0, MOST_READ));
+}
+
+// Takes files. A sheet takes the place of the one before it, which is kept to be compared.
+function takeFiles(taken) {
+  const commands = ({ text }) => BigInt(/^[1-8] sheet [a-z]{1,20} ([0-9]{1,20})\n/u.exec(text)?.[1] ?? 0);
+  const sheets = taken.filter(({ kind }) => kind === 'sheet');
+  sheets.sort((a, b) => (commands(a) < commands(b) ? -1 : Number(commands(a) > commands(b))));
+  for (const file of sheets) {
+    if (files.sheet) files.before = files.sheet;
+    files.sheet = file;
+  }
+  for (const file of taken) {
+    if (file.kind !== 'sheet') files[file.kind] = file;
+  }
+  show();
+}
+
+async function readFiles(list) {
+  const read = async (file) => opened(file.name, new Uint8Array(await file.slice(0, MOST_READ).arrayBuffer()));
+  takeFiles(await Promise.all([...list].map(read)));
+}
+
+// What a file says, or its fault; null where there is no file.
+function readFile(file, read) {
+  if (!file) return null;
+  if (file.fault) return { fault: file.fault };
+  try {
+    return { found: read(file.text) };
+  } catch (fault) {
+    if (fault instanceof Fault) return { fault };
+    throw fault;
+  }
+}
+
+// ---- How they are shown
+
+const hashOf = ({ hash }) => (hash ? make('code', { class: 'hash' }, hash) : say('notHashed'));
+
+function removing(kind) {
+  return make('button', {
+    type: 'button', 'aria-label': say('removeWhat', { what: say(kind) }),
+    onclick: () => {
+      files[kind] = null;
+      if (kind === 'sheet') { files.sheet = files.before; files.before = null; }
+      show();
+      find('pick').focus();
+    },
+  }, say('remove'));
+}
+
+const fileLine = ([kind, file]) => make('li', { class: kind },
+  make('span', { class: 'what' }, say(kind)), ' ', make('span', { class: 'file' }, isolated(file.name)), ' ',
+  make('span', { class: 'hint' }, say('lines', { count: file.lines })), ' ', removing(kind),
+  make('span', { class: 'hint sum' }, 'SHA-256 ', hashOf(file)));
+
+function showFiles() {
+  const picked = make('input', { type: 'file', id: 'pick', multiple: true, 'aria-describedby': 'choose' });
+  picked.addEventListener('change', () => readFiles(picked.files));
+  const area = make('textarea', { id: 'text', rows: 6, spellcheck: 'false', 'aria-label': say('paste'), 'aria-describedby': 'paste-hint' });
+  const takeText = () => { if (area.value !== '') takeFiles([pasted(area.value)]); };
+  const had = Object.entries(files).filter(([, file]) => file).map(fileLine);
+  const swap = files.sheet && files.before ? make('p', {}, make('button', {
+    type: 'button', onclick: () => { [files.sheet, files.before] = [files.before, files.sheet]; show(); },
+  }, say('swap'))) : null;
+  find('files').replaceChildren(
+    make('h2', {}, say('files')),
+    make('div', { class: 'drop' }, make('p', { id: 'choose' }, say('drop')), picked,
+      make('label', { for: 'pick' }, say('choose')), make('p', { class: 'hint' }, say('chooseMore'))),
+    make('details', {}, make('summary', {}, say('paste')), area,
+      make('p', { class: 'hint', id: 'paste-hint' }, say('pasteHint')),
+      make('button', { type: 'button', id: 'take', onclick: takeText }, say('take'))),
+    make('ul', { class: 'had' }, had), ...(swap ? [swap] : []));
+}
+
+// On paper: which files these were.
+function showPapers() {
+  const had = Object.entries(files).filter(([kind, file]) => file && kind !== 'before');
+  const heads = make('tr', {}, [say('filesChecked'), say('fileName'), 'SHA-256'].map((text) => make('th', { scope: 'col' }, text)));
+  find('papers').replaceChildren(...(had.length === 0 ? [] : [make('table', {}, make('thead', {}, heads), make('tbody', {},
+    had.map(([kind, file]) => make('tr', {}, make('th', { scope: 'row' }, say(kind)), make('td', {}, isolated(file.name)),
+      make('td', {}, hashOf(file))))))]));
+}

@@ -1,0 +1,38 @@
+// ---- Reading the rows held (FORMATS, "CSV")
+
+// Numbers have 32 bits.
+const isNumeral = (text) => /^(?:0|[1-9][0-9]{0,9})$/u.test(text) && Number(text) <= 4294967295;
+const isRow = (fields) => fields.length === 4 && fields.slice(0, 3).every(isNumeral) && fields[2] !== '0'
+  && (isNumeral(fields[3]) || fields[3] === 'withdrawn');
+
+// The rows held: the votes of each list (`d g`), how many rows there are and may be, and by municipality the lists that are missing.
+function readHeld(text, setup) {
+  const votes = new Map();
+  const seen = new Set();
+  for (const [number, line] of linesOf(text === '' ? '\n' : text)) {
+    const fault = (reason) => new Fault(number, line, reason);
+    if (number === 1 && line !== 'municipality,list,number,votes') throw fault('csvHead');
+    if (number === 1 || line === '') continue;
+    const fields = line.split(',');
+    if (!isRow(fields)) throw fault('csvRow');
+    const [municipality, list, , count] = fields;
+    const constituency = setup.municipalities[Number(municipality) - 1];
+    if (!constituency) throw fault('noMunicipality');
+    if (!setup.groups[Number(list) - 1]?.stands.has(constituency)) throw fault('noListThere');
+    const entry = count === 'withdrawn' ? 0n : BigInt(count);
+    if (entry > 1000000000n) throw fault('manyVotes');
+    if (seen.has(`${municipality} ${list}`)) throw fault('rowTwice');
+    seen.add(`${municipality} ${list}`);
+    const place = `${constituency} ${list}`;
+    votes.set(place, (votes.get(place) ?? 0n) + entry);
+  }
+  const all = setup.municipalities.map((d, m) => ({
+    name: setup.municipalityNames[m],
+    due: setup.groups.flatMap(({ name, stands }, g) => (stands.has(d) ? [{ name, row: `${m + 1} ${g + 1}` }] : [])),
+  }));
+  const missing = all.map(({ name, due }) => {
+    const lists = due.filter(({ row }) => !seen.has(row)).map((list) => list.name);
+    return { name, lists, isAll: lists.length === due.length };
+  }).filter(({ lists }) => lists.length > 0);
+  return { votes, rows: seen.size, possible: all.reduce((count, { due }) => count + due.length, 0), missing };
+}

@@ -1,0 +1,39 @@
+"""What `zhcount check` answers, as far as the page is compared with it. ZHCOUNT names the program; if it is not set, it is
+crates/zhcount/out/zhcount."""
+import concurrent.futures
+import functools
+import os
+import pathlib
+import subprocess
+import tempfile
+
+import browser
+
+PROGRAM = os.environ.get("ZHCOUNT") or str(browser.TOP / "crates" / "zhcount" / "out" / "zhcount")
+
+
+@functools.cache
+def answer(setup, sheet, held=None):
+    """What it answers on these bytes, as the module of the page would: a status and bytes. It is run once on each."""
+    with tempfile.TemporaryDirectory() as room:
+        arguments = []
+        for name, content in (("setup", setup), ("sheet", sheet), ("held", held)):
+            if content is not None:
+                pathlib.Path(room, name).write_bytes(content)
+                arguments += [f"--{name}", name]
+        ran = subprocess.run([PROGRAM, "check", *arguments], cwd=room, stdin=subprocess.DEVNULL, stdout=subprocess.PIPE,
+                             stderr=subprocess.PIPE)
+    if ran.stdout:
+        return ran.returncode, ran.stdout
+    report = ran.stderr.removeprefix(b"zhcount: ")
+    return (2 if report.startswith(b"setup ") else 3 if report.startswith(b"held ") else ran.stderr), report
+
+
+def answers(cases):
+    """What it answers on each of these, in their order; as many are asked at once as the machine has cores."""
+    with concurrent.futures.ThreadPoolExecutor(os.cpu_count()) as pool:
+        return list(pool.map(lambda case: answer(*case), cases))
+
+
+def utf8(*texts):
+    return tuple(None if text is None else text.encode() for text in texts)

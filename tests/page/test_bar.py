@@ -1,0 +1,195 @@
+"""The bar: its colour, heading and sentences, by all that the checks can find."""
+import itertools
+
+import model
+from browser import By
+from case import EXAMPLE, EXAMPLE_SETUP, ROWS, Case, changed
+
+FAULT = {"line": 7, "reason": "nobody", "values": {}}
+KINDS = [{"colour": colour, "heading": {"key": "isSeats"}, "sentence": [{"fault": FAULT}]} for colour in ("wrong", "mismatch")]
+OWN = ({"verdict": "right"}, *({"verdict": "wrong", "fault": FAULT, "count": 2, "kind": kind} for kind in KINDS))
+PROVED = ("right", "wrong", "runs", "none", "alone", "absent", "refused", "failed")
+SETUP = ({"is": "none"}, {"is": "read"}, {"is": "unread", "line": 3})
+GIVEN = ({"is": "none"}, {"is": "compared"}, {"is": "given"}, {"is": "unread", "line": 4})
+REFUSALS = (("tied seats", "The seats of the constituencies are tied"), ("noseat 3", "Constituency 3 (West) would have no seat"),
+            ("nogroup", "No group takes part"), ("novoters", "has 0 voters"), ("tied upper", "groups in the canton are tied"),
+            ("novotes 2", "no votes in constituency 2 (Mitte)"), ("tied lower 2 31", "group 31 in constituency 2 (Mitte) lies on a half"),
+            ("exhausted", "search for divisors ended without any"), ("notclosed 512", "Municipality 512 is still open"),
+            ("memory", "too little memory"), ("reopen-disk", "has to be opened again"))
+
+
+class Bar(Case):
+    def bars(self, found):
+        return self.page.open().driver.execute_script("return arguments[0].map(barOf)", found)
+
+    def test_green_only_where_all_was_given_and_both_say_right(self):
+        """Every combination."""
+        found = [{"own": own, "proved": {"state": proved, "why": "time"}, "setup": setup, "rows": rows,
+                  "returns": {"rows": held, "possible": 9, "missing": [{"name": "Nord", "lists": ["A"]}]}}
+                 for own, proved, setup, rows, held in itertools.product(OWN, PROVED, SETUP, GIVEN, (0, 8, 9))]
+        for one, said in zip(found, self.bars(found), strict=True):
+            own, proved = one["own"]["verdict"], one["proved"]["state"]
+            whole = one["setup"]["is"] == "read" and one["rows"]["is"] == "compared" and one["returns"]["rows"] == 9
+            with self.subTest(one):
+                differ = own == "wrong" and proved == "right" or proved == "wrong" and own == "right"
+                if "wrong" in (own, proved):
+                    self.assertEqual(said["colour"], "wrong" if differ else one["own"]["kind"]["colour"])
+                else:
+                    self.assertEqual(said["colour"], "right" if whole and proved == "right" else "unsure")
+                self.assertGreater(len(said["sentence"]), 0)
+                ticks = [tick["state"] for tick in said["ticks"]]
+                self.assertEqual(len(ticks), 3)
+                self.assertEqual(ticks[0] == "right", one["setup"]["is"] == "read")
+                self.assertEqual(ticks[1] == "right", one["rows"]["is"] == "compared" and one["returns"]["rows"] == 9)
+                self.assertEqual(ticks[2], said["colour"] if "wrong" in (own, proved) else "right" if proved == "right" else "unsure")
+                self.assertEqual(said["heading"]["key"] == "barDiffer", own == "wrong" and proved == "right" or
+                                 proved == "wrong" and own == "right" and one["setup"]["is"] == "read"
+                                 and one["rows"]["is"] in ("compared", "none"))
+
+    def bar(self, *files):
+        page = self.page.sheet(*files)
+        return page.state(), page.text("#verdict"), page.text("#ticks")
+
+    def test_a_sheet_alone(self):
+        state, heading, why = self.bar(EXAMPLE)
+        self.assertEqual((state, heading), ("unsure", "! Not fully checked: the seats fit the votes on the sheet"))
+        self.assertEqual(self.page.text("#why .caveat"),
+                         "You have not opened the set-up and the rows: whether these are the votes that were reported is not checked.")
+        self.assertEqual(self.page.text("#parliament h2"), "The parliament as this sheet has it: not fully checked")
+        self.assertIn("number of seats, names, persons, quorum and lists are not checked: a list too many or too few would not show", why)
+        self.assertRegex(why, r"(?s)! Not opened: the set-up.*! Not opened: the rows\nWhether these .* is not checked\..*! One check")
+        self.assertIn("One check of two says: right\nThe proved check needs the set-up.", why)
+
+    def test_a_list_too_many_passes_alone(self):
+        more = changed(EXAMPLE, "list 3 3 votes 50 voters 25 seats 0\n",
+                       "list 3 3 votes 50 voters 25 seats 0\nlist 3 4 votes 0 voters - seats 0\n")
+        more = changed(more, "divisor 1.000000 C\n", "divisor 1.000000 C\ngroup 4 quorum no voters - seats 0 divisor - D\n")
+        page = self.holds(more)
+        self.assertEqual(page.state(), "unsure")
+        self.assertIn("a list too many", page.text("#ticks"))
+        self.assertEqual(self.page.sheet(more, EXAMPLE_SETUP).state(), "mismatch")
+
+    def test_without_rows(self):
+        state, heading, why = self.bar(EXAMPLE, EXAMPLE_SETUP)
+        self.assertEqual((state, heading), ("unsure", "! Not fully checked: right for the votes on the sheet"))
+        self.assertIn("✓ Set-up opened\n! Not opened: the rows", why)
+
+    def test_rows_without_a_set_up(self):
+        state, heading, why = self.bar(EXAMPLE, None, ROWS)
+        self.assertEqual((state, heading), ("unsure", "! Not fully checked: the seats fit the votes on the sheet"))
+        self.assertIn("! Rows opened, but not compared\nTo compare them, the page needs the set-up.", why)
+        self.assertNotIn("(compared with", self.page.text("#parts"))
+
+    def test_rows_that_are_not_understood(self):
+        state, heading, why = self.bar(EXAMPLE, EXAMPLE_SETUP, ROWS + "x\n")
+        self.assertEqual((state, heading), ("unsure", "! Not fully checked: right for the votes on the sheet"))
+        self.assertIn("! Rows not understood: line 11\nThe votes are compared with nothing.", why)
+
+    def test_returns_that_are_missing(self):
+        election = model.Election(10, [5000, 3000, 2000], [[525, 300, 175], [240, 330, 30], [90, 60, 0]])
+        sheet, setup, rows = election.sheet(), election.setup(), election.held()
+        self.page.sheet(sheet, setup, rows).proved("right")
+        self.assertEqual((self.page.state(), self.page.text("#verdict")), ("right", "✓ Right"))
+        few = changed(rows, "3,3,1,0\n", "")
+        page = self.page.sheet(sheet, setup, few)
+        self.assertEqual((page.state(), page.text("#verdict")), ("unsure", "! 1 of 9 returns is missing; right so far"))
+        self.assertIn("! Rows opened: 8 of 9 returns\n", page.text("#ticks"))
+        self.assertEqual(page.texts("#why p")[:2], ["The missing returns can still change the seats.", "Missing: District 3: Group 3."])
+        self.assertEqual(page.text("#parliament h2"), "The parliament so far: 8 of 9 returns")
+        listed = page.driver.find_elements(By.CSS_SELECTOR, "#checks details li")
+        self.assertEqual([one.get_property("textContent") for one in listed], ["District 3: Group 3"])
+        self.assertEqual(page.proved("right").state(), "unsure")
+        self.assertIn("✓ Both checks say: right", page.text("#ticks"))
+        few = changed(few, "3,2,1,60\n", "")
+        self.page.sheet(model.Election(10, [5000, 3000, 2000], [[525, 300, 175], [240, 330, 30], [90, 0, 0]]).sheet(), setup, few)
+        self.assertEqual(page.text("#verdict"), "! 2 of 9 returns are missing; right so far")
+
+    def test_lists_that_are_missing_stand_by_municipality(self):
+        setup = model.made_up(1, 5, 6, 60).setup()
+        rows = "".join(f"{m},{g},1,7\n" for m in (1, 2, 5) for g in range(1, 7) if (m, g) not in ((1, 4), (5, 6)) and (m != 2 or g == 3))
+        said = self.page.open().driver.execute_script("""
+            const { rows, possible, missing } = readHeld(arguments[1], readSetup(arguments[0]));
+            const said = make('p', {}, reasonOf(words('barMissingAre', { missingRows: { rows: missing } })));
+            return [rows, possible, said.textContent];
+        """, setup, "municipality,list,number,votes\n" + rows)
+        self.assertEqual(said, [11, 30, "Missing: District 1: Group 4; District 2: 5 lists; District 3: all lists; 2 more."])
+
+    def test_both_checks(self):
+        page = self.page.sheet(EXAMPLE, EXAMPLE_SETUP, ROWS)
+        self.assertEqual(page.proved("absent").state(), "unsure")
+        for state, colour, heading, why in (
+                ("right", "right", "✓ Right", "these are the votes of all 9 returns in the rows"),
+                ("wrong", "wrong", "✗ The two checks differ", "own check says right, the proved check says wrong"),
+                ("runs", "unsure", "! The proved check is at work", "own check says: right"),
+                ("absent", "unsure", "! Not fully checked: right by one check of two", "This copy of the page has no proved check."),
+                ("failed", "unsure", "! Not fully checked: right by one check of two", "The proved check did not run: no memory")):
+            with self.subTest(state):
+                page.proved(state, "no memory")
+                self.assertEqual((page.state(), page.text("#verdict")), (colour, heading))
+                self.assertIn(why, page.text("#why") + page.text("#ticks"))
+        page.sheet(changed(EXAMPLE, "house 10", "house 11"), EXAMPLE_SETUP).proved("right")
+        self.assertEqual((page.state(), page.text("#verdict")), ("wrong", "✗ The two checks differ"))
+        page.sheet(EXAMPLE, EXAMPLE_SETUP.replace("[1, 2, 3]", "[1,\n2, 3]", 1), ROWS).proved("wrong")
+        self.assertEqual((page.state(), page.text("#verdict")), ("wrong", "✗ Wrong by the proved check"))
+
+    def test_what_toml_has_and_this_page_does_not_understand_is_said(self):
+        page = self.page.sheet(EXAMPLE, EXAMPLE_SETUP.replace("[1, 2, 3]", "[1,\n2, 3]", 1), ROWS).proved("right")
+        self.assertEqual(page.state(), "unsure")
+        self.assertRegex(page.text("#ticks"), r"(?s)! Set-up not understood: line \d+.*✓ Both checks say: right\n")
+
+    def test_a_refusal_is_the_answer_of_the_office(self):
+        for name, why in REFUSALS:
+            for text in (f"1 refused {name}\n", f"zhcount: refused {name}\n", f"8 refused {name}"):
+                with self.subTest(text):
+                    page = self.page.sheet(text, EXAMPLE_SETUP)
+                    self.assertEqual((page.state(), page.own()), ("answer", "refused"))
+                    self.assertEqual((page.text("#kind"), page.text("#verdict")), ("NO SEATS", "i The office gives no seats, and says why"))
+                    self.assertIn(why, page.text("#why"))
+                    self.assertEqual(page.texts("#ticks li"), [])
+                    self.assertTrue(page.text("#proved p").startswith("It checks sheets alone, and to it this answer is none."))
+                    self.assertIn("“sheet wrong” in its last line below says only that", page.text("#proved p"))
+                    self.assertEqual(page.texts(".fault, #signatures p"), [])
+        self.assertIn("Constituency 3 would have no seat.", self.page.sheet("1 refused noseat 3\n").text("#why"))
+        self.fails(None, 1, "no line of a sheet", "1 refused stale\n")
+        self.fails(None, 1, "no line of a sheet", "1 refused nogroup\n" + EXAMPLE)
+
+    def test_all_faults_are_listed(self):
+        sheet = EXAMPLE
+        for line in ("list 1 1 votes 525 voters 105 seats 3", "list 2 2 votes 330 voters 110 seats 2",
+                     "list 3 3 votes 50 voters 25 seats 0"):
+            sheet = changed(sheet, line, line[:-1] + "9")
+        page = self.page.sheet(sheet, EXAMPLE_SETUP)
+        lines = page.texts(".fault pre")
+        self.assertEqual([int(line.split(":")[0]) for line in lines], [11, 15, 19, 5, 6, 7, 8, 9, 10])
+        self.assertEqual(len(page.texts(".fault .reason")), 9)
+        self.assertEqual(page.text("#count"), "9 checks fail.")
+        # All that is wrong with one line stands together.
+        page.sheet(changed(EXAMPLE, "votes 525 voters 105 seats 3", "votes 525 voters 104 seats 4"), EXAMPLE_SETUP)
+        box = page.driver.find_elements(By.CSS_SELECTOR, ".fault")
+        self.assertIn(["525 / 5, rounded, is 105 voters, and not 104",
+                       "525 / (205.000000 × 1.000000) = 2.560.. rounds to 3, and not to 4 seats"],
+                      [[reason.text for reason in one.find_elements(By.CSS_SELECTOR, ".reason")] for one in box])
+
+
+class GermanBar(Case):
+    language = "de-CH"
+
+    def test_the_set_up_has_its_german_word(self):
+        page = self.page.sheet(EXAMPLE)
+        for css in ("body", "#why", "#checks"):
+            self.assertNotIn("Set-up", page.text(css))
+        self.assertIn("Ohne Grunddaten sind Sitzzahl, Namen, Personen, Quorum und Listen nicht geprüft", page.text("#ticks"))
+        page.sheet(EXAMPLE, EXAMPLE_SETUP)
+        self.assertEqual(page.text(".had .setup .what"), "Grunddaten")
+        words = page.driver.execute_script("return Object.values(WORDS).map(([, german]) => german).join(' ')")
+        self.assertNotIn("Set-up", words)
+
+    def test_thousands(self):
+        page = self.page.sheet(changed(EXAMPLE, "205.000000", "210.000000").replace("votes 1000", "votes 1001"), EXAMPLE_SETUP)
+        self.assertIn("die Stimmen seiner Listen ergeben 1’000 und nicht 1’001", page.text("#problems"))
+
+    def test_a_refusal(self):
+        page = self.page.sheet("1 refused tied seats\n")
+        self.assertEqual(page.text("#verdict"), "i Die Auszählungsstelle gibt keine Sitze an und sagt, warum")
+        self.assertIn("und die Seite prüft diese Antwort nicht", page.text("#why"))
+        self.assertIn("Gleichstand bei den Sitzen der Wahlkreise", page.text("#why"))

@@ -1,0 +1,206 @@
+"""What is seen: names, edges, totals, words and panels, on a screen and on a phone."""
+import re
+
+import model
+import sheets
+from browser import By
+from case import EXAMPLE, EXAMPLE_SETUP, LARGEST, ROWS, Case, changed
+
+PHONE = {"width": 375, "height": 667, "deviceScaleFactor": 2, "mobile": True}
+TURNED, HEBREW = "\u202eX 11", "\u05d0\u05d1 11"
+
+
+def luminance(colour):
+    parts = [int(part) / 255 for part in re.findall(r"\d+", colour)[:3]]
+    return sum(w * (p / 12.92 if p <= 0.03928 else ((p + 0.055) / 1.055) ** 2.4) for w, p in zip((0.2126, 0.7152, 0.0722), parts))
+
+
+def contrast(one, other):
+    high, low = sorted((luminance(one), luminance(other)), reverse=True)
+    return (high + 0.05) / (low + 0.05)
+
+
+class Sight(Case):
+    def phone(self, *files):
+        self.driver.execute_cdp_cmd("Emulation.setDeviceMetricsOverride", PHONE)
+        self.addCleanup(self.driver.execute_cdp_cmd, "Emulation.clearDeviceMetricsOverride", {})
+        return self.page.sheet(*files)
+
+    def click(self, css):
+        self.page.driver.execute_script("document.querySelector(arguments[0]).click()", css)
+
+    def outside(self, name):
+        """The texts with this name in them that do not stand in an element that isolates them; and such attributes."""
+        return self.page.driver.execute_script("""
+            const [name] = arguments;
+            const found = [];
+            const texts = document.createTreeWalker(document.body, NodeFilter.SHOW_TEXT);
+            for (let text = texts.nextNode(); text; text = texts.nextNode()) {
+              const within = text.parentElement.closest('bdi, title, script, style');
+              if (text.data.replaceAll('\\u00ad', '').includes(name) && !within) found.push(text.parentElement.outerHTML);
+            }
+            for (const element of document.body.querySelectorAll('*')) {
+              const own = element.tagName === 'title' ? element.textContent : '';
+              for (const value of [own, ...[...element.attributes].map((one) => one.value)]) {
+                if (value.replaceAll(`\\u2068${name}\\u2069`, '').includes(name)) found.push(value);
+              }
+            }
+            return found;
+        """, name)
+
+    def test_names_are_isolated(self):
+        for name, seen in ((TURNED, "<U+202E>X 11"), (HEBREW, HEBREW)):
+            for old in ("Nord", "1.000000 A"):
+                sheet = changed(EXAMPLE, old, f"1.000000 {name}" if old != "Nord" else name)
+                for files in ((sheet,), (sheet, EXAMPLE_SETUP), (sheet, EXAMPLE_SETUP.replace('"A"', f'"{name}"'), ROWS)):
+                    page = self.page.sheet(*files)
+                    for css in ("#seats tbody th button", "#seats thead button", "#seats tbody td button"):
+                        self.click(css)
+                        self.assertEqual(self.outside(seen), [])
+                    page.choose(("other", changed(EXAMPLE, "votes 525", "votes 526")))
+                    self.assertEqual(self.outside(seen), [])
+                    self.assertNotIn("\u202e", page.driver.find_element(By.TAG_NAME, "body").get_attribute("outerHTML"))
+
+    def test_a_name_turns_no_number_round(self):
+        """11 seats after a name are read as 11, and stand on its right."""
+        page = self.page.sheet(changed(EXAMPLE, "Nord", HEBREW))
+        self.click("#seats tbody th button")
+        name, after = page.driver.execute_script("""
+            const heading = document.querySelector('#detail h2');
+            const end = document.createRange();
+            const text = [...heading.childNodes].find((node) => node.nodeType === 3 && node.data.includes('seats'));
+            end.setStart(text, 2);
+            end.setEnd(text, 3);
+            return [heading.querySelector('bdi').getBoundingClientRect().right, end.getBoundingClientRect().left];
+        """)
+        self.assertGreaterEqual(after, name)
+
+    def test_the_name_of_a_file(self):
+        self.page.open().choose(("a\u202etxt.toml", EXAMPLE))
+        self.assertEqual(self.page.text(".had .file bdi"), "a<U+202E>txt.toml")
+
+    def edges(self, page):
+        """Each seat has an edge or a fill that stands out from the ground, 3 to 1."""
+        shapes = page.driver.execute_script("""
+            return [...document.querySelectorAll('.arc .seat, .arc .hole, .swatch .seat')].map((shape) => {
+              const { fill, stroke } = getComputedStyle(shape);
+              return [shape.getAttribute('class'), fill, stroke];
+            });
+        """)
+        ground = page.driver.find_element(By.TAG_NAME, "body").value_of_css_property("background-color")
+        self.assertGreater(len(shapes), 400)
+        for name, fill, stroke in set(map(tuple, shapes)):
+            self.assertGreaterEqual(contrast(stroke, ground), 3, (name, stroke, ground))
+
+    def test_edges_of_seats(self):
+        self.edges(self.page.sheet(LARGEST.sheet()))
+        for features in ([{"name": "prefers-color-scheme", "value": "dark"}], []):
+            for media in ("screen", "print"):
+                self.driver.execute_cdp_cmd("Emulation.setEmulatedMedia", {"media": media, "features": features})
+                self.addCleanup(self.driver.execute_cdp_cmd, "Emulation.setEmulatedMedia", {"media": "", "features": []})
+                self.edges(self.page)
+
+    def test_the_totals_stay_in_sight(self):
+        for files in ((sheets.zurich(),), (LARGEST.sheet(),)):
+            page = self.phone(*files)
+            page.driver.execute_script("document.getElementById('seats-part').scrollIntoView({ block: 'end' })")
+            for left, top in ((0, 0), (90, 60), (99999, 99999)):
+                page.driver.execute_script("document.getElementById('seats-part').scrollTo(arguments[0], arguments[1])", left, top)
+                box, right, foot, name = page.driver.execute_script("""
+                    const box = (css) => { const { left, right, top, bottom } = document.querySelector(css).getBoundingClientRect();
+                      return { left, right, top, bottom }; };
+                    return ['#seats-part', '#seats thead .sum', '#seats tfoot th', '#seats .corner'].map(box);
+                """)
+                self.assertLessEqual(right["right"], box["right"] + 1)
+                self.assertGreaterEqual(right["left"], box["left"])
+                self.assertLessEqual(foot["bottom"], box["bottom"] + 1)
+                self.assertLessEqual(foot["bottom"], 668)
+                self.assertGreaterEqual(name["left"], box["left"] - 1)
+
+    def test_a_table_that_goes_on_says_so(self):
+        self.assertEqual(self.page.sheet(EXAMPLE).text("#scrolls"), "")
+        page = self.phone(sheets.zurich())
+        self.assertIn("The table goes on: scroll it.", page.text("#scrolls"))
+
+    def test_tables_have_names(self):
+        page = self.page.sheet(sheets.zurich()).choose(("two", sheets.zurich().replace("81", "82", 1)))
+        # What is far out of sight is not laid out, and has no name yet.
+        page.driver.execute_script("document.getElementById('changes').scrollIntoView()")
+        for css, name in (("#parts", "Checks"), ("#changes table", "What changed"), ("#seats", "Seats by constituency and group")):
+            self.assertEqual(page.driver.find_element(By.CSS_SELECTOR, css).accessible_name, name)
+
+    def test_the_panel_leaves_half_of_a_phone(self):
+        for files in ((sheets.zurich(), sheets.zurich_setup()), (LARGEST.sheet(), LARGEST.setup())):
+            page = self.phone(*files)
+            for css in ("#seats tbody th button", "#seats thead button", "#seats tbody td button"):
+                self.click(css)
+                self.assertLessEqual(page.driver.execute_script("return document.getElementById('detail').offsetHeight"), 667 / 2)
+
+    def broken(self, page):
+        """The parts of names that stand on two lines although no hyphen or blank parts them."""
+        return page.driver.execute_script("""
+            const found = [];
+            for (const name of document.querySelectorAll('.legend .name bdi, #seats:not(.crowded) .name bdi, #seats tbody .name bdi')) {
+              const text = name.firstChild;
+              for (const { 0: part, index } of text.data.matchAll(/[^\\s\\u00ad-]+/gu)) {
+                const rects = (at) => {
+                  const range = document.createRange();
+                  range.setStart(text, at);
+                  range.setEnd(text, at + 1);
+                  return [...range.getClientRects()].filter(({ width }) => width > 0);
+                };
+                // A hyphen that is seen belongs to the letter beside it.
+                const [first, last] = [rects(index).at(-1), rects(index + part.length - 1)[0]];
+                if (Math.abs(first.top - last.top) > 4) found.push(part);
+              }
+            }
+            return found;
+        """)
+
+    def test_words_are_not_broken(self):
+        names = ["Winterthur-Land", "Dietikon und Urdorf", "Bezirk Pfäffikon", "Affoltern", "Horgen, Thalwil und Wädenswil"]
+        groups = ["Sozialdemokratische Partei", "Schweizerische Volkspartei", "FDP.Die Liberalen", "Grünliberale Partei",
+                  "Eidgenössisch-Demokratische", "Alternative Liste"]
+        election = model.made_up(2, 5, 6, 40, names=names, groups=groups)
+        self.assertEqual(self.broken(self.page.sheet(election.sheet())), [])
+        self.assertEqual(self.broken(self.phone(election.sheet())), [])
+
+    def test_thousands_are_set_apart(self):
+        self.assertEqual(self.page.open().driver.execute_script(
+            "return ['999', '1000', '1234567.1234567', '28518 / (7242.666666 × 1.007187)', '10000/10', '3909..', '+30000'].map(grouped)"),
+            ["999", "1,000", "1,234,567.1234567", "28,518 / (7,242.666666 × 1.007187)", "10,000/10", "3,909..", "+30,000"])
+        page = self.page.sheet(EXAMPLE.replace("provisional 9", "provisional 18446744073709551615").replace("Nord", "N 2027"))
+        self.assertIn("after 18,446,744,073,709,551,615 entries", page.text("#kind"))
+        self.assertEqual(page.texts("#seats tbody th")[0], "N 2027")
+
+
+class Readable(Case):
+    def readable(self, css, ground):
+        """Each text there stands out from its ground, 4.5 to 1."""
+        found = self.page.driver.execute_script("""
+            const [css, ground] = arguments;
+            return [...document.querySelectorAll(css)].map((one) => [getComputedStyle(one).color,
+              getComputedStyle(one.closest(ground) ?? document.querySelector(ground)).backgroundColor, one.textContent]);
+        """, css, ground)
+        self.assertGreater(len(found), 0, css)
+        for colour, behind, text in found:
+            self.assertGreaterEqual(contrast(colour, behind), 4.5, (css, text))
+
+    def test_the_bar_and_the_ticks_can_be_read(self):
+        """In each colour, light and dark."""
+        for features in ([{"name": "prefers-color-scheme", "value": "dark"}], [{"name": "prefers-color-scheme", "value": "light"}]):
+            self.driver.execute_cdp_cmd("Emulation.setEmulatedMedia", {"features": features})
+            self.page.sheet(EXAMPLE, EXAMPLE_SETUP, ROWS)
+            for state in ("right", "wrong", "absent"):
+                self.page.proved(state)
+                for css in ("#verdict", "#why p", "#bar .commands"):
+                    self.readable(css, "#bar")
+                self.readable("#ticks p, #ticks .mark", "li")
+                self.readable("#election", "body")
+            self.page.sheet(EXAMPLE).proved("alone")
+            self.readable("#ticks .hint, #ticks .mark", "li")
+            self.page.sheet("1 refused nogroup\n")
+            for css in ("#verdict", "#verdict .mark", "#why p", "#kind .kind"):
+                self.readable(css, "#bar")
+            self.page.sheet(changed(EXAMPLE, "voters 230 seats 5", "voters 230 seats 6"), EXAMPLE_SETUP)
+            self.readable(".legend .said.wrong", "body")
