@@ -1,5 +1,5 @@
 # Short names for the repository's commands. `make` lists them.
-.PHONY: help run build example night test proofs page test-page install uninstall check quick cases refused wrong-bodies documents shape \
+.PHONY: help run build example night test proofs page test-page card install uninstall dist check quick cases refused wrong-bodies folder-bodies desks documents shape \
 	bench fmt
 
 help:
@@ -24,16 +24,22 @@ proofs:
 	@scripts/test
 
 page:
-	@page/seal
+	@if page/module --noted 2> /dev/null; then page/seal; else page/module; fi
 
 test-page:
 	@tests/page.sh $(TESTS)
+
+card:
+	@scripts/card
 
 install:
 	@scripts/install "$(DESTDIR)$(PREFIX)"
 
 uninstall:
 	@scripts/uninstall "$(DESTDIR)$(PREFIX)"
+
+dist:
+	@scripts/dist
 
 check:
 	@scripts/check $(CRATE)
@@ -50,7 +56,13 @@ refused:
 	@tests/refused_allocations.sh
 
 wrong-bodies:
-	@tests/wrong_bodies.sh $(CRATES)
+	@tests/edits --all $(CRATES)
+
+desks:
+	@tests/desks.sh
+
+folder-bodies:
+	@tests/real_file_bodies.sh $(BODIES)
 
 documents:
 	@tests/documents

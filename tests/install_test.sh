@@ -1,5 +1,5 @@
 #!/usr/bin/env bash
-# Tests of `make install` and `make uninstall`, first with a stand-in for the program, whose help is as that of clap, and then
+# Tests of `make install`, `make uninstall`, `make dist` and the files that they place, first with a stand-in for the program, whose help is as that of clap, and then
 # of the man page of the program itself, which make build makes. The last line is 'N passed, M failed'.
 set -u
 cd "$(dirname "$0")/.." || exit 2
@@ -56,28 +56,53 @@ refused() { ! "$@"; }
 man=$room/there/share/man/man1/zhcount.1
 says() { grep -qxF -- "$1" "$man"; }
 follows() { grep -xF -A 1 -- "$1" "$man" | grep -qF -- "$2"; }
-only() { [ "$(find "$room/there" -type f | sort | xargs)" = "$*" ]; }
+only() { [ "$(cd "$room/there" && find . -type f -printf '%P\n' | LC_ALL=C sort | xargs)" = "$*" ]; }
+shows_sum() { make -s install PREFIX="$room/there" | grep -qxF -- "$(sha256sum < page/index.html | cut -d ' ' -f 1)"; }
 
 expect "make install" make -s install PREFIX="$room/there"
-expect "three files are there" only "$room/there/bin/zhcount" "$man" "$room/there/share/zhcount/index.html"
+expect "these files are there" only bin/zhcount bin/zhcount-desk bin/zhcount-office bin/zhcount-read \
+    share/doc/zhcount/{CHECKING,DEFINITIONS,FORMATS,MANUAL,PROVED,STATUTE}.md \
+    share/examples/zhcount/{canton.toml,rehearsal.toml,zhcount-office.service,zurich2006.toml} \
+    share/man/man1/zhcount.1 share/zhcount/{card.html,index.html,zhcount_desks.py,zhcount_replay.py}
 expect "the program runs" refused "$room/there/bin/zhcount"
 expect "the page is the page" cmp page/index.html "$room/there/share/zhcount/index.html"
+# says_so TEXT COMMAND..: what the command says within 25 seconds has this text.
+says_so() { timeout 25 "${@:2}" < /dev/null 2>&1 | grep -q -- "$1"; }
+expect "a desk finds its parts, and says what it waits for" says_so 'no office runs in .*/none yet' "$room/there/bin/zhcount-desk" 3 "$room/none"
+expect "a desk says how it is called" says_so 'zhcount-desk N \[FOLDER\]' "$room/there/bin/zhcount-desk" 9
+expect "an office says how it is called" says_so 'zhcount-office SETUP DISK FOLDER' "$room/there/bin/zhcount-office"
+expect "a reader says how it is called" says_so 'zhcount-read DISK' "$room/there/bin/zhcount-read"
+expect "MANUAL names the examples" grep -q 'share/examples/zhcount`, beside' "$room/there/share/doc/zhcount/MANUAL.md"
+expect "the unit names what was installed" grep -q '^ExecStart=/usr/local/bin/zhcount-office ' \
+    "$room/there/share/examples/zhcount/zhcount-office.service"
+expect "a line has its part" follows '\fBD return M L N V\fR' "a return: list L has V votes"
+expect "an answer" follows '\fBstored K\fR' "a command was accepted, the K\\-th"
+expect "a refusal" follows '\fBgap\fR' "a number above the next one"
 expect "each task has its part" says ".SS format"
 expect "its arguments are named" follows '\fB\-\-setup <FILE>\fR' "The set\\-up of the election, in TOML"
 expect "how it is called" says '.B zhcount load \-\-setup <FILE> \-\-disk <FILE>'
 expect "a status" follows '\fB2\fR' "the arguments ask for no task"
-expect "a fault" follows '\fBdisk busy\fR' "another program has D open as its disk"
+expect "a fault" follows '\fBdisk busy\fR' "another program has D open"
 expect "faults of one row" follows '\fBdisk blank, disk damaged, disk differs\fR' "is of another set\\-up"
 while read -r fault; do
     expect "the fault $fault" grep -qxE -- "\\\\fB(.*, )?$fault(, .*)?\\\\fR" "$man"
 done < <(sed -n '/^The text of a fault/,/^Faults are/p' docs/FORMATS.md | grep -o '^| [^|]*' | grep -o '`[^`]*`' | tr -d '`')
-expect "make install again" make -s install PREFIX="$room/there"
+expect "make install again, which shows the sum of the page" shows_sum
 expect "make uninstall" make -s uninstall PREFIX="$room/there"
 expect "nothing is left" only ""
 expect "make uninstall again" make -s uninstall PREFIX="$room/there"
 expect "without a place nothing is done" refused make -s install
 ZHCOUNT=$room/none expect "without a program nothing is done" refused make -s install PREFIX="$room/other"
 expect "no folder is made then" refused test -e "$room/other"
+
+unpacked() { rm -rf "$room/new" && mkdir "$room/new" && tar -C "$room/new" -xzf out/zhcount.tar.gz && (cd "$room/new/zhcount" && sha256sum --quiet -c SHA256SUMS); }
+counted() { [ "$(wc -l < "$room/new/zhcount/SHA256SUMS")" = "$(($(find "$room/new" -type f | wc -l) - 1))" ]; }
+expect "make dist" make -s dist
+expect "the archive's sums are right" unpacked
+expect "each file has one" counted
+cp out/zhcount.tar.gz "$room/first.tar.gz"
+expect "make dist again" make -s dist
+expect "it makes the same archive" cmp out/zhcount.tar.gz "$room/first.tar.gz"
 
 unset ZHCOUNT
 man=$room/real/share/man/man1/zhcount.1
@@ -87,6 +112,18 @@ while read -r task; do
     expect "how $task is called" grep -qE "^\.B zhcount $task( |$)" "$man"
 done < <(sed -n '/^| Arguments/,/^$/p' docs/FORMATS.md | grep -o '^| `[a-z]*' | grep -o '[a-z]*$')
 expect "make uninstall of the program" make -s uninstall PREFIX="$room/real"
+expect "make dist of the proved program" make -s dist
+expect "its sums are right" unpacked
+# Away from everything: an office, a desk and a reader of the archive.
+alone() {
+    (cd "$room/new" && timeout 60 env -i PATH="$room/new/zhcount/bin:/usr/bin:/bin" sh -c '
+        setup=zhcount/share/examples/zhcount/canton.toml
+        zhcount format --setup $setup --disk disk || exit 1
+        zhcount-office $setup disk office & office=$!
+        answer=$(echo "return 180 1 1 525" | timeout 30 zhcount-desk 3 office)
+        kill $office; wait $office && [ "$answer" = "stored 1" ] && zhcount-read disk | grep -qx 180,1,1,525')
+}
+expect "what it has needs nothing else" alone
 
 echo "$passed passed, $failed failed"
 [ "$failed" -eq 0 ]

@@ -1,7 +1,7 @@
 #!/usr/bin/env python3
-"""Nights of examples/canton: each answer and status of the program is that of the manual (examples/canton/office.py), and each
-sheet that of a calculation in exact fractions (tests/page/model.py). ZHCOUNT is the program's path; if it is not set,
-crates/zhcount/out/zhcount. The last line is 'N passed, M failed'."""
+"""Nights of examples/canton: each answer and status of the program is that of the manual (examples/canton/office.py), each
+sheet that of a calculation in exact fractions (tests/page/model.py), and what zhcount-read prints that of `export`. ZHCOUNT is
+the program's path; if it is not set, crates/zhcount/out/zhcount. The last line is 'N passed, M failed'."""
 import os
 import pathlib
 import re
@@ -17,6 +17,7 @@ import model
 import night
 import office as offices
 
+PROGRAM = TOP / "examples" / "canton" / (os.environ.get("ZHCOUNT") or "../../crates/zhcount/out/zhcount")
 SEEDS = (night.SEED, 1, 5)
 
 
@@ -69,7 +70,7 @@ class Night:
         self.room, self.office = room, offices.Office(cantons.Canton(cantons.Chance(seed)))
         self.found, self.answers, self.sheets = [], 0, 0
         copied = (room / "evening.status").read_text()
-        commands = int(re.search(r"(\d+) commands$", copied)[1])
+        commands = int(re.search(r"(\d+) commands;", copied)[1])
         least, status = self.compare("evening", commands)
         if commands < least or copied != status:
             self.found.append(f"the status of the copy: {copied}")
@@ -77,6 +78,8 @@ class Night:
         self.office.stop()
         self.compare("night")
         self.compare_status("night")
+        for disk in ("copy.disk", "night.disk"):
+            self.compare_read(self.room / disk)
 
     def compare(self, part, copied=None):
         """Compares the answers of a part. How many commands half of them had, and the status after as many as a copy has."""
@@ -105,6 +108,12 @@ class Night:
         status, wanted = (self.room / f"{name}.status").read_text(), self.office.status()
         if status != wanted:
             self.found.append(f"the status {name}: {status}, and not {wanted}")
+
+    def compare_read(self, disk):
+        exported, read = (subprocess.run(words, stdout=subprocess.PIPE).stdout for words in (
+            [PROGRAM, "export", "--setup", self.room / "setup.toml", "--disk", disk], [TOP / "desks" / "zhcount-read", disk]))
+        if exported != read or read.count(b"\n") < 2:
+            self.found.append(f"{disk.name}: zhcount-read reads {read[-80:]}, and {exported[-80:]} was exported")
 
 
 def faults(room, seed):

@@ -17,8 +17,10 @@ owed() {
         mkdir -p "$room/crates/zh_$crate"
         cp -r "crates/zh_$crate/src" "$room/crates/zh_$crate"
     done
-    mkdir "$room/crates/zh_program"
-    cp -r crates/zh_program/specs "$room/crates/zh_program"
+    for crate in checks program; do
+        mkdir "$room/crates/zh_$crate"
+        cp -r "crates/zh_$crate/specs" "$room/crates/zh_$crate"
+    done
     (cd "$room" && . /dev/stdin)
     "$room/tests/owed" > "$room/printed" 2>&1
     local status=$?

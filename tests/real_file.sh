@@ -54,11 +54,12 @@ check "standard input closed: the fault is read, and the disk is untouched" clos
 check "standard error closed: run serves, and a fault leaves the disk untouched" closed_error
 check "all streams closed: the disk is untouched" all_closed
 check "format makes a disk with streams closed" closed_format
-check "four tables of a set-up" all_tables
+check "the tables of a set-up" all_tables
 check "a table while run has the disk" table_beside_a_run
 check "a table with its output closed or full: the fault is write" unwritten_tables
 check "a table of a set-up that is not there" missing_setup
 check "no table of constituencies without seats" seats_without_a_table
+check "problems are named, and told where a disk is made" problems_are_told
 check "the returns are listed, filled in and loaded" returns_filled_in
 check "more returns than one loading takes" returns_to_be_split
 check "what a load would do" forecasts
@@ -80,6 +81,9 @@ check "copies while run has the disk" copies_beside_a_run
 check "run on a full volume keeps what it acknowledged" full_run
 check "the disk full, then the output: the fault is write" full_disk_and_output
 check "format on a full volume can be done again" full_format
+check "format takes the space that a disk takes" space_is_taken
+check "format on a small volume, which then grows" small_volume
+check "each call of a file failing under format: the file is empty, or has its space" failed_fills
 check "too little memory: the fault is memory, and the disk is untouched" little_memory
 check "each allocation refused: the fault is memory, and the disk is untouched" each_allocation
 check "each allocation refused under the tasks that change no disk" each_allocation_of_a_reader

@@ -21,7 +21,17 @@ case "$1" in
         printf '#!/bin/sh\nsed "s/^/proved %s: /"\n' "$(cat ../zh_low/src/lib.rt)" > out/zhcount
         chmod +x out/zhcount
         ;;
-    try) sed 's/^/unproved: /'; echo 'run=ended status=0 proved=no' >&2 ;;
+    try) # it compiles a program and runs it: try -- list --setup FILE --of groups
+        sleep 1
+        [ ! -e "$ROOM/uncompiled" ] || { echo 'error: no such function'; exit 2; }
+        mkdir "$TMPDIR/native"
+        printf '#!/bin/sh\necho compiled %s >> "%s/compiled"\n' "$(cat ../zh_low/src/lib.rt)" "$ROOM" > /dev/null
+        echo 'x' >> "$ROOM/compiled"
+        printf '#!/bin/sh\nsed "s/^/unproved: /"\n' > "$TMPDIR/native/program"
+        chmod +x "$TMPDIR/native/program"
+        cat "$5" > /dev/null
+        echo 'run=ended status=1 proved=no' >&2
+        ;;
 esac
 RT
 chmod +x "$room/bin/rt"
@@ -56,7 +66,21 @@ expect "a slow input is whole" $'unproved: 1 open\nunproved: 1 drop' \
 at_work() { until grep -q ' of ' log 2> /dev/null; do sleep 0.1; done; }
 typed() { (sleep 1; printf '1 open\n\004'; sleep 4) | script -qc 'make -s run' /dev/null | tr -d '\r' | grep -c "$1"; }
 expect "at a terminal the input goes on to Ctrl-D" 1 typed 'unproved: 1 open'
-expect "and that is said" 1 typed 'Ctrl-D'
+compiled() { wc -l < compiled; }
+expect "it was compiled once" 1 compiled
+expect "the second time it is not at work" 0 sh -c "printf '1 open\n' | make -s run 2>&1 | grep -c '^\.\+$'"
+echo "new text" > crates/zh_low/src/lib.rt
+expect "a source changed: it is compiled again" "unproved: 1 open" answer
+expect "that is, twice" 2 compiled
+echo 'exit 1' >> crates/zhcount/out/unproved/zhcount
+expect "another program in that place is not run" "unproved: 1 open" answer
+expect "that is, three times" 3 compiled
+touch uncompiled
+echo "newer text" > crates/zh_low/src/lib.rt
+expect "what is not compiled is not run" "" answer
+expect "and what rt says is shown" 1 said 'error: no such function'
+rm uncompiled
+echo "text of zh_low" > crates/zh_low/src/lib.rt
 
 expect "make build goes crate by crate, and names the program" 1 \
     sh -c "make -s build | grep -c 'zh_low proved, .* s\|the program is crates/zhcount/out/zhcount' | grep -x 2 | wc -l"

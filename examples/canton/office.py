@@ -111,8 +111,9 @@ class Office:
             state = "closed" if self.closed.issuperset(within) else "open"
             rows.append(f"{d},{len(held)},{sum(len(canton.lists_in(m)) for m in within)},{state},{sum(held)},{name}")
         due = sum(len(canton.lists_in(m)) for m in canton.municipalities())
+        final = "would be" if len(self.held) == due else "would not be"
         rows.append(f"{len(self.held)} of {due} returns, {len(self.closed)} of {len(canton.names)} municipalities closed, "
-                    f"{self.commands} commands")
+                    f"{self.commands} commands; final {final} of all returns")
         return "\n".join(rows) + "\n"
 
     def stop(self):

@@ -157,7 +157,7 @@ class Tree:
 
     def __init__(self, top):
         self.top = Path(top)
-        self.crates = [line.split(":")[0].strip() for line in (self.top / "crates.txt").read_text().splitlines()
+        self.crates = [line.split(":")[0].split()[0] for line in (self.top / "crates.txt").read_text().splitlines()
                        if line.strip() and not line.startswith("#")]
         self.definitions, self.scopes, self.clauses, self.source_scopes, self.types = {}, {}, [], {}, set()
         for crate in self.crates:

@@ -2,10 +2,12 @@
 
 passed=0 failed=0
 
-# check NAME FUNCTION ARGUMENT..: passes where the function compared something and all of it was as wanted.
+# check NAME FUNCTION ARGUMENT..: passes where the function compared something and all of it was as wanted. Where CHECKS has
+# names, one on a line, the others are left out.
 check() {
     local name=$1
     shift
+    [ -z "${CHECKS:-}" ] || grep -qxF -- "$name" <<< "$CHECKS" || return
     compared=0 different="" note=""
     "$@"
     [ "$compared" -gt 0 ] || different="nothing was compared"

@@ -48,6 +48,7 @@ through_a_link() {
     new_disk kinds/d
     ln -s kinds/d link
     serves link "$(returns 1 1 1)" "1 stored 1"
+    same "the folder after a run through the link" d "$(ls -A kinds)"
     serves kinds/d "1 show 1 1" "$(shows 1)"
     same "the folder" d "$(ls -A kinds)"
     same "what link leads to" kinds/d "$(readlink link)"

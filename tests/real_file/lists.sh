@@ -11,6 +11,7 @@ all_tables() {
     same "the status of the lists" 0 $?
     same "the lists and the names of their columns" 10 "$(wc -l < lists.csv)"
     same "the last list" "3,3,West,C" "$(tail -n 1 lists.csv)"
+    ends 0 "" "problem,number,name" list "$setup" problems
 }
 
 # A run keeps its disk to itself, and a table needs none.
@@ -40,7 +41,7 @@ unwritten_tables() {
 
 missing_setup() {
     local table
-    for table in constituencies municipalities groups lists returns; do
+    for table in constituencies municipalities groups lists problems returns; do
         ends 1 "setup file" "" list none.toml "$table"
     done
     same "what was made" "" "$(ls none.toml 2> /dev/null)"
@@ -52,6 +53,23 @@ seats_without_a_table() {
     sed 's/^house = 10/house = 1/' "$setup" > few.toml
     ends 1 "noseat 2" "" list few.toml constituencies
     ends 0 "" $'number,name\n1,A\n2,B\n3,C' list few.toml groups
+}
+
+# Problems are named, and told where a disk is made, which they don't prevent.
+problems_are_told() {
+    seats_without_a_table
+    ends 0 "" $'problem,number,name\ntied seats,1,Nord\ntied seats,2,Mitte' list tied.toml problems
+    ends 0 "" $'problem,number,name\nno seat,2,Mitte\nno seat,3,West' list few.toml problems
+    local setup
+    for setup in tied.toml few.toml; do
+        rm -f d
+        ends 0 "problems of the set-up: 2, named by list --of problems" "" format d
+        serves d "$(returns 1 1 1)" "1 stored 1"
+        rm -f d
+        closed '2>&-' format d
+        same "the status of format without standard error" 0 $?
+        serves d "$(returns 1 1 1)" "1 stored 1"
+    done
 }
 
 # The table of returns with its last column filled in.

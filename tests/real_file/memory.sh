@@ -66,6 +66,7 @@ each_allocation_of_a_reader() {
     printf 'municipality,list,number,votes\n1,1,2,14\n2,2,2,15\n' > returns.csv
     each_refused before load --disk kinds/d --csv returns.csv --dry-run
     each_refused before status --disk kinds/d --missing
+    each_refused before status --disk kinds/d --implausible
     each_refused before seats --disk kinds/d --table
     each_refused before seats --sheet sheet
     each_refused before check --sheet sheet --held held.csv

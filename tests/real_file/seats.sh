@@ -12,16 +12,23 @@ elected() {
 }
 
 seats_of_both() {
-    local table=$'provisional, 1 commands\n         A    B    C  total\nNord     3    1    1      5\nMitte    1    2    0      3\nWest     1    1    0      2\ntotal    5    4    1     10'
+    local seats=$'         A    B    C  total\nNord     3    1    1      5\nMitte    1    2    0      3\nWest     1    1    0      2\ntotal    5    4    1     10'
+    local by_count=$'provisional, 1 commands\n'$seats
+    local by_sheet=$'provisional (as the sheet says), 1 commands (as the sheet says)\n'$seats
+    local unchecked="not checked: provisional, commands 1, desk 1"
     new_disk d
     ends 1 "refused nogroup" "" seats --disk d
     elected
     cp d before
-    ends 0 "" "$table" seats --disk d --table
-    ends 0 "" "$table" seats --sheet sheet --table
+    ends 0 "" "$by_count" seats --disk d --table
+    seats --sheet sheet --table > replies 2> remark
+    same "the table of a sheet" "$by_sheet" "$(cat replies)"
+    same "what is not checked of it" "$unchecked" "$(cat remark)"
     seats --disk d > by_count
-    seats --sheet sheet > by_sheet
-    same_bytes by_count by_sheet
+    seats --sheet sheet > by_sheet 2> remark
+    same "what is not checked of its records" "$unchecked" "$(cat remark)"
+    sed 's/,stated /,/' by_sheet > stated_by_count
+    same_bytes by_count stated_by_count
     same "the records" 10 "$(wc -l < by_count)"
     ends 1 "refused notclosed 1" "" seats --disk d --final
     same_bytes d before
@@ -39,7 +46,9 @@ seats_beside_a_run() {
     returns 1 2 2 >&8
     await_lines first.out 1
     ends 1 "disk busy" "" seats --disk d
-    ends 0 "" "$(seats --sheet sheet)" seats --sheet sheet
+    seats --sheet sheet > replies 2> remark
+    same "the status beside a run" 0 $?
+    same "the records beside a run" 10 "$(wc -l < replies)"
     exec 8>&-
     wait $first
     same "the status of run" 0 $?

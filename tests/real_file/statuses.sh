@@ -8,7 +8,7 @@ status_of_a_disk() {
     status d --constituencies > held.csv 2> faults
     same "the status" 0 $?
     same "the constituencies" $'number,held,due,state,votes,name\n1,1,3,open,7,Nord\n2,0,3,open,0,Mitte\n3,0,3,open,0,West' "$(cat held.csv)"
-    same "the last line" "1 of 9 returns, 0 of 3 municipalities closed, 1 commands" "$(cat faults)"
+    same "the last line" "1 of 9 returns, 0 of 3 municipalities closed, 1 commands; final would not be of all returns" "$(cat faults)"
     status d --missing > missing.csv 2> faults
     same "the lines of what is missing" 9 "$(wc -l < missing.csv)"
     same "the first that is missing" "1,2,N,B" "$(sed -n 2p missing.csv)"
@@ -24,7 +24,7 @@ status_beside_a_run() {
     cp d copy
     status copy > held.csv 2> faults
     same "the status of the copy" 0 $?
-    same "the last line of the copy" "1 of 9 returns, 0 of 3 municipalities closed, 1 commands" "$(cat faults)"
+    same "the last line of the copy" "1 of 9 returns, 0 of 3 municipalities closed, 1 commands; final would not be of all returns" "$(cat faults)"
     exec 8>&-
     wait $first
     same "the status of run" 0 $?

@@ -51,6 +51,62 @@ full_format() {
     new_disk_over d
 }
 
+# has_its_space FILE: the blocks that it has cover its length.
+has_its_space() {
+    same "the length of $1" $DISK "$(stat -c %s "$1")"
+    that "blocks cover the length of $1" "$(stat -c '%b * %B' "$1") >= $DISK"
+}
+
+space_is_taken() {
+    new_disk d
+    has_its_space d
+    : > empty
+    ends 0 "" "" format empty
+    has_its_space empty
+    # what a stop left whole in length is formatted as it is
+    rm -f long
+    truncate -s $DISK long
+    ends 0 "" "" format long
+    that "blocks of a file that was long before are fewer" "$(stat -c '%b * %B' long) < $DISK"
+    same_bytes d long
+}
+
+# A volume that is too small for a disk, and then grows.
+small_volume() {
+    mkdir -p volume
+    if ! mount -t tmpfs -o size=1m none volume 2> /dev/null; then
+        compared=1 note="no volume can be mounted here: not tried"
+        return
+    fi
+    ends 1 "disk device" "" format volume/d
+    same "the length of what format left" 0 "$(stat -c %s volume/d)"
+    ends 1 "disk size"$'\n'"0 bytes instead of $DISK" "" run volume/d < /dev/null
+    mount -o remount,size=2m none volume
+    new_disk_over volume/d
+    has_its_space volume/d
+    # the volume is full, and a disk that has its space goes on
+    cat /dev/zero > volume/rest 2> /dev/null
+    serves volume/d "$(returns 1 2 1100)" "$(seq -f '1 stored %.0f' 2 1100)"
+    umount volume
+}
+
+# Each call of a file failing under a format: what is left is nothing, an empty file, or one that has its space.
+failed_fills() {
+    local number=0 length emptied=0
+    cc -shared -fPIC -O1 -o fail.so "$here/../fail.c" -ldl
+    while number=$((number + 1)); do
+        rm -f d d-wal
+        failing FAIL $number "$program" format --setup "$setup" --disk d
+        [ -s reached ] || break
+        length=$(stat -c %s d 2> /dev/null || echo none)
+        if [ "$length" = 0 ]; then emptied=$((emptied + 1)); elif [ "$length" != none ]; then has_its_space d; fi
+        format d > replies 2> faults || same "what a format says after call $number" "zhcount: disk inuse" "$(cat faults)"
+        has_its_space d
+    done
+    that "empty files were left" "emptied > 100"
+    note="$((number - 1)) calls, $emptied of them left an empty file"
+}
+
 # What a format left that did not end is taken by the next one.
 new_disk_over() {
     ends 0 "" "" format "$1"

@@ -1,0 +1,99 @@
+"""A wrong body: a file with a line `file: src/x.rt` and pairs of lines `old: TEXT` and `new: TEXT`, as the toolchain reads it, and
+perhaps a line `# refused at: FUNCTION`, which names a caller in the same crate whose contract refuses it."""
+import re
+from dataclasses import dataclass
+from functools import cached_property
+from pathlib import Path
+
+from edited.functions import functions_of
+
+
+class NoLongerApplies(Exception):
+    pass
+
+
+@dataclass
+class Edit:
+    path: Path
+    crate: Path
+
+    @property
+    def name(self):
+        return self.path.stem
+
+    @cached_property
+    def text(self):
+        return self.path.read_text(encoding="utf-8")
+
+    def callers(self):
+        """The functions that the edit's lines '# refused at' name, as `row_sums` or `Office::store`."""
+        found = []
+        for path in re.findall(r"(?m)^(?:# )?refused at: *`?([\w:]+)`?", self.text):
+            of, _, name = path.rpartition("::")
+            files = [(it.relative_to(self.crate), it.read_text(encoding="utf-8")) for it in sorted((self.crate / "src").rglob("*.rt"))]
+            meant = [it for file, text in files for it in functions_of(str(file), text) if it.name == name and of in ("", it.of)]
+            if not meant:
+                raise NoLongerApplies(f"there is no function {path}")
+            found += meant
+        return found
+
+    @cached_property
+    def changes(self):
+        """The file, the old text and the new one of each change."""
+        file, old, found = "", None, []
+        for line in self.text.split("\n"):
+            if line.startswith("file: "):
+                file = line[6:].strip()
+            elif line.startswith("old: "):
+                old = line[5:]
+            elif line.startswith("new:"):
+                if not file or not old:
+                    raise NoLongerApplies("a 'new:' stands before any 'file:' or 'old:'")
+                found.append((file, old, line[5:] if line.startswith("new: ") else line[4:]))
+                old = None
+        if not found:
+            raise NoLongerApplies("it has no 'old:' and 'new:'")
+        return found
+
+    def applied(self, texts):
+        """The texts, by file, after this edit. A text that is lacking is read from the crate."""
+        texts = dict(texts)
+        for file, old, new in self.changes:
+            if file not in texts:
+                if not (self.crate / file).is_file():
+                    raise NoLongerApplies(f"there is no {file}")
+                texts[file] = (self.crate / file).read_text(encoding="utf-8")
+            if texts[file].count(old) != 1:
+                raise NoLongerApplies(f"{file} has an 'old:' text {texts[file].count(old)} times, and not once")
+            if old == new:
+                raise NoLongerApplies("an 'old:' is its 'new:'")
+            texts[file] = texts[file].replace(old, new)
+        return texts
+
+    @cached_property
+    def places(self):
+        """For each change the innermost function that it stands in, if it does, and whether it stands in the body."""
+        found = []
+        for file, old, _ in self.changes:
+            text = (self.crate / file).read_text(encoding="utf-8")
+            line = text[: text.find(old)].count("\n") + 1
+            inside = [it for it in functions_of(file, text) if it.start <= line <= it.end] if file.endswith(".rt") else []
+            inner = max(inside, key=lambda it: it.start, default=None)
+            found.append((inner, inner is not None and line >= inner.body))
+        return found
+
+    @property
+    def functions(self):
+        """The functions that may refuse the edit: those that it changes, and those that it names."""
+        return list(dict.fromkeys([*(inner for inner, _ in self.places if inner), *self.callers()]))
+
+    @property
+    def stands_alone(self):
+        """Whether it may change what other functions have to prove, as an edit of a type, a constant or a clause does."""
+        return bool(self.callers()) or not all(is_in_body for _, is_in_body in self.places)
+
+
+def edits_of(top, crate):
+    """The wrong bodies of a crate, in both places."""
+    places = top / "crates" / crate / "must-fail", top / "tests/wrong_bodies" / crate
+    return [Edit(path, top / "crates" / crate) for place in places for path in sorted(place.glob("*.edit"))]

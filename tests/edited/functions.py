@@ -1,0 +1,77 @@
+"""Where the functions of a source file stand, by its layout: a body ends at the first `}` that is indented as its `fn`."""
+import re
+from dataclasses import dataclass
+
+HEAD = re.compile(r"( *)(?:pub(?:\([a-z]+\))? )?(?:(?:final|const|unsafe|ghost) )*fn (\w+)")
+BLOCK = re.compile(r"( *)(?:unsafe )?(impl|trait|pub trait|pub\(crate\) trait)\b(.*)")
+CLAUSE = re.compile(r" *(requires|ensures|ghost|decreases)\b")
+
+
+@dataclass(frozen=True)
+class Function:
+    file: str
+    name: str
+    # the type of its impl, as `Totals`, and the trait, if it has these
+    of: str
+    trait: str
+    # lines, from 1: of `fn`, of the first after the contract, and of the end
+    start: int
+    body: int
+    end: int
+
+
+def end_of(lines, start, indent):
+    """The first line of the body and the last one, or None for a function without a body."""
+    body, in_clauses = None, False
+    for at in range(start, len(lines)):
+        line = lines[at].rstrip()
+        if body is None:
+            in_clauses = in_clauses or CLAUSE.match(line) is not None
+            if line == indent + "{" or not in_clauses and line.endswith("{"):
+                body = at
+            elif line.endswith("{}") and (not in_clauses or line == indent + "{}"):
+                return at, at
+            elif not in_clauses and (line.endswith(";") or re.search(r"\{.*\}$", line)):
+                return (at, at) if line.endswith("}") else None
+            elif line == indent + "}" or at > start and HEAD.match(line):
+                return None
+        elif line == indent + "}":
+            return body, at
+    return None
+
+
+def impl_of(head):
+    """The type and the trait of an impl's or a trait's first line, without what stands in brackets."""
+    while re.search(r"<[^<>]*>", head):
+        head = re.sub(r"<[^<>]*>", "", head)
+    words = re.findall(r"[\w:()&]+", head)
+    last = [it.rpartition("::")[2] for it in words]
+    if "for" in last[1:2]:
+        return (last[2] if len(last) > 2 else ""), last[0]
+    return (last[0] if last else ""), ""
+
+
+def functions_of(file, text):
+    """The functions with a body that stand in a file."""
+    lines, found, block = text.split("\n"), [], ("", "", "")
+    for at, line in enumerate(lines):
+        opens, head = BLOCK.match(line), HEAD.match(line)
+        if opens:
+            block = (opens[1], *impl_of(opens[3]))
+        elif block[1] and line.rstrip() == block[0] + "}":
+            block = ("", "", "")
+        elif head:
+            ends = end_of(lines, at, head[1])
+            if ends:
+                found.append(Function(file, head[2], block[1], block[2], at + 1, ends[0] + 1, ends[1] + 1))
+    return found
+
+
+def without_bodies(text):
+    """The text of a library as the crates above it see it: its types, and the public functions' signatures and clauses. Left out are
+    comments, imports, private functions and bodies; a method of a trait or of its impl is public."""
+    lines, gone = text.split("\n"), set()
+    for it in functions_of("", text):
+        is_public = it.trait or re.match(r" *pub (?!\()", lines[it.start - 1])
+        gone.update(range(it.body if is_public else it.start, it.end + 1))
+    return "\n".join(it for at, it in enumerate(lines, 1) if at not in gone and not re.match(r" *(//|use |mod |$)", it))

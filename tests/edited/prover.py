@@ -1,0 +1,135 @@
+"""Calls the toolchain's prover on a copy of a crate.
+
+This is where the tool leans on the kit: `rt doc` prints the path of a page at the kit's top, where bin/rattle, rlibs/, logic_built/ and
+rattle/logic/antt-project.json are; `rattle check` takes the words below, which are those that `rt check` gives it; and `rt lib` leaves a
+library as out/rlib/NAME.rlib. How the prover words what it refuses is read in report.py alone.
+"""
+import os
+import shutil
+import subprocess
+import threading
+from pathlib import Path
+
+from edited.report import Report
+
+PARTS = ("src", "specs", "proofs")
+# (so that a check that does not end is noticed)
+SECONDS = 45 * 60
+KILLED = -9
+
+
+class Prover:
+    def __init__(self, tree, lanes):
+        said = subprocess.run(["rt", "doc"], stdout=subprocess.PIPE, text=True, check=True).stdout
+        self.tree, self.lanes, self.kit = tree, lanes, Path(said.strip()).parent
+        self.turns, self.running = threading.Semaphore(lanes), set()
+
+    def words(self, crate):
+        """The arguments of a check of the crate in the current folder, over the libraries that are built."""
+        root = "src/main.rt" if (self.tree.folder(crate) / "src/main.rt").is_file() else "src/lib.rt"
+        words = ["--crate-name", crate, root]
+        for name in ["std", *self.tree.of_kit(crate)]:
+            words += ["--extern", f"{name}={self.kit}/rlibs/{name}.rlib"]
+        words += ["-L", f"dependency={self.kit}/rlibs"]
+        for name in self.tree.uses[crate]:
+            words += ["--extern", f"{name}={self.tree.library(name)}"]
+        for name in self.tree.below(crate):
+            words += ["-L", f"dependency={self.tree.library(name).parent}"]
+        words += ["--antt-project", f"{self.kit}/rattle/logic/antt-project.json", "--logic-built", f"{self.kit}/logic_built"]
+        return [*words, "--links", f"{crate}="]
+
+    def check(self, crate, texts, kept, jobs=1):
+        """The report on the crate with these texts in place of its own, over the work in the folder `kept`, which the check adds to."""
+        room = kept.parent / f"{kept.name}.crate"
+        for part in PARTS:
+            if (self.tree.folder(crate) / part).is_dir():
+                shutil.copytree(self.tree.folder(crate) / part, room / part)
+        for file, text in texts.items():
+            (room / file).write_text(text, encoding="utf-8")
+        try:
+            words = [self.kit / "bin/rattle", "check", *self.words(crate), "--incremental", kept]
+            with self.turns:
+                said, status = self.call([*words, "--jobs", str(jobs)], room)
+                if status == KILLED:
+                    # (most likely for memory)
+                    said, status = self.call([*words, "--jobs", "1"], room)
+            return Report(said, status)
+        finally:
+            shutil.rmtree(room)
+
+    def call(self, words, folder):
+        """What a command says in this folder, and its status."""
+        with subprocess.Popen(words, cwd=folder, stdin=subprocess.DEVNULL, stdout=subprocess.PIPE, stderr=subprocess.STDOUT, text=True,
+                              errors="replace") as ran:
+            self.running.add(ran)
+            try:
+                return ran.communicate(timeout=SECONDS)[0], ran.returncode
+            except subprocess.TimeoutExpired:
+                ran.kill()
+                return f"rattle: no verdict after {SECONDS} seconds", 3
+            finally:
+                self.running.discard(ran)
+
+    def stop(self):
+        """Ends the checks that run."""
+        for ran in [*self.running]:
+            ran.kill()
+
+    def seed(self, crate, room, jobs):
+        """A folder with the work of a check of the crate as it stands, or None where it is not proved, and the report."""
+        seed, own = room / "seed", self.tree.folder(crate) / "out/incremental"
+        if own.is_dir():
+            shutil.copytree(own, seed)
+        else:
+            seed.mkdir()
+        report = self.check(crate, {}, seed, jobs)
+        return (seed, report) if report.status == 0 else (None, report)
+
+    def check_over(self, seed, crate, texts, number):
+        """The report on the crate with these texts, over a copy of the seed."""
+        kept = seed.parent / str(number)
+        shutil.copytree(seed, kept)
+        try:
+            return self.check(crate, texts, kept)
+        finally:
+            shutil.rmtree(kept)
+
+
+def build_libraries(tree, crates, jobs, say):
+    """Has the toolchain build the libraries below these crates that are not there as their sources stand. Whether all are there now."""
+    for name in tree.below(*crates):
+        if tree.is_noted(name):
+            continue
+        say(f"{name}: building the library")
+        before = tree.library_sum(name)
+        ran = subprocess.run(["rt", "lib", "--jobs", str(jobs)], cwd=tree.folder(name), stdin=subprocess.DEVNULL, stdout=subprocess.PIPE,
+                             stderr=subprocess.STDOUT, text=True, errors="replace")
+        if ran.returncode or tree.library_sum(name) != before:
+            say("\n".join([f"{name}: the library was not built", *ran.stdout.split("\n")[-20:]]))
+            return False
+        tree.note(name)
+    return True
+
+
+def processors():
+    """The processors that the process may use, by its group's quota too."""
+    found = len(os.sched_getaffinity(0))
+    quota = read_numbers("/sys/fs/cgroup/cpu.max")
+    return max(1, min(found, quota[0] // quota[1])) if len(quota) == 2 else found
+
+
+def free_memory():
+    """The bytes that are free, under the group's limit too."""
+    with open("/proc/meminfo", encoding="utf-8") as file:
+        free = next(int(line.split()[1]) * 1024 for line in file if line.startswith("MemAvailable"))
+    most, held = read_numbers("/sys/fs/cgroup/memory.max"), read_numbers("/sys/fs/cgroup/memory.stat")
+    # (its first number is what cannot be given back)
+    return min(free, most[0] - held[0]) if most and held else free
+
+
+def read_numbers(path):
+    try:
+        with open(path, encoding="utf-8") as file:
+            return [int(it) for it in file.read().split() if it.isdigit()]
+    except OSError:
+        return []

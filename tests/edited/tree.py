@@ -1,0 +1,141 @@
+"""The crates of a repository: what each stands on, where its library is, and the sums of what its wrong bodies are refused for."""
+import hashlib
+import re
+import subprocess
+from functools import cached_property
+from pathlib import Path
+
+from edited.edit import edits_of
+from edited.functions import without_bodies
+
+PARTS = ("src", "specs", "proofs")
+
+
+class Tree:
+    def __init__(self, top):
+        self.top = Path(top)
+        self.named = {}
+        for line in (self.top / "crates.txt").read_text(encoding="utf-8").split("\n"):
+            head, colon, deps = line.partition("#")[0].partition(":")
+            if colon:
+                self.named[head.split()[0]] = deps.split()
+        self.uses = {name: [it for it in deps if it in self.named] for name, deps in self.named.items()}
+
+    def of_kit(self, crate):
+        return [it for it in self.named[crate] if it not in self.named]
+
+    def folder(self, crate):
+        return self.top / "crates" / crate
+
+    def below(self, *crates):
+        """The crates that these stand on, directly or not, lowest first; none of these, unless another stands on it."""
+        found, rest = set(), [dep for it in crates for dep in self.uses[it]]
+        while rest:
+            name = rest.pop()
+            if name not in found:
+                found.add(name)
+                rest += self.uses[name]
+        return [it for it in self.named if it in found]
+
+    def edits(self, crate):
+        return edits_of(self.top, crate)
+
+    @cached_property
+    def with_edits(self):
+        return [it for it in self.named if self.edits(it)]
+
+    def files(self, crate, *parts):
+        """The files of these parts of a crate, by their paths in it."""
+        paths = [it for part in parts for it in sorted((self.folder(crate) / part).rglob("*")) if it.is_file()]
+        return [(str(it.relative_to(self.folder(crate))), it.read_text(encoding="utf-8", errors="replace")) for it in paths]
+
+    @cached_property
+    def logic(self):
+        """The toolchain's line without the name of the kit: two kits of one logic prove the same."""
+        version = subprocess.run(["rt", "version"], stdout=subprocess.PIPE, text=True, check=True).stdout.strip()
+        return version.partition("logic ")[2] or version
+
+    def stated(self, crate):
+        """What the crates above see of a crate: its specs, its lemmas for callers, and its library's text without bodies."""
+        specs = [(path, re.sub(r"(?m)^ *--.*\n", "", text)) for path, text in self.files(crate, "specs")]
+        lemmas = [it for it in self.files(crate, "proofs") if "CallerLemmas" in it[0]]
+        return [*specs, *lemmas, *((path, without_bodies(text)) for path, text in self.files(crate, "src"))]
+
+    def sums(self, crates):
+        """For each crate the sum of all that its wrong bodies are refused for. The folders of crates and edits count for nothing."""
+        stated, found = {it: self.stated(it) for it in self.below(*crates)}, {}
+        for crate in crates:
+            edits = sorted((it.path.name, it.text) for it in self.edits(crate))
+            below = [(it, stated[it]) for it in self.below(crate)]
+            whole = (self.logic, self.named[crate], self.files(crate, *PARTS), edits, below)
+            found[crate] = hashlib.sha256(repr(whole).encode()).hexdigest()[:32]
+        return found
+
+    def library(self, crate):
+        return self.folder(crate) / f"out/rlib/{crate}.rlib"
+
+    def library_sum(self, crate):
+        """The sum of all that a crate's library is made from."""
+        whole = [self.logic, *((it, self.named[it], self.files(it, *PARTS)) for it in [*self.below(crate), crate])]
+        return hashlib.sha256(repr(whole).encode()).hexdigest()
+
+    def note_of(self, crate):
+        # (the toolchain removes the folder before it makes the library anew)
+        return self.library(crate).parent / "sources"
+
+    def note(self, crate):
+        """Notes that the library stands there as it is made from the sources of now."""
+        self.note_of(crate).write_text(self.library_sum(crate) + "\n", encoding="utf-8")
+
+    def is_noted(self, crate):
+        note = self.note_of(crate)
+        return note.is_file() and note.read_text(encoding="utf-8").strip() == self.library_sum(crate)
+
+    def whole_sum(self):
+        """The sum of the sources of all crates."""
+        return hashlib.sha256(repr([(it, self.files(it, *PARTS)) for it in self.named]).encode()).hexdigest()
+
+    def git(self, *words):
+        """The lines that git prints, none where there is no history."""
+        try:
+            ran = subprocess.run(["git", *words], cwd=self.top, stdout=subprocess.PIPE, stderr=subprocess.DEVNULL, text=True)
+            return ran.stdout.split("\n")[:-1] if ran.returncode == 0 else []
+        except OSError:
+            return []
+
+    def commits(self):
+        return int((self.git("rev-list", "--count", "HEAD") or ["0"])[0])
+
+    def touched_last(self):
+        """The crates that the last commit below crates/ touched."""
+        last = self.git("log", "-1", "--format=%H", "--", "crates")
+        files = self.git("show", "--format=", "--name-only", last[0], "--", "crates") if last else []
+        return {it.split("/")[1] for it in files if it.count("/") > 1}
+
+
+class Passed:
+    """The file that keeps for each crate the sum at which all of its wrong bodies were refused."""
+
+    def __init__(self, tree):
+        self.tree, self.path = tree, tree.top / "tests/edits.passed"
+
+    def read(self):
+        lines = self.path.read_text(encoding="utf-8").split("\n") if self.path.is_file() else []
+        return dict(line.split() for line in lines if len(line.split()) == 2)
+
+    def differing(self):
+        kept, sums = self.read(), self.tree.sums(self.tree.with_edits)
+        return [it for it in self.tree.with_edits if kept.get(it) != sums[it]]
+
+    def keep(self, crate, sum):
+        # (another run may have kept others meanwhile)
+        kept = {**self.read(), crate: sum}
+        self.path.write_text("".join(f"{it} {kept[it]}\n" for it in self.tree.with_edits if it in kept), encoding="utf-8")
+
+
+def two_more(tree):
+    """The crate with the fewest wrong bodies of those that the last commit below crates/ touched, and one in turn."""
+    touched = [it for it in tree.with_edits if it in tree.touched_last()]
+    fewest = [min(touched, key=lambda it: len(tree.edits(it)))] if touched else []
+    in_turn = tree.with_edits[tree.commits() % len(tree.with_edits)] if tree.with_edits else None
+    return list(dict.fromkeys([*fewest, *filter(None, [in_turn])]))

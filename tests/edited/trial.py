@@ -1,0 +1,150 @@
+"""Tries the wrong bodies of a crate, many in one check, and says of each what it came to."""
+import shutil
+import tempfile
+import time
+from concurrent.futures import FIRST_COMPLETED, ThreadPoolExecutor, wait
+from dataclasses import dataclass, field
+from pathlib import Path
+
+from edited.edit import NoLongerApplies
+
+REFUSED = "refused"
+ELSEWHERE = "refused only elsewhere"
+NAMES = "refused only because a name in a proof is gone"
+PROVED = "still proved"
+GONE = "no longer applies"
+UNKNOWN = "no verdict"
+
+
+@dataclass
+class Crate:
+    """What the wrong bodies of a crate came to."""
+
+    name: str
+    number: int
+    outcomes: dict = field(default_factory=dict)
+    checks: int = 0
+    seconds: int = 0
+
+    @property
+    def refused(self):
+        return sum(kind == REFUSED for kind, _ in self.outcomes.values())
+
+    @property
+    def passed(self):
+        return self.refused == self.number
+
+
+@dataclass
+class Batch:
+    """Edits of different functions, the names of these, and the texts after all."""
+
+    names: set = field(default_factory=set)
+    texts: dict = field(default_factory=dict)
+    edits: list = field(default_factory=list)
+
+    def takes(self, edit):
+        """Adds the edit, if it changes no function of the batch, nor one whose name the prover's words may not tell from it, and
+        no text that another needs. Whether it does."""
+        names = {(it.of or it.file, it.name) for it in edit.functions}
+        try:
+            texts = edit.applied(self.texts)
+        except NoLongerApplies:
+            return False
+        if self.names & names:
+            return False
+        self.names, self.texts = self.names | names, texts
+        self.edits.append(edit)
+        return True
+
+
+def batches_of(edits):
+    """The edits in batches, and those that change what other functions prove each in one of its own."""
+    batches, alone = [], [[it] for it in edits if it.stands_alone]
+    for edit in edits:
+        if not edit.stands_alone and not any(it.takes(edit) for it in batches):
+            batches.append(Batch())
+            batches[-1].takes(edit)
+    return [it.edits for it in batches] + alone
+
+
+def judged(report, crate, edit, is_alone):
+    """What the report says of the edit: a kind and the prover's words, or None where it is to be tried with fewer others."""
+    if not report.has_verdicts:
+        return (GONE if report.status == 1 else UNKNOWN, report.first_error) if is_alone else None
+    names = [name for it in edit.functions for name in report.named(crate, it)]
+    said = report.breaks_at_a_goal(names, [(it.file, it.start, it.end) for it in edit.functions])
+    if said:
+        return REFUSED, said
+    if not is_alone:
+        return None
+    if report.status == 0:
+        return PROVED, "the crate is proved with it"
+    if any(report.verdicts[it][0] == "could not tell" for it in names):
+        return UNKNOWN, report.first_error
+    if report.lacks_names(names):
+        return NAMES, report.first_error
+    refused = [name for name, (verdict, _) in report.verdicts.items() if verdict != "proved"]
+    if not edit.functions:
+        return ELSEWHERE, f"it changes no function; add '# refused at: FUNCTION' if one of these is meant: {' '.join(refused[:4])}"
+    return ELSEWHERE, " ".join(refused[:4])
+
+
+def try_batch(prover, seed, crate, batch, number):
+    """What each edit of the batch came to, as above."""
+    texts = {}
+    try:
+        for edit in batch:
+            texts = edit.applied(texts)
+    except NoLongerApplies as why:
+        return [(GONE, str(why)) if len(batch) == 1 else None for _ in batch]
+    report = prover.check_over(seed, crate, texts, number)
+    return [judged(report, crate, edit, len(batch) == 1) for edit in batch]
+
+
+def try_batches(prover, seed, crate, batches, say):
+    """Tries all edits in these batches, side by side, and those that did not come clear in smaller ones."""
+    began = time.monotonic()
+    with ThreadPoolExecutor(prover.lanes) as pool:
+        running = {}
+
+        def submit(batch):
+            running[pool.submit(try_batch, prover, seed, crate.name, batch, crate.checks)] = batch
+            crate.checks += 1
+
+        for batch in batches:
+            submit(batch)
+        while running:
+            for done in wait(running, return_when=FIRST_COMPLETED).done:
+                batch, found = running.pop(done), done.result()
+                crate.outcomes.update({edit.path: outcome for edit, outcome in zip(batch, found) if outcome})
+                unclear = [edit for edit, outcome in zip(batch, found) if outcome is None]
+                half = (len(unclear) + 1) // 2
+                # (where nothing came clear, fewer at a time)
+                for it in [unclear[:half], unclear[half:]] if len(unclear) == len(batch) else [unclear]:
+                    if it:
+                        submit(it)
+                say(f"{crate.name}: {len(crate.outcomes)} of {crate.number} tried, after {round(time.monotonic() - began)} s")
+
+
+def try_crate(tree, prover, name, folder, jobs, say):
+    """Tries all wrong bodies of a crate, in a folder that is there for that. Its first check may take so many jobs."""
+    edits, began = tree.edits(name), time.monotonic()
+    crate, found = Crate(name, len(edits)), []
+    for edit in edits:
+        try:
+            edit.applied({})
+            edit.callers()
+            found.append(edit)
+        except NoLongerApplies as why:
+            crate.outcomes[edit.path] = GONE, str(why)
+    room = Path(tempfile.mkdtemp(prefix=f"{name}-", dir=folder))
+    seed, report = prover.seed(name, room, jobs)
+    crate.checks += 1
+    if seed:
+        try_batches(prover, seed, crate, batches_of(found), say)
+    else:
+        crate.outcomes.update({it.path: (UNKNOWN, f"the crate itself is not proved: {report.first_error}") for it in found})
+    shutil.rmtree(room)
+    crate.seconds = round(time.monotonic() - began)
+    return crate
