@@ -3,3 +3,4 @@ mod ApproximationLemmas
 mod LogLemmas
 mod PowerLemmas
 mod RoundingLemmas
+mod SquaringLemmas

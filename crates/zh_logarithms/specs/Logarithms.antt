@@ -1,5 +1,5 @@
 -- Logarithms to base 2, in units of 2^-30, by powers of whole numbers.
-use Rattle.std.specs.Prelude.{ℕ, ◌+◌, ◌*◌, ◌^◌, ◌<◌, ◌≤◌, Bool, if◌then◌else◌}
+use Rattle.std.specs.Prelude.{◌≡◌, ℕ, zero, suc, ◌+◌, ◌*◌, ◌^◌, ◌<◌, ◌≤◌, Bool, if◌then◌else◌}
 
 -- n to the power e; not unfolded, since at numerals it would be computed, with up to 2^36 digits
 unfoldable pub power : ℕ → ℕ → ℕ
@@ -20,3 +20,27 @@ pub record IsCutSquare (m square : ℕ) (twice : Bool) : Type 0 where
   pub fits : square < 2 ^ 64
   pub at_most : square * (if twice then 2 ^ 64 else 2 ^ 63) ≤ m * m
   pub nearly : m * m < (square + 1) * (if twice then 2 ^ 64 else 2 ^ 63)
+
+-- a number shifted to the top of 64 bits, and the whole part of its logarithm
+pub record IsShifted (n mantissa whole : ℕ) : Type 0 where
+  pub least : 2 ^ 63 ≤ mantissa
+  pub fits : mantissa < 2 ^ 64
+  pub same : mantissa * 2 ^ whole ≡ n * 2 ^ 63
+
+-- after so many squarings of it, each cut to 64 bits: the mantissa, and as many binary places of the logarithm; not unfolded, since
+-- at a numeral each of its steps would be
+unfoldable pub IsSquared : ℕ → ℕ → ℕ → ℕ → Type 0
+IsSquared n zero mantissa places = IsShifted n mantissa places
+IsSquared n (suc i) mantissa places = (before : ℕ) × (places_before : ℕ) × (twice : Bool) × IsSquared n i before places_before
+    × IsCutSquare before mantissa twice × (places ≡ 2 * places_before + (if twice then 1 else 0))
+
+-- the logarithm as 30 squarings give it: each number from 1 on has one, and no larger number a smaller one
+pub record HasLogarithm (n l : ℕ) : Type 0 where
+  pub mantissa : ℕ
+  pub squared : IsSquared n 30 mantissa l
+
+-- the greatest number up to a most whose logarithm is at most l
+pub record IsAntilogarithm (l most n : ℕ) : Type 0 where
+  pub at_most : n ≤ most
+  pub within : (k : ℕ) × HasLogarithm n k × (k ≤ l)
+  pub next : n < most → (k : ℕ) × HasLogarithm (n + 1) k × (l < k)

@@ -1,6 +1,6 @@
 //! Numbers from their logarithms.
 ghost use Rattle.std.specs.Prelude.{◌+◌, ◌-◌, ◌*◌, ◌^◌, ◌<◌, ◌≤◌};
-ghost use Rattle.zh_logarithms.specs.Logarithms.{IsLog, log_unit, power};
+ghost use Rattle.zh_logarithms.specs.Logarithms.{IsAntilogarithm, IsLog, log_unit, power};
 
 use crate::logarithms::logarithm;
 
@@ -13,6 +13,7 @@ pub fn antilogarithm(logarithm_of_it: u64, bits: u32, most: u64) -> u64
     requires room { 2 ^ bits ≤ most }
     requires fits { most < 2 ^ 63 }
     ensures log { IsLog (2 ^ (31 - bits)) 2 result logarithm_of_it }
+    ensures greatest { IsAntilogarithm logarithm_of_it most result }
     ensures from_least { 2 ^ bits ≤ result }
     ensures at_most { result ≤ most }
 {

@@ -1,6 +1,6 @@
 //! Logarithms bit by bit: the square of a number has twice its logarithm.
 ghost use Rattle.std.specs.Prelude.{◌^◌, ◌<◌, ◌≤◌};
-ghost use Rattle.zh_logarithms.specs.Logarithms.{IsCutSquare, IsLog};
+ghost use Rattle.zh_logarithms.specs.Logarithms.{HasLogarithm, IsCutSquare, IsLog};
 
 /// The binary places of a logarithm.
 const PLACES: u32 = 30;
@@ -22,6 +22,7 @@ fn cut_square(mantissa: u64) -> (u64, bool)
 pub fn logarithm(number: u64) -> u64
     requires { 1 ≤ number }
     ensures log { IsLog 0 2 number result }
+    ensures squared { HasLogarithm number result }
     ensures small { result < 2 ^ 36 }
 {
     let zeros = number.leading_zeros();

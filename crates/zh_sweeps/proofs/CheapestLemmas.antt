@@ -1,9 +1,9 @@
 -- A matrix with fair potentials without slacks is cheapest.
 use Rattle.std.proofs.Common.{◌≡◌, ℕ, zero, suc, ◌+◌, ◌-◌, ◌*◌, ◌<◌, ◌≤◌, List, inl, inr, sym, ap, ◌∙◌, arith, add-one}
-use Rattle.std.proofs.lemmas.Bool.{cases_lt}
+use Rattle.std.proofs.lemmas.Bool.{cases_lt, cases_order}
 use Rattle.zh_divisors.specs.Sums.{sum_to}
 use Rattle.zh_divisors.proofs.CallerLemmas.{sum_to-le, sum_to-suc}
-use Rattle.zh_matrices.proofs.CallerLemmas.{total, total-add, weigh_columns, weigh_rows}
+use Rattle.zh_matrices.proofs.CallerLemmas.{same_terms, total, total-add, weigh_columns, weigh_rows}
 use Rattle.zh_matrices.specs.Fitting.{FitsVotes}
 use Rattle.zh_matrices.specs.Question.{AreSeatTotals, Question, cell}
 use Rattle.zh_sweeps.specs.Prices.{AreLogs, Logs, cost, priced, seat_price}
@@ -70,36 +70,27 @@ prices-rise l k logs j lt = omega (arith, logs.rising j (omega (arith, logs.enou
 total-le : (m n : ℕ) (f h : ℕ → ℕ → ℕ) → ((d g : ℕ) → d < m → g < n → f d g ≤ h d g) → total m n f ≤ total m n h
 total-le m n f h below = sum_to-le m _ _ (λ d dm. sum_to-le n (f d) (h d) (λ g gn. below d g dm gn))
 
--- where the rows and columns have the same totals
-pub cheapest : (q : Question) (l : Logs) (bounds : Bounds) (seats others : List ℕ) (x y : ℕ → ℕ) → AreLogs l →
-    AreSeatTotals q.rows q.row_totals →
-    AreFair (priced q l seats) bounds 0 0 x y → FitsVotes q seats → FitsVotes q others → cost q l seats ≤ cost q l others
-cheapest q l bounds seats others x y logs totals fair F G =
+-- what the seats of all cells cost, with what their rows and columns ask and give for those of another matrix
+abbrev weighed : Question → Logs → (ℕ → ℕ) → (ℕ → ℕ) → List ℕ → List ℕ → ℕ → ℕ → ℕ
+weighed q l x y seats others d g =
+    sum_to (cell q.columns seats d g) (seat_price l (d * q.columns + g)) + x d * cell q.columns others d g + y g * cell q.columns seats d g
+
+-- the potentials fall out where the rows and columns have the same totals
+weighed-alike : (q : Question) (l : Logs) (seats others : List ℕ) (x y : ℕ → ℕ) → FitsVotes q seats → FitsVotes q others →
+    total q.rows q.columns (weighed q l x y seats others) + cost q l others
+    ≡ total q.rows q.columns (λ d g. sum_to (cell q.columns others d g) (seat_price l (d * q.columns + g)) + x d * cell q.columns seats d g
+    + y g * cell q.columns others d g) + cost q l seats
+weighed-alike q l seats others x y F G =
     let s : ℕ → ℕ → ℕ = cell q.columns seats in
     let t : ℕ → ℕ → ℕ = cell q.columns others in
     let f : ℕ → ℕ → ℕ = λ d g. sum_to (s d g) (seat_price l (d * q.columns + g)) in
     let h : ℕ → ℕ → ℕ = λ d g. sum_to (t d g) (seat_price l (d * q.columns + g)) in
-    let each : (d g : ℕ) → d < q.rows → g < q.columns → f d g + x d * t d g + y g * s d g ≤ h d g + x d * s d g + y g * t d g
-    = λ d g dm gn. elim (cases_lt 0 (cell q.columns q.votes d g)) [
-      | inl votes ↦
-          cell-cheapest (seat_price l (d * q.columns + g)) (s d g) (t d g) (x d) (y g) (prices-rise l (d * q.columns + g) logs)
-          (cell-fitting q seats totals F d g dm gn) (cell-fitting q others totals G d g dm gn)
-          (omega (arith, fair.given d g dm gn votes)) (λ some. omega (arith, fair.taken d g dm gn some))
-      | inr none ↦
-          let no_seats : s d g ≡ 0 = F.on_votes d g dm gn (omega arith) in
-          let no_others : t d g ≡ 0 = G.on_votes d g dm gn (omega arith) in
-          rw (no_seats, no_others) (omega arith)
-    ] in
-    let all : total q.rows q.columns (λ d g. f d g + x d * t d g + y g * s d g)
-    ≤ total q.rows q.columns (λ d g. h d g + x d * s d g + y g * t d g)
-    = total-le q.rows q.columns _ _ each in
     let rows : total q.rows q.columns (λ d g. x d * s d g) ≡ total q.rows q.columns (λ d g. x d * t d g)
     = weigh_rows q.rows q.columns x s t (λ d dm. F.rows_add_up d dm ∙ sym (G.rows_add_up d dm)) in
     let columns : total q.rows q.columns (λ d g. y g * s d g) ≡ total q.rows q.columns (λ d g. y g * t d g)
     = weigh_columns q.rows q.columns y s t (λ g gn. F.columns_add_up g gn ∙ sym (G.columns_add_up g gn)) in
     omega (
       arith,
-      all,
       rows,
       columns,
       total-add q.rows q.columns (λ d g. f d g + x d * t d g) (λ d g. y g * s d g),
@@ -107,3 +98,73 @@ cheapest q l bounds seats others x y logs totals fair F G =
       total-add q.rows q.columns (λ d g. h d g + x d * s d g) (λ d g. y g * t d g),
       total-add q.rows q.columns h (λ d g. x d * s d g),
     )
+
+-- cell by cell
+each-weighed : (q : Question) (l : Logs) (bounds : Bounds) (seats others : List ℕ) (x y : ℕ → ℕ) → AreLogs l →
+    AreSeatTotals q.rows q.row_totals → AreFair (priced q l seats) bounds 0 0 x y → FitsVotes q seats → FitsVotes q others →
+    (d g : ℕ) → d < q.rows → g < q.columns → weighed q l x y seats others d g
+    ≤ sum_to (cell q.columns others d g) (seat_price l (d * q.columns + g)) + x d * cell q.columns seats d g + y g * cell q.columns others d g
+each-weighed q l bounds seats others x y logs totals fair F G d g dm gn = elim (cases_lt 0 (cell q.columns q.votes d g)) [
+  | inl votes ↦
+      cell-cheapest (seat_price l (d * q.columns + g)) (cell q.columns seats d g) (cell q.columns others d g) (x d) (y g)
+      (prices-rise l (d * q.columns + g) logs) (cell-fitting q seats totals F d g dm gn) (cell-fitting q others totals G d g dm gn)
+      (omega (arith, fair.given d g dm gn votes)) (λ some. omega (arith, fair.taken d g dm gn some))
+  | inr none ↦
+      let no_seats : cell q.columns seats d g ≡ 0 = F.on_votes d g dm gn (omega arith) in
+      let no_others : cell q.columns others d g ≡ 0 = G.on_votes d g dm gn (omega arith) in
+      rw (no_seats, no_others) (omega arith)
+]
+
+pub cheapest : (q : Question) (l : Logs) (bounds : Bounds) (seats others : List ℕ) (x y : ℕ → ℕ) → AreLogs l →
+    AreSeatTotals q.rows q.row_totals →
+    AreFair (priced q l seats) bounds 0 0 x y → FitsVotes q seats → FitsVotes q others → cost q l seats ≤ cost q l others
+cheapest q l bounds seats others x y logs totals fair F G =
+    omega (
+      arith,
+      total-le q.rows q.columns _ _ (each-weighed q l bounds seats others x y logs totals fair F G),
+      weighed-alike q l seats others x y F G,
+    )
+
+-- with slacks no other number of seats of a cell costs as little
+cell-only : (p : ℕ → ℕ) (s t x y : ℕ) → Rise p → s ≤ 400 → t ≤ 400 → x + 1 ≤ y + p s → (0 < s → y + p (s - 1) + 1 ≤ x) →
+    sum_to t p + x * s + y * t ≤ sum_to s p + x * t + y * s → t ≡ s
+cell-only p s t x y rise few_s few_t next last costs = elim (cases_order s t) [
+  | inl same ↦ sym same
+  | inr (inl less) ↦
+      let n : ℕ = t - s in
+      let is : s + n ≡ t = omega arith in
+      let more : sum_to s p + n * (x + 1) ≤ sum_to (s + n) p + n * y = dearer p s n (x + 1) y rise (omega arith) (omega (arith, next)) in
+      let here : sum_to (s + n) p + x * s + y * (s + n) ≤ sum_to s p + x * (s + n) + y * s = rw is costs in
+      absurd (omega (arith, more, here, less))
+  | inr (inr more) ↦
+      let n : ℕ = s - t in
+      let is : t + n ≡ s = omega arith in
+      let few : sum_to (t + n) p + n * (y + 1) ≤ sum_to t p + n * x
+      = cheaper p t n x (y + 1) rise (omega arith) (λ some. rw is (omega (arith, last (omega arith)))) in
+      let here : sum_to t p + x * (t + n) + y * t ≤ sum_to (t + n) p + x * t + y * (t + n) = rw is costs in
+      absurd (omega (arith, few, here, more))
+]
+
+-- all terms below others, and their totals not: they are the same
+same-each : (m n : ℕ) (f h : ℕ → ℕ → ℕ) → ((d g : ℕ) → d < m → g < n → f d g ≤ h d g) → total m n h ≤ total m n f →
+    (d g : ℕ) → d < m → g < n → h d g ≤ f d g
+same-each m n f h below least d g dm gn =
+    let rows : sum_to n (f d) ≡ sum_to n (h d)
+    = same_terms m (λ e. sum_to n (f e)) (λ e. sum_to n (h e)) (λ e em. sum_to-le n (f e) (h e) (λ k kn. below e k em kn)) least d dm in
+    let cells : f d g ≡ h d g = same_terms n (f d) (h d) (λ k kn. below d k dm kn) (omega (arith, rows)) g gn in
+    omega (arith, cells)
+
+-- with slacks no other matrix costs as little
+pub only-cheapest : (q : Question) (l : Logs) (bounds : Bounds) (seats others : List ℕ) (x y : ℕ → ℕ) → AreLogs l →
+    AreSeatTotals q.rows q.row_totals → AreFair (priced q l seats) bounds 0 0 x y → 1 ≤ bounds.given → 1 ≤ bounds.taken →
+    FitsVotes q seats → FitsVotes q others → cost q l others ≤ cost q l seats →
+    (d g : ℕ) → d < q.rows → g < q.columns → cell q.columns others d g ≡ cell q.columns seats d g
+only-cheapest q l bounds seats others x y logs totals fair given taken F G costs d g dm gn = elim (cases_lt 0 (cell q.columns q.votes d g)) [
+  | inl votes ↦
+      cell-only (seat_price l (d * q.columns + g)) (cell q.columns seats d g) (cell q.columns others d g) (x d) (y g)
+      (prices-rise l (d * q.columns + g) logs) (cell-fitting q seats totals F d g dm gn) (cell-fitting q others totals G d g dm gn)
+      (omega (arith, fair.given d g dm gn votes)) (λ some. omega (arith, fair.taken d g dm gn some))
+      (same-each q.rows q.columns _ _ (each-weighed q l bounds seats others x y logs totals fair F G)
+      (omega (arith, weighed-alike q l seats others x y F G)) d g dm gn)
+  | inr none ↦ G.on_votes d g dm gn (omega arith) ∙ sym (F.on_votes d g dm gn (omega arith))
+]

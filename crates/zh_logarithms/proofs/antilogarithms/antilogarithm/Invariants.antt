@@ -1,5 +1,5 @@
-use Rattle.std.proofs.Common.{◌+◌, ◌-◌, ◌^◌, ◌<◌, ◌≤◌}
-use Rattle.zh_logarithms.specs.Logarithms.{log_unit, power}
+use Rattle.std.proofs.Common.{ℕ, ◌+◌, ◌-◌, ◌^◌, ◌<◌, ◌≤◌}
+use Rattle.zh_logarithms.specs.Logarithms.{HasLogarithm, log_unit, power}
 use Rattle.zh_logarithms.proofs.antilogarithms.antilogarithm.Given as goal
 
 abbrev pub invariant-loop-high : goal.invariant-loop-high
@@ -9,6 +9,8 @@ invariant-loop-high l = record {
   most : l.high ≤ l.most + 1;
   reached : power l.low log_unit < power 2 (l.logarithm_of_it + 2);
   passed : power 2 l.logarithm_of_it ≤ power l.high log_unit;
+  within : (k : ℕ) × HasLogarithm l.low k × (k ≤ l.logarithm_of_it);
+  next : l.high ≤ l.most → (k : ℕ) × HasLogarithm l.high k × (l.logarithm_of_it < k);
 }
 
 abbrev pub decreases-loop-high : goal.decreases-loop-high

@@ -1,4 +1,5 @@
 use Rattle.std.proofs.Common.{◌*◌, ◌^◌, ◌<◌, ◌≤◌}
+use Rattle.zh_logarithms.specs.Logarithms.{IsSquared}
 use Rattle.zh_logarithms.proofs.ApproximationLemmas.{Approximates}
 use Rattle.zh_logarithms.proofs.logarithms.logarithm.Given as goal
 
@@ -8,4 +9,5 @@ invariant-loop-place l = record {
   fits : l.mantissa < 2 ^ 64;
   small : l.logarithm < 64 * 2 ^ l._place;
   nearly : Approximates l.number l._place l.mantissa l.logarithm;
+  squared : IsSquared l.number l._place l.mantissa l.logarithm;
 }
