@@ -4,14 +4,15 @@ use Rattle.std.proofs.lemmas.List.Elements.{All-from_get_or}
 use Rattle.std.proofs.Math.Nat.{one-le-pow, pow-le-pow_right, pow-suc}
 use Rattle.zh_logarithms.specs.Logarithms.{log_unit, power}
 use Rattle.zh_logarithms.proofs.CallerLemmas.{reaches}
-use Rattle.zh_matrices.specs.Divisors.{AreWithin, millionths}
+use Rattle.zh_matrices.specs.Divisors.{AreWithin, AreWithinLimits, millionths}
 use Rattle.zh_matrices.specs.Fitting.{FitsVotes}
 use Rattle.zh_matrices.specs.Question.{AreSeatTotals, Question}
+use Rattle.zh_matrices.specs.SeatMatrix.{IsStrict}
 use Rattle.zh_sweeps.specs.Prices.{AreLogs, Logs, priced}
 use Rattle.zh_sweeps.specs.Sweeps.{IsStill, of_column, of_row}
 use Rattle.zh_sweeps.specs.declared.bounds.Bounds.{Bounds}
 use Rattle.zh_sweeps.specs.declared.sweeps.Potentials.{Potentials}
-use Rattle.zh_decided.specs.Boxes.{GiveWithin, HaveLogs, IsBox}
+use Rattle.zh_decided.specs.Boxes.{HaveLogs, IsBox}
 use Rattle.zh_decided.specs.Tables.{AreLogTables}
 use Rattle.zh_decided.proofs.ScaledLemmas.{AreScaled, strict}
 
@@ -45,25 +46,26 @@ within bits most m n numbers logarithms same H = record {
   at_most = All-from_get_or (λ x. x ≤ most) numbers 0 (λ k lt. H.at_most k (omega (arith, H.one_each)));
 }
 
+pub within-limits : (q : Question) (bits m n : ℕ) (of_rows of_columns : List ℕ) (row_logs column_logs : ℕ → ℕ) → m ≡ q.rows → n ≡ q.columns →
+    HaveLogs bits (10 ^ 18) m of_rows row_logs → HaveLogs bits (10 ^ 12) n of_columns column_logs → AreWithinLimits q of_rows of_columns
+within-limits q bits m n of_rows of_columns row_logs column_logs rows-are columns-are R C = record {
+  rows = within bits (10 ^ 18) m q.rows of_rows row_logs rows-are R;
+  columns = within bits (10 ^ 12) n q.columns of_columns column_logs columns-are C;
+}
+
 -- they give the seats for which it stood still
-pub gives-within : (q : Question) (l : Logs) (seats : List ℕ) (bits m n top : ℕ) (bounds : Bounds) (p : Potentials) (of_rows of_columns : List ℕ) →
+pub gives-strictly : (q : Question) (l : Logs) (seats : List ℕ) (bits m n top : ℕ) (bounds : Bounds) (p : Potentials) (of_rows of_columns : List ℕ) →
     bits ≤ 20 → m ≡ q.rows → n ≡ q.columns → top ≡ bounds.row_cap + bits * log_unit → AreLogs l → AreLogTables q l →
     AreSeatTotals q.rows q.row_totals → FitsVotes q seats → IsBox bits bounds → IsStill (priced q l seats) bounds p →
     HaveLogs bits (10 ^ 18) m of_rows (λ i. top - slice_index p.of_rows i) → HaveLogs bits (10 ^ 12) n of_columns (slice_index p.of_columns) →
-    GiveWithin q of_rows of_columns seats
-gives-within q l seats bits m n top bounds p of_rows of_columns few rows-are columns-are top-is A T totals F B S R C =
+    IsStrict q (millionths of_rows of_columns) seats
+gives-strictly q l seats bits m n top bounds p of_rows of_columns few rows-are columns-are top-is A T totals F B S R C =
     let one : 32 - bits ≡ suc (31 - bits) = omega arith in
     let double : 2 ^ (32 - bits) ≡ 2 ^ (31 - bits) * 2 = ap (λ x. 2 ^ x) one ∙ pow-suc 2 (31 - bits) in
     let capped : (d : ℕ) → d < q.rows → of_row p d ≤ bounds.row_cap = λ d dm. omega (arith, S.capped.rows d dm) in
-    record {
-      limits = record {
-        rows = within bits (10 ^ 18) m q.rows of_rows (λ i. top - slice_index p.of_rows i) rows-are R;
-        columns = within bits (10 ^ 12) n q.columns of_columns (slice_index p.of_columns) columns-are C;
-      };
-      strict = strict q l (2 ^ (31 - bits)) (millionths of_rows of_columns) bounds (of_row p) (of_column p) seats A T totals F
-          (scaled-box q bits m n top bounds p of_rows of_columns rows-are columns-are top-is B capped R C) S.fair (omega (arith, B.given))
-          (omega (arith, B.taken));
-    }
+    strict q l (2 ^ (31 - bits)) (millionths of_rows of_columns) bounds (of_row p) (of_column p) seats A T totals F
+    (scaled-box q bits m n top bounds p of_rows of_columns rows-are columns-are top-is B capped R C) S.fair (omega (arith, B.given))
+    (omega (arith, B.taken))
 
 -- the least number of a box is within its limits
 pub least-within : (bits most : ℕ) → bits ≤ 20 → 2 ^ 20 ≤ most → 2 ^ bits ≤ most

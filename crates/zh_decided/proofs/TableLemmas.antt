@@ -36,6 +36,9 @@ are-tables q of_votes of_odds sized V O long = record {
   one_each = omega (arith, V.one_each);
   votes = λ d g dm gn some. V.logs (d * q.columns + g) (omega (arith, mul-add-lt d q.columns g q.rows dm gn)) some;
   odds = λ j few. O.logs j (omega arith);
+  of_votes = V;
+  of_odds = O;
+  odd_numbers = long;
 }
 
 -- the price of a seat, and the logarithms that it is made of

@@ -1,10 +1,14 @@
 -- Sweeps within the limits of a sheet.
 use Rattle.std.specs.Prelude.{◌≡◌, ℕ, ◌+◌, ◌-◌, ◌*◌, ◌^◌, ◌<◌, ◌≤◌, List, length, slice_index}
-use Rattle.zh_logarithms.specs.Logarithms.{IsLog, log_unit}
+use Rattle.zh_logarithms.specs.Logarithms.{HasLogarithm, IsAntilogarithm, IsLog, log_unit}
 use Rattle.zh_matrices.specs.Divisors.{AreWithinLimits, millionths}
 use Rattle.zh_matrices.specs.Question.{Question}
 use Rattle.zh_matrices.specs.SeatMatrix.{IsStrict}
+use Rattle.zh_sweeps.specs.Prices.{Logs, priced}
+use Rattle.zh_sweeps.specs.Sweeps.{IsStill, of_column, of_row}
 use Rattle.zh_sweeps.specs.declared.bounds.Bounds.{Bounds}
+use Rattle.zh_sweeps.specs.declared.sweeps.Potentials.{Potentials}
+use Rattle.zh_decided.specs.Tables.{AreLogTables}
 
 -- bounds for divisors from 2^bits millionths to the limits, with what rounding such numbers costs for a slack
 pub record IsBox (bits : ℕ) (bounds : Bounds) : Type 0 where
@@ -12,6 +16,8 @@ pub record IsBox (bits : ℕ) (bounds : Bounds) : Type 0 where
   pub most : ℕ
   pub scale_log : IsLog 0 2 (10 ^ 12) scale
   pub most_log : IsLog 0 2 (10 ^ 18) most
+  pub scale_is : HasLogarithm (10 ^ 12) scale
+  pub most_is : HasLogarithm (10 ^ 18) most
   pub given : bounds.given ≡ 2 ^ (32 - bits) + 6
   pub taken : bounds.taken ≡ 6
   pub row_cap : bounds.row_cap + bits * log_unit ≡ 2 ^ 60 + scale
@@ -25,11 +31,39 @@ pub record HaveLogs (bits most n : ℕ) (numbers : List ℕ) (logarithms : ℕ �
   pub logs : (i : ℕ) → i < n → IsLog (2 ^ (31 - bits)) 2 (slice_index numbers i) (logarithms i)
   pub from_least : (i : ℕ) → i < n → 2 ^ bits ≤ slice_index numbers i
   pub at_most : (i : ℕ) → i < n → slice_index numbers i ≤ most
+  pub antilogarithms : (i : ℕ) → i < n → IsAntilogarithm (logarithms i) most (slice_index numbers i)
 
--- divisors in millionths, within the limits, that give these seats and no others
+-- the greatest potentials for these seats in the box of divisors from 2^bits millionths on
+pub record StandsInBox (q : Question) (l : Logs) (seats : List ℕ) (bits : ℕ) (p : Potentials) : Type 0 where
+  pub bounds : Bounds
+  pub box : IsBox bits bounds
+  pub still : IsStill (priced q l seats) bounds p
+
+-- divisors with such potentials for their logarithms, rounded down
+pub record AreInBox (q : Question) (l : Logs) (seats : List ℕ) (bits : ℕ) (of_rows of_columns : List ℕ) : Type 0 where
+  pub potentials : Potentials
+  pub stands : StandsInBox q l seats bits potentials
+  pub rows : (d : ℕ) → d < q.rows → IsAntilogarithm (2 ^ 60 + stands.box.scale - of_row potentials d) (10 ^ 18) (slice_index of_rows d)
+  pub columns : (g : ℕ) → g < q.columns → IsAntilogarithm (of_column potentials g) (10 ^ 12) (slice_index of_columns g)
+
+-- in the first of the boxes from 2^20, 2^16, 2^12, 2^8 and 2^4 on in which the seats stand still
+pub record AreInFirstBox (q : Question) (seats of_rows of_columns : List ℕ) : Type 0 where
+  pub logs : Logs
+  pub tables : AreLogTables q logs
+  pub smaller : ℕ
+  pub few : smaller < 5
+  pub in_box : AreInBox q logs seats (20 - 4 * smaller) of_rows of_columns
+  pub before : (k : ℕ) → k < smaller → (p : Potentials) → ¬ StandsInBox q logs seats (20 - 4 * k) p
+
+-- divisors in millionths, within the limits, that give these seats and no others, and which ones
 pub record GiveWithin (q : Question) (of_rows of_columns seats : List ℕ) : Type 0 where
   pub limits : AreWithinLimits q of_rows of_columns
   pub strict : IsStrict q (millionths of_rows of_columns) seats
+  pub first : AreInFirstBox q seats of_rows of_columns
+
+-- no divisors are given so, whatever the seats
+abbrev pub NoneGiven : Question → Type 0
+NoneGiven q = (of_rows of_columns seats : List ℕ) → ¬ GiveWithin q of_rows of_columns seats
 
 -- from 1.05 to 999,900 for a column, and to 999,900,000,000 for a row
 pub record AreInRange (q : Question) (of_rows of_columns : List ℕ) : Type 0 where

@@ -1,14 +1,17 @@
--- What is decided of a matrix on the votes with the totals, and on what it rests.
+-- What is decided of a question, and on what it rests.
 use Rattle.std.specs.Prelude.{ℕ, List, Option, Some, None}
 use Rattle.zh_floating.specs.Floats.{floating}
 use Rattle.zh_floating.specs.declared.divisors.FloatingDivisors.{FloatingDivisors}
 use Rattle.zh_matrices.specs.Divisors.{Divisors}
+use Rattle.zh_matrices.specs.Fitting.{FitsVotes}
 use Rattle.zh_matrices.specs.NearlyTied.{AreNearlyTied}
 use Rattle.zh_matrices.specs.Question.{Question}
 use Rattle.zh_matrices.specs.SeatMatrix.{IsStrict}
-use Rattle.zh_decided.specs.Boxes.{GiveWithin, NoneInRange}
+use Rattle.zh_possible.specs.Impossible.{HasTooFewSeats}
+use Rattle.zh_decided.specs.Boxes.{GiveWithin, NoneGiven, NoneInRange}
 use Rattle.zh_decided.specs.declared.decision.Decision.{Decision}
-use Rattle.zh_decided.specs.declared.decision.Decision.TheVariants.{Beyond, NearlyTied, Seats}
+use Rattle.zh_decided.specs.declared.decision.Decision.TheVariants.{Beyond, Impossible, NearlyTied, Seats}
+use Rattle.zh_decided.specs.Rooms.{Findings}
 
 -- the seats follow strictly from some divisors, but from none in millionths in the ranges; nor do any others
 pub record AreBeyond (q : Question) (x : Divisors) (seats : List ℕ) : Type 0 where
@@ -20,8 +23,28 @@ abbrev pub GivesOrBeyond : Question → List ℕ → List ℕ → List ℕ → O
 GivesOrBeyond q of_rows of_columns seats None = GiveWithin q of_rows of_columns seats
 GivesOrBeyond q of_rows of_columns seats (Some x) = AreBeyond q (floating x) seats
 
--- seats with divisors in millionths; two matrices that are nearly tied; or seats that are beyond the divisors of a sheet
-abbrev pub Decides : Question → List ℕ → List ℕ → List ℕ → List ℕ → Decision → Type 0
-Decides q seats of_rows of_columns others Seats = GiveWithin q of_rows of_columns seats
-Decides q seats of_rows of_columns others (NearlyTied d g x) = AreNearlyTied q (floating x) seats others d g
-Decides q seats of_rows of_columns others (Beyond x) = AreBeyond q (floating x) seats
+-- two matrices on the votes that are nearly tied
+pub record AreFoundTied (q : Question) (x : Divisors) (findings : Findings) (d g : ℕ) : Type 0 where
+  pub one_fits : FitsVotes q findings.seats
+  pub other_fits : FitsVotes q findings.others
+  pub tied : AreNearlyTied q x findings.seats findings.others d g
+
+-- rows that have too few seats; seats with divisors in millionths; two matrices that are nearly tied; or seats that are beyond
+-- the divisors of a sheet
+abbrev pub Decides : Question → Findings → Decision → Type 0
+Decides q findings (Impossible rows) = HasTooFewSeats q rows
+Decides q findings Seats = GiveWithin q findings.of_rows findings.of_columns findings.seats
+Decides q findings (NearlyTied d g x) = AreFoundTied q (floating x) findings d g
+Decides q findings (Beyond x) = AreBeyond q (floating x) findings.seats
+
+-- unless it is that divisors in millionths give seats, none are given
+abbrev pub LeavesNone : Question → Decision → Type 0
+LeavesNone q (Impossible rows) = NoneGiven q
+LeavesNone q Seats = Unit {0}
+LeavesNone q (NearlyTied d g x) = NoneGiven q
+LeavesNone q (Beyond x) = NoneGiven q
+
+-- that there is no matrix
+abbrev pub SaysImpossible : Decision → Type 0
+SaysImpossible (Impossible rows) = Unit {0}
+SaysImpossible _ = ⊥

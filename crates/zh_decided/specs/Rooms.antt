@@ -1,10 +1,23 @@
--- The sizes of the room that a decision takes.
-use Rattle.std.specs.Prelude.{◌≡◌, ℕ, ◌*◌, length}
+-- The room that a decision takes.
+use Rattle.std.specs.Prelude.{◌≡◌, ℕ, ◌*◌, List, length}
 use Rattle.zh_decided.specs.declared.room.DecisionRoom.{DecisionRoom}
 
+-- its sizes
 pub record IsDecisionRoom (rows columns : ℕ) (room : DecisionRoom) : Type 0 where
-  pub vote_logarithms : length room.vote_logarithms.items ≡ rows * columns
-  pub odd_logarithms : length room.odd_logarithms.items ≡ 401
+  pub seats : length room.seats.items ≡ rows * columns
   pub of_rows : length room.of_rows.items ≡ rows
   pub of_columns : length room.of_columns.items ≡ columns
   pub others : length room.others.items ≡ rows * columns
+  pub vote_logarithms : length room.vote_logarithms.items ≡ rows * columns
+  pub odd_logarithms : length room.odd_logarithms.items ≡ 401
+
+-- seats, divisors in millionths that may give them, and other seats
+pub record Findings : Type 0 where
+  pub seats : List ℕ
+  pub of_rows : List ℕ
+  pub of_columns : List ℕ
+  pub others : List ℕ
+
+-- those that are left in a room
+abbrev pub found_in : DecisionRoom → Findings
+found_in x = record { seats = x.seats.items; of_rows = x.of_rows.items; of_columns = x.of_columns.items; others = x.others.items }

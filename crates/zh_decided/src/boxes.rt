@@ -1,12 +1,14 @@
 //! Divisors in millionths, within the limits of a sheet.
-ghost use Rattle.std.specs.Prelude.{◌≡◌, ℕ, ◌+◌, ◌-◌, ◌*◌, ◌^◌, ◌<◌, ◌≤◌, length, slice_index};
+ghost use Rattle.std.specs.Prelude.{◌≡◌, ℕ, ◌+◌, ◌-◌, ◌*◌, ◌^◌, ◌<◌, ◌≤◌, IsTrue, List, length, slice_index};
 ghost use Rattle.std.specs.Bool.{OnFalse, OnTrue};
-ghost use Rattle.zh_decided.specs.Boxes.{GiveWithin, HaveLogs, IsBox, NoneInRange};
+ghost use Rattle.zh_decided.specs.Boxes.{AreInBox, AreInFirstBox, GiveWithin, HaveLogs, IsBox, NoneInRange, StandsInBox};
 ghost use Rattle.zh_decided.specs.Tables.{AreLogTables};
 ghost use Rattle.zh_logarithms.specs.Logarithms.{log_unit, power};
 ghost use Rattle.zh_matrices.specs.Asked.{asked};
+ghost use Rattle.zh_matrices.specs.Divisors.{AreWithinLimits, millionths};
 ghost use Rattle.zh_matrices.specs.Fitting.{FitsVotes};
 ghost use Rattle.zh_matrices.specs.Question.{AreSeatTotals};
+ghost use Rattle.zh_matrices.specs.SeatMatrix.{IsStrict};
 ghost use Rattle.zh_sweeps.specs.Prices.{priced};
 ghost use Rattle.zh_sweeps.specs.Sweeps.{StandsFree};
 ghost use Rattle.zh_sweeps.specs.Taken.{logs};
@@ -91,7 +93,10 @@ fn give_from(
     requires fits { FitsVotes (asked question.now) seats.now }
     requires rows { length of_rows.old ≡ question.now.rows }
     requires columns { length of_columns.old ≡ question.now.columns }
-    ensures give { OnTrue result (GiveWithin (asked question.now) of_rows.new of_columns.new seats.now) }
+    ensures limits { IsTrue result → AreWithinLimits (asked question.now) of_rows.new of_columns.new }
+    ensures strict { IsTrue result → IsStrict (asked question.now) (millionths of_rows.new of_columns.new) seats.now }
+    ensures in_box { OnTrue result (AreInBox (asked question.now) (logs logarithms.now) seats.now bits of_rows.new of_columns.new) }
+    ensures moves { OnFalse result ((p : Potentials) → ¬ StandsInBox (asked question.now) (logs logarithms.now) seats.now bits p) }
     ensures none { OnFalse result (bits ≡ 20 → (p : Potentials) →
         StandsFree (priced (asked question.now) (logs logarithms.now) seats.now) 4102 6 p → NoneInRange (asked question.now) seats.now) }
 {
@@ -122,6 +127,7 @@ pub(crate) fn give_within(
     requires rows { length of_rows.old ≡ question.now.rows }
     requires columns { length of_columns.old ≡ question.now.columns }
     ensures give { OnTrue result (GiveWithin (asked question.now) of_rows.new of_columns.new seats.now) }
+    ensures outside { OnFalse result ((rows columns : List ℕ) → ¬ AreInFirstBox (asked question.now) seats.now rows columns) }
     ensures none { OnFalse result ((p : Potentials) →
         StandsFree (priced (asked question.now) (logs logarithms.now) seats.now) 4102 6 p → NoneInRange (asked question.now) seats.now) }
 {

@@ -1,10 +1,13 @@
 //! What is decided.
 
 use zh_floating::FloatingDivisors;
+use zh_possible::MarkedRows;
 
-/// What there is for a question, where some matrix on the votes has the totals.
-#[derive(Clone, Copy)]
+/// What there is for a question.
+#[derive(Drop)]
 pub enum Decision {
+    /// The votes of these rows lie in columns that have fewer seats than they: no matrix on the votes has the totals.
+    Impossible(MarkedRows),
     /// Divisors in millionths give the seats, strictly.
     Seats,
     /// Two different matrices follow nearly from these divisors; they differ first in this row and this column, both counted

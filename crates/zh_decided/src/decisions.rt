@@ -1,13 +1,16 @@
 //! Decisions.
-ghost use Rattle.std.specs.Prelude.{◌≡◌, ◌*◌, ◌≤◌, length};
-ghost use Rattle.zh_decided.specs.Decisions.{Decides, GivesOrBeyond};
+ghost use Rattle.std.specs.Prelude.{◌≡◌, ◌*◌, ◌≤◌, ◌↔◌, IfSome, length};
+ghost use Rattle.zh_decided.specs.Decisions.{Decides, GivesOrBeyond, LeavesNone, SaysImpossible};
+ghost use Rattle.zh_decided.specs.Boxes.{NoneGiven};
 ghost use Rattle.zh_floating.specs.Floats.{floating};
-ghost use Rattle.zh_decided.specs.Rooms.{IsDecisionRoom};
+ghost use Rattle.zh_decided.specs.Rooms.{IsDecisionRoom, found_in};
 ghost use Rattle.zh_decided.specs.Tables.{AreLogTables};
 ghost use Rattle.zh_matrices.specs.Asked.{asked};
 ghost use Rattle.zh_matrices.specs.Fitting.{FitsVotes};
 ghost use Rattle.zh_matrices.specs.NearlyTied.{AreNearlyTied};
 ghost use Rattle.zh_matrices.specs.Question.{AreSeatTotals};
+ghost use Rattle.zh_possible.specs.Impossible.{IsPossible};
+ghost use Rattle.zh_possible.specs.Ways.{AreBalanced};
 ghost use Rattle.zh_sweeps.specs.Gaps.{IsGap};
 ghost use Rattle.zh_sweeps.specs.Prices.{priced};
 ghost use Rattle.zh_sweeps.specs.Sweeps.{StandsFree};
@@ -16,6 +19,7 @@ ghost use Rattle.zh_sweeps.specs.Taken.{logs};
 use crate::boxes::give_within;
 use crate::decision::Decision;
 use crate::differences::first_difference;
+use crate::first_matrix::take_first_matrix;
 use crate::floats::floating_divisors;
 use crate::room::DecisionRoom;
 use crate::tables::{take_odd_logarithms, take_vote_logarithms};
@@ -47,7 +51,8 @@ fn only_seats(
     requires still { StandsFree (priced (asked question.now) (logs logarithms.now) seats.now) 4102 6 potentials.now }
     requires rows { length of_rows.old ≡ question.now.rows }
     requires columns { length of_columns.old ≡ question.now.columns }
-    ensures { GivesOrBeyond (asked question.now) of_rows.new of_columns.new seats.now result }
+    ensures decides { GivesOrBeyond (asked question.now) of_rows.new of_columns.new seats.now result }
+    ensures none { IfSome result (λ _. NoneGiven (asked question.now)) }
 {
     if give_within(question, logarithms, seats, of_rows, of_columns) {
         return None;
@@ -69,7 +74,8 @@ fn near_tie(
     requires gap { IsGap (priced (asked question.now) (logs logarithms.now) seats.now) gap }
     requires narrow { gap.cycle_at ≤ 4108 }
     requires others { length others.old ≡ question.now.rows * question.now.columns }
-    ensures { AreNearlyTied (asked question.now) (floating result.2) seats.now others.new result.0 result.1 }
+    ensures tied { AreNearlyTied (asked question.now) (floating result.2) seats.now others.new result.0 result.1 }
+    ensures other_fits { FitsVotes (asked question.now) others.new }
 {
     let gap = close_gap(question, logarithms, seats, gap);
     others.copy_from_slice(seats);
@@ -80,7 +86,8 @@ fn near_tie(
     (row, column, floating_divisors(question, &gap.potentials))
 }
 
-/// The same with tables of logarithms at hand.
+/// Decides with tables of logarithms, where these seats are a matrix on the votes with the totals. They become those that the
+/// decision is about.
 fn decide_by(
     question: &Question<'_>,
     logarithms: &LogTable<'_>,
@@ -95,7 +102,10 @@ fn decide_by(
     requires rows { length of_rows.old ≡ question.now.rows }
     requires columns { length of_columns.old ≡ question.now.columns }
     requires others { length others.old ≡ question.now.rows * question.now.columns }
-    ensures { Decides (asked question.now) seats.new of_rows.new of_columns.new others.new result }
+    ensures decides { Decides (asked question.now)
+        (record { seats = seats.new; of_rows = of_rows.new; of_columns = of_columns.new; others = others.new }) result }
+    ensures possible { ¬ SaysImpossible result }
+    ensures none { LeavesNone (asked question.now) result }
 {
     let potentials = make_cheapest(question, logarithms, seats);
     match sweep(question, logarithms, seats, Bounds::free(GIVEN, TAKEN)) {
@@ -143,7 +153,10 @@ fn decide_with(
     requires rows { length of_rows.old ≡ question.now.rows }
     requires columns { length of_columns.old ≡ question.now.columns }
     requires others { length others.old ≡ question.now.rows * question.now.columns }
-    ensures { Decides (asked question.now) seats.new of_rows.new of_columns.new others.new result }
+    ensures decides { Decides (asked question.now)
+        (record { seats = seats.new; of_rows = of_rows.new; of_columns = of_columns.new; others = others.new }) result }
+    ensures possible { ¬ SaysImpossible result }
+    ensures none { LeavesNone (asked question.now) result }
 {
     take_vote_logarithms(question, vote_logarithms);
     take_odd_logarithms(odd_logarithms);
@@ -154,16 +167,25 @@ fn decide_with(
     decide_by(question, &logarithms, seats, of_rows, of_columns, others)
 }
 
-/// Decides what there is, where these seats, on the votes, have the totals. They become those that the decision is about.
-pub fn decide(question: &Question<'_>, seats: &mut [u32], room: &mut DecisionRoom) -> Decision
+/// Decides what there is. Rows and columns are to get as many seats.
+///
+/// `Impossible` is returned exactly where no matrix on the votes has the totals. What the other decisions are about is left in
+/// the room.
+pub fn decide(question: &Question<'_>, room: &mut DecisionRoom) -> Decision
     requires totals { AreSeatTotals question.now.rows question.now.row_totals.now }
-    requires fits { FitsVotes (asked question.now) seats.old }
+    requires balanced { AreBalanced (asked question.now) }
     requires room { IsDecisionRoom question.now.rows question.now.columns room.old }
-    ensures { Decides (asked question.now) seats.new room.new.of_rows.items room.new.of_columns.items room.new.others.items result }
+    ensures decides { Decides (asked question.now) (found_in room.new) result }
+    ensures impossible { SaysImpossible result ↔ (¬ IsPossible (asked question.now)) }
+    ensures none { LeavesNone (asked question.now) result }
 {
+    let found = take_first_matrix(question, &mut room.path_logarithms, &mut room.seats);
+    if let Err(rows) = found {
+        return Decision::Impossible(rows);
+    }
     decide_with(
         question,
-        seats,
+        &mut room.seats,
         &mut room.vote_logarithms,
         &mut room.odd_logarithms,
         &mut room.of_rows,

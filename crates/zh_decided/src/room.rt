@@ -2,18 +2,22 @@
 ghost use Rattle.std.specs.Prelude.{◌≡◌, IfOk, length};
 
 use std::alloc::{AllocError, Global};
+use zh_seat_paths::Logarithms;
 
 /// The odd numbers that have a logarithm in the tables: 1 to 801.
 pub(crate) const ODDS: usize = 401;
 
-/// Room for a decision. What it rests on is left there: divisors in millionths, or the other matrix of a near tie.
+/// Room for a decision. What it is about is left there: the seats of each cell, row by row; the divisors in millionths that give
+/// them; and the other matrix of a near tie.
 #[derive(Drop)]
 pub struct DecisionRoom {
+    pub seats: Vec<u32>,
+    pub of_rows: Vec<u64>,
+    pub of_columns: Vec<u64>,
+    pub others: Vec<u32>,
+    pub(crate) path_logarithms: Logarithms,
     pub(crate) vote_logarithms: Vec<u64>,
     pub(crate) odd_logarithms: Vec<u64>,
-    pub(crate) of_rows: Vec<u64>,
-    pub(crate) of_columns: Vec<u64>,
-    pub(crate) others: Vec<u32>,
 }
 
 /// So many zeros.
@@ -28,17 +32,19 @@ impl DecisionRoom {
     ghost use Rattle.zh_decided.specs.Rooms.{IsDecisionRoom};
 
     /// Room for votes in so many rows and columns.
-    pub fn new(alloc: Global, rows: usize, columns: usize) -> Result<DecisionRoom, AllocError>
+    pub fn new(alloc: Global, rows: usize, columns: usize) -> Result<Self, AllocError>
         requires few_rows { rows ≤ 32 }
         requires few_columns { columns ≤ 32 }
         ensures { IfOk result (IsDecisionRoom rows columns) }
     {
         Ok(DecisionRoom {
-            vote_logarithms: zeros(alloc, rows * columns)?,
-            odd_logarithms: zeros(alloc, ODDS)?,
+            seats: vec![in alloc; 0; rows * columns]?,
             of_rows: zeros(alloc, rows)?,
             of_columns: zeros(alloc, columns)?,
             others: vec![in alloc; 0; rows * columns]?,
+            path_logarithms: Logarithms::new(alloc, rows * columns)?,
+            vote_logarithms: zeros(alloc, rows * columns)?,
+            odd_logarithms: zeros(alloc, ODDS)?,
         })
     }
 }

@@ -24,8 +24,8 @@ floating_divisors-requires c =
     fit (asked c.args.question.now) (logs c.args.logarithms.now) c.args.seats.now c.close_gap-gap.result.still_at 0 c.close_gap-gap.result.potentials
     c.args.logarithms.now.taken c.requires.tables c.requires.totals c.requires.fits c.close_gap-gap.ensures.gap.still
 
-pub returns : goal.returns
-returns c =
+pub returns-clause-tied : goal.returns-clause-tied
+returns-clause-tied c =
     let fits : Fit c.args.question.now.rows c.args.question.now.columns c.close_gap-gap.result.potentials
     = fit (asked c.args.question.now) (logs c.args.logarithms.now) c.args.seats.now c.close_gap-gap.result.still_at 0 c.close_gap-gap.result.potentials
     c.args.logarithms.now.taken c.requires.tables c.requires.totals c.requires.fits c.close_gap-gap.ensures.gap.still in

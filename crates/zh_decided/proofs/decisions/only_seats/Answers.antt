@@ -6,6 +6,7 @@ use Rattle.zh_sweeps.specs.Sweeps.{of_column, of_row}
 use Rattle.zh_sweeps.specs.Taken.{logs}
 use Rattle.zh_decided.specs.Floated.{Fit}
 use Rattle.zh_decided.proofs.BeyondLemmas.{none-at-all}
+use Rattle.zh_decided.proofs.FirstBoxLemmas.{none-given}
 use Rattle.zh_decided.proofs.ScaledLemmas.{strict}
 use Rattle.zh_decided.proofs.TieLemmas.{fit, scaled-floats}
 use Rattle.zh_decided.proofs.decisions.only_seats.Goals as goal
@@ -27,7 +28,10 @@ returns c =
     c.floating_divisors.ensures.columns)
     c.requires.still.still.fair (omega (arith, c.requires.still.given_is)) (omega (arith, c.requires.still.taken_is)) in
     record {
-      strict = only;
-      none = none-at-all (asked c.args.question.now) (floating c.floating_divisors.result) c.args.seats.now only
-          (c.if-give_within.ensures.none c.args.potentials.now c.requires.still);
+      decides = record {
+        strict = only;
+        none = none-at-all (asked c.args.question.now) (floating c.floating_divisors.result) c.args.seats.now only
+            (c.if-give_within.ensures.none c.args.potentials.now c.requires.still);
+      };
+      none = none-given (asked c.args.question.now) (floating c.floating_divisors.result) c.args.seats.now only c.if-give_within.ensures.outside;
     }

@@ -1,0 +1,161 @@
+-- Seats that are placed and passed on.
+use Rattle.std.proofs.Common.{◌≡◌, ◌≢◌, ℕ, ◌+◌, ◌-◌, ◌*◌, ◌/◌, ◌<◌, ◌≤◌, List, length, get_or, set, inl, inr, sym, ap, ◌∙◌, arith}
+use Rattle.std.proofs.lemmas.Bool.{cases_eq}
+use Rattle.std.proofs.lemmas.List.{get_or-set_other, get_or-set_same, length-set}
+use Rattle.std.proofs.lemmas.Nat.{div-mul-add}
+use Rattle.std.proofs.Math.Nat.{mul-le-mul_right}
+use Rattle.zh_divisors.proofs.CallerLemmas.{sum_to-ext, term-le-sum_to}
+use Rattle.zh_matrices.specs.Question.{AreSeatTotals, Question, cell}
+use Rattle.zh_possible.specs.Ways.{ArePlaced, ColumnLacks, IsOneMore, IsPassed, RowLacks, column_seats, placed, row_seats}
+use Rattle.zh_possible.proofs.OneMoreLemmas.{sum_to-one_more}
+
+-- the place of a cell is within the matrix
+pub cell-within : (m n d g : ℕ) → d < m → g < n → d * n + g < m * n
+cell-within m n d g dm gn =
+    let rows : (d + 1) * n ≤ m * n = mul-le-mul_right n (omega arith) in
+    omega arith
+
+-- cells of different rows, or of different columns, have different places
+rows-differ : (n d g e f : ℕ) → g < n → f < n → e ≢ d → e * n + f ≢ d * n + g
+rows-differ n d g e f gn fn differ same =
+    differ (sym (div-mul-add e n f fn) ∙ ap (λ k. k / n) same ∙ div-mul-add d n g gn)
+
+columns-differ : (n d g f : ℕ) → f ≢ g → d * n + f ≢ d * n + g
+columns-differ n d g f differ same = differ (omega (arith, same))
+
+pub IsOneMore-given : (q : Question) (seats : List ℕ) (d g : ℕ) → length seats ≡ q.rows * q.columns → d < q.rows → g < q.columns →
+    IsOneMore q seats (set seats (d * q.columns + g) (cell q.columns seats d g + 1)) d g
+IsOneMore-given q seats d g long dm gn =
+    let at : ℕ = d * q.columns + g in
+    let within : d * q.columns + g < length seats = omega (arith, long, cell-within q.rows q.columns d g dm gn) in
+    record {
+      one_each = length-set seats at (cell q.columns seats d g + 1);
+      here = get_or-set_same seats at (cell q.columns seats d g + 1) 0 within;
+      rows = λ e f em fn differ. get_or-set_other seats at (e * q.columns + f) (cell q.columns seats d g + 1) 0 (rows-differ q.columns d g e f gn fn differ);
+      columns = λ f fn differ. get_or-set_other seats at (d * q.columns + f) (cell q.columns seats d g + 1) 0 (columns-differ q.columns d g f differ);
+    }
+
+pub IsOneMore-taken : (q : Question) (seats : List ℕ) (d g : ℕ) → length seats ≡ q.rows * q.columns → d < q.rows → g < q.columns →
+    0 < cell q.columns seats d g → IsOneMore q (set seats (d * q.columns + g) (cell q.columns seats d g - 1)) seats d g
+IsOneMore-taken q seats d g long dm gn some =
+    let at : ℕ = d * q.columns + g in
+    let less : ℕ = cell q.columns seats d g - 1 in
+    let within : d * q.columns + g < length seats = omega (arith, long, cell-within q.rows q.columns d g dm gn) in
+    record {
+      one_each = sym (length-set seats at less);
+      here = omega (arith, get_or-set_same seats at less 0 within, some);
+      rows = λ e f em fn differ. sym (get_or-set_other seats at (e * q.columns + f) less 0 (rows-differ q.columns d g e f gn fn differ));
+      columns = λ f fn differ. sym (get_or-set_other seats at (d * q.columns + f) less 0 (columns-differ q.columns d g f differ));
+    }
+
+-- the sums of the lines
+row-more : (q : Question) (s t : List ℕ) (d g : ℕ) → g < q.columns → IsOneMore q s t d g → row_seats q t d ≡ row_seats q s d + 1
+row-more q s t d g gn more =
+    sum_to-one_more q.columns (cell q.columns s d) (cell q.columns t d) g gn more.columns more.here
+
+row-same : (q : Question) (s t : List ℕ) (d g e : ℕ) → e < q.rows → e ≢ d → IsOneMore q s t d g → row_seats q t e ≡ row_seats q s e
+row-same q s t d g e em differ more = sum_to-ext q.columns _ _ (λ f fn. more.rows e f em fn differ)
+
+column-more : (q : Question) (s t : List ℕ) (d g : ℕ) → d < q.rows → g < q.columns → IsOneMore q s t d g → column_seats q t g ≡ column_seats q s g + 1
+column-more q s t d g dm gn more =
+    sum_to-one_more q.rows (λ e. cell q.columns s e g) (λ e. cell q.columns t e g) d dm (λ e em differ. more.rows e g em gn differ) more.here
+
+column-same : (q : Question) (s t : List ℕ) (d g f : ℕ) → f < q.columns → f ≢ g → IsOneMore q s t d g → column_seats q t f ≡ column_seats q s f
+column-same q s t d g f fn differ more = sum_to-ext q.rows _ _ (λ e em. elim (cases_eq e d) [
+  | inl is ↦ rw is (more.columns f fn differ)
+  | inr other ↦ more.rows e f em fn other
+])
+
+placed-more : (q : Question) (s t : List ℕ) (d g : ℕ) → d < q.rows → g < q.columns → IsOneMore q s t d g → placed q t ≡ placed q s + 1
+placed-more q s t d g dm gn more =
+    sum_to-one_more q.rows (row_seats q s) (row_seats q t) d dm (λ e em differ. row-same q s t d g e em differ more) (row-more q s t d g gn more)
+
+-- a row that lacks a seat has few in each cell
+pub cell-few : (q : Question) (seats : List ℕ) (d g : ℕ) → AreSeatTotals q.rows q.row_totals → d < q.rows → g < q.columns → RowLacks q seats d →
+    cell q.columns seats d g < 400
+cell-few q seats d g totals dm gn lacks =
+    let most : get_or q.row_totals d 0 ≤ 400 = totals.at_most_400 d 0 (omega (arith, totals.one_each)) in
+    omega (arith, most, lacks, term-le-sum_to q.columns (cell q.columns seats d) g gn)
+
+pub ArePlaced-placed : (q : Question) (s t : List ℕ) (d g : ℕ) → d < q.rows → g < q.columns → RowLacks q s d → ColumnLacks q s g →
+    0 < cell q.columns q.votes d g → IsOneMore q s t d g → ArePlaced q s → ArePlaced q t
+ArePlaced-placed q s t d g dm gn row_lacks column_lacks votes more before = record {
+  one_each = more.one_each ∙ before.one_each;
+  rows = λ e em. elim (cases_eq e d) [
+    | inl is ↦ rw is (omega (arith, row-more q s t d g gn more, row_lacks))
+    | inr other ↦ omega (arith, row-same q s t d g e em other more, before.rows e em)
+  ];
+  columns = λ f fn. elim (cases_eq f g) [
+    | inl is ↦ rw is (omega (arith, column-more q s t d g dm gn more, column_lacks))
+    | inr other ↦ omega (arith, column-same q s t d g f fn other more, before.columns f fn)
+  ];
+  on_votes = λ e f em fn none. elim (cases_eq e d) [
+    | inr other ↦ more.rows e f em fn other ∙ before.on_votes e f em fn none
+    | inl is ↦ elim (cases_eq f g) [
+      | inr other ↦
+          let there : cell q.columns q.votes d f ≡ 0 = rw is at none in
+          rw is (more.columns f fn other ∙ before.on_votes d f dm fn there)
+      | inl same ↦ let there : cell q.columns q.votes d g ≡ 0 = rw (is, same) at none in absurd (omega (arith, there, votes))
+    ]
+  ];
+}
+
+pub placed-one_more : (q : Question) (s t : List ℕ) (d g : ℕ) → d < q.rows → g < q.columns → IsOneMore q s t d g → placed q t ≡ placed q s + 1
+placed-one_more = placed-more
+
+-- a row e passes a seat in column g to row d: between, row d has one more
+pub lacks-passed : (q : Question) (s m t : List ℕ) (d e g : ℕ) → e < q.rows → g < q.columns → e ≢ d → IsOneMore q s m d g → IsOneMore q t m e g →
+    ArePlaced q s → RowLacks q t e
+lacks-passed q s m t d e g em gn differ more less before =
+    omega (arith, row-same q s m d g e em differ more, row-more q t m e g gn less, before.rows e em)
+
+pub IsPassed-of : (q : Question) (s m t : List ℕ) (d e g : ℕ) → d < q.rows → e < q.rows → g < q.columns → IsOneMore q s m d g → IsOneMore q t m e g →
+    IsPassed q s t e d
+IsPassed-of q s m t d e g dm em gn more less = record {
+  placed = omega (arith, placed-more q s m d g dm gn more, placed-more q t m e g em gn less);
+  columns = λ f fn. elim (cases_eq f g) [
+    | inl is ↦ rw is (omega (arith, column-more q s m d g dm gn more, column-more q t m e g em gn less))
+    | inr other ↦ sym (column-same q t m e g f fn other less) ∙ column-same q s m d g f fn other more
+  ];
+  others = λ x f xm fn not_e not_d. sym (less.rows x f xm fn not_e) ∙ more.rows x f xm fn not_d;
+}
+
+pub ArePlaced-passed : (q : Question) (s m t : List ℕ) (d e g : ℕ) → d < q.rows → e < q.rows → g < q.columns → e ≢ d → RowLacks q s d →
+    0 < cell q.columns q.votes d g → IsOneMore q s m d g → IsOneMore q t m e g → ArePlaced q s → ArePlaced q t
+ArePlaced-passed q s m t d e g dm em gn differ lacks votes more less before =
+    let passed : IsPassed q s t e d = IsPassed-of q s m t d e g dm em gn more less in
+    record {
+      one_each = sym less.one_each ∙ more.one_each ∙ before.one_each;
+      rows = λ x xm. elim (cases_eq x e) [
+        | inl is ↦ rw is (omega (arith, lacks-passed q s m t d e g em gn differ more less before))
+        | inr not_e ↦ elim (cases_eq x d) [
+          | inl is ↦ rw is (omega (arith, row-same q t m e g d dm (λ same. differ (sym same)) less, row-more q s m d g gn more, lacks))
+          | inr not_d ↦ omega (arith, row-same q t m e g x xm not_e less, row-same q s m d g x xm not_d more, before.rows x xm)
+        ]
+      ];
+      columns = λ f fn. omega (arith, passed.columns f fn, before.columns f fn);
+      on_votes = λ x f xm fn none. elim (cases_eq f g) [
+        | inr other ↦
+            elim (cases_eq x e) [
+              | inl is ↦
+                  let there : cell q.columns q.votes e f ≡ 0 = rw is at none in
+                  rw is (sym (less.columns f fn other) ∙ more.rows e f em fn differ ∙ before.on_votes e f em fn there)
+              | inr not_e ↦ elim (cases_eq x d) [
+                | inl is ↦
+                    let there : cell q.columns q.votes d f ≡ 0 = rw is at none in
+                    rw is (sym (less.rows d f dm fn (λ same. differ (sym same))) ∙ more.columns f fn other ∙ before.on_votes d f dm fn there)
+                | inr not_d ↦ passed.others x f xm fn not_e not_d ∙ before.on_votes x f xm fn none
+              ]
+            ]
+        | inl same ↦
+            elim (cases_eq x e) [
+              | inl is ↦
+                  let there : cell q.columns q.votes e g ≡ 0 = rw (is, same) at none in
+                  absurd (omega (arith, before.on_votes e g em gn there, more.rows e g em gn differ, less.here))
+              | inr not_e ↦ elim (cases_eq x d) [
+                | inl is ↦ let there : cell q.columns q.votes d g ≡ 0 = rw (is, same) at none in absurd (omega (arith, there, votes))
+                | inr not_d ↦ passed.others x f xm fn not_e not_d ∙ before.on_votes x f xm fn none
+              ]
+            ]
+      ];
+    }

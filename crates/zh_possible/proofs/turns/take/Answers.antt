@@ -1,0 +1,7 @@
+use Rattle.zh_matrices.specs.Asked.{asked}
+use Rattle.zh_possible.proofs.TurnLemmas.{IsOneMore-taken}
+use Rattle.zh_possible.proofs.turns.take.Goals as goal
+
+pub returns : goal.returns
+returns c =
+    IsOneMore-taken (asked c.args.question.now) c.args.seats.now c.args.row c.args.column c.requires.seats c.requires.row c.requires.column c.requires.some

@@ -1,0 +1,10 @@
+use Rattle.zh_matrices.specs.Asked.{asked}
+use Rattle.zh_possible.specs.Ways.{rank_of, way_at}
+use Rattle.zh_possible.proofs.PathLemmas.{IsOnWay}
+use Rattle.zh_possible.proofs.turns.turn.Given as goal
+
+abbrev pub invariant-loop-row : goal.invariant-loop-row
+invariant-loop-row l = IsOnWay (asked l.question) l.initial.seats l.seats l.ways l.row
+
+abbrev pub decreases-loop-row : goal.decreases-loop-row
+decreases-loop-row l = rank_of (way_at l.ways l.row)

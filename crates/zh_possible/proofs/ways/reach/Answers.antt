@@ -1,0 +1,44 @@
+use Rattle.std.proofs.Common.{◌<◌, length, arith}
+use Rattle.zh_matrices.specs.Asked.{asked}
+use Rattle.zh_matrices.specs.Question.{Question}
+use Rattle.zh_possible.proofs.WayLemmas as tables
+use Rattle.zh_possible.proofs.ways.reach.Goals as goal
+
+pub loop-rank-init : goal.loop-rank-init
+loop-rank-init c = record {
+  ways = tables.AreWays-none (asked c.args.question.now) c.args.seats.now c.args.ways.now c.requires.none;
+  ranks = tables.RanksAreBelow-none (asked c.args.question.now) c.args.ways.now 0 c.requires.none;
+  count = tables.count-none c.args.question.now.rows c.args.ways.now c.requires.none;
+  none_lacks = tables.none_lacks-none (asked c.args.question.now) c.args.seats.now c.args.ways.now c.requires.none;
+}
+
+pub returns-then-row_lacks-clause-ways : goal.returns-then-row_lacks-clause-ways
+returns-then-row_lacks-clause-ways c =
+    let within : c.in_ok-row.row < length c.loop-rank.ways = omega (arith, c.loop-rank.auto.ways, c.in_ok-row.ensures.row) in
+    tables.AreWays-set (asked c.args.question.now) c.args.seats.now c.loop-rank.ways c.in_ok-row.row c.in_ok-row.way within
+    c.in_ok-row.ensures.new c.in_ok-row.ensures.way c.loop-rank.invariant.ways
+
+pub loop-rank-preserved : goal.loop-rank-preserved
+loop-rank-preserved c =
+    let q : Question = asked c.args.question.now in
+    let within : c.in_ok-row.row < length c.loop-rank.ways = omega (arith, c.loop-rank.auto.ways, c.in_ok-row.ensures.row) in
+    record {
+      ways = tables.AreWays-set q c.args.seats.now c.loop-rank.ways c.in_ok-row.row c.in_ok-row.way within
+          c.in_ok-row.ensures.new c.in_ok-row.ensures.way c.loop-rank.invariant.ways;
+      ranks = tables.RanksAreBelow-set q c.loop-rank.ways c.in_ok-row.row c.loop-rank.rank c.in_ok-row.way within
+          c.in_ok-row.ensures.rank c.loop-rank.invariant.ranks;
+      count = omega (
+        arith,
+        c.loop-rank.invariant.count,
+        tables.count-set q.rows c.loop-rank.ways c.in_ok-row.row c.in_ok-row.way c.in_ok-row.ensures.row within c.in_ok-row.ensures.new,
+      );
+      none_lacks = tables.none_lacks-set q c.args.seats.now c.loop-rank.ways c.in_ok-row.row c.in_ok-row.way
+          (λ lacks. tables.not-both c.row_lacks.result c.row_lacks.ensures lacks c.if-row_lacks.false) c.loop-rank.invariant.none_lacks;
+    }
+
+pub returns-clause-stuck : goal.returns-clause-stuck
+returns-clause-stuck c = record {
+  all_found = λ d dm none. absurd (tables.each_has_way c.args.question.now.rows c.loop-rank.ways
+      (omega (arith, c.loop-rank.invariant.count, c.loop-rank-test.false, c.loop-rank.auto.rank-end)) d dm none);
+  none_lacks = c.loop-rank.invariant.none_lacks;
+}

@@ -1,0 +1,2 @@
+pub mod Impossible
+pub mod Ways

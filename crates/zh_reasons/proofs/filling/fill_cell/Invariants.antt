@@ -1,6 +1,0 @@
-use Rattle.zh_matrices.specs.Asked.{asked}
-use Rattle.zh_reasons.specs.Ways.{ArePlaced}
-use Rattle.zh_reasons.proofs.filling.fill_cell.Given as goal
-
-abbrev pub invariant-loop-seat : goal.invariant-loop-seat
-invariant-loop-seat l = ArePlaced (asked l.question) l.seats

@@ -1,6 +1,0 @@
-use Rattle.zh_matrices.specs.Asked.{asked}
-use Rattle.zh_reasons.proofs.TurnLemmas.{IsOneMore-given}
-use Rattle.zh_reasons.proofs.turns.give.Goals as goal
-
-pub returns : goal.returns
-returns c = IsOneMore-given (asked c.args.question.now) c.args.seats.now c.args.row c.args.column c.requires.seats c.requires.row c.requires.column

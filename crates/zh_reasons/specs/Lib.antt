@@ -1,5 +1,0 @@
-pub mod Explained
-pub mod Impossible
-pub mod Pairs
-pub mod Rooms
-pub mod Ways
