@@ -233,14 +233,14 @@ static int middle_gives(const struct question *q, struct outcome *o, uint64_t sc
     return is_strict(q, o);
 }
 
+static int gives_within(const struct question *q, struct outcome *o, uint64_t top) {
+    return settle(q, o, top) != OUT && is_strict(q, o) && middle_gives(q, o, top / 1000000);
+}
+
 int second_search(const struct question *q, struct outcome *o) {
     if (!seats_by_paths(q, o->seats))
         return 0;
-    uint64_t top = MOST_OF_COLUMN / 1000;
-    enum move move = settle(q, o, top);
-    if (move == OUT)
-        move = settle(q, o, top = MOST_OF_COLUMN);
-    if (move != STILL || !is_strict(q, o) || !middle_gives(q, o, top / 1000000))
+    if (!gives_within(q, o, MOST_OF_COLUMN / 1000) && !gives_within(q, o, MOST_OF_COLUMN))
         return 0;
     o->answer = FOUND;
     return 1;

@@ -6,7 +6,8 @@ use Rattle.std.proofs.lemmas.Nat.{div_below, le-div}
 use Rattle.std.proofs.Math.Nat.{mul-le-mul_left, mul-le-mul_right, mul-div-le, div-le_self, le_antisymm}
 use Rattle.zh_matrices.specs.Divisors.{millionths}
 use Rattle.zh_matrices.specs.Question.{Question, cell}
-use Rattle.zh_lower.specs.Second.{Enclose, Give, GiveSome, IsAbove, IsBelow, IsGreatest, NoneGive}
+use Rattle.zh_lower.specs.Extremes.{Enclose, Give, IsAbove, IsBelow, NoneGive}
+use Rattle.zh_lower.specs.Second.{IsGreatest}
 use Rattle.zh_matrices.proofs.CallerLemmas.{only_seats, weakened}
 
 -- a cell below its upper half stays so under a larger divisor
@@ -137,16 +138,6 @@ IsGreatest-of q top seats of_rows of_columns enclose give = record {
       let also : Give q top seats some.of_rows others = rw same at some.give in
       (enclose some.of_rows others also).columns g gw;
 }
-
--- divisors that give other seats are none either
-pub none_at_all : (q : Question) (top most : ℕ) (seats of_rows of_columns : List ℕ) → NoneGive q top seats →
-    Give q most seats of_rows of_columns → (columns : List ℕ) → ¬ GiveSome q top columns
-none_at_all q top most seats of_rows of_columns none give columns some =
-    let same : some.seats ≡ seats
-    = only_seats q (millionths of_rows of_columns) (millionths some.of_rows columns) seats some.seats give.strict
-    (weakened q (millionths some.of_rows columns) some.seats some.give.strict) in
-    let also : Give q top seats some.of_rows columns = rw same at some.give in
-    none some.of_rows columns also
 
 -- of two greatest columns each is the other
 pub same_greatest : (q : Question) (top : ℕ) (one other : List ℕ) → IsGreatest q top one → IsGreatest q top other → other ≡ one

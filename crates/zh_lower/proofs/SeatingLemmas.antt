@@ -7,7 +7,7 @@ use Rattle.zh_search.specs.Outcomes.{ComesToTie, IsProper}
 use Rattle.zh_matrices.specs.Question.{IsFirstWithoutVotes, Question}
 use Rattle.zh_matrices.specs.SeatMatrix.{IsStrict, IsWeak, SeatMatrix}
 use Rattle.zh_lower.specs.Seating.{HasFault, LowerOutcome}
-use Rattle.zh_lower.specs.Second.{IsShown}
+use Rattle.zh_lower.specs.Shown.{IsShown}
 use Rattle.zh_lower.specs.declared.fault.LowerFault.{LowerFault}
 use Rattle.zh_lower.specs.declared.fault.LowerFault.TheVariants.{Memory, NoVotes, Tied}
 use Rattle.zh_matrices.proofs.CallerLemmas.{no_seats, only_seats}

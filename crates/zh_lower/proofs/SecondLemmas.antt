@@ -1,13 +1,28 @@
 -- What the second search finds.
-use Rattle.std.proofs.Common.{◌≡◌, ℕ, ◌/◌, ◌^◌, Bool, false, ◌↔◌, IsTrue, List, inl, inr, ap, ◌∙◌}
-use Rattle.zh_matrices.specs.Divisors.{AreWithin, AreWithinLimits, Divisors, millionths}
+use Rattle.std.proofs.Common.{◌≡◌, ℕ, ◌/◌, ◌^◌, Bool, true, false, ◌↔◌, IsTrue, List, length, inl, inr, refl, sym, ap, ◌∙◌}
+use Rattle.std.proofs.lemmas.Bool.{false≢true}
+use Rattle.std.specs.Bool.{OnFalse, OnTrue}
+use Rattle.zh_matrices.specs.Divisors.{AreWithin, Divisors, millionths}
 use Rattle.zh_search.specs.Outcomes.{HasNone}
 use Rattle.zh_matrices.specs.Question.{Question}
-use Rattle.zh_lower.specs.Second.{Enclose, Give, IsMiddle, IsSecond, NoneGive, middle_from, scaled_down}
-use Rattle.zh_lower.specs.SecondEnds.{AreSecond}
+use Rattle.zh_lower.specs.Extremes.{ComeTo, Enclose, Give, NoneGive}
+use Rattle.zh_lower.specs.Second.{IsMiddle, IsSecond, IsSecondWithin, middle_from, scaled_down}
 use Rattle.zh_matrices.specs.SeatMatrix.{IsStrict}
-use Rattle.zh_lower.proofs.ExtremeLemmas.{IsGreatest-of, none_at_all}
+use Rattle.zh_lower.proofs.ExtremeLemmas.{IsGreatest-of}
+use Rattle.zh_lower.proofs.RoundLemmas.{only-columns, only-rows}
 use Rattle.zh_matrices.proofs.CallerLemmas.{only_seats, weakened}
+
+pub on-true : (result : Bool) (claim : Type 0) → (result ≡ true → claim) → OnTrue result claim
+on-true true claim holds = holds refl
+on-true false claim holds = tt
+
+pub on-false : (result : Bool) (claim : Type 0) → (result ≡ false → claim) → OnFalse result claim
+on-false true claim holds = tt
+on-false false claim holds = holds refl
+
+pub follow-false : (result : Bool) (claim other : Type 0) → (claim → other) → OnFalse result claim → OnFalse result other
+follow-false true claim other step given = tt
+follow-false false claim other step given = step given
 
 -- the seats are the only ones
 pub only_strict : (q : Question) (x : Divisors) (seats : List ℕ) → IsStrict q x seats →
@@ -32,26 +47,81 @@ IsMiddle-unscaled q scale greatest seats scaled columns x y result only is scale
     cc in
     inr (also ∙ ap (λ cs. middle_from q cs) same, none)
 
-pub AreSecond-of : (q : Question) (top : ℕ) (seats least greatest of_rows of_columns : List ℕ) →
-    Enclose q top seats least greatest → AreWithin q.rows (10 ^ 18) least → AreWithin q.columns top greatest →
-    IsStrict q (millionths least greatest) seats → IsMiddle q (top / 1000000) greatest (millionths of_rows of_columns) →
-    IsStrict q (millionths of_rows of_columns) seats → AreWithinLimits q of_rows of_columns → AreSecond q top seats of_rows of_columns
-AreSecond-of q top seats least greatest of_rows of_columns enclose rows columns extreme middle strict limits = record {
-  second = record {
-    columns = greatest;
-    greatest = IsGreatest-of q top seats least greatest enclose (record { rows = rows; columns = columns; strict = extreme });
-    middle = middle;
-  };
-  strict = strict;
-  limits = limits;
-}
+-- nor do both, where neither gives the only seats
+pub none-in-middle : (q : Question) (scale : ℕ) (greatest seats scaled columns : List ℕ) (x y : Divisors) (passes also_passes : Bool) →
+    x ≡ middle_from q scaled → scaled ≡ scaled_down scale greatest → (IsTrue passes ↔ IsStrict q x seats) → passes ≡ false →
+    y ≡ middle_from q columns → columns ≡ greatest → (IsTrue also_passes ↔ IsStrict q y seats) → also_passes ≡ false →
+    (z : Divisors) → IsMiddle q scale greatest z → ¬ IsStrict q z seats
+none-in-middle q scale greatest seats scaled columns x y passes also_passes is scaled_is tells fails also same also_tells also_fails z (inl middle) strict =
+    let at : x ≡ z = is ∙ ap (λ cs. middle_from q cs) scaled_is ∙ sym middle.0 in
+    false≢true (sym fails ∙ tells.1 (rw at strict))
+none-in-middle q scale greatest seats scaled columns x y passes also_passes is scaled_is tells fails also same also_tells also_fails z (inr middle) strict =
+    let at : y ≡ z = also ∙ ap (λ cs. middle_from q cs) same ∙ sym middle.0 in
+    false≢true (sym also_fails ∙ also_tells.1 (rw at strict))
 
-pub IsSecond-wide : (q : Question) (seats of_rows of_columns : List ℕ) → NoneGive q (10 ^ 9) seats →
-    AreSecond q (10 ^ 12) seats of_rows of_columns → IsSecond q (millionths of_rows of_columns)
-IsSecond-wide q seats of_rows of_columns none found =
-    let give : Give q (10 ^ 12) seats of_rows of_columns = record {
-      rows = found.limits.rows;
-      columns = found.limits.columns;
-      strict = found.strict;
-    } in
-    inr (none_at_all q (10 ^ 9) (10 ^ 12) seats of_rows of_columns none give, found.second)
+-- the divisors to which the rounds come, with the middle from them
+pub within-of : (q : Question) (top : ℕ) (seats least greatest : List ℕ) (x : Divisors) → Enclose q top seats least greatest →
+    AreWithin q.rows (10 ^ 18) least → AreWithin q.columns top greatest → ComeTo q top seats 1000 (millionths least greatest) →
+    IsStrict q (millionths least greatest) seats → IsMiddle q (top / 1000000) greatest x → IsStrict q x seats → IsSecondWithin q top seats x
+within-of q top seats least greatest x enclose rows columns rounds extreme middle strict =
+    let give : Give q top seats least greatest = record { rows = rows; columns = columns; strict = extreme } in
+    record {
+      rows = least;
+      columns = greatest;
+      rounds = rounds;
+      give = give;
+      greatest = IsGreatest-of q top seats least greatest enclose give;
+      middle = middle;
+      strict = strict;
+    }
+
+same-rows : (q : Question) (top : ℕ) (seats rows columns others other_columns : List ℕ) → length rows ≡ q.rows → length columns ≡ q.columns →
+    ComeTo q top seats 1000 (millionths rows columns) → Give q top seats others other_columns →
+    ComeTo q top seats 1000 (millionths others other_columns) → rows ≡ others
+same-rows q top seats rows columns others other_columns long wide rounds give also =
+    only-rows q top seats 1000 (millionths others other_columns) (millionths rows columns) also rounds give.rows.one_each long
+
+same-columns : (q : Question) (top : ℕ) (seats rows columns others other_columns : List ℕ) → length rows ≡ q.rows → length columns ≡ q.columns →
+    ComeTo q top seats 1000 (millionths rows columns) → Give q top seats others other_columns →
+    ComeTo q top seats 1000 (millionths others other_columns) → columns ≡ other_columns
+same-columns q top seats rows columns others other_columns long wide rounds give also =
+    only-columns q top seats 1000 (millionths others other_columns) (millionths rows columns) also rounds give.columns.one_each wide
+
+-- none are within a top that the rounds leave
+pub none-out : (q : Question) (top : ℕ) (seats : List ℕ) → NoneGive q top seats → (x : Divisors) → ¬ IsSecondWithin q top seats x
+none-out q top seats none x second = none second.rows second.columns second.give
+
+-- nor where those to which the rounds come do not give the seats
+pub none-strict : (q : Question) (top : ℕ) (seats rows columns : List ℕ) → length rows ≡ q.rows → length columns ≡ q.columns →
+    ComeTo q top seats 1000 (millionths rows columns) → ¬ IsStrict q (millionths rows columns) seats →
+    (x : Divisors) → ¬ IsSecondWithin q top seats x
+none-strict q top seats rows columns long wide rounds fails x second =
+    fails (rw (
+      same-rows q top seats rows columns second.rows second.columns long wide rounds second.give second.rounds,
+      same-columns q top seats rows columns second.rows second.columns long wide rounds second.give second.rounds,
+    ) second.give.strict)
+
+-- nor where their middle does not
+pub none-middle : (q : Question) (top : ℕ) (seats rows columns : List ℕ) → length rows ≡ q.rows → length columns ≡ q.columns →
+    ComeTo q top seats 1000 (millionths rows columns) →
+    ((x : Divisors) → IsMiddle q (top / 1000000) columns x → ¬ IsStrict q x seats) →
+    (x : Divisors) → ¬ IsSecondWithin q top seats x
+none-middle q top seats rows columns long wide rounds none x second =
+    none x (rw (same-columns q top seats rows columns second.rows second.columns long wide rounds second.give second.rounds) second.middle)
+    second.strict
+
+-- within either top
+pub narrow : (q : Question) (seats : List ℕ) (x : Divisors) → IsSecondWithin q (10 ^ 9) seats x → IsSecond q x
+narrow q seats x within = (seats, inl within)
+
+pub wide : (q : Question) (seats : List ℕ) (x : Divisors) → ((y : Divisors) → ¬ IsSecondWithin q (10 ^ 9) seats y) →
+    IsSecondWithin q (10 ^ 12) seats x → IsSecond q x
+wide q seats x none within = (seats, inr (none, within))
+
+-- where neither has some for the only seats, there are none
+pub none-second : (q : Question) (seats : List ℕ) → ((y : Divisors) → ¬ IsSecondWithin q (10 ^ 9) seats y) →
+    ((y : Divisors) → ¬ IsSecondWithin q (10 ^ 12) seats y) → (z : Divisors) → IsStrict q z seats → (x : Divisors) → ¬ IsSecond q x
+none-second q seats none also z strict x (others, inl within) =
+    let same : others ≡ seats = only_strict q z seats strict x others within.strict in none x (rw (← same) within)
+none-second q seats none also z strict x (others, inr (before, within)) =
+    let same : others ≡ seats = only_strict q z seats strict x others within.strict in also x (rw (← same) within)

@@ -1,4 +1,5 @@
+pub mod Extremes
 pub mod Seating
 pub mod Second
-pub mod SecondEnds
+pub mod Shown
 pub mod Tables

@@ -4,7 +4,8 @@ use Rattle.zh_matrices.specs.Divisors.{AreWithinLimits, millionths}
 use Rattle.zh_search.specs.Outcomes.{ComesToTie, NoneBefore}
 use Rattle.zh_matrices.specs.Question.{IsFirstWithoutVotes, Question}
 use Rattle.zh_matrices.specs.SeatMatrix.{IsStrict, SeatMatrix}
-use Rattle.zh_lower.specs.Second.{IsShown}
+use Rattle.zh_decided.specs.Boxes.{NoneGiven}
+use Rattle.zh_lower.specs.Shown.{IsShown}
 use Rattle.zh_lower.specs.declared.fault.LowerFault.{LowerFault}
 use Rattle.zh_lower.specs.declared.fault.LowerFault.TheVariants.{Exhausted, Memory, NoVotes, Tied}
 
@@ -15,12 +16,17 @@ pub record IsSeating (q : Question) (lower : SeatMatrix) : Type 0 where
   pub limits : AreWithinLimits q lower.divisors.of_rows lower.divisors.of_columns
   pub shown : IsShown q lower.divisors
 
+-- no state of the first search has seats, and no divisors in millionths are those of the third
+pub record NoneFound (q : Question) : Type 0 where
+  pub none_before : NoneBefore q 2001
+  pub none_given : NoneGiven q
+
 -- what is so where a fault is returned; memory can be refused at any time
 abbrev pub HasFault : Question → LowerFault → Type 0
 HasFault q Memory = Unit {0}
 HasFault q (NoVotes d) = IsFirstWithoutVotes q d
 HasFault q (Tied d g) = ComesToTie q d g
-HasFault q Exhausted = NoneBefore q 2001
+HasFault q Exhausted = NoneFound q
 
 -- seats, or a fault that there is; a row without votes is always reported where memory is not refused
 pub record LowerOutcome (q : Question) (result : Result SeatMatrix LowerFault) : Type 0 where

@@ -1,5 +1,6 @@
 -- The tables of a search.
 use Rattle.std.specs.Prelude.{◌≡◌, ◌*◌, length}
+use Rattle.zh_decided.specs.Rooms.{IsDecisionRoom}
 use Rattle.zh_search.specs.Places.{IsRoom}
 use Rattle.zh_matrices.specs.Question.{Question}
 use Rattle.zh_search.specs.States.{started_columns}
@@ -11,6 +12,7 @@ pub record AreStarted (q : Question) (tables : Tables) : Type 0 where
   pub columns : tables.column_divisors.items ≡ started_columns q
   pub greatest : length tables.greatest.items ≡ q.columns
   pub room : IsRoom q tables.line.items tables.quotients.items tables.seats.items tables.others.items
+  pub decision : IsDecisionRoom q.rows q.columns tables.decision
 
 -- tables of any content
 pub record AreTables (q : Question) (tables : Tables) : Type 0 where
@@ -19,3 +21,4 @@ pub record AreTables (q : Question) (tables : Tables) : Type 0 where
   pub greatest : length tables.greatest.items ≡ q.columns
   pub line : length tables.line.items ≡ q.rows
   pub seats : length tables.seats.items ≡ q.rows * q.columns
+  pub decision : IsDecisionRoom q.rows q.columns tables.decision

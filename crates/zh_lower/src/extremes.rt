@@ -2,10 +2,12 @@
 //!
 //! Rows stand at the least whole numbers, columns at the greatest, and move only as far as a cell makes them. So no
 //! row rises above, and no column falls below, what any divisors within the limits have that give these seats.
+ghost use Rattle.std.specs.Bool.{OnFalse, OnTrue};
 ghost use Rattle.std.specs.Prelude.{◌≡◌, ℕ, ◌+◌, ◌-◌, ◌*◌, ◌^◌, ◌<◌, ◌≤◌, All, length};
 ghost use Rattle.zh_matrices.specs.Asked.{asked};
-ghost use Rattle.zh_matrices.specs.Divisors.{AreWithin};
-ghost use Rattle.zh_lower.specs.Second.{Enclose, IfOut, IsAbove, IsBelow, NoneGive};
+ghost use Rattle.zh_matrices.specs.Divisors.{AreWithin, millionths};
+ghost use Rattle.zh_lower.specs.Extremes as words;
+ghost use Rattle.zh_lower.specs.Extremes.{ComeTo, Enclose, IfIn, IfOut, IfStill, IsAbove, IsBelow, NoneGive};
 
 use zh_matrices::Question;
 
@@ -122,6 +124,7 @@ fn raise_rows(
     requires seats { length seats.now ≡ question.now.rows * question.now.columns }
     requires few { All (λ s. s ≤ 400) seats.now }
     ensures rows { AreWithin question.now.rows (10 ^ 18) of_rows.new }
+    ensures least { IfIn result (words.AreLeastRows (asked question.now) seats.now of_columns.now of_rows.old of_rows.new) }
     ensures enclose { (top : ℕ) → Enclose (asked question.now) top seats.now of_rows.old of_columns.now →
         Enclose (asked question.now) top seats.now of_rows.new of_columns.now }
     ensures out { IfOut result ((top : ℕ) → Enclose (asked question.now) top seats.now of_rows.old of_columns.now →
@@ -152,6 +155,9 @@ fn lower_columns(
     requires seats { length seats.now ≡ question.now.rows * question.now.columns }
     requires few { All (λ s. s ≤ 400) seats.now }
     ensures columns { AreWithin question.now.columns top of_columns.new }
+    ensures greatest { IfIn result
+        (words.AreGreatestColumns (asked question.now) seats.now of_rows.now of_columns.old of_columns.new) }
+    ensures still { IfStill result (of_columns.new ≡ of_columns.old) }
     ensures enclose { Enclose (asked question.now) top seats.now of_rows.now of_columns.old →
         Enclose (asked question.now) top seats.now of_rows.now of_columns.new }
     ensures out { IfOut result (Enclose (asked question.now) top seats.now of_rows.now of_columns.old →
@@ -169,15 +175,14 @@ fn lower_columns(
     if moved { Move::Moved } else { Move::Still }
 }
 
-/// Takes rows at 1 and columns at the top, and moves them until nothing moves: what then stands still is least and
-/// greatest.
+/// Takes rows at 1 and columns at the top, and moves them for 1,000 rounds, or until nothing moves; unless one leaves its limits.
 pub(crate) fn settle(
     question: &Question<'_>,
     seats: &[u32],
     top: u64,
     of_rows: &mut [u64],
     of_columns: &mut [u64],
-) -> Move
+) -> bool
     requires from_1 { 1 ≤ top }
     requires at_most { top ≤ 10 ^ 12 }
     requires rows { length of_rows.old ≡ question.now.rows }
@@ -187,19 +192,20 @@ pub(crate) fn settle(
     ensures rows { AreWithin question.now.rows (10 ^ 18) of_rows.new }
     ensures columns { AreWithin question.now.columns top of_columns.new }
     ensures enclose { Enclose (asked question.now) top seats.now of_rows.new of_columns.new }
-    ensures out { IfOut result (NoneGive (asked question.now) top seats.now) }
+    ensures rounds { OnTrue result (ComeTo (asked question.now) top seats.now 1000 (millionths of_rows.new of_columns.new)) }
+    ensures out { OnFalse result (NoneGive (asked question.now) top seats.now) }
 {
     of_rows.fill(1);
     of_columns.fill(top);
     for _round in 0..ROUNDS {
         if let Move::Out = raise_rows(question, seats, of_columns, of_rows) {
-            return Move::Out;
+            return false;
         }
         match lower_columns(question, seats, of_rows, of_columns, top) {
             Move::Moved => {}
-            Move::Still => return Move::Still,
-            Move::Out => return Move::Out,
+            Move::Still => return true,
+            Move::Out => return false,
         }
     }
-    Move::Moved
+    true
 }

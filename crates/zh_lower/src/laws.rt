@@ -2,7 +2,7 @@
 ghost use Rattle.std.specs.Prelude.{◌≡◌, ◌≢◌, ℕ, List};
 ghost use Rattle.zh_matrices.specs.Divisors.{Divisors};
 ghost use Rattle.zh_matrices.specs.Question.{Question};
-ghost use Rattle.zh_lower.specs.Second.{IsShown};
+ghost use Rattle.zh_lower.specs.Shown.{IsShown};
 ghost use Rattle.zh_matrices.specs.SeatMatrix.{IsStrict, IsWeak, SeatMatrix};
 
 /// Where some divisors give seats with no quotient on a half, these are the seats under all divisors, of

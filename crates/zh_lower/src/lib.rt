@@ -20,4 +20,5 @@ mod middle;
 mod outcome;
 mod second;
 mod tables;
+mod third;
 mod votes;

@@ -12,6 +12,7 @@ use crate::fault::LowerFault;
 use crate::lower::Lower;
 use crate::second::second_search;
 use crate::tables::Tables;
+use crate::third::third_search;
 use crate::votes::first_without_votes;
 use std::alloc::Global;
 use zh_matrices::{Matrix, Question};
@@ -31,7 +32,29 @@ fn lower_of(tables: Tables) -> Lower
     Lower::new(seats, row_divisors, column_divisors)
 }
 
-/// Seats with divisors by the second search, where the first is exhausted.
+/// Seats with divisors by the third search, where the first two are exhausted.
+fn third_seats_on(mut tables: Tables, question: &Question<'_>) -> Result<Lower, LowerFault>
+    requires proper { IsProper (asked question.now) }
+    requires tables { AreTables (asked question.now) tables }
+    requires none { NoneBefore (asked question.now) 2001 }
+    ensures { LowerOutcome (asked question.now) result }
+{
+    let found = third_search(
+        question,
+        &mut tables.decision,
+        &mut tables.seats,
+        &mut tables.row_divisors,
+        &mut tables.column_divisors,
+        &mut tables.greatest,
+        &mut tables.line,
+    );
+    if found {
+        return Ok(lower_of(tables));
+    }
+    Err(LowerFault::Exhausted)
+}
+
+/// Seats with divisors by the second search, where the first is exhausted, or else by the third.
 fn second_seats_on(mut tables: Tables, question: &Question<'_>) -> Result<Lower, LowerFault>
     requires proper { IsProper (asked question.now) }
     requires tables { AreTables (asked question.now) tables }
@@ -50,10 +73,10 @@ fn second_seats_on(mut tables: Tables, question: &Question<'_>) -> Result<Lower,
     if found {
         return Ok(lower_of(tables));
     }
-    Err(LowerFault::Exhausted)
+    third_seats_on(tables, question)
 }
 
-/// Seats with divisors, by the first search on these tables, and by the second where that is exhausted.
+/// Seats with divisors, by the first search on these tables, and by the others where that is exhausted.
 fn seats_on(mut tables: Tables, question: &Question<'_>) -> Result<Lower, LowerFault>
     requires proper { IsProper (asked question.now) }
     requires started { AreStarted (asked question.now) tables }
@@ -75,7 +98,7 @@ fn seats_on(mut tables: Tables, question: &Question<'_>) -> Result<Lower, LowerF
     }
 }
 
-/// Seats with divisors, by the two searches. All memory is taken at their start.
+/// Seats with divisors, by the searches. All memory is taken at their start.
 fn seats_by_search(alloc: Global, question: &Question<'_>) -> Result<Lower, LowerFault>
     requires { IsProper (asked question.now) }
     ensures { LowerOutcome (asked question.now) result }
@@ -89,8 +112,8 @@ fn seats_by_search(alloc: Global, question: &Question<'_>) -> Result<Lower, Lowe
 /// The votes of each cell over its two divisors round to its seats, none on a half, and all totals are met.
 /// No other seats follow from any divisors, of any scale, and the divisors are those of the first state of the
 /// search (docs/DEFINITIONS.md) that gives seats; where none does, they lie in the middle of those that give them.
-/// `Tied` is returned if a state gives two different matrices, `Exhausted` if no state gives seats and the second
-/// search has none either, and `Memory` can come in place of every answer but `NoVotes`.
+/// `Tied` is returned if a state gives two different matrices, `Exhausted` if no state gives seats and the other two
+/// searches have none either, and `Memory` can come in place of every answer but `NoVotes`.
 pub fn find(
     alloc: Global,
     matrix: &Matrix,

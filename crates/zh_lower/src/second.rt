@@ -1,13 +1,13 @@
 //! The second search: for seats that are found elsewhere, divisors in the middle of those that give them.
-ghost use Rattle.std.specs.Prelude.{◌≡◌, ℕ, ◌*◌, ◌^◌, ◌≤◌, ◌↔◌, All, IsTrue, List, length};
+ghost use Rattle.std.specs.Bool.{OnFalse, OnTrue};
+ghost use Rattle.std.specs.Prelude.{◌≡◌, ℕ, ◌*◌, ◌/◌, ◌^◌, ◌≤◌, ◌↔◌, All, IsTrue, List, length};
 ghost use Rattle.zh_matrices.specs.Asked.{asked};
 ghost use Rattle.zh_matrices.specs.Divisors.{AreWithin, AreWithinLimits, Divisors, millionths};
 ghost use Rattle.zh_search.specs.Outcomes.{IsProper};
-ghost use Rattle.zh_lower.specs.Second.{IsMiddle, IsSecond, middle_from};
-ghost use Rattle.zh_lower.specs.SecondEnds.{EndsWithin};
+ghost use Rattle.zh_lower.specs.Second.{IsMiddle, IsSecond, IsSecondWithin, middle_from};
 ghost use Rattle.zh_matrices.specs.SeatMatrix.{IsStrict};
 
-use crate::extremes::{Move, settle};
+use crate::extremes::settle;
 use crate::middle::{middle, scale_down};
 use zh_matrices::{Question, Rounding, follows};
 use zh_seat_paths::{Logarithms, seats_by_paths};
@@ -15,15 +15,6 @@ use zh_seat_paths::{Logarithms, seats_by_paths};
 const NARROW: u64 = 1_000_000_000;
 
 const WIDE: u64 = 1_000_000_000_000;
-
-/// What becomes of the search for divisors whose columns are within a top.
-#[derive(Clone, Copy)]
-pub(crate) enum Within {
-    Found,
-    /// None within the top give the seats.
-    Nowhere,
-    Unknown,
-}
 
 /// Whether the middle from these columns gives the seats.
 fn middle_gives(
@@ -48,7 +39,7 @@ fn middle_gives(
 }
 
 /// Whether the middle from the greatest columns gives the only seats: at a smaller scale, or else from themselves.
-fn gives_from(
+pub(crate) fn gives_from(
     question: &Question<'_>,
     seats: &[u32],
     greatest: &[u64],
@@ -68,6 +59,8 @@ fn gives_from(
     requires only { (x : Divisors) (others : List ℕ) → IsStrict (asked question.now) x others → others ≡ seats.now }
     ensures middle { IsTrue result → IsMiddle (asked question.now) scale greatest.now (millionths of_rows.new of_columns.new) }
     ensures strict { IsTrue result → IsStrict (asked question.now) (millionths of_rows.new of_columns.new) seats.now }
+    ensures none { OnFalse result ((x : Divisors) → IsMiddle (asked question.now) scale greatest.now x →
+        ¬ IsStrict (asked question.now) x seats.now) }
     ensures limits { AreWithinLimits (asked question.now) of_rows.new of_columns.new }
 {
     scale_down(greatest, scale, of_columns);
@@ -78,7 +71,7 @@ fn gives_from(
     middle_gives(question, seats, of_rows, of_columns, votes)
 }
 
-/// The search for divisors that give these seats, with columns within a top. `greatest` takes the greatest columns.
+/// Whether there are divisors that give these seats, with columns within a top. `greatest` takes the greatest columns.
 fn find_within(
     question: &Question<'_>,
     seats: &[u32],
@@ -87,7 +80,7 @@ fn find_within(
     of_columns: &mut [u64],
     greatest: &mut [u64],
     votes: &mut [u64],
-) -> Within
+) -> bool
     requires proper { IsProper (asked question.now) }
     requires from { 1000000 ≤ top }
     requires at_most { top ≤ 10 ^ 12 }
@@ -97,26 +90,22 @@ fn find_within(
     requires columns { length of_columns.old ≡ question.now.columns }
     requires greatest { length greatest.old ≡ question.now.columns }
     requires votes { length votes.old ≡ question.now.rows }
-    ensures { EndsWithin (asked question.now) top seats.now of_rows.new of_columns.new result }
+    ensures second { OnTrue result (IsSecondWithin (asked question.now) top seats.now (millionths of_rows.new of_columns.new)) }
+    ensures limits { IsTrue result → AreWithinLimits (asked question.now) of_rows.new of_columns.new }
+    ensures none { OnFalse result ((x : Divisors) → ¬ IsSecondWithin (asked question.now) top seats.now x) }
 {
-    match settle(question, seats, top, of_rows, greatest) {
-        Move::Out => return Within::Nowhere,
-        Move::Moved => return Within::Unknown,
-        Move::Still => {}
+    if !settle(question, seats, top, of_rows, greatest) {
+        return false;
     }
     if !follows(Rounding::Strict, question, of_rows, greatest, seats) {
-        return Within::Unknown;
+        return false;
     }
     let scale = top / 1_000_000;
-    if gives_from(question, seats, greatest, scale, of_rows, of_columns, votes) {
-        return Within::Found;
-    }
-    Within::Unknown
+    gives_from(question, seats, greatest, scale, of_rows, of_columns, votes)
 }
 
-/// Whether there are divisors that give these seats, with columns within 1000, or within 1000000 only where no
-/// columns within 1000 do.
-fn find_divisors(
+/// Whether there are divisors that give these seats, with columns within 1000, or else within 1000000.
+pub(crate) fn find_divisors(
     question: &Question<'_>,
     seats: &[u32],
     of_rows: &mut [u64],
@@ -134,19 +123,12 @@ fn find_divisors(
     ensures second { IsTrue result → IsSecond (asked question.now) (millionths of_rows.new of_columns.new) }
     ensures strict { IsTrue result → IsStrict (asked question.now) (millionths of_rows.new of_columns.new) seats.now }
     ensures limits { IsTrue result → AreWithinLimits (asked question.now) of_rows.new of_columns.new }
+    ensures none { OnFalse result ((x : Divisors) → IsStrict (asked question.now) x seats.now →
+        (other : Divisors) → ¬ IsSecond (asked question.now) other) }
 {
-    match find_within(
+    find_within(
         question, seats, NARROW, of_rows, of_columns, greatest, votes,
-    ) {
-        Within::Found => true,
-        Within::Unknown => false,
-        Within::Nowhere => match find_within(
-            question, seats, WIDE, of_rows, of_columns, greatest, votes,
-        ) {
-            Within::Found => true,
-            _ => false,
-        },
-    }
+    ) || find_within(question, seats, WIDE, of_rows, of_columns, greatest, votes)
 }
 
 /// Whether there are at most 400 seats in each cell.

@@ -1,11 +1,12 @@
-//! The tables of both searches.
+//! The tables of the searches.
 
 use std::alloc::{AllocError, Global};
+use zh_decided::DecisionRoom;
 use zh_matrices::Question;
 use zh_search::Quotient;
 use zh_seat_paths::Logarithms;
 
-/// The divisors of a search, with the seats that they give. The memory of both is taken before the first begins.
+/// The divisors of a search, with the seats that they give. The memory of all is taken before the first begins.
 #[derive(Drop)]
 pub(crate) struct Tables {
     pub row_divisors: Vec<u64>,
@@ -20,6 +21,7 @@ pub(crate) struct Tables {
     /// The greatest columns that give some seats.
     pub greatest: Vec<u64>,
     pub logarithms: Logarithms,
+    pub decision: DecisionRoom,
 }
 
 impl Tables {
@@ -41,6 +43,7 @@ impl Tables {
             others: vec![in alloc; 0; cells]?,
             greatest: vec![in alloc; 0; question.columns]?,
             logarithms: Logarithms::new(alloc, cells)?,
+            decision: DecisionRoom::new(alloc, question.rows, question.columns)?,
         })
     }
 }

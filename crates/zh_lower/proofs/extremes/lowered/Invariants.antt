@@ -1,7 +1,7 @@
 use Rattle.std.proofs.Common.{ℕ, ◌-◌, ◌*◌, ◌^◌, ◌<◌, ◌≤◌, get_or}
 use Rattle.zh_matrices.specs.Asked.{asked}
 use Rattle.zh_matrices.specs.Question.{cell}
-use Rattle.zh_lower.specs.Second.{IsAbove}
+use Rattle.zh_lower.specs.Extremes.{IsAbove}
 use Rattle.zh_lower.proofs.extremes.lowered.Given as goal
 
 abbrev pub invariant-loop-row : goal.invariant-loop-row

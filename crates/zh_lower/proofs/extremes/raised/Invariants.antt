@@ -1,7 +1,7 @@
 use Rattle.std.proofs.Common.{ℕ, ◌+◌, ◌*◌, ◌^◌, ◌<◌, ◌≤◌, get_or}
 use Rattle.zh_matrices.specs.Asked.{asked}
 use Rattle.zh_matrices.specs.Question.{cell}
-use Rattle.zh_lower.specs.Second.{IsBelow}
+use Rattle.zh_lower.specs.Extremes.{IsBelow}
 use Rattle.zh_lower.proofs.extremes.raised.Given as goal
 
 abbrev pub invariant-loop-column : goal.invariant-loop-column

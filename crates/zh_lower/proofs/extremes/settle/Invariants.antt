@@ -1,7 +1,7 @@
 use Rattle.std.proofs.Common.{◌^◌}
 use Rattle.zh_matrices.specs.Asked.{asked}
-use Rattle.zh_matrices.specs.Divisors.{AreWithin}
-use Rattle.zh_lower.specs.Second.{Enclose}
+use Rattle.zh_matrices.specs.Divisors.{AreWithin, millionths}
+use Rattle.zh_lower.specs.Extremes.{ComeTo, Enclose}
 use Rattle.zh_lower.proofs.extremes.settle.Given as goal
 
 abbrev pub invariant-loop-round : goal.invariant-loop-round
@@ -9,4 +9,5 @@ invariant-loop-round l = record {
   rows : AreWithin l.question.rows (10 ^ 18) l.of_rows;
   columns : AreWithin l.question.columns l.top l.of_columns;
   enclose : Enclose (asked l.question) l.top l.seats l.of_rows l.of_columns;
+  rounds : ComeTo (asked l.question) l.top l.seats l._round (millionths l.of_rows l.of_columns);
 }

@@ -1,7 +1,8 @@
 use Rattle.zh_matrices.specs.Asked.{asked}
-use Rattle.zh_lower.proofs.SecondLemmas.{IsSecond-wide}
+use Rattle.zh_lower.proofs.SecondLemmas.{follow-false, none-second}
 use Rattle.zh_lower.proofs.second.find_divisors.Goals as goal
 
-pub returns-in-Found-find_within-clause-second : goal.returns-in-Found-find_within-clause-second
-returns-in-Found-find_within-clause-second c = λ _.
-    IsSecond-wide (asked c.args.question.now) c.args.seats.now _ _ c.in-Nowhere.ensures c.in-Found-find_within.ensures
+pub returns-else-find_within-clause-none : goal.returns-else-find_within-clause-none
+returns-else-find_within-clause-none c = follow-false c.find_within-else-find_within.result _ _
+    (λ wide x strict. none-second (asked c.args.question.now) c.args.seats.now c.if-find_within.ensures.none wide x strict)
+    c.find_within-else-find_within.ensures.none

@@ -1,7 +1,8 @@
-use Rattle.std.proofs.Common.{◌≡◌, Bool, true, false, not, rules, arith, refl}
+use Rattle.std.proofs.Common.{◌≡◌, Bool, true, false, not, rules, arith, refl, sym, ◌∙◌}
+use Rattle.std.proofs.lemmas.Bool.{false≢true}
 use Rattle.zh_matrices.specs.Asked.{asked}
 use Rattle.zh_matrices.specs.Divisors.{millionths}
-use Rattle.zh_lower.proofs.SecondLemmas.{AreSecond-of, only_strict}
+use Rattle.zh_lower.proofs.SecondLemmas.{follow-false, none-middle, none-strict, on-true, only_strict, within-of}
 use Rattle.zh_lower.proofs.second.find_within.Goals as goal
 
 not_false : (b : Bool) → not b ≡ false → b ≡ true
@@ -13,10 +14,24 @@ gives_from-requires-clause-only c =
     let passed : c.follows.result ≡ true = first_of (search (rules, not_false), grind arith, cc) in
     only_strict (asked c.args.question.now) (millionths c.settle.new.of_rows c.settle.new.of_columns) c.args.seats.now (c.follows.ensures.0 passed)
 
-pub returns-then-gives_from : goal.returns-then-gives_from
-returns-then-gives_from c =
+pub returns-then-not-settle-clause-none : goal.returns-then-not-settle-clause-none
+returns-then-not-settle-clause-none c = λ x second. c.if-not-settle.ensures.out second.rows second.columns second.give
+
+pub returns-then-not-follows-clause-none : goal.returns-then-not-follows-clause-none
+returns-then-not-follows-clause-none c =
+    none-strict (asked c.args.question.now) c.args.top c.args.seats.now c.settle.new.of_rows c.settle.new.of_columns c.settle.ensures.rows.one_each
+    c.settle.ensures.columns.one_each c.if-not-settle.ensures.rounds (λ strict. false≢true (sym c.if-not-follows.true ∙ c.follows.ensures.1 strict))
+
+pub returns-clause-second : goal.returns-clause-second
+returns-clause-second c =
     let passed : c.follows.result ≡ true = first_of (search (rules, not_false), grind arith, cc) in
-    AreSecond-of (asked c.args.question.now) c.args.top c.args.seats.now c.settle.new.of_rows c.settle.new.of_columns
-    c.gives_from.new.of_rows c.gives_from.new.of_columns c.settle.ensures.enclose c.settle.ensures.rows c.settle.ensures.columns
-    (c.follows.ensures.0 passed) (c.gives_from.ensures.middle c.if-gives_from.true) (c.gives_from.ensures.strict c.if-gives_from.true)
-    c.gives_from.ensures.limits
+    on-true c.gives_from.result _ (λ gives.
+    within-of (asked c.args.question.now) c.args.top c.args.seats.now c.settle.new.of_rows c.settle.new.of_columns
+    (millionths c.gives_from.new.of_rows c.gives_from.new.of_columns) c.settle.ensures.enclose c.settle.ensures.rows c.settle.ensures.columns
+    c.if-not-settle.ensures.rounds (c.follows.ensures.0 passed) (c.gives_from.ensures.middle gives) (c.gives_from.ensures.strict gives))
+
+pub returns-clause-none : goal.returns-clause-none
+returns-clause-none c = follow-false c.gives_from.result _ _
+    (none-middle (asked c.args.question.now) c.args.top c.args.seats.now c.settle.new.of_rows c.settle.new.of_columns c.settle.ensures.rows.one_each
+    c.settle.ensures.columns.one_each c.if-not-settle.ensures.rounds)
+    c.gives_from.ensures.none

@@ -9,4 +9,5 @@ returns c = record {
   columns = c.in_ok-vec-2.ensures.items_if_clones_equal (λ y e. e) ∙ started-replicate (asked c.args.question.now);
   greatest = search rules;
   room = search rules;
+  decision = search rules;
 }
