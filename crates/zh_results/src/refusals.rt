@@ -2,15 +2,16 @@
 
 ghost use Rattle.std.specs.Prelude.{◌≡◌, ◌≤◌, ◌++◌, ◌∷◌, [], IfOk, OnOk, codes, decimal, length};
 ghost use Rattle.zh_tables.specs.Tables.{each_to};
-ghost use Rattle.zh_results.specs.Texts.{number_if_among, reason_text, refusal_line, refusal_text};
+ghost use Rattle.zh_results.specs.Texts.{number_if_among, only_seats_text, reason_text, refusal_line, refusal_text};
+ghost use Rattle.zh_results.specs.Texts.{seats_line, seats_line_of};
 
 use crate::outcome::NoSeats;
 use itoa::Buffer;
 use std::alloc::{AllocError, Global};
 use zh_commands::{Refusal, Reply, write_reply};
 use zh_districts::Setup;
-use zh_reasons::MarkedRows;
-use zh_sheet::ExhaustedReason;
+use zh_possible::MarkedRows;
+use zh_sheet::{ExhaustedReason, ListSeats};
 
 /// Puts these bytes at the end.
 fn push_bytes(out: &mut Vec<u8>, bytes: &[u8]) -> Result<(), AllocError>
@@ -75,6 +76,53 @@ fn push_near_tie(out: &mut Vec<u8>, constituency: u32, group: u32) -> Result<(),
     push_number(out, group)
 }
 
+/// Puts a line with three numbers at the end, beginning with the end of the line before.
+fn push_line(out: &mut Vec<u8>, constituency: u32, group: u32, seats: u32) -> Result<(), AllocError>
+    ensures { OnOk result (out.new.items
+        ≡ out.old.items ++ (10 ∷ decimal constituency ++ 32 ∷ decimal group ++ 32 ∷ decimal seats)) }
+{
+    out.push(b'\n')?;
+    out.extend_from_slice(Buffer::new().format(constituency).as_bytes())?;
+    push_number(out, group)?;
+    push_number(out, seats)
+}
+
+/// Puts the line of a list at the end, if it has seats.
+fn push_list(out: &mut Vec<u8>, constituency: u32, group: u32, seats: u32) -> Result<(), AllocError>
+    ensures { OnOk result (out.new.items ≡ out.old.items ++ seats_line constituency group seats) }
+{
+    if seats > 0 {
+        push_line(out, constituency, group, seats)
+    } else {
+        Ok(())
+    }
+}
+
+/// Puts the lines of a constituency at the end.
+fn push_lists(out: &mut Vec<u8>, lists: &ListSeats, constituency: u32) -> Result<(), AllocError>
+    requires from_one { 1 ≤ constituency }
+    requires there { constituency ≤ lists.now.constituencies }
+    ensures { OnOk result (out.new.items ≡ out.old.items ++ each_to (length lists.now.groups) (seats_line_of lists.now constituency)) }
+{
+    let groups = lists.groups();
+    for place in 0..groups.len() {
+        let seats = lists.seats(constituency, place as u32 + 1);
+        push_list(out, constituency, groups[place], seats)?;
+    }
+    Ok(())
+}
+
+/// Puts the only seats at the end.
+fn push_only_seats(out: &mut Vec<u8>, lists: &ListSeats) -> Result<(), AllocError>
+    ensures { OnOk result (out.new.items ≡ out.old.items ++ only_seats_text lists.now) }
+{
+    push_bytes(out, b": no sheet, but these are the only seats")?;
+    for place in 0..lists.constituencies() {
+        push_lists(out, lists, place + 1)?;
+    }
+    Ok(())
+}
+
 /// Puts a reason at the end.
 fn push_reason(out: &mut Vec<u8>, setup: &Setup, reason: &ExhaustedReason) -> Result<(), AllocError>
     ensures { OnOk result (out.new.items ≡ out.old.items ++ reason_text setup.now reason.now) }
@@ -87,7 +135,14 @@ fn push_reason(out: &mut Vec<u8>, setup: &Setup, reason: &ExhaustedReason) -> Re
         ExhaustedReason::NearlyTied(constituency, group) => {
             push_near_tie(out, *constituency, *group)
         }
-        ExhaustedReason::Undecided(_) => push_bytes(out, b"undecided"),
+        ExhaustedReason::Beyond(lists) => {
+            push_bytes(out, b"beyond")?;
+            push_only_seats(out, lists)
+        }
+        ExhaustedReason::Missed(lists) => {
+            push_bytes(out, b"missed")?;
+            push_only_seats(out, lists)
+        }
     }
 }
 

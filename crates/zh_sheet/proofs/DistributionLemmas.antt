@@ -187,7 +187,7 @@ lower_refused t a before (lower_faults.Tied d column) found =
 lower_refused t a before lower_faults.Exhausted found =
     let rows = none_of_rows t a before (λ c first. elim (found.no_votes c first) [ inl e ↦ absurd (cc) | inr e ↦ absurd (cc) ]) in
     refused_answer t faults.Exhausted (omega arith)
-    (record { holds = record { targets = a; none = found.fault }; first = rows })
+    (record { holds = record { targets = a; none = found.fault.none_before; none_given = found.fault.none_given }; first = rows })
     (λ d g e. absurd (cc))
 
 -- the seats of the lists are there

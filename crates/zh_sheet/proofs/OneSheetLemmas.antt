@@ -5,7 +5,7 @@ use Rattle.zh_districts.specs.Seats.{persons}
 use Rattle.zh_divisors.specs.Shares.{Apportionment, HasDivisor}
 use Rattle.zh_divisors.specs.Worth.{IsLeastLast, IsMostNext}
 use Rattle.zh_lower.proofs.CallerLemmas.{only_shown}
-use Rattle.zh_lower.specs.Second.{IsShown}
+use Rattle.zh_lower.specs.Shown.{IsShown}
 use Rattle.zh_upper.specs.UpperSeats.{of_participants, shares_of_participants}
 use Rattle.zh_sheet.specs.Distribution.{Distribution, IsDistribution, Targets, lower_question, question_of}
 use Rattle.zh_sheet.proofs.SheetLemmas.{targets}

@@ -1,19 +1,19 @@
 -- Why an exhausted search found no seats, in the numbers of the set-up.
-use Rattle.std.proofs.Common.{◌≡◌, ℕ, ◌-◌, ◌≤◌, Bool, List, Err, Ok, inl, inr, refl, sym, subst, slice_index, arith}
+use Rattle.std.proofs.Common.{◌≡◌, ℕ, ◌≤◌, Bool, List, Err, Ok, inl, inr, refl, sym, subst, arith}
 use Rattle.std.proofs.lemmas.Bool.{cases_lt}
-use Rattle.zh_matrices.specs.Fitting.{FitsVotes}
+use Rattle.zh_matrices.specs.NearlyTied.{IsClear}
 use Rattle.zh_matrices.specs.Question.{Question}
-use Rattle.zh_matrices.specs.SeatMatrix.{IsStrict}
-use Rattle.zh_matrices.proofs.CallerLemmas.{weakened}
-use Rattle.zh_reasons.specs.Impossible.{HasTooFewSeats}
-use Rattle.zh_reasons.specs.Pairs.{IsNearTie}
-use Rattle.zh_reasons.specs.declared.pair.Pair.{Pair}
-use Rattle.zh_reasons.specs.declared.room.Room.{Room}
-use Rattle.zh_reasons.proofs.CallerLemmas.{no_divisors}
+use Rattle.zh_matrices.specs.SeatMatrix.{IsWeak}
+use Rattle.zh_matrices.proofs.CallerLemmas.{only_seats}
+use Rattle.zh_possible.specs.Impossible.{HasTooFewSeats}
+use Rattle.zh_possible.proofs.CallerLemmas.{no_divisors}
+use Rattle.zh_decided.specs.Boxes.{NoneInRange}
+use Rattle.zh_decided.proofs.CallerLemmas.{no_clear}
 use Rattle.zh_totals.specs.Totals.{VoteTotals}
-use Rattle.zh_sheet.specs.Distribution.{Distribution, Targets, lower_question, seated_groups}
-use Rattle.zh_sheet.specs.Reasons.{AreUndecided, IsExplained, IsReason}
-use Rattle.zh_sheet.specs.Refusals.{HasNoMatrix, IsAnswer, IsFirstCase, place_in_order}
+use Rattle.zh_sheet.specs.Distribution.{Distribution, Targets, seated_groups}
+use Rattle.zh_sheet.specs.ListSeats.{SeatsOfLists}
+use Rattle.zh_sheet.specs.Reasons.{AreOnlySeats, AreSeatsAmong, AreShowable, IsExplained, IsReason, IsReasonAmong, IsTieAmong, NoneMissed, asked_below}
+use Rattle.zh_sheet.specs.Refusals.{IsAnswer, IsFirstCase, place_in_order}
 use Rattle.zh_sheet.specs.declared.fault.SheetFault.{SheetFault}
 use Rattle.zh_sheet.specs.declared.fault.SheetFault.TheVariants as faults
 use Rattle.zh_sheet.specs.declared.reason.ExhaustedReason.{ExhaustedReason}
@@ -44,39 +44,70 @@ refused_above t fault is above =
       reason = tt;
       refused = record { first = first; above = above };
       exhausted = memory_alone t fault first above;
+      none_missed = λ exhausted. tt;
     }
 
 pub no_memory : (t : VoteTotals) → IsExplained t (Err faults.Memory)
 no_memory t = refused_above t faults.Memory (memory_answer t) (omega arith)
 
+-- where the search is exhausted, no divisors in millionths give seats as a decision does
+none_missed : (t : VoteTotals) (reason : ExhaustedReason) → IsReason t reason → IsFirstCase t faults.Exhausted → NoneMissed reason
+none_missed t (reasons.Impossible rows) is exhausted = tt
+none_missed t (reasons.NearlyTied d g) is exhausted = tt
+none_missed t (reasons.Beyond x) is exhausted = tt
+none_missed t (reasons.Missed x) is exhausted =
+    let give : AreShowable (asked_below t exhausted.holds.targets) x.seats = is.showable exhausted.holds.targets in
+    exhausted.holds.none_given give.0 give.1 x.seats give.2
+
 -- a reason
 pub explained : (t : VoteTotals) (reason : ExhaustedReason) → IsReason t reason → IsExplained t (Ok reason)
-explained t reason is = record { reason = is; refused = tt; exhausted = λ exhausted. tt }
-
--- too few seats for one question are too few for each that these totals ask
-none_follow : (t : VoteTotals) (a others : Targets t) (rows : List Bool) → HasTooFewSeats (lower_question t a.seats a.upper) rows → HasNoMatrix t others
-none_follow t a others rows few divisors seats strict =
-    let here : IsStrict (lower_question t a.seats a.upper) divisors seats = subst (λ (q : Question). IsStrict q divisors seats) (same_question t a others) strict in
-    no_divisors (lower_question t a.seats a.upper) rows few divisors seats (weakened (lower_question t a.seats a.upper) divisors seats here)
-
-pub impossible : (t : VoteTotals) (a : Targets t) (rows : List Bool) → HasTooFewSeats (lower_question t a.seats a.upper) rows →
-    IsReason t (reasons.Impossible rows)
-impossible t a rows few = record { targets = a; too_few = few; none = λ others. none_follow t a others rows few }
-
-pub nearly_tied : (t : VoteTotals) (a : Targets t) (pair : Pair) (seats : List ℕ) (d column g : ℕ) →
-    FitsVotes (lower_question t a.seats a.upper) seats → IsNearTie (lower_question t a.seats a.upper) pair d column →
-    g ≡ slice_index (seated_groups a.upper) (column - 1) → IsReason t (reasons.NearlyTied d g)
-nearly_tied t a pair seats d column g fits tie is = record {
-  targets = a;
-  possible = (seats, fits);
-  column = column;
-  column_from_one = tie.tied.first.column_from_1;
-  column_there = tie.tied.first.column;
-  of_group = sym is;
-  pair = pair;
-  tied = tie;
+explained t reason is = record {
+  reason = is;
+  refused = tt;
+  exhausted = λ exhausted. tt;
+  none_missed = none_missed t reason is;
 }
 
-pub undecided : (t : VoteTotals) (a : Targets t) (room : Room) → FitsVotes (lower_question t a.seats a.upper) room.placed.items
-    → ((d g : ℕ) → ¬ IsNearTie (lower_question t a.seats a.upper) room.pair d g) → AreUndecided t room
-undecided t a room fits clear = record { targets = a; possible = fits; clear = clear }
+-- too few seats for one question are too few for each that these totals ask
+impossible : (t : VoteTotals) (a : Targets t) (rows : List Bool) → HasTooFewSeats (asked_below t a) rows → IsReason t (reasons.Impossible rows)
+impossible t a rows few = record {
+  targets = a;
+  too_few = few;
+  none = λ others divisors seats weak.
+      no_divisors (asked_below t a) rows few divisors seats
+      (subst (λ (q : Question). IsWeak q divisors seats) (same_question t a others) weak);
+}
+
+-- a near tie excludes clear seats of each question that these totals ask
+nearly_tied : (t : VoteTotals) (a : Targets t) (d g : ℕ) → IsTieAmong (asked_below t a) (seated_groups a.upper) d g →
+    IsReason t (reasons.NearlyTied d g)
+nearly_tied t a d g tie = record {
+  targets = a;
+  tied = tie;
+  none_clear = λ others divisors seats clear.
+      no_clear (asked_below t a) d tie.column tie.tied divisors seats
+      (subst (λ (q : Question). IsClear q divisors seats) (same_question t a others) clear);
+}
+
+-- and strict seats others
+only : (t : VoteTotals) (a : Targets t) (x : SeatsOfLists) → AreSeatsAmong (asked_below t a) (seated_groups a.upper) x → AreOnlySeats t x
+only t a x follow = record {
+  targets = a;
+  follow = follow;
+  only = λ others divisors seats weak.
+      only_seats (asked_below t a) follow.divisors divisors x.seats seats follow.strict
+      (subst (λ (q : Question). IsWeak q divisors seats) (same_question t a others) weak);
+}
+
+-- what is so of what is asked is a reason for the totals that ask it
+pub reason : (t : VoteTotals) (a : Targets t) (x : ExhaustedReason) → IsReasonAmong (asked_below t a) (seated_groups a.upper) x → IsReason t x
+reason t a (reasons.Impossible rows) is = impossible t a rows is
+reason t a (reasons.NearlyTied d g) is = nearly_tied t a d g is
+reason t a (reasons.Beyond x) is = record {
+  seats = only t a x is.0;
+  none = λ others. subst (λ (q : Question). (seats : List ℕ) → NoneInRange q seats) (sym (same_question t a others)) is.1;
+}
+reason t a (reasons.Missed x) is = record {
+  seats = only t a x is.0;
+  showable = λ others. subst (λ (q : Question). AreShowable q x.seats) (sym (same_question t a others)) is.1;
+}

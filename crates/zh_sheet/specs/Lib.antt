@@ -1,6 +1,7 @@
 pub mod Distribution
 pub mod Given
 pub mod Inside
+pub mod ListSeats
 pub mod Made
 pub mod Readings
 pub mod Reasons

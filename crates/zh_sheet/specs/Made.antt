@@ -2,7 +2,7 @@
 use Rattle.std.specs.Prelude.{◌≡◌, ℕ, List, Result, IfOk}
 use Rattle.zh_matrices.specs.Divisors.{Divisors}
 use Rattle.zh_matrices.specs.SeatMatrix.{IsWeak}
-use Rattle.zh_lower.specs.Second.{IsShown}
+use Rattle.zh_lower.specs.Shown.{IsShown}
 use Rattle.zh_totals.specs.Totals.{VoteTotals}
 use Rattle.zh_sheet.specs.Distribution.{Distribution, IsDistribution, question_of}
 use Rattle.zh_sheet.specs.Refusals.{IsAnswer}

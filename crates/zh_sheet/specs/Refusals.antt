@@ -3,6 +3,7 @@ use Rattle.std.specs.Prelude.{◌≡◌, ℕ, ◌-◌, ◌≤◌, Bool, List, Re
 use Rattle.zh_districts.specs.Seats.{AreSeats, IsFirstWithout, persons}
 use Rattle.zh_divisors.specs.Fit as fits
 use Rattle.zh_matrices.specs.Divisors.{Divisors}
+use Rattle.zh_decided.specs.Boxes.{NoneGiven}
 use Rattle.zh_search.specs.Outcomes.{ComesToTie, NoneBefore}
 use Rattle.zh_matrices.specs.Question.{IsFirstWithoutVotes}
 use Rattle.zh_matrices.specs.SeatMatrix.{IsStrict}
@@ -54,10 +55,11 @@ pub record IsTiedBelow (totals : VoteTotals) (d g : ℕ) : Type 0 where
   pub of_group : slice_index (seated_groups targets.upper) (column - 1) ≡ g
   pub tied : ComesToTie (lower_question totals targets.seats targets.upper) d column
 
--- none of the states of the search leads to seats
+-- none of the states of the search leads to seats, and the question is not decided by divisors in millionths
 pub record IsExhausted (totals : VoteTotals) : Type 0 where
   pub targets : Targets totals
   pub none : NoneBefore (lower_question totals targets.seats targets.upper) 2001
+  pub none_given : NoneGiven (lower_question totals targets.seats targets.upper)
 
 -- the case of each refusal; memory can be refused at any time
 abbrev pub IsCaseOf : VoteTotals → SheetFault → Type 0

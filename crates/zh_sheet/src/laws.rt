@@ -1,6 +1,6 @@
 //! What is true of every sheet.
 ghost use Rattle.std.specs.Prelude.{◌≡◌, Ok, Option, Some};
-ghost use Rattle.zh_lower.specs.Second.{IsShown};
+ghost use Rattle.zh_lower.specs.Shown.{IsShown};
 ghost use Rattle.zh_sheet.specs.Distribution.{Distribution, IsDistribution, question_of};
 ghost use Rattle.zh_sheet.specs.Given.{HaveSameSeats, IsGiven};
 ghost use Rattle.zh_sheet.specs.Made.{IsMade};

@@ -1,15 +1,20 @@
 //! Why the search for the seats of the lists found none.
-ghost use Rattle.std.specs.Prelude.{IfOk};
-ghost use Rattle.zh_sheet.specs.Reasons.{IsExplained, IsReason};
+ghost use Rattle.std.specs.Prelude.{◌≡◌, IfOk, length};
+ghost use Rattle.zh_decided.specs.Rooms.{IsDecisionRoom};
+ghost use Rattle.zh_matrices.specs.Asked.{asked};
+ghost use Rattle.zh_matrices.specs.Question.{AreSeatTotals};
+ghost use Rattle.zh_possible.specs.Ways.{AreBalanced};
+ghost use Rattle.zh_sheet.specs.Reasons.{IsExplained, IsReason, IsReasonAmong};
 ghost use Rattle.zh_sheet.specs.Stages.{StandAbove};
 
 use crate::above::{Above, seats_above};
 use crate::fault::SheetFault;
+use crate::list_seats::ListSeats;
 use crate::seated::{seated_groups, seats_of, votes_of};
 use std::alloc::{AllocError, Global};
-use std::snapshot::Snapshot;
-use zh_lower::Matrix;
-use zh_reasons::{Explanation, MarkedRows, Room, explain_exhausted};
+use zh_decided::{Decision, DecisionRoom, decide};
+use zh_matrices::{Matrix, Question};
+use zh_possible::MarkedRows;
 use zh_totals::Totals;
 
 /// Why the search for the seats of the lists found none, in the numbers of the set-up.
@@ -21,9 +26,31 @@ pub enum ExhaustedReason {
     /// Two different distributions follow nearly from the same divisors; they differ first in this constituency and this
     /// group.
     NearlyTied(u32, u32),
-    /// Some seats of the lists meet all totals, and no near tie is known. What was tested last, which only clauses read, is
-    /// none.
-    Undecided(Snapshot<Room>),
+    /// These are the only seats, but no divisors that leave the limits of a sheet some room give any.
+    Beyond(ListSeats),
+    /// These are the only seats, and divisors that a sheet could show give them, which the searches have missed.
+    Missed(ListSeats),
+}
+
+/// The reason by what is decided, where the columns are these groups.
+fn reason_of(question: &Question<'_>, groups: Vec<u32>, mut room: DecisionRoom) -> ExhaustedReason
+    requires totals { AreSeatTotals question.now.rows question.now.row_totals.now }
+    requires balanced { AreBalanced (asked question.now) }
+    requires groups { length groups.items ≡ question.now.columns }
+    requires room { IsDecisionRoom question.now.rows question.now.columns room }
+    ensures { IsReasonAmong (asked question.now) groups.items result }
+{
+    let rows = question.rows as u32;
+    match decide(question, &mut room) {
+        Decision::Impossible(constituencies) => ExhaustedReason::Impossible(constituencies),
+        Decision::NearlyTied(constituency, column, _divisors) => {
+            ExhaustedReason::NearlyTied(constituency, groups[(column - 1) as usize])
+        }
+        Decision::Beyond(_divisors) => {
+            ExhaustedReason::Beyond(ListSeats::new(rows, groups, room.seats))
+        }
+        Decision::Seats => ExhaustedReason::Missed(ListSeats::new(rows, groups, room.seats)),
+    }
 }
 
 /// The reason in the numbers of the set-up, where the seats above stand.
@@ -41,16 +68,9 @@ fn reason_below(
     let column_totals = seats_of(alloc, &above.upper, &seated)?;
     let votes = votes_of(alloc, totals, &seated)?;
     let matrix = Matrix::new(alloc, rows, seated.len(), &votes)?;
-    let mut room = Room::new(alloc, rows, seated.len())?;
-    let row_totals = above.seats.seats();
-    match explain_exhausted(&matrix, row_totals, &column_totals, &mut room) {
-        Explanation::Impossible(constituencies) => Ok(ExhaustedReason::Impossible(constituencies)),
-        Explanation::NearlyTied(constituency, column) => Ok(ExhaustedReason::NearlyTied(
-            constituency,
-            seated[(column - 1) as usize],
-        )),
-        Explanation::Undecided => Ok(ExhaustedReason::Undecided(Snapshot::of(&room))),
-    }
+    let room = DecisionRoom::new(alloc, rows, seated.len())?;
+    let question = matrix.question(above.seats.seats(), &column_totals);
+    Ok(reason_of(&question, seated, room))
 }
 
 /// Why the sheet of these totals, which was refused as exhausted, has no seats. Whether it was refused so is not asked
