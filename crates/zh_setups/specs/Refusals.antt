@@ -1,5 +1,7 @@
 -- Where a set-up text that is refused has its fault.
 use Rattle.std.specs.Prelude.{◌≡◌, ◌<◌, ◌≤◌, ◌⊎◌, ℕ, List, length, take, Some, None}
+use Rattle.toml.specs.Errors.{IsMemory, span_start}
+use Rattle.toml.specs.declared.de.error.Error.{Error}
 use Rattle.toml.specs.Data.{Members}
 use Rattle.toml.specs.Parse.{parse_document}
 use Rattle.zh_setups.specs.Places.{fault_place}
@@ -8,11 +10,21 @@ use Rattle.zh_setups.specs.declared.fault.SetupFault.TheVariants as faults
 use Rattle.zh_setups.specs.declared.fault.SetupRefusal.{SetupRefusal}
 use Rattle.zh_setups.specs.declared.place.FaultPlace.TheVariants as places
 
--- what is no TOML is refused at a position in it, which the crate `toml` chooses
+-- what is no TOML is refused at the position after so many bytes of it
+abbrev pub refused_at : ℕ → List ℕ → SetupRefusal
+refused_at n text = record { fault = faults.Text; place = Some (places.At (position_after (take n text))) }
+
+abbrev pub refused_memory : SetupRefusal
+refused_memory = record { fault = faults.Memory; place = None }
+
+-- how a text is refused for which the crate `toml` gives this error: where the span of the error begins, unless it is of memory
+abbrev pub IsRefusedBy : Error → List ℕ → SetupRefusal → Type 0
+IsRefusedBy error text refusal =
+    (IsMemory error × (refusal ≡ refused_memory)) ⊎ ((¬ IsMemory error) × (refusal ≡ refused_at (span_start error) text))
+
+-- it is refused at a position in it, which that crate chooses
 abbrev pub IsPositioned : List ℕ → SetupRefusal → Type 0
-IsPositioned text refusal =
-    (n : ℕ) × (n ≤ length text)
-    × (refusal ≡ record { fault = faults.Text; place = Some (places.At (position_after (take n text))) })
+IsPositioned text refusal = (n : ℕ) × (n ≤ length text) × (refusal ≡ refused_at n text)
 
 -- a document is refused at the place of this fault
 abbrev pub IsPlacedIn : List ℕ → SetupRefusal → Type 0
@@ -22,6 +34,6 @@ IsPlacedIn text refusal =
 -- where a refused text has its fault: nowhere if memory ran out or if the text is too long
 abbrev pub IsPlaced : List ℕ → SetupRefusal → Type 0
 IsPlaced text refusal =
-    (refusal ≡ record { fault = faults.Memory; place = None })
+    (refusal ≡ refused_memory)
     ⊎ ((1048576 < length text) × (refusal ≡ record { fault = faults.Text; place = None }))
     ⊎ ((length text ≤ 1048576) × (IsPositioned text refusal ⊎ IsPlacedIn text refusal))

@@ -5,7 +5,8 @@ ghost use Rattle.toml.specs.View.{table_view};
 ghost use Rattle.zh_districts.specs.Canton.{IsCanton};
 ghost use Rattle.zh_setups.specs.Document.{checked};
 ghost use Rattle.zh_setups.specs.Places.{fault_place};
-ghost use Rattle.zh_setups.specs.Refusals.{IsPlaced};
+ghost use Rattle.toml.specs.Errors.{IsWithin};
+ghost use Rattle.zh_setups.specs.Refusals.{IsPlaced, IsRefusedBy};
 ghost use Rattle.zh_setups.specs.SetupText.{reading_of, Describes, SetupOf};
 
 use crate::document::read_document;
@@ -15,6 +16,7 @@ use crate::places::fault_place;
 use crate::position::position_after;
 use std::alloc::Global;
 use toml::Table;
+use toml::de::Error;
 use zh_districts::Setup;
 
 const LONGEST: usize = 1_048_576;
@@ -34,6 +36,23 @@ fn read_placed(alloc: Global, document: &Table) -> Result<Setup, SetupRefusal>
             fault,
             place: fault_place(document, fault),
         }),
+    }
+}
+
+/// The refusal of a text that the crate `toml` does not read: where its error begins, unless memory was refused.
+fn refusal_of(error: &Error, text: &[u8]) -> SetupRefusal
+    requires { IsWithin text.now error.now }
+    ensures { IsRefusedBy error.now text.now result }
+{
+    match error.span() {
+        Some(span) => SetupRefusal {
+            fault: SetupFault::Text,
+            place: Some(FaultPlace::At(position_after(&text[..span.start]))),
+        },
+        None => SetupRefusal {
+            fault: SetupFault::Memory,
+            place: None,
+        },
     }
 }
 
@@ -58,15 +77,6 @@ pub fn read_setup(alloc: Global, text: &[u8]) -> Result<Setup, SetupRefusal>
     }
     match toml::table_from_slice(alloc, text) {
         Ok(document) => read_placed(alloc, &document),
-        Err(error) => match error.span() {
-            Some(span) => Err(SetupRefusal {
-                fault: SetupFault::Text,
-                place: Some(FaultPlace::At(position_after(&text[..span.start]))),
-            }),
-            None => Err(SetupRefusal {
-                fault: SetupFault::Memory,
-                place: None,
-            }),
-        },
+        Err(error) => Err(refusal_of(&error, text)),
     }
 }

@@ -1,8 +1,8 @@
-use Rattle.std.proofs.Common.{sym, arith}
-use Rattle.std.proofs.lemmas.Bool.{false≢true}
+use Rattle.std.proofs.Common.{◌∙◌, Err, ap, sym, ⊎_elim, arith}
 use Rattle.std.proofs.lemmas.Result.{IfOk-weaker}
 use Rattle.toml.specs.View.{table_view}
 use Rattle.zh_setups.specs.SetupText.{SetupOf, Describes}
+use Rattle.zh_setups.specs.declared.fault.SetupRefusal.{SetupRefusal}
 use Rattle.zh_setups.proofs.SetupTextLemmas.{reading_of-table, reading_of-none}
 use Rattle.zh_setups.proofs.text.read_setup.Goals as goal
 
@@ -21,6 +21,8 @@ returns-in-Ok-clause-table c =
     let document = table_view c.in-Ok.document in
     IfOk-weaker c.read_placed.result (SetupOf document) (Describes c.args.text.now) (λ setup holds. (document, c.in-Ok.ensures.ok.1, holds)) c.read_placed.ensures.table
 
-pub returns-in-Some-clause-fault : goal.returns-in-Some-clause-fault
-returns-in-Some-clause-fault c = λ other.
-    reading_of-none c.args.text.now (omega arith) (c.in-Err.ensures.refused (λ memory. false≢true (sym (c.in-Some.ensures.none.1 memory))))
+pub returns-in-Err-clause-fault : goal.returns-in-Err-clause-fault
+returns-in-Err-clause-fault c = λ other. ⊎_elim
+    (λ memory. absurd (other (ap (λ (r : SetupRefusal). r.fault) memory.1)))
+    (λ at. reading_of-none c.args.text.now (omega arith) (c.in-Err.ensures.refused at.0) ∙ sym (ap (λ (r : SetupRefusal). Err r.fault) at.1))
+    c.refusal_of.ensures
