@@ -95,7 +95,7 @@ check "3,000 returns on one disk" many_returns
 check "kill -9 around a switch, 40 times" killed_switches
 check "kill -9 within batches, 10 times" killed_batches
 check "kill -9 of format, 20 times" killed_formats
-for kind in folder FIFO device 'link to nothing' 'file in no folder'; do
+for kind in folder FIFO device 'link to nothing' 'file in no folder' 'file in a file'; do
     check "refused: a $kind" other_kind "$kind"
 done
 check "refused: a file with a second name" second_name
@@ -103,6 +103,9 @@ check "a link leads to its disk" through_a_link
 check "refused: a file of another length" another_length
 check "an empty file: format takes it, run does not" empty_file
 check "a missing file: run, load and export make none" missing_file
+check "no permission for a file, or its folder" no_permission
+check "a fault shows its path as it was given, without control characters" shown_paths
+check "a load of a file that is missing, or a folder" files_of_a_load
 check "a disk that is made is for its owner alone" modes
 check "a disk that is made is of zeros" zeros
 check "files beside the disk" beside

@@ -27,7 +27,10 @@ each_call() {
         fi
         same "the status of $* without call $number" 1 $status
         [ ! -s replies ] || [[ "$replies" = *"$(cat replies)"* ]] || same "the reply of $* without call $number" "$replies" "$(cat replies)"
-        found+="$(cat faults)"$'\n'
+        found+="$(head -n 1 faults)"$'\n'
+        # (a reply may say it instead)
+        [ -s replies ] && [ ! -s faults ] || same "the lines of the fault of $* without call $number" 2 "$(wc -l < faults)"
+        same "a call that failed is no missing file, nor a folder" "" "$(tail -n 1 faults | grep -E ': (there is|is a)')"
         if [ -z "$replies" ]; then same_bytes kinds/d before; else shows_one_of_two; fi
     done
     same "the status of $* with all calls" 0 $status

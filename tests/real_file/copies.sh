@@ -36,7 +36,7 @@ ask_copy() {
         same "what a copy shows" "$(shows "$held")" "$(cat shown)"
         that "the returns in a copy" "$2 <= held && held <= $3"
     else
-        same "the fault of a copy" "zhcount: disk damaged" "$(cat faults)"
+        same "the fault of a copy" "zhcount: disk damaged"$'\n'"$1" "$(cat faults)"
         refused=$((refused + 1))
     fi
 }

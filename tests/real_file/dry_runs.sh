@@ -21,7 +21,7 @@ dry_run_beside_a_run() {
     start
     returns 1 1 1 >&8
     await_lines first.out 1
-    ends 1 "disk busy" "" dry_run d good.csv
+    ends 1 $'disk busy\nd' "" dry_run d good.csv
     exec 8>&-
     wait $first
     same "the status of run" 0 $?

@@ -149,7 +149,7 @@ killed_formats() {
         if [ $status -eq 0 ]; then
             anew=$((anew + 1))
         else
-            same "the fault" "1 zhcount: disk inuse" "$status $(cat faults)"
+            same "the fault" $'1 zhcount: disk inuse\nd' "$status $(cat faults)"
         fi
         serves d $'1 show 1 1\n1 return 1 1 1 7' $'1 none\n1 stored 1'
         same "d-wal" "" "$(ls | grep d-wal)"

@@ -1,11 +1,11 @@
 # Files that are no disks, links, and files beside the disk.
 
-# refused FAULT PATH: neither task takes the file, and both leave it as it is.
+# refused FAULT PATH WHY: neither task takes the file, and both leave it as it is. The second line has its path, and why.
 refused() {
-    local before
+    local before fault="$1"$'\n'"$2: $3"
     before=$(look_at "$2")
-    ends 1 "$1" "" run "$2" < /dev/null
-    ends 1 "$1" "" format "$2"
+    ends 1 "$fault" "" run "$2" < /dev/null
+    ends 1 "$fault" "" format "$2"
     same "the file" "$before" "$(look_at "$2")"
 }
 
@@ -16,16 +16,18 @@ look_at() {
 }
 
 other_kind() {
+    local why="there is no such file"
     rm -rf kinds
     mkdir kinds
     case $1 in
-        folder) mkdir kinds/d ;;
-        FIFO) mkfifo kinds/d ;;
-        device) refused "disk device" /dev/null; return ;;
+        folder) mkdir kinds/d; why="is a folder" ;;
+        FIFO) mkfifo kinds/d; why="is no ordinary file" ;;
+        device) refused "disk device" /dev/null "is no ordinary file"; return ;;
         'link to nothing') ln -s nothing kinds/d ;;
-        'file in no folder') refused "disk device" kinds/none/d; return ;;
+        'file in no folder') refused "disk device" kinds/none/d "$why"; return ;;
+        'file in a file') : > kinds/none; refused "disk device" kinds/none/d "a part of its path is no folder"; return ;;
     esac
-    refused "disk device" kinds/d
+    refused "disk device" kinds/d "$why"
 }
 
 second_name() {
@@ -35,8 +37,8 @@ second_name() {
     mv d kinds/d
     ln kinds/d kinds/other
     cp kinds/d before
-    refused "disk device" kinds/d
-    refused "disk device" kinds/other
+    refused "disk device" kinds/d "it or its companion is no file with one name"
+    refused "disk device" kinds/other "it or its companion is no file with one name"
     same_bytes kinds/d before
     rm kinds/other
     serves kinds/d "$(returns 1 1 1)" "1 stored 1"
@@ -62,14 +64,14 @@ another_length() {
         mkdir kinds
         head -c "$length" /dev/zero > kinds/d
         cp kinds/d before
-        refused "disk size"$'\n'"$length bytes instead of $DISK" kinds/d
+        refused "disk size" kinds/d "$length bytes instead of $DISK"
         same_bytes kinds/d before
     done
 }
 
 empty_file() {
     : > d
-    ends 1 "disk size"$'\n'"0 bytes instead of $DISK" "" run d < /dev/null
+    ends 1 "disk size"$'\n'"d: 0 bytes instead of $DISK" "" run d < /dev/null
     same "the length" 0 "$(stat -c %s d)"
     new_disk_over d
 }
@@ -87,13 +89,13 @@ beside() {
     same "d-wal" text "$(cat kinds/d-wal)"
     rm kinds/d-wal
     mkdir kinds/d-wal
-    refused "disk device" kinds/d
+    refused "disk device" kinds/d "it or its companion is no file with one name"
     rmdir kinds/d-wal
     ln -s nothing kinds/d-wal
-    refused "disk device" kinds/d
+    refused "disk device" kinds/d "it or its companion is no file with one name"
     rm kinds/d-wal
     echo text > kinds/d-journal
-    refused "disk device" kinds/d
+    refused "disk device" kinds/d "a journal is beside it"
     rm kinds/d-journal
     serves kinds/d "1 show 1 1" "$(shows 1)"
 }
@@ -106,20 +108,21 @@ long_name() {
     name=$(printf 'x%.0s' {1..247})
     new_disk "kinds/$name"
     serves "kinds/$name" "$(returns 1 1 1)" "1 stored 1"
-    ends 1 "disk device" "" format "kinds/x$name"
+    ends 1 "disk device"$'\n'"kinds/x$name: the name is too long" "" format "kinds/x$name"
     same "the length of what format left" 0 "$(stat -c %s "kinds/x$name")"
     truncate -s $DISK "kinds/x$name"
-    refused "disk device" "kinds/x$name"
+    refused "disk device" "kinds/x$name" "the name is too long"
 }
 
 # None of the tasks that open a disk makes one.
 missing_file() {
+    local missing=$'disk device\nkinds/d: there is no such file'
     rm -rf kinds
     mkdir kinds
     echo "municipality,list,number,votes" > returns.csv
-    ends 1 "disk device" "" run kinds/d < /dev/null
-    ends 1 "disk device" "" load kinds/d returns.csv
-    ends 1 "disk device" "" export_csv kinds/d
+    ends 1 "$missing" "" run kinds/d < /dev/null
+    ends 1 "$missing" "" load kinds/d returns.csv
+    ends 1 "$missing" "" export_csv kinds/d
     same "the folder" "" "$(ls -A kinds)"
 }
 
@@ -146,4 +149,54 @@ zeros() {
     head -c $DISK /dev/zero > zeroed
     ends 0 "" "" format zeroed
     same_bytes d zeroed
+}
+
+# Who may not open a file is told so: of each file that a task is given, and of a folder in which none can be made.
+no_permission() {
+    local as=() there=denied
+    sheet_and_rows
+    rm -rf kinds
+    mkdir kinds
+    if [ "$(id -u)" -eq 0 ]; then
+        if ! setpriv --reuid=65534 --regid=65534 --clear-groups true 2> /dev/null; then
+            compared=1 note="as root, and no other user can be taken: not tried"
+            return
+        fi
+        as=(setpriv --reuid=65534 --regid=65534 --clear-groups)
+    fi
+    chmod 755 "$folder"
+    cp "$program" "$setup" kinds
+    chmod 755 kinds kinds/*
+    new_disk $there
+    for file in disk setup csv sheet held; do
+        : > $there.$file
+    done
+    chmod 000 $there $there.*
+    denied() { ends 1 "$1"$'\n'"$2: no permission" "" timeout 20 "${as[@]}" kinds/zhcount "${@:3}"; }
+    denied "disk device" $there export --setup "kinds/$(basename "$setup")" --disk $there
+    denied "disk device" kinds/new format --setup "kinds/$(basename "$setup")" --disk kinds/new
+    denied "setup file" $there.setup list --setup $there.setup --of groups
+    denied "sheet file" $there.sheet check --setup "kinds/$(basename "$setup")" --sheet $there.sheet
+    chmod 700 "$folder"
+    chmod 600 $there
+    rm -f $there $there.*
+}
+
+# What a fault says of a path: the path as it was given, its control characters as question marks.
+shown_paths() {
+    local name=$'a\tb\nc\x7fd\xc2\x85e\xef\xbb\xbff'
+    ends 1 $'setup file\na?b?c?d?e?f: there is no such file' "" timeout 20 "$program" list --setup "$name" --of groups
+    ends 1 $'disk device\n./d\xc3\xbcr/../x: there is no such file' "" run $'./d\xc3\xbcr/../x' < /dev/null
+    name=$(printf 'x%.0s' {1..4200})
+    ends 1 $'setup file\n'"${name:0:4096}: the name is too long" "" timeout 20 "$program" list --setup "$name" --of groups
+}
+
+# The files of a load, and of a folder that is given for one.
+files_of_a_load() {
+    new_disk d
+    rm -rf kinds
+    mkdir kinds
+    ends 1 $'csv file\nkinds/none.csv: there is no such file' "" load d kinds/none.csv
+    ends 1 $'csv file\nkinds: is a folder' "" load d kinds
+    ends 1 $'setup file\nkinds: is a folder' "" timeout 20 "$program" list --setup kinds --of groups
 }

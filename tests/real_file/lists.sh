@@ -42,7 +42,7 @@ unwritten_tables() {
 missing_setup() {
     local table
     for table in constituencies municipalities groups lists problems returns; do
-        ends 1 "setup file" "" list none.toml "$table"
+        ends 1 $'setup file\nnone.toml: there is no such file' "" list none.toml "$table"
     done
     same "what was made" "" "$(ls none.toml 2> /dev/null)"
 }

@@ -34,7 +34,7 @@ seats_of_both() {
     same_bytes d before
     sed 's/house 10/house 11/' sheet > wrong
     ends 1 "sheet wrong" "" seats --sheet wrong
-    ends 1 "sheet file" "" seats --sheet missing
+    ends 1 $'sheet file\nmissing: there is no such file' "" seats --sheet missing
     serves d $'1 close 1\n1 close 2\n1 close 3' $'1 stored 2\n1 stored 3\n1 stored 4'
     seats --disk d --final > replies
     same "the records that are final" 9 "$(grep -c ,final,4, replies)"
@@ -45,7 +45,7 @@ seats_beside_a_run() {
     start
     returns 1 2 2 >&8
     await_lines first.out 1
-    ends 1 "disk busy" "" seats --disk d
+    ends 1 $'disk busy\nd' "" seats --disk d
     seats --sheet sheet > replies 2> remark
     same "the status beside a run" 0 $?
     same "the records beside a run" 10 "$(wc -l < replies)"

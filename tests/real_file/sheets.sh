@@ -67,11 +67,11 @@ spoilt_sheets() {
 unreadable_sheets() {
     sheet_and_rows
     mkdir -p folder
-    ends 1 "sheet file" "" check_sheet "$setup" folder
-    ends 1 "held file" "" check_sheet "$setup" sheet --held folder
-    ends 1 "sheet file" "" check_sheet "$setup" none --held none
-    ends 1 "setup file" "" check_sheet none none --held none
-    ends 1 "held csv" "" check_sheet "$setup" sheet --held sheet
+    ends 1 $'sheet file\nfolder: is a folder' "" check_sheet "$setup" folder
+    ends 1 $'held file\nfolder: is a folder' "" check_sheet "$setup" sheet --held folder
+    ends 1 $'sheet file\nnone: there is no such file' "" check_sheet "$setup" none --held none
+    ends 1 $'setup file\nnone: there is no such file' "" check_sheet none none --held none
+    ends 1 $'held csv\nsheet' "" check_sheet "$setup" sheet --held sheet
     rmdir folder
 }
 

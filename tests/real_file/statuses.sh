@@ -20,7 +20,7 @@ status_beside_a_run() {
     start
     returns 1 1 1 >&8
     await_lines first.out 1
-    ends 1 "disk busy" "" status d
+    ends 1 $'disk busy\nd' "" status d
     cp d copy
     status copy > held.csv 2> faults
     same "the status of the copy" 0 $?

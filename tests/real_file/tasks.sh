@@ -23,11 +23,11 @@ known_election() {
 in_use() {
     new_disk d
     cp d before
-    ends 1 "disk inuse" "" format d
+    ends 1 $'disk inuse\nd' "" format d
     same_bytes d before
     serves d "$(returns 1 1 1)" "1 stored 1"
     cp d before
-    ends 1 "disk inuse" "" format d
+    ends 1 $'disk inuse\nd' "" format d
     same_bytes d before
 }
 
@@ -35,16 +35,16 @@ another_setup() {
     new_disk d
     sed 's/persons = 3000/persons = 3001/' "$setup" > other.toml
     cp d before
-    ends 1 "disk differs" "" timeout 20 "$program" run --setup other.toml --disk d < /dev/null
-    ends 1 "disk inuse" "" timeout 20 "$program" format --setup other.toml --disk d
+    ends 1 $'disk differs\nd' "" timeout 20 "$program" run --setup other.toml --disk d < /dev/null
+    ends 1 $'disk inuse\nd' "" timeout 20 "$program" format --setup other.toml --disk d
     same_bytes d before
 }
 
 # misplaced EDIT FAULT PLACE: a set-up with this edit is refused with this fault and its place, and the disk d is untouched.
 misplaced() {
     sed "$1" "$setup" > bad.toml
-    ends 1 "$2"$'\n'"$3" "" timeout 20 "$program" run --setup bad.toml --disk d < /dev/null
-    ends 1 "$2"$'\n'"$3" "" timeout 20 "$program" list --setup bad.toml --of groups
+    ends 1 "$2"$'\n'"bad.toml: $3" "" timeout 20 "$program" run --setup bad.toml --disk d < /dev/null
+    ends 1 "$2"$'\n'"bad.toml: $3" "" timeout 20 "$program" list --setup bad.toml --of groups
     same_bytes d before
 }
 
@@ -54,25 +54,25 @@ places_of_faults() {
     misplaced '/^house = 10$/d' "setup missing" house
     misplaced '/^persons = 3000$/d' "setup missing" "constituency 2, persons"
     misplaced '/^name = "C"$/a colour = 1' "setup unknown" "group 3, another key"
-    misplaced 's/^house = 10$/house = 401/' "setup range" house
-    misplaced 's/^persons = 2000$/persons = 0/' "setup range" "constituency 3, persons"
+    misplaced 's/^house = 10$/house = 401/' "setup range" "house: 1 to 400"
+    misplaced 's/^persons = 2000$/persons = 0/' "setup range" "constituency 3, persons: 1 to 10000000"
     misplaced 's/^name = "M"$/name = "N"/' "setup double" "municipality 2, name"
     sed 's/^name = "Mitte"$/name = Mitte/' "$setup" > bad.toml
     timeout 20 "$program" run --setup bad.toml --disk d < /dev/null 2> faults
     same "the status of no TOML" 1 $?
-    same "the fault of no TOML" $'zhcount: setup text\nline 7' "$(sed 's/, column [0-9]*$//' faults)"
+    same "the fault of no TOML" $'zhcount: setup text\nbad.toml: line 7' "$(sed 's/, column [0-9]*$//' faults)"
 }
 
 blank_and_damaged() {
     rm -f d
     truncate -s $DISK d
     cp d before
-    ends 1 "disk blank" "" run d < /dev/null
+    ends 1 $'disk blank\nd' "" run d < /dev/null
     same_bytes d before
     ends 0 "" "" format d
     printf X | dd of=d bs=1 seek=1 conv=notrunc status=none
     cp d before
-    ends 1 "disk damaged" "" run d < /dev/null
+    ends 1 $'disk damaged\nd' "" run d < /dev/null
     same_bytes d before
 }
 

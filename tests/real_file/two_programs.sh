@@ -22,9 +22,9 @@ second_program() {
     await_lines first.out 1
     cp busy/d before
     returns 1 2 2 > lines
-    ends 1 "disk busy" "" run busy/d < lines
-    ends 1 "disk busy" "" run link < lines
-    ends 1 "disk busy" "" format busy/d
+    ends 1 $'disk busy\nbusy/d' "" run busy/d < lines
+    ends 1 $'disk busy\nlink' "" run link < lines
+    ends 1 $'disk busy\nbusy/d' "" format busy/d
     same_bytes busy/d before
     returns 1 2 3 >&8
     exec 8>&-
@@ -59,7 +59,7 @@ two_at_once() {
                 same "the replies" 20 "$(grep -c '^1 stored [0-9]*$' replies.$m)"
                 held[m]=$((held[m] + 20)) stored=$((stored + 20))
             else
-                same "the fault" "1 zhcount: disk busy" "$(cat status.$m faults.$m | tr '\n' ' ' | sed 's/ $//')"
+                same "the fault" "1 zhcount: disk busy d" "$(cat status.$m faults.$m | tr '\n' ' ' | sed 's/ $//')"
                 same "the replies" "" "$(cat replies.$m)"
                 refused=$((refused + 1))
             fi

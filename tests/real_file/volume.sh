@@ -14,7 +14,7 @@ full_run() {
     local pages=$(((340 * 1024 - JOURNAL) / PAGE))
     new_disk d
     returns 1 1 $((pages + 5)) > lines
-    ends 1 "disk device" "$(seq -f '1 stored %.0f' $pages; echo "1 refused device"; yes "1 refused reopen-disk" | head -n 4)" \
+    ends 1 $'disk device\nd' "$(seq -f '1 stored %.0f' $pages; echo "1 refused device"; yes "1 refused reopen-disk" | head -n 4)" \
         limited 340 run d < lines
     serves d "1 show 1 1" "$(shows $pages)"
     serves d "$(returns 1 $pages $((pages + 1)))" $'1 same\n'"1 stored $((pages + 1))"
@@ -40,14 +40,14 @@ full_disk_and_output() {
 
 full_format() {
     rm -f d
-    ends 1 "disk device" "" limited 500 format d
-    ends 1 "disk size"$'\n'"0 bytes instead of $DISK" "" run d < /dev/null
+    ends 1 $'disk device\nd: a call failed' "" limited 500 format d
+    ends 1 "disk size"$'\n'"d: 0 bytes instead of $DISK" "" run d < /dev/null
     new_disk_over d
     # With its full length already, a disk is cut short within the snapshot.
     rm -f d
     truncate -s $DISK d
-    ends 1 "disk device" "" limited 200 format d
-    ends 1 "disk blank" "" run d < /dev/null
+    ends 1 $'disk device\nd' "" limited 200 format d
+    ends 1 $'disk blank\nd' "" run d < /dev/null
     new_disk_over d
 }
 
@@ -78,9 +78,9 @@ small_volume() {
         compared=1 note="no volume can be mounted here: not tried"
         return
     fi
-    ends 1 "disk device" "" format volume/d
+    ends 1 $'disk device\nvolume/d: there is no room' "" format volume/d
     same "the length of what format left" 0 "$(stat -c %s volume/d)"
-    ends 1 "disk size"$'\n'"0 bytes instead of $DISK" "" run volume/d < /dev/null
+    ends 1 "disk size"$'\n'"volume/d: 0 bytes instead of $DISK" "" run volume/d < /dev/null
     mount -o remount,size=2m none volume
     new_disk_over volume/d
     has_its_space volume/d
@@ -100,7 +100,7 @@ failed_fills() {
         [ -s reached ] || break
         length=$(stat -c %s d 2> /dev/null || echo none)
         if [ "$length" = 0 ]; then emptied=$((emptied + 1)); elif [ "$length" != none ]; then has_its_space d; fi
-        format d > replies 2> faults || same "what a format says after call $number" "zhcount: disk inuse" "$(cat faults)"
+        format d > replies 2> faults || same "what a format says after call $number" $'zhcount: disk inuse\nd' "$(cat faults)"
         has_its_space d
     done
     that "empty files were left" "emptied > 100"

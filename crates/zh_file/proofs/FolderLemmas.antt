@@ -1,16 +1,21 @@
 -- What is known of a folder over several calls.
-use Rattle.std.proofs.Common.{◌≡◌, ◌∙◌, ◌+◌, ℕ, List, length, Option, Some, None, Result, Ok, Err, IfOk, sym, ap, subst, inl, inr, ⊎_elim, arith}
+use Rattle.std.proofs.Common.{◌≡◌, ◌∙◌, ◌+◌, ℕ, List, [], length, Option, Some, None, Result, Ok, Err, IfOk, sym, ap, subst, inl, inr, ⊎_elim, arith}
 use Rattle.std.specs.Prelude.{codes, ◌++◌}
 use Rattle.std.proofs.lemmas.List.{length-append}
 use Rattle.std.specs.declared.io.ErrorKind.{ErrorKind}
 use Rattle.std.specs.declared.io.ErrorKind.TheVariants as kinds
 use Rattle.zh_disk.specs.Disk.{Trail, fresh_trail}
 use Rattle.zh_world.specs.Places.{Places, Standing, IfKnown, IsBare, IsSameOrBare, IsSameOrMade, TouchesOnly, companion_of, found_at}
-use Rattle.zh_file.specs.Faults.{fault_of_kind}
+use Rattle.zh_world.specs.Causes.{IsCauseAt, cause_of, fault_of_kind}
+use Rattle.zh_world.specs.Places.Standing.{nothing, file, folder, other}
+use Rattle.zh_file.specs.Faults.{fault_of_found}
+use Rattle.zh_file.specs.Opening.{IsNoFile}
 use Rattle.zh_file.specs.Folder.{Makes, MakesBoth}
-use Rattle.zh_file.specs.Steps.{ClearsCompanion}
-use Rattle.zh_file.specs.declared.fault.OpenFault.{OpenFault}
-use Rattle.zh_file.specs.declared.fault.OpenFault.TheVariants as faults
+use Rattle.zh_file.specs.Steps.{ClearsCompanion, IsSilent}
+use Rattle.zh_world.specs.declared.fault.FileCause.{FileCause}
+use Rattle.zh_world.specs.declared.fault.FileCause.TheVariants as causes
+use Rattle.zh_world.specs.declared.fault.FileFault.{FileFault}
+use Rattle.zh_world.specs.declared.fault.FileFault.TheVariants as faults
 
 module _ {A : Type 0} where
   pub map_known : (P R : A → A → Type 0) (old new : Option A) → ((x y : A) → P x y → R x y) → IfKnown P old new → IfKnown R old new
@@ -33,10 +38,39 @@ module _ {A : Type 0} where
   chain_three P Q S R (Some w) (Some x) (Some y) None f one two three = three
   chain_three P Q S R (Some w) (Some x) (Some y) (Some z) f one two three = f w x y z one two three
 
--- the fault of a call is memory or the device
-pub of_kind : (P : OpenFault → Type 0) → P faults.Memory → P faults.Device → (kind : ErrorKind) → P (fault_of_kind kind)
-of_kind P memory device kinds.OutOfMemory = memory
-of_kind P memory device kind = device
+-- the fault of a call at a path is memory, or the device with its cause
+pub of_kind : (P : FileFault → Type 0) → P faults.Memory → (kind : ErrorKind) → P (faults.Device (cause_of kind)) → P (fault_of_kind kind)
+of_kind P memory kinds.OutOfMemory device = memory
+of_kind P memory kind device = device
+
+-- that of a file that was found says nothing of the path
+pub of_found : (P : FileFault → Type 0) → P faults.Memory → ((cause : FileCause) → IsSilent cause → P (faults.Device cause)) → (kind : ErrorKind) → P (fault_of_found kind)
+of_found P memory device kinds.OutOfMemory = memory
+of_found P memory device kinds.NotFound = device causes.Failed tt
+of_found P memory device kinds.IsADirectory = device causes.Failed tt
+of_found P memory device kind = device (cause_of kind) tt
+
+pub silent_at : (standing : Standing) (cause : FileCause) → IsSilent cause → IsCauseAt standing cause
+silent_at standing causes.Missing is = absurd is
+silent_at standing causes.Folder is = absurd is
+silent_at standing causes.Special is = absurd is
+silent_at standing cause is = tt
+
+-- what stands there, and was not made, stood there before
+still : (old new wanted : Standing) → (file [] ≡ wanted → ⊥) → IsSameOrMade old new → new ≡ wanted → old ≡ wanted
+still old new wanted differs made is = ⊎_elim (λ same. sym same ∙ is) (λ it. absurd (differs (sym it.1 ∙ is))) made
+
+pub cause_before : (old new : Standing) (cause : FileCause) → IsSameOrMade old new → IsCauseAt new cause → IsCauseAt old cause
+cause_before old new causes.Missing made is = still old new nothing (λ (wrong : file [] ≡ nothing). cc) made is
+cause_before old new causes.Folder made is = still old new folder (λ (wrong : file [] ≡ folder). cc) made is
+cause_before old new causes.Special made is = still old new other (λ (wrong : file [] ≡ other). cc) made is
+cause_before old new cause made is = tt
+
+pub no_file_before : (old new : Standing) → IsSameOrMade old new → IsNoFile new → IsNoFile old
+no_file_before old new made is = ⊎_elim
+    (λ (it : new ≡ folder). inl (still old new folder (λ (wrong : file [] ≡ folder). cc) made it))
+    (λ (it : new ≡ other). inr (still old new other (λ (wrong : file [] ≡ other). cc) made it))
+    is
 
 pub same_companion : (old new : Places) (path : List ℕ) → new.leads ≡ old.leads → companion_of new path ≡ companion_of old path
 same_companion old new path same = ap (λ (f : List ℕ → List ℕ). f path ++ codes "-wal") same
@@ -110,7 +144,7 @@ pub same_found : (path : List ℕ) (x y : Places) → y ≡ x → found_at y pat
 same_found path x y same = ap (λ (p : Places). found_at p path) same
 
 -- a trail that begins with bytes has them
-pub ok_bytes : {T : Type 0} (trail : T → Trail) (bytes : List ℕ) (result : Result T OpenFault) → IfOk result (λ d. trail d ≡ fresh_trail bytes)
+pub ok_bytes : {T : Type 0} (trail : T → Trail) (bytes : List ℕ) (result : Result T FileFault) → IfOk result (λ d. trail d ≡ fresh_trail bytes)
     → IfOk result (λ d. (trail d).now.bytes ≡ bytes)
 ok_bytes trail bytes (Ok d) is = ap (λ (t : Trail). t.now.bytes) is
 ok_bytes trail bytes (Err fault) is = tt

@@ -1,22 +1,26 @@
 -- The same of a disk that is made where there is none.
-use Rattle.std.proofs.Common.{◌≡◌, ◌∙◌, ◌<◌, ℕ, List, [], ◌∷◌, length, Bool, IsTrue, Option, Result, Ok, Err, IfOk, IfErr, refl, sym, ap, subst, inl, inr, ⊎_elim, arith}
+use Rattle.std.proofs.Common.{◌≡◌, ◌∙◌, ◌<◌, ℕ, List, [], ◌∷◌, length, Bool, IsTrue, Option, Some, None, Result, Ok, Err, IfOk, IfErr, refl, sym, ap, subst, inl, inr, ⊎_elim, arith}
 use Rattle.std.specs.Prelude.{◌≢◌, ◌⊎◌, bytes_eq}
 use Rattle.std.proofs.lemmas.Bool.{cases_Bool}
 use Rattle.std.proofs.lemmas.Bool.Decides.{not_from_Decides}
 use Rattle.std.proofs.lemmas.Slice.Eq.{bytes_eq-Decides}
 use Rattle.std.specs.IoError.{error_kind}
 use Rattle.std.specs.declared.io.Error.{Error}
-use Rattle.zh_disk.specs.Disk.{disk_length}
+use Rattle.zh_disk.specs.Disk.{Trail, disk_length, fresh_trail}
 use Rattle.zh_disk.specs.History.{History}
-use Rattle.zh_world.specs.Places.{IfKnown, IsBare, IsSameOrMade, Places, Standing, TouchesOnly, found_at}
-use Rattle.zh_world.specs.Places.Standing.{file, other}
-use Rattle.zh_file.specs.Faults.{fault_of_kind}
-use Rattle.zh_file.specs.Folder.{ActsAt, Folders, Makes}
-use Rattle.zh_file.specs.Opening.{AreSame, HasFailed, IsOpeningCause, IsLength, IsNoStart, OpensOrMakesDisk}
-use Rattle.zh_file.specs.Steps.{IsUnfit, IsUnmeasured, Measures, TakesLock}
-use Rattle.zh_file.specs.declared.fault.OpenFault.{OpenFault}
-use Rattle.zh_file.specs.declared.fault.OpenFault.TheVariants as faults
-use Rattle.zh_file.proofs.FolderLemmas.{lock_touches, made_touches, of_kind, same_found, same_touches, touches_both, chain, chain_three, map_known}
+use Rattle.zh_disk.specs.Memory.{IsNewDisk}
+use Rattle.zh_world.specs.Causes.{IsCauseAt, IsLength, cause_of, fault_of_kind}
+use Rattle.zh_world.specs.Files.{BeginsWith}
+use Rattle.zh_world.specs.Places.{IfKnown, IsSameOrMade, Places, Standing, TouchesOnly, bytes_of, found_at}
+use Rattle.zh_world.specs.Places.Standing.{file, nothing, folder, other}
+use Rattle.zh_file.specs.Faults.{fault_of_found}
+use Rattle.zh_file.specs.Folder.{ActsAt, Folders, Makes, SaysWhy}
+use Rattle.zh_file.specs.Held.{IsZeroed}
+use Rattle.zh_file.specs.Opening.{AreSame, HasFailed, IsNoFile, IsOpeningCause, IsNoStart, OpensOrMakesDisk}
+use Rattle.zh_file.specs.Steps.{IsUnfit, IsUnmeasured, IsUnstarted, Measures, TakesLock}
+use Rattle.zh_world.specs.declared.fault.FileFault.{FileFault}
+use Rattle.zh_world.specs.declared.fault.FileFault.TheVariants as faults
+use Rattle.zh_file.proofs.FolderLemmas.{cause_before, lock_touches, made_touches, no_file_before, of_found, of_kind, same_found, same_touches, silent_at, touches_both, chain, chain_three}
 use Rattle.zh_file.proofs.OpeningLemmas.{bytes_length, start_cause, unlocked_cause}
 
 no_bytes : (standing : Standing) (xs : List ℕ) → standing ≡ file xs → standing ≡ file [] → xs ≡ []
@@ -45,11 +49,35 @@ unmade_places path x y makes same = record {
       (cases_Bool (bytes_eq place (x.leads path)));
 }
 
-bare_from : (old new : Standing) → IsSameOrMade old new → IsBare new → IsBare old
-bare_from old new made bare = ⊎_elim (λ same. subst IsBare same bare) (λ it. inl it.0) made
+-- the bytes of a file are those from before it was made, if it was
+bytes_from : (old new : Standing) (bytes : List ℕ) → IsSameOrMade old new → new ≡ file bytes → bytes ≡ bytes_of old
+bytes_from old new bytes made is = ⊎_elim
+    (λ same. sym (ap bytes_of (sym same ∙ is)))
+    (λ it. no_bytes new bytes is it.1 ∙ sym (ap bytes_of it.0))
+    made
 
-file_from : (old new : Standing) (bytes : List ℕ) → IsSameOrMade old new → new ≡ file bytes → (old ≡ file bytes) ⊎ IsBare old
-file_from old new bytes made is = ⊎_elim (λ same. inl (sym same ∙ is)) (λ it. inr (inl it.0)) made
+was_file : (old new : Standing) (bytes : List ℕ) → IsSameOrMade old new → new ≡ file bytes → ¬ IsNoFile old
+was_file old new bytes made is wrong = ⊎_elim
+    (λ same. ⊎_elim
+    (λ it. let at : file bytes ≡ folder = sym is ∙ same ∙ it in absurd cc)
+    (λ it. let at : file bytes ≡ other = sym is ∙ same ∙ it in absurd cc)
+    wrong)
+    (λ it. ⊎_elim
+    (λ no. let at : nothing ≡ folder = sym it.0 ∙ no in absurd cc)
+    (λ no. let at : nothing ≡ other = sym it.0 ∙ no in absurd cc)
+    wrong)
+    made
+
+-- a disk over a file that had these bytes, and was filled where it had none
+pub begins_with : (bytes before now : List ℕ) (begun : Trail) → before ≡ bytes → (before ≡ [] → IsZeroed now)
+    → (before ≡ []) ⊎ (now ≡ before) → begun ≡ fresh_trail now → BeginsWith bytes begun
+begins_with [] before now begun none filled same is =
+    let zeroed = filled none in
+    subst (λ (t : Trail). IsNewDisk t) (sym is) (record { size = zeroed.size; zero = zeroed.zero; begun = refl })
+begins_with (byte ∷ bytes) before now begun was filled same is = ⊎_elim
+    (λ none. let wrong : ◌≡◌ {A = List ℕ} [] (byte ∷ bytes) = sym none ∙ was in absurd cc)
+    (λ kept. is ∙ ap fresh_trail (kept ∙ was))
+    same
 
 -- the standing of the path of a disk once it is locked, from that before it was made
 module _ (path : List ℕ) where
@@ -66,18 +94,18 @@ module _ (path : List ℕ) where
 
 module _ {T : Type 0} (Failed : Type 0) (path : List ℕ) (history : T → History) where
   pub unmade : {X : Type 0} (error : Error) (w x : Folders) → ActsAt {T = X} (Makes path) (Err error) w x
-      → OpensOrMakesDisk {T = T} Failed path history (Err (fault_of_kind (error_kind error))) w x
-  unmade error w x changes = record {
+      → IsCauseAt (found_at w.places path) (cause_of (error_kind error)) → OpensOrMakesDisk {T = T} Failed path history (Err (fault_of_kind (error_kind error))) w x
+  unmade error w x changes why = record {
     touches = made_touches path w.places x.places changes.done;
     opened = tt;
     refused = tt;
-    cause = of_kind (IsOpeningCause IsNoStart Failed path w x) tt (changes.counted.refused, inl (omega (arith, changes.counted.failed))) (error_kind error);
+    cause = of_kind (IsOpeningCause IsNoStart Failed path w x) tt (error_kind error) (changes.counted.refused, why, inl (omega (arith, changes.counted.failed)));
   }
 
   touched : (w x y : Folders) → Makes path w.places x.places → y.places ≡ x.places → TouchesOnly path w.places y.places
   touched w x y makes same = touches_both path w.places x.places y.places (made_touches path w.places x.places makes) (same_touches path x.places y.places same)
 
-  pub unmeasured_makes : {X : Type 0} (done : X) (fault : OpenFault) (w x y : Folders) → ActsAt {T = X} (Makes path) (Ok done) w x → Measures path (Err fault) x y
+  pub unmeasured_makes : {X : Type 0} (done : X) (fault : FileFault) (w x y : Folders) → ActsAt {T = X} (Makes path) (Ok done) w x → Measures path (Err fault) x y
       → OpensOrMakesDisk {T = T} Failed path history (Err fault) w y
   unmeasured_makes done fault w x y changes measures = record {
     touches = touched w x y changes.done measures.same;
@@ -89,12 +117,14 @@ module _ {T : Type 0} (Failed : Type 0) (path : List ℕ) (history : T → Histo
       refused : y.refused ≡ w.refused
       refused = measures.goes.refused ∙ changes.counted.refused
 
-      still_other : found_at x.places path ≡ other → found_at w.places path ≡ other
-      still_other is = ⊎_elim (λ same. sym same ∙ is) (λ it. let wrong : file [] ≡ other = sym it.1 ∙ is in absurd cc) changes.done.made
-
-      other_before : (f : OpenFault) → IsUnmeasured path x y f → IsOpeningCause IsNoStart Failed path w y f
+      other_before : (f : FileFault) → IsUnmeasured path x y f → IsOpeningCause IsNoStart Failed path w y f
       other_before faults.Memory by = tt
-      other_before faults.Device by = (refused, ⊎_elim (λ more. inl (omega (arith, changes.counted.failed, more))) (λ here. inr (inl (still_other here))) by)
+      other_before (faults.Device cause) by = (
+        refused,
+        cause_before (found_at w.places path) (found_at x.places path) cause changes.done.made by.0,
+        ⊎_elim (λ more. inl (omega (arith, changes.counted.failed, more)))
+            (λ here. inr (inl (no_file_before (found_at w.places path) (found_at x.places path) changes.done.made here))) by.1,
+      )
       other_before (faults.Size n) by = absurd by
       other_before faults.Busy by = absurd by
 
@@ -117,7 +147,7 @@ module _ {T : Type 0} (Failed : Type 0) (path : List ℕ) (history : T → Histo
         );
       }
 
-  pub unlocked_makes : {X D : Type 0} (done : X) (seen : D → List ℕ) (n : ℕ) (fault : OpenFault) (w x y z : Folders) → ActsAt {T = X} (Makes path) (Ok done) w x → Measures path (Ok n) x y
+  pub unlocked_makes : {X D : Type 0} (done : X) (seen : D → List ℕ) (n : ℕ) (fault : FileFault) (w x y z : Folders) → ActsAt {T = X} (Makes path) (Ok done) w x → Measures path (Ok n) x y
       → TakesLock path seen (Err fault) y z → OpensOrMakesDisk {T = T} Failed path history (Err fault) w z
   unlocked_makes done seen n fault w x y z changes measures takes =
       let both = lock_touches path y.places takes.mid z.places takes.made takes.clears in
@@ -140,18 +170,19 @@ module _ {T D X : Type 0} (is_clean : D → Bool) (failures : D → ℕ) (seen :
   none_refused = takes.locked.1.refused ∙ measures.goes.refused ∙ changes.counted.refused
 
   -- the file that was locked was filled or not, and a call of it failed
-  pub unfilled : (error : Error) (g : D) → (0 < failures g) → OpensOrMakesDisk {T = T} (HasFailed is_clean failures) path history (Err (fault_of_kind (error_kind error))) w z
+  pub unfilled : (error : Error) (g : D) → (0 < failures g) → OpensOrMakesDisk {T = T} (HasFailed is_clean failures) path history (Err (fault_of_found (error_kind error))) w z
   unfilled error g failed = record {
     touches = all_touched;
     opened = tt;
     refused = tt;
-    cause = of_kind (IsOpeningCause IsNoStart (HasFailed is_clean failures) path w z) tt (none_refused, inr (inr (g, λ clean. failed))) (error_kind error);
+    cause = of_found (IsOpeningCause IsNoStart (HasFailed is_clean failures) path w z) tt
+        (λ cause silent. (none_refused, silent_at (found_at w.places path) cause silent, inr (inr (g, λ clean. failed)))) (error_kind error);
   }
 
-  pub start_makes : (g : D) (result : Result T OpenFault) → (n ≡ 0) ⊎ (n ≡ disk_length)
-      → (IsTrue (is_clean g) → (seen f ≡ []) ⊎ (seen g ≡ seen f)) → (IsTrue (is_clean g) → seen f ≡ [] → length (seen g) ≡ disk_length)
-      → IfOk result (λ d. (history d).trail.now.bytes ≡ seen g) → IfOk result (λ d. IsTrue (history d).honest → IsTrue (is_clean g))
-      → IfErr result (λ fault. (fault ≡ faults.Memory) ⊎ ((fault ≡ faults.Device) × IsUnfit is_clean failures seen g))
+  pub start_makes : (g : D) (result : Result T FileFault) → (n ≡ 0) ⊎ (n ≡ disk_length)
+      → (IsTrue (is_clean g) → (seen f ≡ []) ⊎ (seen g ≡ seen f)) → (IsTrue (is_clean g) → seen f ≡ [] → IsZeroed (seen g))
+      → IfOk result (λ d. (history d).trail ≡ fresh_trail (seen g)) → IfOk result (λ d. IsTrue (history d).honest → IsTrue (is_clean g))
+      → IfErr result (IsUnstarted (IsUnfit is_clean failures seen g))
       → OpensOrMakesDisk (HasFailed is_clean failures) path history result w z
   start_makes g result lengths same filled began clean cause = record {
     touches = all_touched;
@@ -163,18 +194,17 @@ module _ {T D X : Type 0} (is_clean : D → Bool) (failures : D → ℕ) (seen :
       to_mid : IsSameOrMade (found_at w.places path) (found_at takes.mid path)
       to_mid = twice path w.places x.places y.places takes.mid changes.done measures.same takes.made.disk
 
-      empty_before : seen f ≡ [] → IsBare (found_at w.places path)
-      empty_before none = bare_from (found_at w.places path) (found_at takes.mid path) to_mid (inr (takes.locked.0 ∙ ap file none))
-
-      opens : (r : Result T OpenFault) → IfOk r (λ d. (history d).trail.now.bytes ≡ seen g) → IfOk r (λ d. IsTrue (history d).honest → IsTrue (is_clean g))
-          → IfOk r (λ d. IsTrue (history d).honest → (found_at w.places path ≡ file (history d).trail.now.bytes) ⊎ IsBare (found_at w.places path))
+      opens : (r : Result T FileFault) → IfOk r (λ d. (history d).trail ≡ fresh_trail (seen g)) → IfOk r (λ d. IsTrue (history d).honest → IsTrue (is_clean g))
+          → IfOk r (λ d. IsTrue (history d).honest
+          → (¬ IsNoFile (found_at w.places path)) × BeginsWith (bytes_of (found_at w.places path)) (history d).trail)
       opens (Err fault) is by = tt
-      opens (Ok d) is by = λ h. ⊎_elim
-          (λ none. inr (empty_before none))
-          (λ kept. file_from (found_at w.places path) (found_at takes.mid path) (history d).trail.now.bytes to_mid (takes.locked.0 ∙ ap file (sym (is ∙ kept))))
-          (same (by h))
+      opens (Ok d) is by = λ h. (
+        was_file (found_at w.places path) (found_at takes.mid path) (seen f) to_mid takes.locked.0,
+        begins_with (bytes_of (found_at w.places path)) (seen f) (seen g) (history d).trail
+            (bytes_from (found_at w.places path) (found_at takes.mid path) (seen f) to_mid takes.locked.0) (filled (by h)) (same (by h)) is,
+      )
 
-      all_ok : (r : Result T OpenFault) → IfOk r (λ d. z.refused ≡ w.refused)
+      all_ok : (r : Result T FileFault) → IfOk r (λ d. z.refused ≡ w.refused)
       all_ok (Ok d) = none_refused
       all_ok (Err fault) = tt
 
@@ -190,28 +220,29 @@ module _ {T D X : Type 0} (is_clean : D → Bool) (failures : D → ℕ) (seen :
 
       long : IsTrue (is_clean g) → length (seen g) ≡ disk_length
       long right = ⊎_elim
-          (λ none. filled right none)
+          (λ none. (filled right none).size)
           (λ size. ⊎_elim
-          (λ zero. filled right (none_if_zero (seen f) (sym zero ∙ size)))
-          (λ all. ⊎_elim (λ none. filled right none) (λ kept. ap length kept ∙ sym size ∙ all) (same right))
+          (λ zero. (filled right (none_if_zero (seen f) (sym zero ∙ size))).size)
+          (λ all. ⊎_elim (λ none. (filled right none).size) (λ kept. ap length kept ∙ sym size ∙ all) (same right))
           lengths)
           measured
 
-      causes : (r : Result T OpenFault) → IfErr r (λ fault. (fault ≡ faults.Memory) ⊎ ((fault ≡ faults.Device) × IsUnfit is_clean failures seen g))
+      causes : (r : Result T FileFault) → IfErr r (IsUnstarted (IsUnfit is_clean failures seen g))
           → IfErr r (IsOpeningCause IsNoStart (HasFailed is_clean failures) path w z)
       causes (Ok d) by = tt
       causes (Err fault) by = start_cause {T = T} is_clean failures seen path (λ d. (history d).trail.now.bytes) IsNoStart g w z none_refused long fault by
 
 -- the same of what may be known
 pub known_unmade : {T : Type 0} (X Failed : Type 0) (path : List ℕ) (history : T → History) (a b : Option Folders) (error : Error)
-    → IfKnown (ActsAt {T = X} (Makes path) (Err error)) a b → IfKnown (OpensOrMakesDisk Failed path history (Err (fault_of_kind (error_kind error)))) a b
-known_unmade X Failed path history a b error call =
-    map_known (ActsAt {T = X} (Makes path) (Err error)) (OpensOrMakesDisk Failed path history (Err (fault_of_kind (error_kind error)))) a b
-    (λ w x by. unmade Failed path history error w x by) call
+    → IfKnown (ActsAt {T = X} (Makes path) (Err error)) a b → SaysWhy {T = X} a path (Err error)
+    → IfKnown (OpensOrMakesDisk Failed path history (Err (fault_of_kind (error_kind error)))) a b
+known_unmade X Failed path history None b error call why = call
+known_unmade X Failed path history (Some w) None error call why = absurd call
+known_unmade X Failed path history (Some w) (Some x) error call why = unmade Failed path history error w x call why
 
 module _ {T X : Type 0} (Failed : Type 0) (path : List ℕ) (history : T → History) (a b c : Option Folders) where
   module _ (done : X) (call : IfKnown (ActsAt {T = X} (Makes path) (Ok done)) a b) where
-    pub known_unmeasured : (fault : OpenFault) → IfKnown (Measures path (Err fault)) b c → IfKnown (OpensOrMakesDisk {T = T} Failed path history (Err fault)) a c
+    pub known_unmeasured : (fault : FileFault) → IfKnown (Measures path (Err fault)) b c → IfKnown (OpensOrMakesDisk {T = T} Failed path history (Err fault)) a c
     known_unmeasured fault measures = chain (ActsAt {T = X} (Makes path) (Ok done)) (Measures path (Err fault)) (OpensOrMakesDisk {T = T} Failed path history (Err fault)) a b c
         (λ w x y one two. unmeasured_makes Failed path history done fault w x y one two) call measures
 
@@ -219,7 +250,7 @@ module _ {T X : Type 0} (Failed : Type 0) (path : List ℕ) (history : T → His
     known_size n some differs measures = chain (ActsAt {T = X} (Makes path) (Ok done)) (Measures path (Ok n)) (OpensOrMakesDisk {T = T} Failed path history (Err (faults.Size n))) a b c
         (λ w x y one two. size_makes Failed path history done n w x y some differs one two) call measures
 
-    pub known_unlocked : {D : Type 0} (seen : D → List ℕ) (n : ℕ) (fault : OpenFault) (d : Option Folders) → IfKnown (Measures path (Ok n)) b c
+    pub known_unlocked : {D : Type 0} (seen : D → List ℕ) (n : ℕ) (fault : FileFault) (d : Option Folders) → IfKnown (Measures path (Ok n)) b c
         → IfKnown (TakesLock path seen (Err fault)) c d → IfKnown (OpensOrMakesDisk {T = T} Failed path history (Err fault)) a d
     known_unlocked seen n fault d measures takes =
         chain_three (ActsAt {T = X} (Makes path) (Ok done)) (Measures path (Ok n)) (TakesLock path seen (Err fault)) (OpensOrMakesDisk {T = T} Failed path history (Err fault)) a b c d
@@ -228,15 +259,15 @@ module _ {T X : Type 0} (Failed : Type 0) (path : List ℕ) (history : T → His
 module _ {T D X : Type 0} (is_clean : D → Bool) (failures : D → ℕ) (seen : D → List ℕ) (path : List ℕ) (history : T → History)
     (done : X) (n : ℕ) (f : D) (a b c d : Option Folders) (call : IfKnown (ActsAt {T = X} (Makes path) (Ok done)) a b)
     (measures : IfKnown (Measures path (Ok n)) b c) (takes : IfKnown (TakesLock path seen (Ok f)) c d) where
-  pub known_unfilled : (error : Error) (g : D) → 0 < failures g → IfKnown (OpensOrMakesDisk {T = T} (HasFailed is_clean failures) path history (Err (fault_of_kind (error_kind error)))) a d
+  pub known_unfilled : (error : Error) (g : D) → 0 < failures g → IfKnown (OpensOrMakesDisk {T = T} (HasFailed is_clean failures) path history (Err (fault_of_found (error_kind error)))) a d
   known_unfilled error g failed = chain_three (ActsAt {T = X} (Makes path) (Ok done)) (Measures path (Ok n)) (TakesLock path seen (Ok f))
-      (OpensOrMakesDisk {T = T} (HasFailed is_clean failures) path history (Err (fault_of_kind (error_kind error)))) a b c d
+      (OpensOrMakesDisk {T = T} (HasFailed is_clean failures) path history (Err (fault_of_found (error_kind error)))) a b c d
       (λ w x y z one two three. unfilled is_clean failures seen path history done n f w x y z one two three error g failed) call measures takes
 
-  pub known_started : (g : D) (result : Result T OpenFault) → (n ≡ 0) ⊎ (n ≡ disk_length)
-      → (IsTrue (is_clean g) → (seen f ≡ []) ⊎ (seen g ≡ seen f)) → (IsTrue (is_clean g) → seen f ≡ [] → length (seen g) ≡ disk_length)
-      → IfOk result (λ d. (history d).trail.now.bytes ≡ seen g) → IfOk result (λ d. IsTrue (history d).honest → IsTrue (is_clean g))
-      → IfErr result (λ fault. (fault ≡ faults.Memory) ⊎ ((fault ≡ faults.Device) × IsUnfit is_clean failures seen g))
+  pub known_started : (g : D) (result : Result T FileFault) → (n ≡ 0) ⊎ (n ≡ disk_length)
+      → (IsTrue (is_clean g) → (seen f ≡ []) ⊎ (seen g ≡ seen f)) → (IsTrue (is_clean g) → seen f ≡ [] → IsZeroed (seen g))
+      → IfOk result (λ d. (history d).trail ≡ fresh_trail (seen g)) → IfOk result (λ d. IsTrue (history d).honest → IsTrue (is_clean g))
+      → IfErr result (IsUnstarted (IsUnfit is_clean failures seen g))
       → IfKnown (OpensOrMakesDisk {T = T} (HasFailed is_clean failures) path history result) a d
   known_started g result lengths same filled began clean cause = chain_three (ActsAt {T = X} (Makes path) (Ok done)) (Measures path (Ok n)) (TakesLock path seen (Ok f))
       (OpensOrMakesDisk {T = T} (HasFailed is_clean failures) path history result) a b c d

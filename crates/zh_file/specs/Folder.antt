@@ -4,7 +4,9 @@ use Rattle.std.specs.declared.io.Error.{Error}
 use Rattle.sqlite_std_file.specs.declared.pair.OpenError.{OpenError}
 use Rattle.sqlite_std_file.specs.declared.pair.OpenError.TheVariants as opening
 use Rattle.zh_world.specs.Places.{Places, Standing, bytes_of, companion_of, found_at, IsSameOrMade}
-use Rattle.zh_world.specs.Places.Standing.{nothing, file, other}
+use Rattle.std.specs.IoError.{error_kind}
+use Rattle.zh_world.specs.Causes.{IsCauseAt, cause_of}
+use Rattle.zh_world.specs.Places.Standing.{nothing, file, folder, other}
 use Rattle.zh_file.specs.declared.folder.Found.{Found}
 use Rattle.zh_file.specs.declared.folder.Found.TheVariants as kinds
 
@@ -38,8 +40,15 @@ pub record ActsAt {T : Type 0} (does : Places → Places → Type 0) (result : R
 -- a file of so many bytes stands there, or something that is no file
 abbrev pub IsKind : Standing → Found → Type 0
 IsKind (file bytes) (kinds.File n) = n ≡ length bytes
+IsKind folder kinds.Folder = Unit {0}
 IsKind other kinds.Other = Unit {0}
 IsKind standing kind = ⊥
+
+-- the error of a call at a path is right about what stands there, where that is known
+abbrev pub SaysWhy : {T : Type 0} → Option Folders → List ℕ → Result T Error → Type 0
+SaysWhy None path result = Unit {0}
+SaysWhy (Some now) path (Ok done) = Unit {0}
+SaysWhy (Some now) path (Err error) = IsCauseAt (found_at now.places path) (cause_of (error_kind error))
 
 -- an empty file was made at this path where nothing stood, or nothing was
 pub record Makes (path : List ℕ) (old new : Places) : Type 0 where

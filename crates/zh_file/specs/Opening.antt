@@ -1,36 +1,39 @@
 -- What the opening of a disk leaves of a folder, and which fault has which cause.
-use Rattle.std.specs.Prelude.{◌≡◌, ◌≢◌, ◌⊎◌, ◌<◌, ◌+◌, ℕ, Bool, IsTrue, List, length, Result, IfOk, IfErr}
+use Rattle.std.specs.Prelude.{◌≡◌, ◌≢◌, ◌⊎◌, ◌<◌, ◌+◌, ℕ, Bool, IsTrue, List, Result, IfOk, IfErr}
 use Rattle.zh_disk.specs.Disk.{disk_length}
 use Rattle.zh_disk.specs.History.{History}
-use Rattle.zh_world.specs.Places.{Places, Standing, found_at, IsBare, TouchesOnly}
-use Rattle.zh_world.specs.Places.Standing.{file, other}
+use Rattle.zh_world.specs.Causes.{IsCauseAt, IsLength}
+use Rattle.zh_world.specs.Files.{BeginsWith}
+use Rattle.zh_world.specs.Places.{Places, Standing, bytes_of, found_at, TouchesOnly}
+use Rattle.zh_world.specs.Places.Standing.{file, folder, other}
 use Rattle.zh_file.specs.Folder.{Folders}
-use Rattle.zh_file.specs.declared.fault.OpenFault.{OpenFault}
-use Rattle.zh_file.specs.declared.fault.OpenFault.TheVariants as faults
+use Rattle.zh_world.specs.declared.fault.FileFault.{FileFault}
+use Rattle.zh_world.specs.declared.fault.FileFault.TheVariants as faults
 
 -- everything stands where it stood
 pub record AreSame (old new : Places) : Type 0 where
   pub leads : new.leads ≡ old.leads
   pub stands : (place : List ℕ) → new.stands place ≡ old.stands place
 
--- a file of so many bytes stands there
-abbrev pub IsLength : Standing → ℕ → Type 0
-IsLength (file bytes) n = n ≡ length bytes
-IsLength standing n = ⊥
+-- what stands there is no file
+abbrev pub IsNoFile : Standing → Type 0
+IsNoFile standing = (standing ≡ folder) ⊎ (standing ≡ other)
 
 -- A file whose answers were right has failed a call. It is the one that was locked.
 abbrev pub HasFailed : {D : Type 0} → (D → Bool) → (D → ℕ) → Type 0
 HasFailed {D} is_clean failures = (after : D) × (IsTrue (is_clean after) → 0 < failures after)
 
--- Why there is no disk. `IsRefused` says which lengths are none of a disk, and `Failed` that a call of its file failed.
+-- Why there is no disk. `IsRefused` says which lengths are none of a disk, and `Failed` that a call of its file failed. A cause
+-- is right about what stood at the path.
 -- Where the length is wrong nothing was made or removed.
-abbrev pub IsOpeningCause : (ℕ → Type 0) → Type 0 → List ℕ → Folders → Folders → OpenFault → Type 0
+abbrev pub IsOpeningCause : (ℕ → Type 0) → Type 0 → List ℕ → Folders → Folders → FileFault → Type 0
 IsOpeningCause IsRefused Failed path old new faults.Memory = Unit {0}
 IsOpeningCause IsRefused Failed path old new (faults.Size n) =
     IsLength (found_at old.places path) n × IsRefused n × AreSame old.places new.places
 IsOpeningCause IsRefused Failed path old new faults.Busy = new.refused ≡ old.refused + 1
-IsOpeningCause IsRefused Failed path old new faults.Device =
-    (new.refused ≡ old.refused) × ((old.failed < new.failed) ⊎ ((found_at old.places path ≡ other) ⊎ Failed))
+IsOpeningCause IsRefused Failed path old new (faults.Device cause) =
+    (new.refused ≡ old.refused) × IsCauseAt (found_at old.places path) cause
+    × ((old.failed < new.failed) ⊎ (IsNoFile (found_at old.places path) ⊎ Failed))
 
 -- none of a disk's length
 abbrev pub IsNoDisk : ℕ → Type 0
@@ -42,7 +45,7 @@ IsNoStart n = (n ≢ disk_length) × (n ≢ 0)
 
 -- The disk that is there at this path was opened, and `bytes` are those that it begins with; or it was not. What stands there
 -- is as it was.
-pub record OpensDisk {T : Type 0} (Failed : Type 0) (path : List ℕ) (bytes : T → List ℕ) (result : Result T OpenFault)
+pub record OpensDisk {T : Type 0} (Failed : Type 0) (path : List ℕ) (bytes : T → List ℕ) (result : Result T FileFault)
     (old new : Folders) : Type 0 where
   pub touches : TouchesOnly path old.places new.places
   pub kept : found_at new.places path ≡ found_at old.places path
@@ -50,11 +53,11 @@ pub record OpensDisk {T : Type 0} (Failed : Type 0) (path : List ℕ) (bytes : T
   pub refused : IfOk result (λ disk. new.refused ≡ old.refused)
   pub cause : IfErr result (IsOpeningCause IsNoDisk Failed path old new)
 
--- The same of a disk that is made where there is none, or where an empty file is: its file is then filled.
-pub record OpensOrMakesDisk {T : Type 0} (Failed : Type 0) (path : List ℕ) (history : T → History) (result : Result T OpenFault)
+-- The same of a disk that is made where there is none, or where an empty file is: its file is then filled, with zeros.
+pub record OpensOrMakesDisk {T : Type 0} (Failed : Type 0) (path : List ℕ) (history : T → History) (result : Result T FileFault)
     (old new : Folders) : Type 0 where
   pub touches : TouchesOnly path old.places new.places
   pub opened : IfOk result (λ disk. IsTrue (history disk).honest
-      → (found_at old.places path ≡ file (history disk).trail.now.bytes) ⊎ IsBare (found_at old.places path))
+      → (¬ IsNoFile (found_at old.places path)) × BeginsWith (bytes_of (found_at old.places path)) (history disk).trail)
   pub refused : IfOk result (λ disk. new.refused ≡ old.refused)
   pub cause : IfErr result (IsOpeningCause IsNoStart Failed path old new)

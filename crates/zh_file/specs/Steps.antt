@@ -2,11 +2,14 @@
 use Rattle.std.specs.Prelude.{◌≡◌, ◌⊎◌, ◌<◌, ◌≤◌, ◌+◌, ℕ, List, [], Bool, IsTrue, Result, IfOk, IfErr, length}
 use Rattle.zh_disk.specs.Disk.{disk_length}
 use Rattle.zh_world.specs.Places.{Places, companion_of, found_at}
-use Rattle.zh_world.specs.Places.Standing.{file, nothing, other}
+use Rattle.zh_world.specs.Places.Standing.{file, nothing}
 use Rattle.zh_file.specs.Folder.{Folders, MakesBoth}
-use Rattle.zh_file.specs.Opening.{IsLength}
-use Rattle.zh_file.specs.declared.fault.OpenFault.{OpenFault}
-use Rattle.zh_file.specs.declared.fault.OpenFault.TheVariants as faults
+use Rattle.zh_file.specs.Opening.{IsNoFile}
+use Rattle.zh_world.specs.Causes.{IsCauseAt, IsLength}
+use Rattle.zh_world.specs.declared.fault.FileCause.{FileCause}
+use Rattle.zh_world.specs.declared.fault.FileCause.TheVariants as causes
+use Rattle.zh_world.specs.declared.fault.FileFault.{FileFault}
+use Rattle.zh_world.specs.declared.fault.FileFault.TheVariants as faults
 
 -- no lock was refused, and no failure is forgotten
 pub record GoesAhead (old new : Folders) : Type 0 where
@@ -14,13 +17,14 @@ pub record GoesAhead (old new : Folders) : Type 0 where
   pub refused : new.refused ≡ old.refused
 
 -- why a file was not measured: a call failed, or none stands there
-abbrev pub IsUnmeasured : List ℕ → Folders → Folders → OpenFault → Type 0
+abbrev pub IsUnmeasured : List ℕ → Folders → Folders → FileFault → Type 0
 IsUnmeasured path old new faults.Memory = Unit {0}
-IsUnmeasured path old new faults.Device = (old.failed < new.failed) ⊎ (found_at old.places path ≡ other)
+IsUnmeasured path old new (faults.Device cause) =
+    IsCauseAt (found_at old.places path) cause × ((old.failed < new.failed) ⊎ IsNoFile (found_at old.places path))
 IsUnmeasured path old new fault = ⊥
 
 -- the file at this path was measured, or not
-pub record Measures (path : List ℕ) (result : Result ℕ OpenFault) (old new : Folders) : Type 0 where
+pub record Measures (path : List ℕ) (result : Result ℕ FileFault) (old new : Folders) : Type 0 where
   pub same : new.places ≡ old.places
   pub goes : GoesAhead old new
   pub length : IfOk result (IsLength (found_at old.places path))
@@ -38,15 +42,22 @@ pub record LeavesCompanion (path : List ℕ) (old new : Folders) : Type 0 where
   pub clears : ClearsCompanion path old.places new.places
   pub goes : GoesAhead old new
 
+-- this cause says nothing of what stands at the path
+abbrev pub IsSilent : FileCause → Type 0
+IsSilent causes.Missing = ⊥
+IsSilent causes.Folder = ⊥
+IsSilent causes.Special = ⊥
+IsSilent cause = Unit {0}
+
 -- why a disk was not locked
-abbrev pub IsUnlocked : Folders → Folders → OpenFault → Type 0
+abbrev pub IsUnlocked : Folders → Folders → FileFault → Type 0
 IsUnlocked old new faults.Memory = Unit {0}
 IsUnlocked old new faults.Busy = new.refused ≡ old.refused + 1
-IsUnlocked old new faults.Device = (new.refused ≡ old.refused) × (old.failed < new.failed)
+IsUnlocked old new (faults.Device cause) = (new.refused ≡ old.refused) × IsSilent cause × (old.failed < new.failed)
 IsUnlocked old new fault = ⊥
 
 -- a disk was locked, and its companion looked at; or it was not
-pub record TakesLock {T : Type 0} (path : List ℕ) (seen : T → List ℕ) (result : Result T OpenFault) (old new : Folders) : Type 0 where
+pub record TakesLock {T : Type 0} (path : List ℕ) (seen : T → List ℕ) (result : Result T FileFault) (old new : Folders) : Type 0 where
   pub mid : Places
   pub made : MakesBoth path old.places mid
   pub clears : ClearsCompanion path mid new.places
@@ -57,6 +68,12 @@ pub record TakesLock {T : Type 0} (path : List ℕ) (seen : T → List ℕ) (res
 pub record IsUnfit {D : Type 0} (is_clean : D → Bool) (failures : D → ℕ) (seen : D → List ℕ) (before : D) : Type 0 where
   pub after : D
   pub cause : IsTrue (is_clean after) → IsTrue (is_clean before) × ((0 < failures after) ⊎ (length (seen before) ≡ disk_length → ⊥))
+
+-- the fault of such a file
+abbrev pub IsUnstarted : Type 0 → FileFault → Type 0
+IsUnstarted Unfit faults.Memory = Unit {0}
+IsUnstarted Unfit (faults.Device cause) = IsSilent cause × Unfit
+IsUnstarted Unfit fault = ⊥
 
 -- a file that was not filled: unless its sync failed, or its setting back too, it is as it was
 abbrev pub IsSetBack : {D : Type 0} → (D → List ℕ) → (D → Bool) → (D → ℕ) → D → D → Type 0

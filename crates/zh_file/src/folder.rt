@@ -2,7 +2,7 @@
 ghost use Rattle.std.specs.Prelude.{◌≡◌, ℕ, List, Option, IfOk, IfSome, IsTrue, string_bytes};
 ghost use Rattle.sqlite_disk.specs.Disk.{Only};
 ghost use Rattle.zh_world.specs.Places.{IfKnown, companion_of, found_at};
-ghost use Rattle.zh_file.specs.Folder.{LooksAt, ActsAt, Folders, IsEmptyFile, IsKind, Locks, Makes, Removes, bytes_known};
+ghost use Rattle.zh_file.specs.Folder.{LooksAt, ActsAt, Folders, IsEmptyFile, IsKind, Locks, Makes, Removes, SaysWhy, bytes_known};
 
 use sqlite_disk::{Disk as File, Files};
 use sqlite_std_file::OpenError;
@@ -13,7 +13,8 @@ use std::io::{self, Read};
 pub enum Found {
     /// A regular file of so many bytes.
     File(u64),
-    /// A folder, a pipe, a device ..
+    Folder,
+    /// A pipe, a device ..
     Other,
 }
 
@@ -35,10 +36,11 @@ pub trait Folder {
     /// The bytes of a disk's file at this path when it is locked, where they are known; none where there is no file.
     ghost disk_at: { Self → List ℕ → Option (List ℕ) };
 
-    /// What stands at this path. It fails where nothing does.
+    /// What stands at this path. It fails where nothing does: an error that says so, or that it is a folder, is right.
     fn kind(&mut self, path: &str) -> io::Result<Found>
         ensures disks { disk_at self.new ≡ disk_at self.old }
-        ensures call { IfKnown (LooksAt (λ places. IsKind (found_at places path.now)) result) (known self.old) (known self.new) };
+        ensures call { IfKnown (LooksAt (λ places. IsKind (found_at places path.now)) result) (known self.old) (known self.new) }
+        ensures why { SaysWhy (known self.old) path.now result };
 
     /// The path of the companion of the disk at this path, with no link in it.
     fn companion(&mut self, path: &str) -> io::Result<String>
@@ -50,12 +52,14 @@ pub trait Folder {
     fn text(&mut self, path: &str) -> io::Result<Self::Text>
         ensures disks { disk_at self.new ≡ disk_at self.old }
         ensures bytes { IfOk result (λ text. Self.Text.remaining text ≡ bytes_known (known self.old) path.now) }
-        ensures call { IfKnown (LooksAt (λ _ _. Unit {0}) result) (known self.old) (known self.new) };
+        ensures call { IfKnown (LooksAt (λ _ _. Unit {0}) result) (known self.old) (known self.new) }
+        ensures why { SaysWhy (known self.old) path.now result };
 
     /// Makes an empty file, if nothing stands at this path.
     fn make(&mut self, path: &str) -> io::Result<()>
         ensures disks { disk_at self.new ≡ disk_at self.old }
-        ensures call { IfKnown (ActsAt (Makes path.now) result) (known self.old) (known self.new) };
+        ensures call { IfKnown (ActsAt (Makes path.now) result) (known self.old) (known self.new) }
+        ensures why { SaysWhy (known self.old) path.now result };
 
     /// Opens and locks the disk at this path, and its companion: for this program alone, until both are dropped. Each is made
     /// where it is missing. The device has what a read gives.

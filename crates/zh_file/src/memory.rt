@@ -1,76 +1,115 @@
-//! A folder in memory, for tests: nothing is claimed of what stands in it.
-ghost use Rattle.std.specs.Prelude.{◌≡◌, None, IfOk, IsTrue};
-ghost use Rattle.std.specs.Io.{ReadsAtMost};
+//! A folder in memory, for tests.
+ghost use Rattle.std.specs.Prelude.{◌≡◌, ◌≢◌, ◌⊎◌, ◌-◌, ◌++◌, ◌↔◌, ℕ, List, codes, length, string_bytes};
+ghost use Rattle.std.specs.Prelude.{None, Some, Err, IfErr, IfOk, IfSome, IsErr, IsTrue, MatchOption, OnErr, OnOk};
+ghost use Rattle.std.specs.IoError.{error_kind};
 ghost use Rattle.sqlite_disk.specs.Disk.{Only};
+ghost use Rattle.sqlite_disk.specs.Fuse.{calls_left};
+ghost use Rattle.zh_world.specs.Causes.{IsCauseAt, cause_of};
+ghost use Rattle.zh_world.specs.Places.{IfKnown, IsSameOrMade, companion_of, found_at};
+ghost use Rattle.zh_world.specs.Places.Standing.{nothing, file as filed};
+ghost use Rattle.zh_file.specs.Folder.{ActsAt, IsCounted, IsCountedLock, IsEmptyFile, IsKind, Locks, LooksAt, Makes, MakesBoth};
+ghost use Rattle.zh_file.specs.Folder.{Removes, SaysWhy, bytes_known};
+ghost use Rattle.zh_file.specs.MemoryFolder.{PutsAt, Spends, disk_in, folders_of, standing_at, stood_as, placed_at};
 
 use crate::folder::{Folder, Found};
 use sqlite_disk::{Disk as File, Files, Fuse, Memory};
 use sqlite_std_file::OpenError;
-use std::alloc::Global;
-use std::io::{self, ErrorKind, Read};
+use std::alloc::{AllocError, Global};
+use std::io::{self, Cursor, ErrorKind, Read};
 use std::marker::PhantomData;
+use zh_world::CallCount;
 
 /// What stands at a path.
 #[derive(Drop)]
 pub enum Stood {
     File(Vec<u8>),
     Other,
+    Nothing,
 }
 
 /// A path, and what stands there.
 #[derive(Drop)]
 pub struct Placed {
-    pub path: String,
-    pub stood: Stood,
-}
-
-/// The bytes of a file, which are read one at a time.
-#[derive(Drop)]
-pub struct MemoryBytes {
-    bytes: Vec<u8>,
-    next: usize,
-}
-
-impl Read for MemoryBytes {
-    fn read(&mut self, buf: &mut [u8]) -> io::Result<usize> {
-        let (Some(byte), Some(first)) = (self.bytes.get(self.next), buf.first_mut()) else {
-            return Ok(0);
-        };
-        *first = *byte;
-        self.next = self.next.saturating_add(1);
-        Ok(1)
-    }
+    path: String,
+    stood: Stood,
 }
 
 /// A folder in memory, without links. So many calls pass, and then each one fails.
 #[derive(Drop)]
 pub struct MemoryFolder<R> {
     alloc: Global,
-    pub placed: Vec<Placed>,
+    // the latest first
+    placed: Vec<Placed>,
     /// How many calls pass.
     pub calls: u64,
     /// How many calls of a file pass.
     pub file_calls: u64,
     /// Another has the lock of each disk.
     pub is_busy: bool,
+    // how many calls failed, and how many locks were refused
+    failed: CallCount,
+    refused: CallCount,
     // what the right to a disk is
     right: PhantomData<R>,
 }
 
+/// What was placed at this path, of several the first.
+fn stood_at<'a>(all: &'a [Placed], path: &str) -> Option<&'a Stood>
+    ensures { MatchOption result (placed_at all.now path.now ≡ nothing) (λ stood. placed_at all.now path.now ≡ stood_as stood.now) }
+{
+    let (first, others) = all.split_first()?;
+    if first.path.as_str() == path {
+        return Some(&first.stood);
+    }
+    stood_at(others, path)
+}
+
 impl<R> MemoryFolder<R> {
     /// Where nothing stands. So many calls pass that none of a test fails.
-    pub fn new(alloc: Global) -> MemoryFolder<R> {
+    pub fn new(alloc: Global) -> MemoryFolder<R>
+        ensures { (path : List ℕ) → standing_at result path ≡ nothing }
+    {
         MemoryFolder {
             alloc,
             placed: Vec::new(alloc),
             calls: u64::MAX,
             file_calls: u64::MAX,
             is_busy: false,
+            failed: CallCount::new(),
+            refused: CallCount::new(),
             right: PhantomData,
         }
     }
 
-    fn pass(&mut self) -> io::Result<()> {
+    /// PutsAt this at a path, in place of what stands there.
+    pub fn put(&mut self, path: &str, stood: Stood) -> Result<(), AllocError>
+        ensures put { OnOk result (PutsAt path.now (stood_as stood) self.old self.new) }
+        ensures rest { self.new ≡ record self.old { placed = self.new.placed } }
+        ensures err { OnErr result (standing_at self.new ≡ standing_at self.old) }
+    {
+        let path = String::from_str(self.alloc, path)?;
+        self.placed.insert(0, Placed { path, stood })?;
+        Ok(())
+    }
+
+    /// The length of the file at this path.
+    pub fn length_at(&self, path: &str) -> Option<u64>
+        ensures { MatchOption result ((bytes : List ℕ) → standing_at self.now path.now ≢ filed bytes)
+            (λ n. (bytes : List ℕ) × (standing_at self.now path.now ≡ filed bytes) × (n ≡ length bytes)) }
+    {
+        match stood_at(&self.placed, path) {
+            Some(Stood::File(bytes)) => Some(bytes.len() as u64),
+            _ => None,
+        }
+    }
+
+    /// Counts a call down.
+    fn pass(&mut self) -> io::Result<()>
+        ensures same { self.new ≡ record self.old { calls = self.new.calls } }
+        ensures spent { self.new.calls ≡ self.old.calls - 1 }
+        ensures blown { IsErr result ↔ (self.old.calls ≡ 0) }
+        ensures kind { IfErr result (λ error. error_kind error ≡ ErrorKind.Other) }
+    {
         match self.calls.checked_sub(1) {
             Some(left) => {
                 self.calls = left;
@@ -80,37 +119,59 @@ impl<R> MemoryFolder<R> {
         }
     }
 
-    fn at(&self, path: &str) -> Option<&Stood> {
-        let found = self.placed.iter().find(|it| it.path.as_str() == path)?;
-        Some(&found.stood)
+    /// Notes whether a call that is no lock failed.
+    fn note<T>(&mut self, done: io::Result<T>) -> io::Result<T>
+        ensures result { result ≡ done }
+        ensures rest { self.new ≡ record self.old { failed = self.new.failed } }
+        ensures counted { IsCounted done (folders_of self.old) (folders_of self.new) }
+    {
+        if done.is_err() {
+            self.failed.add();
+        }
+        done
     }
 
     /// A copy of the bytes of the file at this path.
-    fn bytes_at(&self, path: &str) -> io::Result<Vec<u8>> {
-        match self.at(path) {
+    fn bytes_at(&self, path: &str) -> io::Result<Vec<u8>>
+        ensures bytes { IfOk result (λ bytes. standing_at self.now path.now ≡ filed bytes.items) }
+        ensures cause { IfErr result (λ error. (error_kind error ≡ ErrorKind.OutOfMemory)
+            ⊎ ((bytes : List ℕ) → standing_at self.now path.now ≢ filed bytes)) }
+        ensures why { IfErr result (λ error. IsCauseAt (standing_at self.now path.now) (cause_of (error_kind error))) }
+    {
+        match stood_at(&self.placed, path) {
             Some(Stood::File(bytes)) => Ok(bytes.clone()?),
             Some(Stood::Other) => Err(ErrorKind::Unsupported.into()),
-            None => Err(ErrorKind::NotFound.into()),
+            Some(Stood::Nothing) | None => Err(ErrorKind::NotFound.into()),
         }
     }
 
+    /// Whether nothing stands at this path.
+    fn is_free(&self, path: &str) -> bool
+        ensures { IsTrue result ↔ (standing_at self.now path.now ≡ nothing) }
+    {
+        matches!(stood_at(&self.placed, path), None | Some(Stood::Nothing))
+    }
+
     /// Makes an empty file, if nothing stands at this path.
-    pub fn place(&mut self, path: &str) -> io::Result<()> {
-        if self.at(path).is_none() {
-            let placed = Placed {
-                path: String::from_str(self.alloc, path)?,
-                stood: Stood::File(Vec::new(self.alloc)),
-            };
-            self.placed.push(placed)?;
+    fn place(&mut self, path: &str) -> Result<(), AllocError>
+        ensures made { IsSameOrMade (standing_at self.old path.now) (standing_at self.new path.now) }
+        ensures others { (place : List ℕ) → place ≢ path.now → standing_at self.new place ≡ standing_at self.old place }
+        ensures rest { self.new ≡ record self.old { placed = self.new.placed } }
+        ensures there { OnOk result (standing_at self.new path.now ≢ nothing) }
+    {
+        if self.is_free(path) {
+            return self.put(path, Stood::File(Vec::new(self.alloc)));
         }
         Ok(())
     }
 
     /// The file at this path as it is synced.
     fn file_at(&self, path: &str) -> io::Result<Fuse<Memory>>
+        ensures bytes { IfOk result (λ file. standing_at self.now path.now ≡ filed (⟦<Fuse<Memory> as File>⟧.seen file)) }
         ensures usable { IfOk result (λ file. IsTrue (⟦<Fuse<Memory> as File>⟧.is_usable file)) }
         ensures synced { IfOk result (λ file. Only (⟦<Fuse<Memory> as File>⟧.seen file) (⟦<Fuse<Memory> as File>⟧.may_leave file)) }
         ensures unfailed { IfOk result (λ file. ⟦<Fuse<Memory> as File>⟧.faults file ≡ 0) }
+        ensures calls { IfOk result (λ file. calls_left file ≡ self.now.file_calls) }
     {
         let bytes = self.bytes_at(path)?;
         let mut file = Memory::new(self.alloc);
@@ -118,52 +179,71 @@ impl<R> MemoryFolder<R> {
         file.sync()?;
         Ok(Fuse::new(file, self.file_calls))
     }
-}
 
-impl<R: Drop> Folder for MemoryFolder<R> {
-    type Text = MemoryBytes;
+    /// The companion's path.
+    fn beside(&self, path: &str) -> Result<String, AllocError>
+        ensures { IfOk result (λ name. string_bytes name ≡ path.now ++ codes "-wal") }
+    {
+        format!(in self.alloc; "{path}-wal")
+    }
 
-    type File = Fuse<Memory>;
-
-    type Right = R;
-
-    ghost known = { λ folder. None };
-
-    ghost disk_at = { λ folder path. None };
-
-    fn kind(&mut self, path: &str) -> io::Result<Found> {
+    fn kind_at(&mut self, path: &str) -> io::Result<Found>
+        ensures rest { self.new ≡ record self.old { calls = self.new.calls } }
+        ensures spends { Spends (standing_at self.old path.now ≡ nothing) result self.old self.new }
+        ensures said { IfOk result (IsKind (standing_at self.old path.now)) }
+        ensures why { IfErr result (λ error. IsCauseAt (standing_at self.old path.now) (cause_of (error_kind error))) }
+    {
         self.pass()?;
-        match self.at(path) {
+        match stood_at(&self.placed, path) {
             Some(Stood::File(bytes)) => Ok(Found::File(bytes.len() as u64)),
             Some(Stood::Other) => Ok(Found::Other),
-            None => Err(ErrorKind::NotFound.into()),
+            Some(Stood::Nothing) | None => Err(ErrorKind::NotFound.into()),
         }
     }
 
-    fn companion(&mut self, path: &str) -> io::Result<String> {
+    fn companion_at(&mut self, path: &str) -> io::Result<String>
+        ensures rest { self.new ≡ record self.old { calls = self.new.calls } }
+        ensures spends { Spends ⊥ result self.old self.new }
+        ensures said { IfOk result (λ name. string_bytes name ≡ path.now ++ codes "-wal") }
+    {
         self.pass()?;
-        Ok(format!(in self.alloc; "{path}-wal")?)
+        Ok(self.beside(path)?)
     }
 
-    fn text(&mut self, path: &str) -> io::Result<MemoryBytes> {
+    fn text_at(&mut self, path: &str) -> io::Result<Cursor<Vec<u8>>>
+        ensures rest { self.new ≡ record self.old { calls = self.new.calls } }
+        ensures spends { Spends ((bytes : List ℕ) → standing_at self.old path.now ≢ filed bytes) result self.old self.new }
+        ensures said { IfOk result (λ text. ⟦<Cursor<Vec<u8>> as Read>⟧.remaining text ≡ disk_in self.old path.now) }
+        ensures why { IfErr result (λ error. IsCauseAt (standing_at self.old path.now) (cause_of (error_kind error))) }
+    {
         self.pass()?;
-        Ok(MemoryBytes {
-            bytes: self.bytes_at(path)?,
-            next: 0,
-        })
+        Ok(Cursor::new(self.bytes_at(path)?))
     }
 
-    fn make(&mut self, path: &str) -> io::Result<()> {
+    fn make_at(&mut self, path: &str) -> io::Result<()>
+        ensures rest { self.new ≡ record self.old { calls = self.new.calls; placed = self.new.placed } }
+        ensures spends { Spends ⊥ result self.old self.new }
+        ensures made { IsSameOrMade (standing_at self.old path.now) (standing_at self.new path.now) }
+        ensures others { (place : List ℕ) → place ≢ path.now → standing_at self.new place ≡ standing_at self.old place }
+        ensures there { OnOk result (standing_at self.new path.now ≢ nothing) }
+        ensures why { IfErr result (λ error. IsCauseAt (standing_at self.old path.now) (cause_of (error_kind error))) }
+    {
         self.pass()?;
-        self.place(path)
+        Ok(self.place(path)?)
     }
 
-    fn lock(&mut self, _right: R, path: &str) -> Result<Files<Fuse<Memory>>, OpenError> {
-        self.pass()?;
-        if self.is_busy {
-            return Err(OpenError::Busy);
-        }
-        let companion = format!(in self.alloc; "{path}-wal")?;
+    /// The disk at this path and its companion, each made where nothing stands.
+    fn both_at(&mut self, path: &str) -> io::Result<Files<Fuse<Memory>>>
+        ensures rest { self.new ≡ record self.old { placed = self.new.placed } }
+        ensures made { MakesBoth path.now (folders_of self.old).places (folders_of self.new).places }
+        ensures locked { IfOk result (λ files. standing_at self.new path.now ≡ filed (⟦<Fuse<Memory> as File>⟧.seen files.db)) }
+        ensures usable { IfOk result (λ files. IsTrue (⟦<Fuse<Memory> as File>⟧.is_usable files.db)) }
+        ensures synced { IfOk result (λ files.
+            Only (⟦<Fuse<Memory> as File>⟧.seen files.db) (⟦<Fuse<Memory> as File>⟧.may_leave files.db)) }
+        ensures unfailed { IfOk result (λ files. ⟦<Fuse<Memory> as File>⟧.faults files.db ≡ 0) }
+        ensures calls { IfOk result (λ files. calls_left files.db ≡ self.old.file_calls) }
+    {
+        let companion = self.beside(path)?;
         self.place(path)?;
         self.place(&companion)?;
         Ok(Files {
@@ -172,9 +252,94 @@ impl<R: Drop> Folder for MemoryFolder<R> {
         })
     }
 
-    fn remove(&mut self, path: &str, _locked: &Files<Fuse<Memory>>) -> io::Result<()> {
+    fn lock_at(&mut self, path: &str) -> Result<Files<Fuse<Memory>>, OpenError>
+        ensures rest { self.new ≡ record self.old { calls = self.new.calls; placed = self.new.placed } }
+        ensures made { MakesBoth path.now (folders_of self.old).places (folders_of self.new).places }
+        ensures locked { IfOk result (λ files. standing_at self.new path.now ≡ filed (⟦<Fuse<Memory> as File>⟧.seen files.db)) }
+        ensures usable { IfOk result (λ files. IsTrue (⟦<Fuse<Memory> as File>⟧.is_usable files.db)) }
+        ensures synced { IfOk result (λ files.
+            Only (⟦<Fuse<Memory> as File>⟧.seen files.db) (⟦<Fuse<Memory> as File>⟧.may_leave files.db)) }
+        ensures unfailed { IfOk result (λ files. ⟦<Fuse<Memory> as File>⟧.faults files.db ≡ 0) }
+        ensures calls { IfOk result (λ files. calls_left files.db ≡ self.old.file_calls) }
+        ensures spent { self.new.calls ≡ self.old.calls - 1 }
+        ensures blown { self.old.calls ≡ 0 → IsErr result × (result ≢ Err OpenError.Busy) }
+        ensures busy { self.old.calls ≢ 0 → (result ≡ Err OpenError.Busy) ↔ IsTrue self.old.is_busy }
+    {
+        if let Err(error) = self.pass() {
+            return Err(OpenError::Io(error));
+        }
+        if self.is_busy {
+            return Err(OpenError::Busy);
+        }
+        match self.both_at(path) {
+            Ok(files) => Ok(files),
+            Err(error) => Err(OpenError::Io(error)),
+        }
+    }
+
+    /// Notes whether a lock failed, or was refused.
+    fn note_lock<T>(&mut self, done: Result<T, OpenError>) -> Result<T, OpenError>
+        ensures result { result ≡ done }
+        ensures rest { self.new ≡ record self.old { failed = self.new.failed; refused = self.new.refused } }
+        ensures counted { IsCountedLock done (folders_of self.old) (folders_of self.new) }
+    {
+        match &done {
+            Ok(_) => {}
+            Err(OpenError::Busy) => self.refused.add(),
+            Err(_) => self.failed.add(),
+        }
+        done
+    }
+
+    fn remove_at(&mut self, path: &str) -> io::Result<()>
+        ensures rest { self.new ≡ record self.old { calls = self.new.calls; placed = self.new.placed } }
+        ensures spends { Spends ⊥ result self.old self.new }
+        ensures removed { OnOk result (PutsAt path.now nothing self.old self.new) }
+        ensures err { OnErr result (standing_at self.new ≡ standing_at self.old) }
+    {
         self.pass()?;
-        self.placed.retain(|it| it.path.as_str() != path);
-        Ok(())
+        Ok(self.put(path, Stood::Nothing)?)
+    }
+}
+
+impl<R: Drop> Folder for MemoryFolder<R> {
+    type Text = Cursor<Vec<u8>>;
+
+    type File = Fuse<Memory>;
+
+    type Right = R;
+
+    ghost known = { λ folder. Some (folders_of folder) };
+
+    ghost disk_at = { disk_in };
+
+    fn kind(&mut self, path: &str) -> io::Result<Found> {
+        let found = self.kind_at(path);
+        self.note(found)
+    }
+
+    fn companion(&mut self, path: &str) -> io::Result<String> {
+        let name = self.companion_at(path);
+        self.note(name)
+    }
+
+    fn text(&mut self, path: &str) -> io::Result<Cursor<Vec<u8>>> {
+        let text = self.text_at(path);
+        self.note(text)
+    }
+
+    fn make(&mut self, path: &str) -> io::Result<()> {
+        let made = self.make_at(path);
+        self.note(made)
+    }
+
+    fn lock(&mut self, _right: R, path: &str) -> Result<Files<Fuse<Memory>>, OpenError> {
+        let locked = self.lock_at(path);
+        self.note_lock(locked)
+    }
+
+    fn remove(&mut self, path: &str, _locked: &Files<Fuse<Memory>>) -> io::Result<()> {
+        let removed = self.remove_at(path);
+        self.note(removed)
     }
 }

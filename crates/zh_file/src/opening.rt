@@ -2,26 +2,28 @@
 ghost use Rattle.std.specs.Prelude.{◌≡◌, ◌≢◌, ◌⊎◌, ◌<◌, length, [], IfErr, IfOk, IfSome, IsTrue};
 ghost use Rattle.sqlite_disk.specs.Disk.{Only};
 ghost use Rattle.zh_disk.specs.Disk.{disk_length, fresh_trail};
+ghost use Rattle.zh_world.specs.Files.{BeginsWith};
 ghost use Rattle.zh_world.specs.Places.{IfKnown, companion_of};
-ghost use Rattle.zh_file.specs.Held.{BeginsOrFills, IsZeroed};
+ghost use Rattle.zh_file.specs.Held.{IsZeroed};
 ghost use Rattle.zh_file.specs.Opening.{HasFailed, OpensDisk, OpensOrMakesDisk};
 ghost use Rattle.zh_file.specs.Steps.{IsSetBack, IsUnfit, LeavesCompanion, Measures, TakesLock};
 ghost use Rattle.zh_file.specs.Stored.{stored_history, IsWhole};
 
-use crate::fault::OpenFault;
+use crate::fault::{fault_of_found, fault_of_opening};
 use crate::folder::{Folder, Found};
 use crate::stored::Stored;
 use crate::zeros::take_space;
 use sqlite_disk::{Disk as File, Files};
 use std::io;
 use zh_disk::DISK_LENGTH;
+use zh_world::{FileCause, FileFault};
 
 /// Opens the file at this path, which has [`DISK_LENGTH`] bytes, for this program alone.
 pub fn open<F: Folder>(
     folder: &mut F,
     right: F::Right,
     path: &str,
-) -> Result<Stored<F::File>, OpenFault>
+) -> Result<Stored<F::File>, FileFault>
     ensures disks { F.disk_at folder.new ≡ F.disk_at folder.old }
     ensures begins { IfOk result (λ d. IfSome (F.disk_at folder.old path.now) (λ bytes. (stored_history d).trail ≡ fresh_trail bytes)) }
     ensures whole { IfOk result IsWhole }
@@ -31,7 +33,7 @@ pub fn open<F: Folder>(
     // What is no disk is left alone: the lock makes a file that is missing, and one beside it.
     let length = length_at(folder, path)?;
     if length != DISK_LENGTH {
-        return Err(OpenFault::Size(length));
+        return Err(FileFault::Size(length));
     }
     let file = lock(folder, right, path)?;
     Stored::start(file)
@@ -45,10 +47,10 @@ pub fn open_or_make<F: Folder>(
     folder: &mut F,
     right: F::Right,
     path: &str,
-) -> Result<Stored<F::File>, OpenFault>
+) -> Result<Stored<F::File>, FileFault>
     ensures disks { F.disk_at folder.new ≡ F.disk_at folder.old }
     ensures begins { IfOk result (λ d. IsTrue (stored_history d).honest
-        → IfSome (F.disk_at folder.old path.now) (λ bytes. BeginsOrFills bytes (stored_history d).trail)) }
+        → IfSome (F.disk_at folder.old path.now) (λ bytes. BeginsWith bytes (stored_history d).trail)) }
     ensures whole { IfOk result IsWhole }
     ensures long { IfOk result (λ d. IsTrue (stored_history d).honest → length (stored_history d).trail.now.bytes ≡ disk_length) }
     ensures opens { IfKnown (OpensOrMakesDisk (HasFailed F.File.is_clean F.File.faults) path.now (λ d. stored_history d) result)
@@ -57,21 +59,24 @@ pub fn open_or_make<F: Folder>(
     folder.make(path)?;
     let length = length_at(folder, path)?;
     if length != 0 && length != DISK_LENGTH {
-        return Err(OpenFault::Size(length));
+        return Err(FileFault::Size(length));
     }
     let mut file = lock(folder, right, path)?;
-    fill(&mut file)?;
-    Stored::start(file)
+    match fill(&mut file) {
+        Ok(()) => Stored::start(file),
+        Err(error) => Err(fault_of_found(error)),
+    }
 }
 
 /// The length of the regular file at this path, or where a link there leads.
-fn length_at<F: Folder>(folder: &mut F, path: &str) -> Result<u64, OpenFault>
+fn length_at<F: Folder>(folder: &mut F, path: &str) -> Result<u64, FileFault>
     ensures disks { F.disk_at folder.new ≡ F.disk_at folder.old }
     ensures measures { IfKnown (Measures path.now result) (F.known folder.old) (F.known folder.new) }
 {
     match folder.kind(path)? {
         Found::File(length) => Ok(length),
-        Found::Other => Err(OpenFault::Device),
+        Found::Folder => Err(FileFault::Device(FileCause::Folder)),
+        Found::Other => Err(FileFault::Device(FileCause::Special)),
     }
 }
 
@@ -100,7 +105,7 @@ fn fill<D: File>(file: &mut D) -> io::Result<()>
 }
 
 /// Opens and locks the file at this path. The device has what a read gives.
-fn lock<F: Folder>(folder: &mut F, right: F::Right, path: &str) -> Result<F::File, OpenFault>
+fn lock<F: Folder>(folder: &mut F, right: F::Right, path: &str) -> Result<F::File, FileFault>
     ensures disks { F.disk_at folder.new ≡ F.disk_at folder.old }
     ensures begins { IfOk result (λ file. IfSome (F.disk_at folder.old path.now) (λ bytes. F.File.seen file ≡ bytes)) }
     ensures usable { IfOk result (λ file. IsTrue (F.File.is_usable file)) }
@@ -108,7 +113,7 @@ fn lock<F: Folder>(folder: &mut F, right: F::Right, path: &str) -> Result<F::Fil
     ensures unfailed { IfOk result (λ file. F.File.faults file ≡ 0) }
     ensures locks { IfKnown (TakesLock path.now F.File.seen result) (F.known folder.old) (F.known folder.new) }
 {
-    let files = folder.lock(right, path)?;
+    let files = folder.lock(right, path).map_err(fault_of_opening)?;
     let _left_there = clear_companion(folder, path, &files);
     Ok(files.db)
 }

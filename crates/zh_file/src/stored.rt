@@ -8,13 +8,14 @@ ghost use Rattle.zh_disk.specs.Disk.{IsSettled, Reads, Writes, Syncs, fresh_trai
 ghost use Rattle.zh_disk.specs.History.{Call, Counts};
 ghost use Rattle.zh_file.specs.Ranges.{pairs};
 
-use crate::fault::OpenFault;
+use crate::fault::fault_of_found;
 use crate::past::Past;
 use crate::ranges::Ranges;
 use sqlite_disk::Disk as File;
 use std::io;
 use std::snapshot::Snapshot;
 use zh_disk::{DISK_LENGTH, Disk, DiskFault};
+use zh_world::{FileCause, FileFault};
 
 /// A file, and the ranges that were written since its last sync, which only clauses read.
 #[derive(Drop)]
@@ -46,22 +47,21 @@ pub struct Stored<D: File + Drop> {
 
 impl<D: File + Drop> Stored<D> {
     ghost use Rattle.zh_file.specs.Stored.{stored_history, is_over};
-    ghost use Rattle.zh_file.specs.Steps.{IsUnfit};
+    ghost use Rattle.zh_file.specs.Steps.{IsUnfit, IsUnstarted};
 
     /// The disk that a file holds, as it was synced. It is to have the length of one.
-    pub(crate) fn start(mut file: D) -> Result<Stored<D>, OpenFault>
+    pub(crate) fn start(mut file: D) -> Result<Stored<D>, FileFault>
         requires usable { IsTrue (D.is_usable file) }
         requires synced { Only (D.seen file) (D.may_leave file) }
         ensures kept { IfOk result (λ d. IsTrue (stored_history d).honest → IsTrue (D.is_clean file)) }
         ensures begins { IfOk result (λ d. (stored_history d).trail ≡ fresh_trail (D.seen file)) }
         ensures failures { IfOk result (λ d. (stored_history d).failures ≡ D.faults file) }
         ensures whole { IfOk result (λ d. is_over d ≡ false) }
-        ensures fault { IfErr result (λ fault. (fault ≡ OpenFault.Memory)
-            ⊎ ((fault ≡ OpenFault.Device) × IsUnfit D.is_clean D.faults D.seen file)) }
+        ensures fault { IfErr result (IsUnstarted (IsUnfit D.is_clean D.faults D.seen file)) }
     {
         // It had the length of a disk when it was locked.
-        if file.len()? as u64 != DISK_LENGTH {
-            return Err(OpenFault::Device);
+        if file.len().map_err(fault_of_found)? as u64 != DISK_LENGTH {
+            return Err(FileFault::Device(FileCause::Failed));
         }
         Ok(Stored {
             held: HeldFile {

@@ -1,10 +1,9 @@
 //! Texts and disks in a folder.
-ghost use Rattle.std.specs.Prelude.{◌≡◌, option_map};
+ghost use Rattle.std.specs.Prelude.{◌≡◌, None, Some, MatchResult, option_map};
 ghost use Rattle.zh_file.specs.Folder.{bytes_known};
 ghost use Rattle.zh_world.specs.Count.{number};
-ghost use Rattle.zh_host.specs.Faults.{fault_of};
 
-use zh_file::{Folder, OpenFault, Stored, open, open_or_make};
+use zh_file::{Folder, Stored, open, open_or_make};
 use zh_world::{CallCount, FileFault, Files};
 
 /// The texts and the disks in a folder.
@@ -12,6 +11,8 @@ use zh_world::{CallCount, FileFault, Files};
 pub struct FolderFiles<F: Folder + Drop> {
     folder: F,
     made: CallCount,
+    // how the last call failed
+    fault: Option<FileFault>,
 }
 
 impl<F: Folder + Drop> FolderFiles<F> {
@@ -19,23 +20,30 @@ impl<F: Folder + Drop> FolderFiles<F> {
     pub fn new(folder: F) -> FolderFiles<F>
         ensures folder { result.folder ≡ folder }
         ensures unmade { number result.made ≡ 0 }
+        ensures unfailed { result.fault ≡ None }
     {
         FolderFiles {
             folder,
             made: CallCount::new(),
+            fault: None,
         }
     }
 }
 
-/// Why a file is no text, or no disk.
-fn fault_of(fault: OpenFault) -> FileFault
-    ensures { result ≡ fault_of fault }
+/// How a call ended, which is noted.
+fn noted<T>(fault: &mut Option<FileFault>, opened: Result<T, FileFault>) -> Result<T, FileFault>
+    ensures same { result ≡ opened }
+    ensures noted { MatchResult result (λ _. fault.new ≡ None) (λ met. fault.new ≡ Some met) }
 {
-    match fault {
-        OpenFault::Memory => FileFault::Memory,
-        OpenFault::Device => FileFault::Device,
-        OpenFault::Size(length) => FileFault::Size(length),
-        OpenFault::Busy => FileFault::Busy,
+    match opened {
+        Ok(it) => {
+            *fault = None;
+            Ok(it)
+        }
+        Err(met) => {
+            *fault = Some(met);
+            Err(met)
+        }
     }
 }
 
@@ -54,20 +62,23 @@ impl<F: Folder + Drop> Files for FolderFiles<F> {
 
     ghost calls = { λ files. number files.made };
 
+    ghost fault = { λ files. files.fault };
+
     fn text(&mut self, path: &str) -> Result<F::Text, FileFault> {
         self.made.add();
-        self.folder
-            .text(path)
-            .map_err(|error| fault_of(error.into()))
+        let opened = self.folder.text(path).map_err(FileFault::from);
+        noted(&mut self.fault, opened)
     }
 
     fn disk(&mut self, right: F::Right, path: &str) -> Result<Stored<F::File>, FileFault> {
         self.made.add();
-        open(&mut self.folder, right, path).map_err(fault_of)
+        let opened = open(&mut self.folder, right, path);
+        noted(&mut self.fault, opened)
     }
 
     fn disk_or_make(&mut self, right: F::Right, path: &str) -> Result<Stored<F::File>, FileFault> {
         self.made.add();
-        open_or_make(&mut self.folder, right, path).map_err(fault_of)
+        let opened = open_or_make(&mut self.folder, right, path);
+        noted(&mut self.fault, opened)
     }
 }

@@ -43,6 +43,8 @@ impl<S: Start> Folder for HostFolder<'_, S> {
         let found = fs::metadata(self.rt, path)?;
         Ok(if found.is_file() {
             Found::File(found.len())
+        } else if found.is_dir() {
+            Found::Folder
         } else {
             Found::Other
         })
@@ -54,7 +56,12 @@ impl<S: Start> Folder for HostFolder<'_, S> {
     }
 
     fn text(&mut self, path: &str) -> io::Result<File> {
-        File::open(self.rt, path)
+        // The system opens a folder, and only a read of it fails.
+        let text = File::open(self.rt, path)?;
+        if text.metadata()?.is_dir() {
+            return Err(ErrorKind::IsADirectory.into());
+        }
+        Ok(text)
     }
 
     fn make(&mut self, path: &str) -> io::Result<()> {

@@ -1,7 +1,8 @@
 -- What is known of a file by its path.
-use Rattle.std.specs.Prelude.{◌≡◌, ◌+◌, ◌⊎◌, ℕ, List, [], Option, IfSome, IsTrue}
-use Rattle.zh_disk.specs.Disk.{fresh_trail}
+use Rattle.std.specs.Prelude.{◌≡◌, ◌+◌, ℕ, List, [], Option, IfSome, IsTrue}
+use Rattle.zh_disk.specs.Disk.{Trail, fresh_trail}
 use Rattle.zh_disk.specs.History.{History}
+use Rattle.zh_disk.specs.Memory.{IsNewDisk}
 use Rattle.zh_world.specs.Places.{Places}
 
 -- One call was made of files, of whose texts and disks the same is known after it.
@@ -23,8 +24,12 @@ pub record Begins (known : Option (List ℕ)) (first : History) : Type 0 where
   pub trail : IfSome known (λ bytes. first.trail ≡ fresh_trail bytes)
   pub failures : first.failures ≡ 0
 
--- The same of one that was made where there was none: it begins with what it was filled with.
+-- the disk begins with these bytes of its file; where it had none it was filled, and is a new disk, of zeros
+abbrev pub BeginsWith : List ℕ → Trail → Type 0
+BeginsWith [] begun = IsNewDisk begun
+BeginsWith bytes begun = begun ≡ fresh_trail bytes
+
+-- The same of one that is made where there is none.
 pub record BeginsOrIsMade (known : Option (List ℕ)) (first : History) : Type 0 where
-  pub trail : IsTrue first.honest → IfSome known (λ bytes.
-      (first.trail ≡ fresh_trail bytes) ⊎ ((bytes ≡ []) × (first.trail ≡ fresh_trail first.trail.now.bytes)))
+  pub trail : IsTrue first.honest → IfSome known (λ bytes. BeginsWith bytes first.trail)
   pub failures : first.failures ≡ 0

@@ -1,3 +1,4 @@
+pub mod Causes
 pub mod Count
 pub mod Files
 pub mod Memory

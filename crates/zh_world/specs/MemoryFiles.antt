@@ -1,9 +1,11 @@
 -- What is known of files in memory.
+use Rattle.std.specs.Option.{option_or}
 use Rattle.std.specs.Prelude.{ℕ, List, [], Option, Some, None, unwrap_or}
 use Rattle.zh_world.specs.Count.{number}
 use Rattle.zh_world.specs.Memory.{bytes_at}
 use Rattle.zh_world.specs.Places.{Places, Standing}
 use Rattle.zh_world.specs.Places.Standing.{nothing, file}
+use Rattle.zh_world.specs.declared.fault.FileFault.{FileFault}
 use Rattle.zh_world.specs.declared.memory.MemoryFiles.{MemoryFiles}
 
 -- the bytes of the text at this path
@@ -23,6 +25,14 @@ abbrev pub standing_of : Option (List ℕ) → Standing
 standing_of None = nothing
 standing_of (Some bytes) = file bytes
 
--- the texts, which no call changes; a disk stands beside them, and is copied where it is opened
+-- The disks and the texts, which no call changes: a disk is copied where it is opened. Where both have a path the disk stands
+-- there.
 abbrev pub places : {R : Type 0} → MemoryFiles R → Option Places
-places files = Some (record { leads = λ path. path; stands = λ path. standing_of (bytes_at files.texts.now path) })
+places files = Some (record {
+  leads = λ path. path;
+  stands = λ path. standing_of (option_or (bytes_at files.disks.now path) (bytes_at files.texts.now path));
+})
+
+-- how the last call failed
+abbrev pub last_fault : {R : Type 0} → MemoryFiles R → Option FileFault
+last_fault files = files.fault

@@ -1,10 +1,11 @@
 -- What stands where: links lead paths to places, and at a place stands a file or none.
 use Rattle.std.specs.Prelude.{◌≡◌, ◌≢◌, ◌⊎◌, ℕ, List, [], ◌++◌, codes, Option, Some, None}
 
--- nothing, a file with these bytes, or something else, as a folder, a pipe or a device
+-- nothing, a file with these bytes, a folder, or something else, as a pipe or a device
 pub data Standing : Type 0 where
   nothing : Standing
   file : List ℕ → Standing
+  folder : Standing
   other : Standing
 
 pub record Places : Type 0 where
@@ -24,6 +25,7 @@ companion_of places path = places.leads path ++ codes "-wal"
 abbrev pub bytes_of : Standing → List ℕ
 bytes_of nothing = []
 bytes_of (file bytes) = bytes
+bytes_of folder = []
 bytes_of other = []
 
 -- it is there as it was, or it was made, without a byte, where nothing stood

@@ -1,29 +1,17 @@
 //! The files that the program is given by name.
 ghost use Rattle.std.specs.Prelude.{◌≡◌, ℕ, List, Option, IfOk};
+ghost use Rattle.zh_world.specs.Causes.{EndsAt};
 ghost use Rattle.zh_world.specs.Files.{Begins, BeginsOrIsMade, IsCallOfFiles, IsReadOfFiles};
 ghost use Rattle.zh_world.specs.Places.{IfKnown, Places, TouchesOnly};
 
+use crate::fault::FileFault;
 use std::io::Read;
-use thiserror::Error;
 use zh_disk::Disk;
-
-/// Why there is no text, or no disk.
-#[derive(Clone, Copy, Debug, PartialEq, Eq, Error)]
-pub enum FileFault {
-    #[error("memory was refused")]
-    Memory,
-    #[error("the file could not be opened")]
-    Device,
-    /// The file has so many bytes, and not [`DISK_LENGTH`](zh_disk::DISK_LENGTH).
-    #[error("the file does not have the length of a disk")]
-    Size(u64),
-    /// Another program, or another disk of this one, has the file open.
-    #[error("the file is in use")]
-    Busy,
-}
 
 /// Texts and disks, by their paths.
 pub trait Files {
+    ghost use Rattle.zh_world.specs.declared.fault.FileFault.{FileFault};
+
     /// What reads a text.
     type Text: Read + Drop;
     /// A disk. Code over any files cannot drop one: what it has opened it must hand over.
@@ -43,20 +31,26 @@ pub trait Files {
     /// How many calls were made.
     ghost calls: { Self → ℕ };
 
+    /// The fault of the last call, if it failed.
+    ghost fault: { Self → Option FileFault };
+
     /// The text at this path, from its first byte.
     fn text(&mut self, path: &str) -> Result<Self::Text, FileFault>
         ensures call { IsReadOfFiles text_at disk_at places calls self.old self.new }
+        ensures ends { EndsAt (places self.old) path.now (fault self.new) result }
         ensures bytes { IfOk result (λ text. Self.Text.remaining text ≡ text_at self.old path.now) };
 
     /// The disk at this path.
     fn disk(&mut self, right: Self::Right, path: &str) -> Result<Self::Disk, FileFault>
         ensures call { IsCallOfFiles text_at disk_at calls self.old self.new }
         ensures touches { IfKnown (TouchesOnly path.now) (places self.old) (places self.new) }
+        ensures ends { EndsAt (places self.old) path.now (fault self.new) result }
         ensures begins { IfOk result (λ disk. Begins (disk_at self.old path.now) (Self.Disk.history disk)) };
 
     /// The disk at this path. Where there is none, it is made, of zeros.
     fn disk_or_make(&mut self, right: Self::Right, path: &str) -> Result<Self::Disk, FileFault>
         ensures call { IsCallOfFiles text_at disk_at calls self.old self.new }
         ensures touches { IfKnown (TouchesOnly path.now) (places self.old) (places self.new) }
+        ensures ends { EndsAt (places self.old) path.now (fault self.new) result }
         ensures begins { IfOk result (λ disk. BeginsOrIsMade (disk_at self.old path.now) (Self.Disk.history disk)) };
 }

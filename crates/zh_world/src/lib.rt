@@ -4,13 +4,15 @@
 #![tactic(auto)]
 
 mod count;
+mod fault;
 mod files;
 mod memory;
 mod text;
 mod world;
 
 pub use count::CallCount;
-pub use files::{FileFault, Files};
+pub use fault::{FileCause, FileFault};
+pub use files::Files;
 pub use memory::{MemoryFiles, Named};
 pub use text::MemoryText;
 pub use world::{Ended, Remark, World};

@@ -1,14 +1,15 @@
 //! Files in memory.
-ghost use Rattle.std.specs.Prelude.{◌≡◌, ◌+◌, ◌-◌, ◌^◌, false, Some, Ok, IfOk, IfErr, MatchOption, MatchResult};
-ghost use Rattle.zh_disk.specs.Disk.{fresh_trail};
+ghost use Rattle.std.specs.Prelude.{◌≡◌, ◌+◌, ◌-◌, ◌^◌, false, Some, Ok, length, IfOk, IfErr, MatchOption, MatchResult, option_map};
+ghost use Rattle.zh_disk.specs.Disk.{disk_length, fresh_trail};
 ghost use Rattle.zh_disk.specs.Failing.{IsFailing, calls_left, failing_history, inside};
 ghost use Rattle.zh_disk.specs.Memory.{IsNewDisk, memory_history, memory_trail};
 ghost use Rattle.zh_world.specs.Count.{number};
 ghost use Rattle.zh_world.specs.Files.{Begins, BeginsOrIsMade, IsCallOfFiles, IsReadOfFiles};
-ghost use Rattle.zh_world.specs.Memory.{bytes_at, IsDiskFault, IsImageFault, IsMakingFault, IsOutOfReach};
+ghost use Rattle.zh_world.specs.Memory.{bytes_at, cause_beside, IsDiskFault, IsImageFault, IsMakingFault, IsTextFault};
 
 use crate::count::CallCount;
-use crate::files::{FileFault, Files};
+use crate::fault::{FileCause, FileFault};
+use crate::files::Files;
 use crate::text::MemoryText;
 use std::alloc::{AllocError, Global};
 use std::marker::PhantomData;
@@ -32,6 +33,16 @@ fn bytes_at<'a>(all: &[Named<'a>], path: &str) -> Option<&'a [u8]>
     bytes_at(others, path)
 }
 
+/// Why what is looked for at a path is not opened, where this of the other kind stands there.
+fn cause_beside(other: Option<&[u8]>) -> FileCause
+    ensures { result ≡ cause_beside (option_map (λ bytes. bytes.now) other.entry) }
+{
+    match other {
+        Some(_) => FileCause::Failed,
+        None => FileCause::Missing,
+    }
+}
+
 /// Texts and images of disks in memory. So many calls pass, and then each one fails.
 #[derive(Drop)]
 pub struct MemoryFiles<'a, R> {
@@ -46,16 +57,21 @@ pub struct MemoryFiles<'a, R> {
     pub disk_calls: u64,
     // how many calls were made
     made: CallCount,
+    // how the last call failed
+    fault: Option<FileFault>,
     // what the right to a disk is
     right: PhantomData<R>,
 }
 
 impl<'a, R> MemoryFiles<'a, R> {
+    ghost use Rattle.zh_world.specs.MemoryFiles.{disk_at};
+
     /// These texts and disks. So many calls pass that none of a test fails.
     pub fn new(alloc: Global, texts: &'a [Named<'a>], disks: &'a [Named<'a>]) -> MemoryFiles<'a, R>
         ensures texts { result.texts.now ≡ texts.now }
         ensures disks { result.disks.now ≡ disks.now }
         ensures unmade { number result.made ≡ 0 }
+        ensures unfailed { result.fault ≡ None }
         ensures passing { (result.calls ≡ 2 ^ 64 - 1) × (result.reads ≡ 2 ^ 64 - 1) × (result.disk_calls ≡ 2 ^ 64 - 1) }
     {
         MemoryFiles {
@@ -66,6 +82,7 @@ impl<'a, R> MemoryFiles<'a, R> {
             reads: u64::MAX,
             disk_calls: u64::MAX,
             made: CallCount::new(),
+            fault: None,
             right: PhantomData,
         }
     }
@@ -75,7 +92,7 @@ impl<'a, R> MemoryFiles<'a, R> {
         ensures same { self.new ≡ record self.old { calls = self.new.calls; made = self.new.made } }
         ensures counted { number self.new.made ≡ number self.old.made + 1 }
         ensures passes { MatchResult result (λ _. self.old.calls ≡ self.new.calls + 1)
-            (λ fault. (self.old.calls ≡ 0) × (fault ≡ FileFault.Device)) }
+            (λ fault. (self.old.calls ≡ 0) × (fault ≡ FileFault.Device FileCause.Failed)) }
     {
         self.made.add();
         match self.calls.checked_sub(1) {
@@ -83,7 +100,7 @@ impl<'a, R> MemoryFiles<'a, R> {
                 self.calls = left;
                 Ok(())
             }
-            None => Err(FileFault::Device),
+            None => Err(FileFault::Device(FileCause::Failed)),
         }
     }
 
@@ -104,6 +121,7 @@ impl<'a, R> MemoryFiles<'a, R> {
     /// The disk that this is the image of.
     fn disk_of(&self, image: &[u8]) -> Result<FailingDisk<MemoryDisk>, FileFault>
         ensures begins { IfOk result (λ disk. memory_trail (inside disk) ≡ fresh_trail image.now) }
+        ensures long { IfOk result (λ _. length image.now ≡ disk_length) }
         ensures failing { IfOk result (λ disk. IsFailing (inside disk) self.now.disk_calls false disk) }
         ensures fault { IfErr result (IsImageFault image.now) }
     {
@@ -122,6 +140,75 @@ impl<'a, R> MemoryFiles<'a, R> {
     {
         self.failing(MemoryDisk::blank(self.alloc))
     }
+
+    /// The text at this path, by a call that passes or not.
+    fn found_text(&mut self, path: &str) -> Result<MemoryText<'a>, FileFault>
+        ensures same { self.new ≡ record self.old { calls = self.new.calls; made = self.new.made } }
+        ensures counted { number self.new.made ≡ number self.old.made + 1 }
+        ensures bytes { IfOk result (λ text. Some text.bytes.now ≡ bytes_at self.old.texts.now path.now) }
+        ensures reads { IfOk result (λ text. text.reads ≡ self.old.reads) }
+        ensures fails { IfErr result (IsTextFault self.old.calls
+            (record { found = bytes_at self.old.texts.now path.now; beside = bytes_at self.old.disks.now path.now })) }
+    {
+        self.pass()?;
+        match bytes_at(self.texts, path) {
+            Some(bytes) => Ok(MemoryText {
+                bytes,
+                reads: self.reads,
+            }),
+            None => Err(FileFault::Device(cause_beside(bytes_at(self.disks, path)))),
+        }
+    }
+
+    /// The disk at this path, by a call that passes or not.
+    fn found_disk(&mut self, path: &str) -> Result<FailingDisk<MemoryDisk>, FileFault>
+        ensures same { self.new ≡ record self.old { calls = self.new.calls; made = self.new.made } }
+        ensures counted { number self.new.made ≡ number self.old.made + 1 }
+        ensures begins { IfOk result (λ disk. Begins (disk_at self.old path.now) (failing_history memory_history disk)) }
+        ensures left { IfOk result (λ disk. calls_left disk ≡ Some self.old.disk_calls) }
+        ensures fails { IfErr result (IsDiskFault self.old.calls
+            (record { found = bytes_at self.old.disks.now path.now; beside = bytes_at self.old.texts.now path.now })) }
+    {
+        self.pass()?;
+        match bytes_at(self.disks, path) {
+            Some(image) => self.disk_of(image),
+            None => Err(FileFault::Device(cause_beside(bytes_at(self.texts, path)))),
+        }
+    }
+
+    /// The disk at this path, or a new one where there is none, by a call that passes or not.
+    fn found_or_made(&mut self, path: &str) -> Result<FailingDisk<MemoryDisk>, FileFault>
+        ensures same { self.new ≡ record self.old { calls = self.new.calls; made = self.new.made } }
+        ensures counted { number self.new.made ≡ number self.old.made + 1 }
+        ensures begins { IfOk result (λ disk. BeginsOrIsMade (disk_at self.old path.now) (failing_history memory_history disk)) }
+        ensures left { IfOk result (λ disk. calls_left disk ≡ Some self.old.disk_calls) }
+        ensures fails { IfErr result (IsMakingFault self.old.calls
+            (record { found = bytes_at self.old.disks.now path.now; beside = bytes_at self.old.texts.now path.now })) }
+    {
+        self.pass()?;
+        match bytes_at(self.disks, path) {
+            Some(image) => self.disk_of(image),
+            None => self.blank(),
+        }
+    }
+
+    /// Notes how a call ended.
+    fn noted<T>(&mut self, opened: Result<T, FileFault>) -> Result<T, FileFault>
+        ensures same { result ≡ opened }
+        ensures rest { self.new ≡ record self.old { fault = self.new.fault } }
+        ensures noted { MatchResult result (λ _. self.new.fault ≡ None) (λ fault. self.new.fault ≡ Some fault) }
+    {
+        match opened {
+            Ok(it) => {
+                self.fault = None;
+                Ok(it)
+            }
+            Err(fault) => {
+                self.fault = Some(fault);
+                Err(fault)
+            }
+        }
+    }
 }
 
 impl<'a, R: Drop> Files for MemoryFiles<'a, R> {
@@ -131,7 +218,8 @@ impl<'a, R: Drop> Files for MemoryFiles<'a, R> {
 
     type Right = R;
 
-    ghost use Rattle.zh_world.specs.MemoryFiles.{text_at, disk_at, calls_made, places};
+    ghost use Rattle.zh_world.specs.Causes.{EndsAt};
+    ghost use Rattle.zh_world.specs.MemoryFiles.{text_at, disk_at, calls_made, last_fault, places};
     ghost use Rattle.zh_world.specs.Places.{IfKnown, TouchesOnly};
 
     ghost text_at = { text_at };
@@ -142,46 +230,43 @@ impl<'a, R: Drop> Files for MemoryFiles<'a, R> {
 
     ghost calls = { calls_made };
 
+    ghost fault = { last_fault };
+
     fn text(&mut self, path: &str) -> Result<MemoryText<'a>, FileFault>
         ensures call { IsReadOfFiles text_at disk_at places calls_made self.old self.new }
+        ensures ends { EndsAt (places self.old) path.now (last_fault self.new) result }
         ensures bytes { IfOk result (λ text. Some text.bytes.now ≡ bytes_at self.old.texts.now path.now) }
         ensures reads { IfOk result (λ text. text.reads ≡ self.old.reads) }
-        ensures fails { IfErr result (λ fault. (fault ≡ FileFault.Device)
-            × IsOutOfReach self.old.calls (bytes_at self.old.texts.now path.now)) }
+        ensures fails { IfErr result (IsTextFault self.old.calls
+            (record { found = bytes_at self.old.texts.now path.now; beside = bytes_at self.old.disks.now path.now })) }
     {
-        self.pass()?;
-        match bytes_at(self.texts, path) {
-            Some(bytes) => Ok(MemoryText {
-                bytes,
-                reads: self.reads,
-            }),
-            None => Err(FileFault::Device),
-        }
+        let opened = self.found_text(path);
+        self.noted(opened)
     }
 
     fn disk(&mut self, _right: R, path: &str) -> Result<FailingDisk<MemoryDisk>, FileFault>
         ensures call { IsCallOfFiles text_at disk_at calls_made self.old self.new }
         ensures touches { IfKnown (TouchesOnly path.now) (places self.old) (places self.new) }
+        ensures ends { EndsAt (places self.old) path.now (last_fault self.new) result }
         ensures begins { IfOk result (λ disk. Begins (disk_at self.old path.now) (failing_history memory_history disk)) }
         ensures left { IfOk result (λ disk. calls_left disk ≡ Some self.old.disk_calls) }
-        ensures fails { IfErr result (IsDiskFault self.old.calls (bytes_at self.old.disks.now path.now)) }
+        ensures fails { IfErr result (IsDiskFault self.old.calls
+            (record { found = bytes_at self.old.disks.now path.now; beside = bytes_at self.old.texts.now path.now })) }
     {
-        self.pass()?;
-        let image = bytes_at(self.disks, path).ok_or(FileFault::Device)?;
-        self.disk_of(image)
+        let opened = self.found_disk(path);
+        self.noted(opened)
     }
 
     fn disk_or_make(&mut self, _right: R, path: &str) -> Result<FailingDisk<MemoryDisk>, FileFault>
         ensures call { IsCallOfFiles text_at disk_at calls_made self.old self.new }
         ensures touches { IfKnown (TouchesOnly path.now) (places self.old) (places self.new) }
+        ensures ends { EndsAt (places self.old) path.now (last_fault self.new) result }
         ensures begins { IfOk result (λ disk. BeginsOrIsMade (disk_at self.old path.now) (failing_history memory_history disk)) }
         ensures left { IfOk result (λ disk. calls_left disk ≡ Some self.old.disk_calls) }
-        ensures fails { IfErr result (IsMakingFault self.old.calls (bytes_at self.old.disks.now path.now)) }
+        ensures fails { IfErr result (IsMakingFault self.old.calls
+            (record { found = bytes_at self.old.disks.now path.now; beside = bytes_at self.old.texts.now path.now })) }
     {
-        self.pass()?;
-        match bytes_at(self.disks, path) {
-            Some(image) => self.disk_of(image),
-            None => self.blank(),
-        }
+        let opened = self.found_or_made(path);
+        self.noted(opened)
     }
 }

@@ -4,7 +4,7 @@ use std::alloc::Global;
 use std::io::Read;
 use std::test::Fail;
 use zh_disk::{Disk, DiskFault, MemoryDisk};
-use zh_world::{FileFault, Files, MemoryFiles, Named};
+use zh_world::{FileCause, FileFault, Files, MemoryFiles, Named};
 
 /// What is read at this path, none where that fails.
 fn read_at<F: Files>(alloc: Global, files: &mut F, path: &str) -> Option<Vec<u8>> {
@@ -71,12 +71,17 @@ fn a_disk_is_the_one_at_its_path(rt: HostRuntime) -> Result<(), Fail> {
             Some(FileFault::Size(5)),
             Some(FileFault::Size(5)),
         ),
-        (1, "c.disk", Some(FileFault::Device), None),
+        (
+            1,
+            "c.disk",
+            Some(FileFault::Device(FileCause::Missing)),
+            None,
+        ),
         (
             0,
             "b.disk",
-            Some(FileFault::Device),
-            Some(FileFault::Device),
+            Some(FileFault::Device(FileCause::Failed)),
+            Some(FileFault::Device(FileCause::Failed)),
         ),
     ];
     for (calls, path, found, made) in cases {

@@ -6,8 +6,8 @@ use Rattle.zh_host.proofs.files.FolderFilesFiles.disk.Goals as goal
 pub returns-clause-call : goal.returns-clause-call
 returns-clause-call g c = record {
   texts = same_texts c.args.path.now
-      (OpensDisk (HasFailed g.F.File.Disk.is_clean g.F.File.Disk.faults) c.args.path.now (λ d. (stored_history {g = g.F.File.Disk} d).trail.now.bytes) c.open.result)
-      (λ x y opens. opens.touches) (g.F.Folder.known c.args.self.now.folder) (g.F.Folder.known c.open.new.folder) c.open.ensures.opens;
-  disks = c.open.ensures.disks;
+      (OpensDisk (HasFailed g.F.File.Disk.is_clean g.F.File.Disk.faults) c.args.path.now (λ d. (stored_history {g = g.F.File.Disk} d).trail.now.bytes) c.open-opened.result)
+      (λ x y opens. opens.touches) (g.F.Folder.known c.args.self.now.folder) (g.F.Folder.known c.open-opened.new.folder) c.open-opened.ensures.opens;
+  disks = c.open-opened.ensures.disks;
   counted = c.add.ensures;
 }

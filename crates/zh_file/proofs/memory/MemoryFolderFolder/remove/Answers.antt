@@ -1,0 +1,13 @@
+use Rattle.std.proofs.Common.{◌∙◌, ap}
+use Rattle.zh_file.specs.MemoryFolder.{disk_in}
+use Rattle.zh_file.proofs.MemoryLemmas.{acts_removed, removed_disks}
+use Rattle.zh_file.proofs.memory.MemoryFolderFolder.remove.Goals as goal
+
+pub returns-clause-disks : goal.returns-clause-disks
+returns-clause-disks g c = ap disk_in c.note.ensures.rest
+    ∙ removed_disks c.args.path.now c.args.self.now c.remove_at-removed.new.self c.remove_at-removed.result c.requires.empty
+    c.remove_at-removed.ensures.removed c.remove_at-removed.ensures.err
+
+pub returns-clause-call : goal.returns-clause-call
+returns-clause-call g c = acts_removed c.args.path.now c.args.self.now c.remove_at-removed.new.self c.note.new.self c.remove_at-removed.result c.note.result
+    c.note.ensures.result c.remove_at-removed.ensures.rest c.note.ensures.rest c.remove_at-removed.ensures.removed c.remove_at-removed.ensures.err c.note.ensures.counted
