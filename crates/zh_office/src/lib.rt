@@ -1,4 +1,4 @@
-//! The count office: it answers the lines of the desks.
+//! The count office: it cuts what it reads into lines, and answers each; it loads and exports.
 #![tactic(auto)]
 
 mod export;

@@ -1,4 +1,4 @@
-mod ReportLemmas
+mod PathLemmas
 mod EndingLemmas
 mod AlwaysLemmas
 mod SoundLemmas

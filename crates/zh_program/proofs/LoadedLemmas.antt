@@ -26,6 +26,8 @@ use Rattle.zh_tasks.specs.Opened.{IsFrom, IsOnlyOpened}
 use Rattle.zh_tasks.specs.Run.{Streams}
 use Rattle.zh_tasks.specs.declared.fault.TaskFault.{TaskFault}
 use Rattle.zh_tasks.specs.declared.fault.TaskFault.TheVariants as faults
+use Rattle.zh_tasks.specs.declared.file.TaskFile.TheVariants as files
+use Rattle.zh_world.specs.declared.fault.FileFault.{FileFault}
 use Rattle.zh_program.specs.Due.{AnswerText}
 use Rattle.zh_program.specs.Exchanges.{Exchange, IsReadRight, command_given}
 use Rattle.zh_program.specs.Exchanges.Given.{text}
@@ -171,8 +173,9 @@ module _ (known : Option (List ℕ)) (source : GivenText) (old new : Streams) (r
   text_done (Err faults.Write) failed (reply, by, part) = reply_part reply by (failed faults.Write refl) part
   text_done (Err fault) failed by = absurd by
 
-  pub load_done : (unwritten : Type 0) → (unwritten → IsSilent) → (result : Result (Unit {0}) TaskFault) → ((fault : TaskFault) → result ≡ Err fault → status ≢ 0)
-      → LoadsFile unwritten (LoadsText source old new) (IsFrom canton first last) result → HasAnswered
-  load_done unwritten same (Err faults.CsvFile) failed by = none_given (failed faults.CsvFile refl) (same by.0) by.1
-  load_done unwritten same (Err faults.Memory) failed by = none_given (failed faults.Memory refl) (same by.0) by.1
-  load_done unwritten same result failed by = text_done result failed by
+  pub load_done : (Met : FileFault → Type 0) (unwritten : Type 0) → (unwritten → IsSilent) → (result : Result (Unit {0}) TaskFault) → ((fault : TaskFault) → result ≡ Err fault → status ≢ 0)
+      → LoadsFile Met unwritten (LoadsText source old new) (IsFrom canton first last) result → HasAnswered
+  load_done Met unwritten same (Err (faults.Unopened files.Csv cause)) failed by = none_given (failed (faults.Unopened files.Csv cause) refl) (same by.1) by.2
+  load_done Met unwritten same (Err faults.CsvFile) failed by = none_given (failed faults.CsvFile refl) (same by.0) by.1
+  load_done Met unwritten same (Err faults.Memory) failed by = none_given (failed faults.Memory refl) (same by.0) by.1
+  load_done Met unwritten same result failed by = text_done result failed by

@@ -1,5 +1,5 @@
 -- What a task on a disk has done, by the task.
-use Rattle.std.proofs.Common.{◌≡◌, ◌≢◌, ◌⊎◌, inl, inr, ⊎_elim, ℕ, List, [], Option, Some, None, Bool, Result, Err, Ok, OnOk, IsTrue, refl, ◌∙◌, ap, map, subst}
+use Rattle.std.proofs.Common.{◌≡◌, ◌≢◌, ◌⊎◌, inl, inr, ⊎_elim, ℕ, List, [], Option, Some, None, Bool, Result, Err, Ok, OnOk, IsTrue, refl, sym, ◌∙◌, ◌∷◌, ap, map, subst}
 use Rattle.std.specs.Borrow.{Bor}
 use Rattle.std.specs.Io.KnownBytes.{Keeps as KeepsBytes}
 use Rattle.zh_disk.specs.Disk.{Trail, fresh_trail}
@@ -16,7 +16,7 @@ use Rattle.zh_arguments.specs.declared.arguments.Paths.{Paths}
 use Rattle.zh_arguments.specs.declared.arguments.Task.{Task}
 use Rattle.zh_arguments.specs.declared.arguments.Task.TheVariants as tasks
 use Rattle.zh_arguments.specs.declared.arguments.Task.TheVariants.{Format, Run, Load, Export}
-use Rattle.zh_world.specs.Files.{Begins, BeginsOrIsMade}
+use Rattle.zh_world.specs.Files.{Begins, BeginsOrIsMade, BeginsWith}
 use Rattle.zh_world.specs.declared.world.World.{World}
 use Rattle.zh_office.specs.declared.service.ServeFault.TheVariants as serving
 use Rattle.zh_tasks.specs.DryRun.{DryRuns, HasDryRun}
@@ -26,15 +26,17 @@ use Rattle.zh_tasks.specs.Load.{HasLoaded, LoadsFile, LoadsText}
 use Rattle.zh_tasks.specs.Opened.{IsFrom, IsOnlyOpened, WithOffice}
 use Rattle.zh_film.specs.Frames.{frame_of, frames}
 use Rattle.zh_film.specs.Scenes.{scenes}
-use Rattle.zh_film.specs.declared.film.Film.{Film}
 use Rattle.zh_tasks.specs.Run.{Ran, Serves, Streams, streams_of}
 use Rattle.zh_arguments.specs.declared.seats.Layout.{Layout}
 use Rattle.zh_tasks.specs.Seats.{HasShownSeats, ShowsSeats}
 use Rattle.zh_tasks.specs.Status.{Shown, Shows}
-use Rattle.zh_tasks.specs.World.{IsSetupAt, Known}
+use Rattle.zh_tasks.specs.World.{IsMetAt, IsSetupAt, Known}
 use Rattle.zh_tasks.specs.declared.fault.TaskFault.{TaskFault}
 use Rattle.zh_tasks.specs.declared.used.Filmed.{Filmed}
 use Rattle.zh_tasks.specs.declared.fault.TaskFault.TheVariants as faults
+use Rattle.zh_tasks.specs.declared.file.TaskFile.TheVariants as files
+use Rattle.zh_world.specs.declared.fault.FileFault.{FileFault}
+use Rattle.zh_tasks.specs.declared.used.Observed.{Observed}
 use Rattle.zh_program.specs.Due.{AnswerLines, AreOfTask, talk_of}
 use Rattle.zh_program.specs.Exchanges.{Exchange}
 use Rattle.zh_program.specs.Order.{Conversation}
@@ -70,14 +72,15 @@ only_opened unwritten w w' Spans (Err faults.Memory) (same, by) = by
 only_opened unwritten w w' Spans (Err fault) by = absurd by
 
 -- nor is anything given to an office by a dry run
-only_judged : (text w w' : Option (List ℕ)) (Spans : OnDisk Office → OnDisk Office → Type 0) (result : Result (Unit {0}) TaskFault) → DryRuns text w w' Spans result → IsOnlyOpened Spans
-only_judged text w w' Spans (Ok done) (forecast, other, has) = (has.start, has.spans)
-only_judged text w w' Spans (Err faults.Refused) (refused, records, has) = (has.start, has.spans)
-only_judged text w w' Spans (Err faults.Memory) by = (by.start, by.spans)
-only_judged text w w' Spans (Err faults.CsvFile) by = (by.start, by.spans)
-only_judged text w w' Spans (Err (faults.Serve serving.Turns)) by = (by.start, by.spans)
-only_judged text w w' Spans (Err faults.Write) by = (by.start, by.spans)
-only_judged text w w' Spans (Err fault) by = absurd by
+only_judged : (Met : FileFault → Type 0) (text w w' : Option (List ℕ)) (Spans : OnDisk Office → OnDisk Office → Type 0) (result : Result (Unit {0}) TaskFault) → DryRuns Met text w w' Spans result → IsOnlyOpened Spans
+only_judged Met text w w' Spans (Ok done) (forecast, other, has) = (has.start, has.spans)
+only_judged Met text w w' Spans (Err faults.Refused) (refused, records, has) = (has.start, has.spans)
+only_judged Met text w w' Spans (Err faults.Memory) by = (by.start, by.spans)
+only_judged Met text w w' Spans (Err (faults.Unopened files.Csv cause)) by = (by.1.start, by.1.spans)
+only_judged Met text w w' Spans (Err faults.CsvFile) by = (by.start, by.spans)
+only_judged Met text w w' Spans (Err (faults.Serve serving.Turns)) by = (by.start, by.spans)
+only_judged Met text w w' Spans (Err faults.Write) by = (by.start, by.spans)
+only_judged Met text w w' Spans (Err fault) by = absurd by
 
 -- nor of a view
 only_shown : {I O E F T D R : Type 0} (of : Known I O E F T D R) (view : View) (old new : World I O E F) (Spans : OnDisk Office → OnDisk Office → Type 0) (result : Result (Unit {0}) TaskFault) → Shows of view old new Spans result → IsOnlyOpened Spans
@@ -90,45 +93,55 @@ pub known_fresh : (known : Option (List ℕ)) (first : History) (bytes : List �
 known_fresh None first bytes begins is = absurd cc
 known_fresh (Some xs) first bytes begins is = let same : xs ≡ bytes = cc in begins.trail ∙ ap fresh_trail same
 
--- a disk that may have been made began with these bytes, or with what it was filled with
+-- a disk that may have been made began with these bytes, or as a new one
 pub known_made : (known : Option (List ℕ)) (first : History) (bytes : List ℕ) → BeginsOrIsMade known first → IsTrue first.honest → known ≡ Some bytes
-    → (first.trail ≡ fresh_trail bytes) ⊎ ((bytes ≡ []) × (first.trail ≡ fresh_trail first.trail.now.bytes))
+    → BeginsWith bytes first.trail
 known_made None first bytes begins honest is = absurd cc
 known_made (Some xs) first bytes begins honest is =
     let same : xs ≡ bytes = cc in
-    subst (λ (b : List ℕ). (first.trail ≡ fresh_trail b) ⊎ ((b ≡ []) × (first.trail ≡ fresh_trail first.trail.now.bytes))) same (begins.trail honest)
+    subst (λ (b : List ℕ). BeginsWith b first.trail) same (begins.trail honest)
+
+-- with nothing before it
+fresh_made : (bytes : List ℕ) (t : Trail) → BeginsWith bytes t → t ≡ fresh_trail t.now.bytes
+fresh_made [] t new = new.begun
+fresh_made (byte ∷ bytes) t is = is ∙ ap fresh_trail (sym (ap (λ (x : Trail). x.now.bytes) is))
 
 -- no count stands in no bytes
-pub none_held : (tally : Tally) (bytes : List ℕ) → bytes ≡ [] → Holds tally bytes → ⊥
+none_held : (tally : Tally) (bytes : List ℕ) → bytes ≡ [] → Holds tally bytes → ⊥
 none_held tally bytes is holds = let gate : ◌≡◌ {A = ℕ} 0 165 = (subst (Holds tally) is holds).clean.framed.gate in absurd cc
+
+-- so where one stands the disk begins with it
+pub held_made : (tally : Tally) (bytes : List ℕ) (t : Trail) → Holds tally bytes → BeginsWith bytes t → t ≡ fresh_trail bytes
+held_made tally [] t holds new = absurd (none_held tally [] refl holds)
+held_made tally (byte ∷ bytes) t holds is = is
 
 module _ {I O E F T D R : Type 0} (of : Known I O E F T D R) where
   -- the exchanges of a task, which were due, in its conversation, and what is kept of a disk that began with this history
-  pub record HasDone (task : Task) (old after : World I O E F) (status : ℕ) (canton : Canton) (first : History) (used : Filmed I O D) : Type 0 where
+  pub record HasDone (task : Task) (old after : World I O E F) (status : ℕ) (canton : Canton) (first : History) (used : Filmed I O D T) : Type 0 where
     pub exchanges : List Exchange
     pub opened : Trail
     pub due : AreOfTask (of.files.text_at old.files) task (talk_of of task old after opened used) status exchanges
     pub told : IsTold exchanges (talk_of of task old after opened used)
     pub kept : Keeps canton first (of.disks.history used.disk) (talk_of of task old after opened used) exchanges
 
-  module _ (old after : World I O E F) (files : F) (first last : D) (film : Film I O D) (canton : Canton) (limits : IsCanton canton) (status : ℕ) (result : Result (Unit {0}) TaskFault) (failed : (fault : TaskFault) → result ≡ Err fault → status ≢ 0) where
+  module _ (old after : World I O E F) (files : F) (first last : D) (observed : Observed I O D T) (canton : Canton) (limits : IsCanton canton) (status : ℕ) (result : Result (Unit {0}) TaskFault) (failed : (fault : TaskFault) → result ≡ Err fault → status ≢ 0) where
     abbrev pub begun : History
     begun = of.disks.history first
 
     abbrev pub ended : History
     ended = of.disks.history last
 
-    abbrev pub used : Filmed I O D
-    used = record { disk = last; film = film }
+    abbrev pub used : Filmed I O D T
+    used = record { disk = last; observed = observed }
 
     -- what the streams were, and what they are, with the film
     abbrev before : Streams
     before = streams_of of old []
 
     abbrev now : Streams
-    now = streams_of of after (frames of.readers of.writers of.disks film)
+    now = streams_of of after (frames of.readers of.writers of.disks observed.film)
 
-    none_shown : scenes film ≡ [] → frames of.readers of.writers of.disks film ≡ []
+    none_shown : scenes observed.film ≡ [] → frames of.readers of.writers of.disks observed.film ≡ []
     none_shown none = ap (map (frame_of of.readers of.writers of.disks)) none
 
     served : (paths : Paths) → HasServed before now status (IsFrom canton begun ended) → HasDone (Run paths) old after status canton begun used
@@ -142,9 +155,9 @@ module _ {I O E F T D R : Type 0} (of : Known I O E F T D R) where
           kept = opened_keeps canton begun ended by.start by.end by.exchanges before now limits by.spans by.goes told;
         }
 
-    pub run_part : (paths : Paths) → Ran of canton (record old { files = files }, first) (after, last) (result, film) → HasDone (Run paths) old after status canton begun used
+    pub run_part : (paths : Paths) → Ran of canton (record old { files = files }, first) (after, last) (result, observed) → HasDone (Run paths) old after status canton begun used
     run_part paths ran =
-        by_office canton begun ended ((after.input ≡ old.input) × (after.output ≡ old.output) × (scenes film ≡ [])) (Serves before now) result ran.served
+        by_office canton begun ended ((after.input ≡ old.input) × (after.output ≡ old.output) × (scenes observed.film ≡ [])) (Serves before now) result ran.served
         (λ fault is nothing opening.
         let left : now.left ≡ before.left = ap of.readers.remaining nothing.0 in
         let written : now.written ≡ before.written = ap of.writers.contents nothing.1 in
@@ -158,17 +171,18 @@ module _ {I O E F T D R : Type 0} (of : Known I O E F T D R) where
         })
         (λ serves. served paths (serve_done before now status (IsFrom canton begun ended) result failed serves))
 
-    pub load_part : (paths : Paths) (csv : Bor (List ℕ)) → of.files.text_at files ≡ of.files.text_at old.files → HasLoaded of csv.now canton (record old { files = files }, first) (after, last) (result, film) → HasDone (Load paths csv) old after status canton begun used
+    pub load_part : (paths : Paths) (csv : Bor (List ℕ)) → of.files.text_at files ≡ of.files.text_at old.files → HasLoaded of csv.now canton (record old { files = files }, first) (after, last) (result, observed) → HasDone (Load paths csv) old after status canton begun used
     load_part paths csv texts by =
         let known = of.files.text_at old.files csv.now in
+        let Met : FileFault → Type 0 = IsMetAt of.files csv.now files after.files in
         let read : KeepsBytes known by.text.bytes = subst (λ (at : List ℕ → Option (List ℕ)). KeepsBytes (at csv.now) by.text.bytes) texts by.read in
         let left : now.left ≡ before.left = ap (λ (world : World I O E F). of.readers.remaining world.input) by.rest in
         let answered : HasAnswered known by.text before now read status canton limits begun ended → HasDone (Load paths csv) old after status canton begun used
         = λ a. record { exchanges = a.exchanges; opened = a.opened; due = a.due; told = a.told; kept = a.kept } in
-        by_office canton begun ended ((after ≡ record old { files = files }) × (scenes film ≡ [])) (LoadsFile ((after.output ≡ old.output) × (scenes film ≡ [])) (LoadsText by.text before now)) result by.loaded
+        by_office canton begun ended ((after ≡ record old { files = files }) × (scenes observed.film ≡ [])) (LoadsFile Met ((after.output ≡ old.output) × (scenes observed.film ≡ [])) (LoadsText by.text before now)) result by.loaded
         (λ fault is nothing opening. answered (refused_answered known by.text before now read status canton limits begun ended fault (failed (faults.Open fault) is)
         (record { left = left; written = ap (λ (world : World I O E F). of.writers.contents world.output) nothing.0; film = none_shown nothing.1 }) opening))
-        (λ loads. answered (load_done known by.text before now read status canton limits begun ended ((after.output ≡ old.output) × (scenes film ≡ []))
+        (λ loads. answered (load_done known by.text before now read status canton limits begun ended Met ((after.output ≡ old.output) × (scenes observed.film ≡ []))
         (λ same. record { left = left; written = ap of.writers.contents same.0; film = none_shown same.1 }) result failed loads))
 
     -- what is written of a task that answers nothing is no part of a conversation
@@ -211,8 +225,8 @@ module _ {I O E F T D R : Type 0} (of : Known I O E F T D R) where
 
     pub dry_part : (paths : Paths) (csv : Bor (List ℕ)) → HasDryRun of csv.now canton (record old { files = files }, first) (after, last) result → HasDone (tasks.DryRun paths csv) old after status canton begun used
     dry_part paths csv by =
-        only_part (tasks.DryRun paths csv) (λ text_at talk. refl) (λ opened. refl) (after ≡ record old { files = files }) (DryRuns by.text (of.writers.contents old.output) (of.writers.contents after.output))
-        (only_judged by.text (of.writers.contents old.output) (of.writers.contents after.output) (IsFrom canton begun ended) result) by.judged
+        only_part (tasks.DryRun paths csv) (λ text_at talk. refl) (λ opened. refl) (after ≡ record old { files = files }) (DryRuns (IsMetAt of.files csv.now files after.files) by.text (of.writers.contents old.output) (of.writers.contents after.output))
+        (only_judged (IsMetAt of.files csv.now files after.files) by.text (of.writers.contents old.output) (of.writers.contents after.output) (IsFrom canton begun ended) result) by.judged
 
     pub status_part : (paths : Paths) (view : View) → Shown of view canton (record old { files = files }, first) (after, last) result → HasDone (tasks.Status paths view) old after status canton begun used
     status_part paths view by =
@@ -237,17 +251,15 @@ module _ {I O E F T D R : Type 0} (of : Known I O E F T D R) where
         }
 
     pub made_empty : Formatted of canton (record old { files = files }, first) (after, last) result → (known : Option (List ℕ)) → BeginsOrIsMade known begun → IsTrue ended.honest → (bytes : List ℕ) → known ≡ Some bytes → MakesEmpty bytes status ended.trail
-    made_empty by known begins honest bytes is = ⊎_elim
-        (λ fresh. made bytes (inl refl) fresh)
-        (λ filled. made begun.trail.now.bytes (inr filled.0) filled.1)
-        (known_made known begun bytes begins (by.call.kept honest) is)
-      where
-        made : (at_first : List ℕ) → (at_first ≡ bytes) ⊎ (bytes ≡ []) → begun.trail ≡ fresh_trail at_first → MakesEmpty bytes status ended.trail
-        made at_first began fresh = record {
-          first = at_first;
-          began = began;
+    made_empty by known begins honest bytes is =
+        let began = known_made known begun bytes begins (by.call.kept honest) is in
+        let fresh = fresh_made bytes begun.trail began in
+        record {
+          first = begun.trail.now.bytes;
+          began = subst (BeginsWith bytes) fresh began;
           canton = canton;
           limits = limits;
-          moments = formatted_left canton limits at_first result ended.trail (subst (λ (t : Trail). FormatsBlank canton result t ended.trail) fresh (by.call.did honest));
+          moments = formatted_left canton limits begun.trail.now.bytes result ended.trail
+              (subst (λ (t : Trail). FormatsBlank canton result t ended.trail) fresh (by.call.did honest));
           made = λ zero. where_done status result failed (by.call.did honest).formatted zero;
         }

@@ -29,13 +29,14 @@ use Rattle.zh_tasks.specs.declared.fault.TaskFault.{TaskFault}
 use Rattle.zh_tasks.specs.declared.used.Filmed.{Filmed}
 use Rattle.zh_tasks.specs.declared.used.Used.{Used}
 use Rattle.zh_tasks.specs.declared.used.Used.TheVariants.{Disk, Rehearsal}
+use Rattle.zh_tasks.specs.declared.used.Observed.{Observed}
 use Rattle.zh_program.specs.Due.{talk_of}
 use Rattle.zh_program.specs.Program.{disk_path, ends}
 use Rattle.zh_program.specs.Promise.{Promise}
 use Rattle.zh_program.specs.Stopped.{MakesEmpty}
 use Rattle.zh_program.proofs.OrderLemmas.{awaited_of}
 use Rattle.zh_program.proofs.TouchLemmas.{unfilmed}
-use Rattle.zh_program.proofs.PartLemmas.{HasDone, dry_part, export_part, format_part, known_fresh, known_made, load_part, made_empty, none_held, run_part, seats_part, setup_limits, status_part}
+use Rattle.zh_program.proofs.PartLemmas.{HasDone, dry_part, export_part, format_part, known_fresh, held_made, known_made, load_part, made_empty, run_part, seats_part, setup_limits, status_part}
 
 at_path : (rows : List Row) (paths : Paths) (path : List ℕ) → Some paths.disk.now ≡ Some path → ArePaths rows paths → path ≡ path_in (codes "disk") rows
 at_path rows paths path on are = let is : paths.disk.now ≡ path = cc in sym is ∙ are.1
@@ -57,11 +58,11 @@ asked_on (Some given) (tasks.SheetSeats setup sheet layout) path on asks = absur
 
 module _ {I O E F T D R : Type 0} (of : Known I O E F T D R) where
   -- the promise, of the disk that was handed over, and its film
-  module _ (arguments : List (List ℕ)) (old after : World I O E F) (said : E) (remark : Remark) (status : ℕ) (result : Result (Unit {0}) TaskFault) (failed : (fault : TaskFault) → result ≡ Err fault → status ≢ 0) (used : Option (Used I O D)) (filmed : Filmed I O D) (handed : used ≡ Some (Disk filmed)) where
+  module _ (arguments : List (List ℕ)) (old after : World I O E F) (said : E) (remark : Remark) (status : ℕ) (result : Result (Unit {0}) TaskFault) (failed : (fault : TaskFault) → result ≡ Err fault → status ≢ 0) (used : Option (Used I O D T)) (filmed : Filmed I O D T) (handed : used ≡ Some (Disk filmed)) where
     abbrev new : World I O E F
     new = record after { faults = said; remark = remark }
 
-    same_disk : (last : Filmed I O D) → used ≡ Some (Disk last) → last ≡ filmed
+    same_disk : (last : Filmed I O D T) → used ≡ Some (Disk last) → last ≡ filmed
     same_disk last is = let same : Some (Disk last) ≡ Some (Disk filmed) = sym is ∙ handed in cc
 
     none_early : {X : Type 0} → used ≡ None → X
@@ -87,14 +88,14 @@ module _ {I O E F T D R : Type 0} (of : Known I O E F T D R) where
 
     -- of a task whose disk is one that there is
     found_on : (task : Task) → AsksFor arguments task → (paths : Paths) → disk_path task ≡ Some paths.disk.now → ((p : Paths) → task ≡ Format p → ⊥) → ((canton : Canton) (first : History) → HasDone of task old after status canton first filmed → HasDone of task old new status canton first filmed)
-        → (DoesOn : Canton → World I O E F × D → World I O E F × D → Result (Unit {0}) TaskFault × Film I O D → Type 0)
-        → ((uses : HasUsed (finding of.files of.disks) paths old after (λ canton before end film. DoesOn canton before end (result, film)) used) → IsCanton uses.canton → HasDone of task old after status uses.canton (of.disks.history uses.first) (record { disk = uses.last; film = uses.film }))
+        → (DoesOn : Canton → World I O E F × D → World I O E F × D → Result (Unit {0}) TaskFault × Observed I O D T → Type 0)
+        → ((uses : HasUsed (finding of.files of.disks) paths old after (λ canton before end film. DoesOn canton before end (result, film)) used) → IsCanton uses.canton → HasDone of task old after status uses.canton (of.disks.history uses.first) (record { disk = uses.last; observed = uses.observed }))
         → UsesFilm (finding of.files of.disks) paths old after DoesOn (ends result used) → Promise of arguments old new status filmed
     found_on task asked paths on other said_after DoesOn part by = ⊎_elim {B = HasUsed (finding of.files of.disks) paths old after (λ canton before end film. DoesOn canton before end (result, film)) used} {C = Promise of arguments old new status filmed}
         (λ early. none_early early.none)
         (λ uses.
         let limits = setup_limits (of.files.text_at old.files paths.setup.now) uses.canton uses.began.setup in
-        let here = subst (HasDone of task old after status uses.canton (of.disks.history uses.first)) (same_disk (record { disk = uses.last; film = uses.film }) uses.used) (part uses limits) in
+        let here = subst (HasDone of task old after status uses.canton (of.disks.history uses.first)) (same_disk (record { disk = uses.last; observed = uses.observed }) uses.used) (part uses limits) in
         found task asked paths on other uses.canton uses.first uses.began.begins (said_after uses.canton (of.disks.history uses.first) here))
         by
 
@@ -104,30 +105,30 @@ module _ {I O E F T D R : Type 0} (of : Known I O E F T D R) where
     promise_said (tasks.SheetSeats setup sheet layout) asked by = none_early by.none
     promise_said (tasks.Check paths) asked by = none_early by.none
     promise_said (Run paths) asked by = found_on (Run paths) asked paths refl (λ p is. absurd cc) (λ canton first here. record { exchanges = here.exchanges; opened = here.opened; due = here.due; told = here.told; kept = here.kept }) (Ran of)
-        (λ uses limits. run_part of old after uses.files uses.first uses.last uses.film uses.canton limits status result failed paths uses.does) by
+        (λ uses limits. run_part of old after uses.files uses.first uses.last uses.observed uses.canton limits status result failed paths uses.does) by
     promise_said (Load paths csv) asked by = found_on (Load paths csv) asked paths refl (λ p is. absurd cc) (λ canton first here. record { exchanges = here.exchanges; opened = here.opened; due = here.due; told = here.told; kept = here.kept }) (HasLoaded of csv.now)
-        (λ uses limits. load_part of old after uses.files uses.first uses.last uses.film uses.canton limits status result failed paths csv uses.began.calls.texts uses.does) by
+        (λ uses limits. load_part of old after uses.files uses.first uses.last uses.observed uses.canton limits status result failed paths csv uses.began.calls.texts uses.does) by
     promise_said (tasks.DryRun paths csv) asked by = found_on (tasks.DryRun paths csv) asked paths refl (λ p is. absurd cc) (λ canton first here. record { exchanges = here.exchanges; opened = here.opened; due = here.due; told = here.told; kept = here.kept }) (unfilmed (HasDryRun of csv.now))
-        (λ uses limits. dry_part of old after uses.files uses.first uses.last uses.film uses.canton limits status result failed paths csv uses.does) by
+        (λ uses limits. dry_part of old after uses.files uses.first uses.last uses.observed uses.canton limits status result failed paths csv uses.does) by
     promise_said (Export paths) asked by = found_on (Export paths) asked paths refl (λ p is. absurd cc) (λ canton first here. record { exchanges = here.exchanges; opened = here.opened; due = here.due; told = here.told; kept = here.kept }) (unfilmed (Exported of))
-        (λ uses limits. export_part of old after uses.files uses.first uses.last uses.film uses.canton limits status result failed paths uses.does) by
+        (λ uses limits. export_part of old after uses.files uses.first uses.last uses.observed uses.canton limits status result failed paths uses.does) by
     promise_said (tasks.Status paths view) asked by = found_on (tasks.Status paths view) asked paths refl (λ p is. absurd cc) (λ canton first here. record { exchanges = here.exchanges; opened = here.opened; due = here.due; told = here.told; kept = here.kept }) (unfilmed (Shown of view))
-        (λ uses limits. status_part of old after uses.files uses.first uses.last uses.film uses.canton limits status result failed paths view uses.does) by
+        (λ uses limits. status_part of old after uses.files uses.first uses.last uses.observed uses.canton limits status result failed paths view uses.does) by
     promise_said (tasks.Seats paths is_final layout) asked by = found_on (tasks.Seats paths is_final layout) asked paths refl (λ p is. absurd cc) (λ canton first here. record { exchanges = here.exchanges; opened = here.opened; due = here.due; told = here.told; kept = here.kept }) (unfilmed (HasShownSeats of (record { is_final = is_final; layout = layout })))
-        (λ uses limits. seats_part of old after uses.files uses.first uses.last uses.film uses.canton limits status result failed paths is_final layout uses.does) by
+        (λ uses limits. seats_part of old after uses.files uses.first uses.last uses.observed uses.canton limits status result failed paths is_final layout uses.does) by
     promise_said (Format paths) asked by = ⊎_elim {B = HasUsed (making of.files of.disks) paths old after (λ canton before end film. Formatted of canton before end result) used} {C = Promise of arguments old new status filmed}
         (λ early. none_early early.none)
         (λ uses.
         let limits = setup_limits (of.files.text_at old.files paths.setup.now) uses.canton uses.began.setup in
         let known = of.files.disk_at old.files paths.disk.now in
-        let this = same_disk (record { disk = uses.last; film = uses.film }) uses.used in
-        let part = format_part of old after uses.files uses.first uses.last uses.film uses.canton limits status result failed paths uses.does in
+        let this = same_disk (record { disk = uses.last; observed = uses.observed }) uses.used in
+        let part = format_part of old after uses.files uses.first uses.last uses.observed uses.canton limits status result failed paths uses.does in
         let here = subst (HasDone of (Format paths) old after status uses.canton (of.disks.history uses.first)) this part in
         let empties : IsTrue (of.disks.history filmed.disk).honest → (bytes : List ℕ) → known ≡ Some bytes → MakesEmpty bytes status (of.disks.history filmed.disk).trail
-        = subst (λ (d : Filmed I O D). IsTrue (of.disks.history d.disk).honest → (bytes : List ℕ) → known ≡ Some bytes → MakesEmpty bytes status (of.disks.history d.disk).trail) this
-        (made_empty of old after uses.files uses.first uses.last uses.film uses.canton limits status result failed uses.does known uses.began.begins) in
+        = subst (λ (d : Filmed I O D T). IsTrue (of.disks.history d.disk).honest → (bytes : List ℕ) → known ≡ Some bytes → MakesEmpty bytes status (of.disks.history d.disk).trail) this
+        (made_empty of old after uses.files uses.first uses.last uses.observed uses.canton limits status result failed uses.does known uses.began.begins) in
         let first_honest : IsTrue (of.disks.history filmed.disk).honest → IsTrue (of.disks.history uses.first).honest
-        = subst (λ (d : Filmed I O D). IsTrue (of.disks.history d.disk).honest → IsTrue (of.disks.history uses.first).honest) this uses.does.call.kept in
+        = subst (λ (d : Filmed I O D T). IsTrue (of.disks.history d.disk).honest → IsTrue (of.disks.history uses.first).honest) this uses.does.call.kept in
         record {
           task = Format paths;
           asked = asked_on (command_in arguments) (Format paths) paths.disk.now refl asked.1;
@@ -136,10 +137,8 @@ module _ {I O E F T D R : Type 0} (of : Known I O E F T D R) where
           opened = here.opened;
           due = here.due;
           awaited = awaited_of (talk_of of (Format paths) old new here.opened filmed) here.exchanges here.told;
-          office = λ honest bytes is tally own holds. ⊎_elim
-              (λ fresh. here.kept.office honest bytes fresh tally own holds)
-              (λ filled. absurd (none_held tally bytes filled.0 holds))
-              (known_made known (of.disks.history uses.first) bytes uses.began.begins (first_honest honest) is);
+          office = λ honest bytes is tally own holds. here.kept.office honest bytes (held_made tally bytes (of.disks.history uses.first).trail holds
+              (known_made known (of.disks.history uses.first) bytes uses.began.begins (first_honest honest) is)) tally own holds;
           idle = λ honest bytes is none. here.due;
           formatted = λ p is honest bytes known_is. empties honest bytes known_is;
         })
@@ -147,6 +146,6 @@ module _ {I O E F T D R : Type 0} (of : Known I O E F T D R) where
 
   -- the promise of a task of which no more changed after it than what was said of it
   pub promise_of : (arguments : List (List ℕ)) (old after new : World I O E F) → new ≡ record after { faults = new.faults; remark = new.remark } → (status : ℕ) (result : Result (Unit {0}) TaskFault)
-      → ((fault : TaskFault) → result ≡ Err fault → status ≢ 0) → (used : Option (Used I O D)) (filmed : Filmed I O D) → used ≡ Some (Disk filmed) → (task : Task) → AsksFor arguments task → Does of task old after (ends result used) → Promise of arguments old new status filmed
+      → ((fault : TaskFault) → result ≡ Err fault → status ≢ 0) → (used : Option (Used I O D T)) (filmed : Filmed I O D T) → used ≡ Some (Disk filmed) → (task : Task) → AsksFor arguments task → Does of task old after (ends result used) → Promise of arguments old new status filmed
   promise_of arguments old after new rest status result failed used filmed handed task asked by =
       subst (λ (w : World I O E F). Promise of arguments old w status filmed) (sym rest) (promise_said arguments old after new.faults new.remark status result failed used filmed handed task asked by)

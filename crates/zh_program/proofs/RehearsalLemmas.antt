@@ -26,6 +26,7 @@ use Rattle.zh_tasks.specs.declared.fault.TaskFault.TheVariants as faults
 use Rattle.zh_tasks.specs.declared.used.Filmed.{Filmed}
 use Rattle.zh_tasks.specs.declared.used.Used.{Used}
 use Rattle.zh_tasks.specs.declared.used.Used.TheVariants.{Disk, Rehearsal}
+use Rattle.zh_tasks.specs.declared.used.Observed.{Observed}
 use Rattle.zh_office.specs.declared.service.ServeFault.TheVariants as serving
 use Rattle.zh_program.specs.Program.{ends}
 use Rattle.zh_program.specs.Promise.{RehearsalPromise}
@@ -72,17 +73,17 @@ module _ {I O E F T D R : Type 0} (of : Known I O E F T D R) where
       })
 
   -- only a rehearsal hands over such a film
-  module _ (old after : World I O E F) (status : ℕ) (result : Result (Unit {0}) TaskFault) (failed : (fault : TaskFault) → result ≡ Err fault → status ≢ 0) (used : Option (Used I O D)) (film : Film I O MemoryDisk) (handed : used ≡ Some (Rehearsal film)) where
+  module _ (old after : World I O E F) (status : ℕ) (result : Result (Unit {0}) TaskFault) (failed : (fault : TaskFault) → result ≡ Err fault → status ≢ 0) (used : Option (Used I O D T)) (film : Film I O MemoryDisk) (handed : used ≡ Some (Rehearsal film)) where
     none_other : {X : Type 0} → used ≡ None → X
     none_other is = let wrong : Some (Rehearsal film) ≡ None = sym handed ∙ is in absurd cc
 
-    none_filmed : {X : Type 0} (filmed : Filmed I O D) → used ≡ Some (Disk filmed) → X
+    none_filmed : {X : Type 0} (filmed : Filmed I O D T) → used ≡ Some (Disk filmed) → X
     none_filmed filmed is = let wrong : Some (Rehearsal film) ≡ Some (Disk filmed) = sym handed ∙ is in absurd cc
 
-    on_a_disk : {X : Type 0} (sight : Sight F T D R) (paths : Paths) (DoesOn : Canton → World I O E F × D → World I O E F × D → Result (Unit {0}) TaskFault × Film I O D → Type 0) → UsesFilm sight paths old after DoesOn (ends result used) → X
+    on_a_disk : {X : Type 0} (sight : Sight F T D R) (paths : Paths) (DoesOn : Canton → World I O E F × D → World I O E F × D → Result (Unit {0}) TaskFault × Observed I O D T → Type 0) → UsesFilm sight paths old after DoesOn (ends result used) → X
     on_a_disk {X} sight paths DoesOn by = ⊎_elim {B = HasUsed sight paths old after (λ canton before end film. DoesOn canton before end (result, film)) used} {C = X}
         (λ early. none_other early.none)
-        (λ uses. none_filmed (record { disk = uses.last; film = uses.film }) uses.used)
+        (λ uses. none_filmed (record { disk = uses.last; observed = uses.observed }) uses.used)
         by
 
     rehearsed_after : Rehearses of old after (ends result used) → RehearsalPromise of old after status film

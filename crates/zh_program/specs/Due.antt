@@ -62,9 +62,9 @@ module _ {I O E F T D R : Type 0} where
   }
 
   -- That of a task, once its disk was opened. One that answers no line and loads no text has none, whatever else it writes.
-  abbrev pub talk_of : Known I O E F T D R → Task → World I O E F → World I O E F → Trail → Filmed I O D → Conversation
+  abbrev pub talk_of : Known I O E F T D R → Task → World I O E F → World I O E F → Trail → Filmed I O D T → Conversation
   talk_of of (Run paths) old new opened used =
-      conversation of old new opened (of.disks.history used.disk).trail (frames of.readers of.writers of.disks used.film)
+      conversation of old new opened (of.disks.history used.disk).trail (frames of.readers of.writers of.disks used.observed.film)
   talk_of of (Load paths csv) old new opened used =
-      conversation of old new opened (of.disks.history used.disk).trail (frames of.readers of.writers of.disks used.film)
+      conversation of old new opened (of.disks.history used.disk).trail (frames of.readers of.writers of.disks used.observed.film)
   talk_of of task old new opened used = conversation of new new opened (of.disks.history used.disk).trail []

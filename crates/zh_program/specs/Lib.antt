@@ -1,3 +1,4 @@
+pub mod Paths
 pub mod Reports
 pub mod Program
 pub mod Exchanges

@@ -11,6 +11,7 @@ use Rattle.zh_tasks.specs.World.{Known}
 use Rattle.zh_tasks.specs.declared.fault.TaskFault.{TaskFault}
 use Rattle.zh_tasks.specs.declared.used.Used.{Used}
 use Rattle.zh_tasks.specs.declared.fault.TaskFault.TheVariants as faults
+use Rattle.zh_program.specs.Paths.{fault_path}
 use Rattle.zh_program.specs.Reports.{report_text}
 
 -- how a task ended
@@ -31,13 +32,13 @@ disk_path task = None
 module _ {I O E F T D R : Type 0} where
   -- A task met a fault, and then that is reported to standard error, whole or broken off as the world's remark says. Where it
   -- was refused nothing is reported: the task has said why.
-  pub record MetFault (of : Known I O E F T D R) (task : Task) (old new : World I O E F) (used : Option (Used I O D)) : Type 0 where
+  pub record MetFault (of : Known I O E F T D R) (task : Task) (old new : World I O E F) (used : Option (Used I O D T)) : Type 0 where
     pub fault : TaskFault
     pub after : World I O E F
     pub does : Does of task old after (ends (Err fault) used)
     pub rest : new ≡ record after { faults = new.faults; remark = new.remark }
     pub reported : fault ≢ faults.Refused
-        → BecameOf new.remark (of.errors.contents after.faults) (of.errors.contents new.faults) (report_text fault)
+        → BecameOf new.remark (of.errors.contents after.faults) (of.errors.contents new.faults) (report_text (fault_path task fault) fault)
     pub refused : fault ≡ faults.Refused → new ≡ after
 
 module _ {I O E F D : Type 0} where

@@ -25,7 +25,7 @@ module _ {I O E F T D R : Type 0} where
   -- What the program has done when it ends and hands over, that is returns, this disk and the film of its task. A stopped run
   -- did a front of one.
   pub record Promise (of : Known I O E F T D R) (arguments : List (List ℕ)) (old new : World I O E F) (status : ℕ)
-      (used : Filmed I O D) : Type 0 where
+      (used : Filmed I O D T) : Type 0 where
     pub task : Task
     pub path : List ℕ
     -- this path is given after `--disk`; `done` and `fault` say which view or which seats were asked for, and that nothing was

@@ -8,9 +8,16 @@ use Rattle.zh_ledger.specs.declared.fault.OpenFault.{OpenFault}
 use Rattle.zh_ledger.specs.declared.fault.OpenFault.TheVariants as of_opening
 use Rattle.zh_office.specs.declared.service.ServeFault.{ServeFault}
 use Rattle.zh_office.specs.declared.service.ServeFault.TheVariants as of_serving
-use Rattle.zh_tasks.specs.OnDisk.{named_place}
+use Rattle.zh_tasks.specs.Places.{named_place}
 use Rattle.zh_tasks.specs.declared.fault.TaskFault.{TaskFault}
 use Rattle.zh_tasks.specs.declared.fault.TaskFault.TheVariants as faults
+use Rattle.zh_setups.specs.declared.place.FaultPlace.{FaultPlace}
+use Rattle.zh_setups.specs.declared.place.FaultPlace.TheVariants as of_text
+use Rattle.zh_setups.specs.declared.place.Key.TheVariants as keys
+use Rattle.zh_tasks.specs.declared.file.TaskFile.{TaskFile}
+use Rattle.zh_tasks.specs.declared.file.TaskFile.TheVariants as files
+use Rattle.zh_world.specs.Causes.{cause_name}
+use Rattle.zh_program.specs.Paths.{shown_path}
 use Rattle.zh_tasks.specs.declared.place.TaskPlace.{TaskPlace}
 use Rattle.zh_tasks.specs.declared.place.TaskPlace.TheVariants as places
 
@@ -34,18 +41,27 @@ serving_name of_serving.Read = codes "read"
 serving_name of_serving.Write = codes "write"
 serving_name of_serving.Turns = codes "turns"
 
+-- of a file that was not opened
+abbrev pub unopened_name : TaskFile → List ℕ
+unopened_name files.Setup = codes "setup file"
+unopened_name files.Disk = codes "disk device"
+unopened_name files.Csv = codes "csv file"
+unopened_name files.Sheet = codes "sheet file"
+unopened_name files.Held = codes "held file"
+
 -- the name of a fault
 abbrev pub fault_text : TaskFault → List ℕ
-fault_text faults.SetupFile = codes "setup file"
+fault_text (faults.Unopened file cause) = unopened_name file
+fault_text faults.SetupFile = unopened_name files.Setup
 fault_text (faults.Setup refusal) = setup_name refusal.fault
-fault_text faults.Device = codes "disk device"
+fault_text faults.Device = unopened_name files.Disk
 fault_text faults.Busy = codes "disk busy"
 fault_text (faults.Size found) = codes "disk size"
 fault_text faults.InUse = codes "disk inuse"
 fault_text (faults.Open fault) = opening_name fault
-fault_text faults.CsvFile = codes "csv file"
-fault_text faults.SheetFile = codes "sheet file"
-fault_text faults.HeldFile = codes "held file"
+fault_text faults.CsvFile = unopened_name files.Csv
+fault_text faults.SheetFile = unopened_name files.Sheet
+fault_text faults.HeldFile = unopened_name files.Held
 fault_text (faults.Held fault) = held_name fault
 fault_text (faults.Seats fault) = seats_name fault
 fault_text (faults.NoMunicipality number) = codes "nomunicipality " ++ decimal number
@@ -53,19 +69,37 @@ fault_text (faults.NoConstituency number) = codes "noconstituency " ++ decimal n
 fault_text faults.Memory = codes "memory"
 fault_text (faults.Serve fault) = serving_name fault
 fault_text faults.Write = codes "write"
-fault_text faults.Faulted = codes "disk device"
+fault_text faults.Faulted = unopened_name files.Disk
 fault_text faults.Refused = codes "refused"
 
--- a place: one in a set-up text, or how long a file is that is no disk
+-- the limits of the value at a place of a set-up
+abbrev pub limits_text : FaultPlace → List ℕ
+limits_text (of_text.Top keys.Version) = codes ": 1 or 2"
+limits_text (of_text.Top keys.House) = codes ": 1 to 400"
+limits_text (of_text.Top keys.CantonQuorum) = codes ": 1 to 49"
+limits_text (of_text.Top keys.Constituency) = codes ": 1 to 32 tables"
+limits_text (of_text.Top keys.Municipality) = codes ": 1 to 512 tables"
+limits_text (of_text.Top keys.Group) = codes ": 1 to 32 tables"
+limits_text (of_text.Table kind number keys.Name) = codes ": 1 to 40 bytes, no space at an end"
+limits_text (of_text.Table kind number keys.Persons) = codes ": 1 to 10000000"
+limits_text (of_text.Table kind number keys.Constituency) = codes ": the number of a constituency"
+limits_text (of_text.Table kind number keys.Stands) = codes ": numbers of constituencies"
+limits_text place = []
+
+-- a place or a cause: why a file was not opened, a place in a set-up text, or how long a file is that is no disk
 abbrev pub place_text : TaskPlace → List ℕ
+place_text (places.Cause cause) = cause_name cause
 place_text (places.Setup place) = setup_place place
+place_text (places.Range place) = setup_place place ++ limits_text place
 place_text (places.Length found) = decimal found ++ codes " bytes instead of " ++ decimal disk_length
 
--- the line of a place, if it is known
-abbrev pub place_line : Option TaskPlace → List ℕ
-place_line None = []
-place_line (Some place) = place_text place ++ 10 ∷ []
+-- the second line: the path of the file, and the place in it or the cause, as far as they are known
+abbrev pub second_line : Option (List ℕ) → Option TaskPlace → List ℕ
+second_line None None = []
+second_line None (Some place) = place_text place ++ 10 ∷ []
+second_line (Some path) None = shown_path path ++ 10 ∷ []
+second_line (Some path) (Some place) = shown_path path ++ codes ": " ++ place_text place ++ 10 ∷ []
 
--- the report of a fault: a line with its name, and then that of its place
-abbrev pub report_text : TaskFault → List ℕ
-report_text fault = codes "zhcount: " ++ fault_text fault ++ 10 ∷ place_line (named_place fault)
+-- the report of a fault of the file at this path, if it is of one: a line with its name, and then the second
+abbrev pub report_text : Option (List ℕ) → TaskFault → List ℕ
+report_text path fault = (codes "zhcount: " ++ fault_text fault ++ 10 ∷ []) ++ second_line path (named_place fault)

@@ -8,6 +8,7 @@ use Rattle.zh_ledger.specs.Opening.{IsCause}
 use Rattle.zh_ledger.specs.Stands.{Holds, Stands}
 use Rattle.zh_ledger.specs.declared.fault.OpenFault.{OpenFault}
 use Rattle.zh_ledger.specs.declared.fault.OpenFault.TheVariants as faults
+use Rattle.zh_world.specs.Files.{BeginsWith}
 
 -- at each moment from that of the one trail to that of the other a stop leaves an image of this kind
 pub record Always (IsLeft : List ℕ → Type 0) (old new : Trail) : Type 0 where
@@ -23,10 +24,10 @@ pub record OpensTo (count : Tally) (c : List ℕ) : Type 0 where
 
 -- At each moment of a formatting a stop leaves what the disk began with or, if that was blank, a blank disk or the empty
 -- count of a set-up; with status 0 it ends with this count. That the set-up is the one at `--setup` is said by `done`. The
--- disk began with the bytes of its file or, where these are none at all, with what it was filled with.
+-- disk began with the bytes of its file or, where these are none at all, as a new one, of zeros.
 pub record MakesEmpty (bytes : List ℕ) (status : ℕ) (last : Trail) : Type 0 where
   pub first : List ℕ
-  pub began : (first ≡ bytes) ⊎ (bytes ≡ [])
+  pub began : BeginsWith bytes (fresh_trail first)
   pub canton : Canton
   pub limits : IsCanton canton
   pub moments : Always (λ c. (c ≡ first) ⊎ (IsBlank first × (IsBlank c ⊎ Holds (empty canton) c))) (fresh_trail first) last

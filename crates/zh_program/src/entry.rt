@@ -1,6 +1,6 @@
 //! The program.
 
-ghost use Rattle.std.specs.Prelude.{◌≡◌, ◌≢◌, ◌≤◌, ◌⊎◌, [], Err, IfErr, MatchResult, Ok, Some, map};
+ghost use Rattle.std.specs.Prelude.{◌≡◌, ◌≢◌, ◌≤◌, ◌⊎◌, [], Err, IfErr, MatchResult, None, Ok, Some, map};
 ghost use Rattle.std.specs.String.{string_bytes};
 ghost use Rattle.clap.specs.Words.{kind_of};
 ghost use Rattle.zh_arguments.specs.Arguments.{AsksFor, refusals};
@@ -15,30 +15,36 @@ ghost use Rattle.zh_film.specs.declared.film.Film.{Film};
 ghost use Rattle.zh_program.specs.Promise.{Promise, RehearsalPromise};
 ghost use Rattle.zh_program.specs.Program.{MetFault, NothingDone, disk_path, ends};
 ghost use Rattle.zh_world.specs.Places.{Touches};
+ghost use Rattle.zh_program.specs.Paths.{fault_path};
 ghost use Rattle.zh_program.specs.Reports.{report_text};
 
+use crate::paths::fault_path;
 use crate::report::report;
 use clap::Error;
 use clap::error::ErrorKind;
 use std::alloc::Global;
 use std::io::{Read, Write};
-use zh_arguments::read_arguments;
+use zh_arguments::{Task, read_arguments};
 use zh_tasks::{TaskFault, Used, carry_out};
 use zh_world::{Ended, Files, Remark, World};
 
 /// The status of a task that ended so. A fault is reported, but where it was refused the task has said why.
-fn end<I, O, E: Write, F>(ended: Result<(), TaskFault>, world: &mut World<I, O, E, F>) -> u8
+fn end<I, O, E: Write, F>(
+    ended: Result<(), TaskFault>,
+    task: Task<'_>,
+    world: &mut World<I, O, E, F>,
+) -> u8
     ensures status { MatchResult ended (λ _. (result ≡ 0) × (world.new ≡ world.old)) (λ _. result ≡ 1) }
     ensures rest { world.new ≡ record world.old { faults = world.new.faults; remark = world.new.remark } }
     ensures refused { ended ≡ Err TaskFault.Refused → world.new ≡ world.old }
     ensures reported { IfErr ended (λ fault. fault ≢ TaskFault.Refused → BecameOf world.new.remark
-        (E.contents world.old.faults) (E.contents world.new.faults) (report_text fault)) }
+        (E.contents world.old.faults) (E.contents world.new.faults) (report_text (fault_path task.entry fault) fault)) }
 {
     match ended {
         Ok(()) => 0,
         Err(TaskFault::Refused) => 1,
         Err(fault) => {
-            world.remark = report(fault, &mut world.faults);
+            world.remark = report(fault_path(task, &fault), fault, &mut world.faults);
             1
         }
     }
@@ -50,10 +56,11 @@ fn refuse<I, O, E: Write, F>(refusal: &Error, world: &mut World<I, O, E, F>) -> 
     ensures refused { kind_of refusal.now ≢ ErrorKind.OutOfMemory → result ≡ 2 }
     ensures rest { world.new ≡ record world.old { faults = world.new.faults; remark = world.new.remark } }
     ensures reported { result ≡ 1 → BecameOf world.new.remark
-        (E.contents world.old.faults) (E.contents world.new.faults) (report_text TaskFault.Memory) }
+        (E.contents world.old.faults) (E.contents world.new.faults) (report_text None TaskFault.Memory) }
 {
     if refusal.kind() == ErrorKind::OutOfMemory {
-        return end(Err(TaskFault::Memory), world);
+        world.remark = report(None, TaskFault::Memory, &mut world.faults);
+        return 1;
     }
     world.remark = match write!(&mut world.faults, "{refusal}") {
         Ok(()) => Remark::Whole,
@@ -74,16 +81,16 @@ pub fn program<I: Read, O: Write, E: Write, F: Files>(
     arguments: &[String],
     right: F::Right,
     world: &mut World<I, O, E, F>,
-) -> Ended<u8, Used<I, O, F::Disk>>
+) -> Ended<u8, Used<I, O, F::Disk, F::Text>>
     ensures status { result.result ≤ 2 }
     ensures done { result.result ≡ 0 → (task : Task) × AsksFor (map string_bytes arguments.now) task
         × Does (known I.Read O.Write E.Write F.Files F.Disk.Disk) task world.old world.new (ends (Ok tt) result.used) }
     // Memory may be refused before the arguments are read, and then that is reported, and nothing is done.
     ensures fault { result.result ≡ 1 → (NothingDone world.old world.new result.used
-        × BecameOf world.new.remark (E.contents world.old.faults) (E.contents world.new.faults) (report_text TaskFault.Memory))
+        × BecameOf world.new.remark (E.contents world.old.faults) (E.contents world.new.faults) (report_text None TaskFault.Memory))
         ⊎ ((task : Task) × AsksFor (map string_bytes arguments.now) task
         × MetFault (known I.Read O.Write E.Write F.Files F.Disk.Disk) task world.old world.new result.used) }
-    ensures headline { (used : Filmed I O F.Disk) → result.used ≡ Some (used_as.Disk used)
+    ensures headline { (used : Filmed I O F.Disk F.Text) → result.used ≡ Some (used_as.Disk used)
         → Promise (known I.Read O.Write E.Write F.Files F.Disk.Disk) (map string_bytes arguments.now)
         world.old world.new result.result used }
     ensures rehearsed { (film : Film I O MemoryDisk) → result.used ≡ Some (used_as.Rehearsal film)
@@ -97,7 +104,7 @@ pub fn program<I: Read, O: Write, E: Write, F: Files>(
         Ok(task) => {
             let Ended { result, used } = carry_out(alloc, task, right, world);
             Ended {
-                result: end(result, world),
+                result: end(result, task, world),
                 used,
             }
         }

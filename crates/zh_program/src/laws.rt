@@ -95,7 +95,7 @@ pub fn headline_excludes()
 
 /// And an answer where no count stood.
 pub fn promise_excludes<I: Read, O: Write, E: Write, F: Files>()
-    ensures { (arguments : List (List ℕ)) (old new : World I O E F) (status : ℕ) (used : Filmed I O F.Disk) (bytes : List ℕ)
+    ensures { (arguments : List (List ℕ)) (old new : World I O E F) (status : ℕ) (used : Filmed I O F.Disk F.Text) (bytes : List ℕ)
         (x : Exchange) (rest : List Exchange)
         → (promise : Promise (known I.Read O.Write E.Write F.Files F.Disk.Disk) arguments old new status used)
         → IsTrue (F.Disk.history used.disk).honest → F.disk_at old.files promise.path ≡ Some bytes

@@ -3,6 +3,7 @@
 
 mod entry;
 mod laws;
+mod paths;
 mod report;
 mod report_parts;
 

@@ -18,6 +18,8 @@ use Rattle.zh_tasks.specs.Opened.{IsOfDevice, IsThis}
 use Rattle.zh_film.specs.Frames.{Frame}
 use Rattle.zh_tasks.specs.Load.{GivenText, HasBegun, IsUnreadable, Loaded, LoadsText, LoadsFile, Replied, WritesPart, given_text, printed, step_replied, text_calls}
 use Rattle.zh_tasks.specs.Run.{Streams, beside, streams}
+use Rattle.zh_world.specs.declared.fault.FileFault.{FileFault}
+use Rattle.zh_tasks.specs.declared.file.TaskFile.TheVariants as files
 use Rattle.zh_tasks.specs.declared.fault.TaskFault.{TaskFault}
 use Rattle.zh_tasks.specs.declared.fault.TaskFault.TheVariants as faults
 use Rattle.zh_tasks.proofs.KeptLemmas.{load_is_logged}
@@ -57,17 +59,19 @@ unfolding replied_to
 loaded_to old new start end text failed reply faulted turn order written device = record { replied = replied_to old new start end text failed reply turn order; written = written; device = device }
 
 -- the file gives no text, and an office was opened
-pub unread : (unwritten : Type 0) (Gives : (OnDisk Office → OnDisk Office → Type 0) → Result (Unit {0}) TaskFault → Type 0) (Spans : OnDisk Office → OnDisk Office → Type 0) (start : OnDisk Office) (fault : TaskFault)
-    → IsUnreadable fault → unwritten → Spans start start → LoadsFile unwritten Gives Spans (Err fault)
-unread unwritten Gives Spans start faults.CsvFile is same spans = (same, (start, spans))
-unread unwritten Gives Spans start faults.Memory is same spans = (same, (start, spans))
-unread unwritten Gives Spans start fault is same spans = absurd is
+pub unread : (Met : FileFault → Type 0) (unwritten : Type 0) (Gives : (OnDisk Office → OnDisk Office → Type 0) → Result (Unit {0}) TaskFault → Type 0) (Spans : OnDisk Office → OnDisk Office → Type 0) (start : OnDisk Office) (fault : TaskFault)
+    → IsUnreadable Met fault → unwritten → Spans start start → LoadsFile Met unwritten Gives Spans (Err fault)
+unread Met unwritten Gives Spans start (faults.Unopened files.Csv cause) is same spans = (is, same, (start, spans))
+unread Met unwritten Gives Spans start faults.CsvFile is same spans = (same, (start, spans))
+unread Met unwritten Gives Spans start faults.Memory is same spans = (same, (start, spans))
+unread Met unwritten Gives Spans start fault is same spans = absurd is
 
 -- and the device is not reported
-pub unread_calm : (fault : TaskFault) → IsUnreadable fault → IsOfDevice fault → ⊥
-unread_calm faults.CsvFile is of_device = of_device
-unread_calm faults.Memory is of_device = of_device
-unread_calm fault is of_device = absurd is
+pub unread_calm : (Met : FileFault → Type 0) (fault : TaskFault) → IsUnreadable Met fault → IsOfDevice fault → ⊥
+unread_calm Met (faults.Unopened files.Csv cause) is of_device = of_device
+unread_calm Met faults.CsvFile is of_device = of_device
+unread_calm Met faults.Memory is of_device = of_device
+unread_calm Met fault is of_device = absurd is
 
 -- the same of an office that began in another way too
 replied_as : (text : GivenText) (old new : Streams) (Spans Spans' : OnDisk Office → OnDisk Office → Type 0) (reply : Reply) → ((start end : OnDisk Office) → Spans start end → Spans' start end) → Replied text old new Spans reply → Replied text old new Spans' reply
@@ -86,12 +90,13 @@ loads_as text old new Spans Spans' (Err faults.Write) turn (reply, replied, fron
 loads_as text old new Spans Spans' (Err fault) turn by = absurd by
 
 -- a text that the file gave was loaded
-pub file_loads : (unwritten : Type 0) (text : GivenText) (old new : Streams) (Spans : OnDisk Office → OnDisk Office → Type 0) (result : Result (Unit {0}) TaskFault)
-    → LoadsText text old new Spans result → LoadsFile unwritten (LoadsText text old new) Spans result
-file_loads unwritten text old new Spans (Ok done) by = by
-file_loads unwritten text old new Spans (Err faults.CsvFile) by = absurd by
-file_loads unwritten text old new Spans (Err faults.Memory) by = absurd by
-file_loads unwritten text old new Spans (Err fault) by = by
+pub file_loads : (Met : FileFault → Type 0) (unwritten : Type 0) (text : GivenText) (old new : Streams) (Spans : OnDisk Office → OnDisk Office → Type 0) (result : Result (Unit {0}) TaskFault)
+    → LoadsText text old new Spans result → LoadsFile Met unwritten (LoadsText text old new) Spans result
+file_loads Met unwritten text old new Spans (Ok done) by = by
+file_loads Met unwritten text old new Spans (Err (faults.Unopened files.Csv cause)) by = absurd by
+file_loads Met unwritten text old new Spans (Err faults.CsvFile) by = absurd by
+file_loads Met unwritten text old new Spans (Err faults.Memory) by = absurd by
+file_loads Met unwritten text old new Spans (Err fault) by = by
 
 -- on a film that showed nothing yet
 pub loads_blank : (text : GivenText) (left w : Option (List ℕ)) (film : List Frame) (new : Streams) (Spans : OnDisk Office → OnDisk Office → Type 0) (result : Result (Unit {0}) TaskFault) → film ≡ []
@@ -99,10 +104,11 @@ pub loads_blank : (text : GivenText) (left w : Option (List ℕ)) (film : List F
 loads_blank text left w film new Spans result blank by = subst (λ (l : List Frame). LoadsText text (streams left w l) new Spans result) blank by
 
 -- the file was looked for
-pub unread_calls : (fault : TaskFault) → IsUnreadable fault → text_calls (Err fault) ≡ 1
-unread_calls faults.CsvFile is = refl
-unread_calls faults.Memory is = refl
-unread_calls fault is = absurd is
+pub unread_calls : (Met : FileFault → Type 0) (fault : TaskFault) → IsUnreadable Met fault → text_calls (Err fault) ≡ 1
+unread_calls Met (faults.Unopened files.Csv cause) is = refl
+unread_calls Met faults.CsvFile is = refl
+unread_calls Met faults.Memory is = refl
+unread_calls Met fault is = absurd is
 
 pub loaded_calls : (text : GivenText) (old new : Streams) (Spans : OnDisk Office → OnDisk Office → Type 0) (result : Result (Unit {0}) TaskFault) → LoadsText text old new Spans result → text_calls result ≡ 1
 loaded_calls text old new Spans (Ok done) by = refl

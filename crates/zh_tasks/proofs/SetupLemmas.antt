@@ -13,6 +13,8 @@ use Rattle.zh_setups.specs.declared.fault.SetupRefusal.{SetupRefusal}
 use Rattle.zh_setups.specs.Refusals.{IsPlaced}
 use Rattle.zh_tasks.specs.OnDisk.{IsEarly, IsOfSetup, RefusesSetup}
 use Rattle.zh_tasks.specs.World.{IsFrontAt, IsSetupAt}
+use Rattle.zh_world.specs.declared.fault.FileFault.{FileFault}
+use Rattle.zh_tasks.specs.declared.file.TaskFile.TheVariants as files
 use Rattle.zh_tasks.specs.declared.fault.TaskFault.{TaskFault}
 use Rattle.zh_tasks.specs.declared.fault.TaskFault.TheVariants as faults
 
@@ -55,11 +57,12 @@ setup_read known front text (Ok canton) is same reading limits = setup_known kno
 setup_read known front text (Err fault) is same reading limits = tt
 
 -- a fault of the set-up comes before a task has a disk
-pub is_early : (text : Option (List ℕ)) (fault : TaskFault) → IsOfSetup text fault → IsEarly text fault
-is_early text faults.SetupFile is = tt
-is_early text (faults.Setup refusal) is = is
-is_early text faults.Memory is = tt
-is_early text fault is = absurd is
+pub is_early : (text : Option (List ℕ)) (Met OfDisk : FileFault → Type 0) (fault : TaskFault) → IsOfSetup text Met fault → IsEarly text Met OfDisk fault
+is_early text Met OfDisk (faults.Unopened files.Setup cause) is = is
+is_early text Met OfDisk faults.SetupFile is = tt
+is_early text Met OfDisk (faults.Setup refusal) is = is
+is_early text Met OfDisk faults.Memory is = tt
+is_early text Met OfDisk fault is = absurd is
 
 -- a front that is cut off stands for no set-up, and so does its text
 cut : (all front : List ℕ) → front ≡ take 1048577 all → 1048576 < length all → (reading_of front ≡ Err Text) × (reading_of all ≡ Err Text) × (1048576 < length front)

@@ -5,10 +5,12 @@ use Rattle.zh_world.specs.Places.{TouchesOnly}
 use Rattle.zh_world.specs.Places.{IfKnown}
 use Rattle.zh_world.proofs.CallerLemmas.{after_stay}
 use Rattle.zh_world.specs.declared.files.Files.{Ghosts as Files}
-use Rattle.zh_world.specs.declared.files.FileFault.{FileFault}
-use Rattle.zh_world.specs.declared.files.FileFault.TheVariants as of_files
+use Rattle.zh_world.specs.declared.fault.FileFault.{FileFault}
+use Rattle.zh_world.specs.declared.fault.FileFault.TheVariants as of_files
 use Rattle.zh_tasks.specs.OnDisk.{FoundAs, IsEarly}
-use Rattle.zh_tasks.specs.World.{AreCalls, AsksForDisk}
+use Rattle.zh_world.specs.Causes.{IsFaultIn}
+use Rattle.zh_world.specs.Places.{Places}
+use Rattle.zh_tasks.specs.World.{AreCalls, AsksForDisk, IsMetAt}
 use Rattle.zh_tasks.specs.declared.fault.TaskFault.{TaskFault}
 
 pub one_call : {F T D R : Type 0} (files : Files F T D R) (old new : F) → IsReadOfFiles files.text_at files.disk_at files.places files.calls old new → AreCalls files 1 old new
@@ -38,8 +40,13 @@ pub known_before : {F : Type 0} (at : F → List ℕ → Option (List ℕ)) (old
 known_before at old mid path P same by = subst (λ (f : List ℕ → Option (List ℕ)). P (f path)) same by
 
 -- a fault of opening the disk is early
-pub found_early : (text : Option (List ℕ)) (fault : FileFault) (e : TaskFault) → FoundAs fault e → IsEarly text e
-found_early text of_files.Memory e is = subst (IsEarly text) (sym is) tt
-found_early text of_files.Device e is = subst (IsEarly text) (sym is) tt
-found_early text (of_files.Size length) e is = subst (IsEarly text) (sym is) tt
-found_early text of_files.Busy e is = subst (IsEarly text) (sym is) tt
+pub found_early : (text : Option (List ℕ)) (Met OfDisk : FileFault → Type 0) (fault : FileFault) (e : TaskFault) → FoundAs fault e → OfDisk fault → IsEarly text Met OfDisk e
+found_early text Met OfDisk of_files.Memory e is met = subst (IsEarly text Met OfDisk) (sym is) tt
+found_early text Met OfDisk (of_files.Device cause) e is met = subst (IsEarly text Met OfDisk) (sym is) met
+found_early text Met OfDisk (of_files.Size length) e is met = subst (IsEarly text Met OfDisk) (sym is) met
+found_early text Met OfDisk of_files.Busy e is met = subst (IsEarly text Met OfDisk) (sym is) met
+
+-- what was met after a call that touches nothing is right about what stood there before it
+pub met_before : {F T D R : Type 0} (files : Files F T D R) (path : List ℕ) (old mid new : F) → files.places mid ≡ files.places old
+    → (fault : FileFault) → IsMetAt files path mid new fault → IsMetAt files path old new fault
+met_before files path old mid new same fault met = (met.0, subst (λ (known : Option Places). IsFaultIn known path fault) same met.1)

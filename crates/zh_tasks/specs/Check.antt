@@ -19,9 +19,12 @@ use Rattle.zh_verdicts.specs.declared.writer.VerdictFault.TheVariants as of_verd
 use Rattle.zh_world.specs.declared.world.Ended.{Ended}
 use Rattle.zh_tasks.specs.declared.used.Used.{Used}
 use Rattle.zh_world.specs.declared.world.World.{World}
-use Rattle.zh_tasks.specs.World.{AreCalls, IsSetupAt, Known}
+use Rattle.zh_world.specs.declared.fault.FileFault.{FileFault}
+use Rattle.zh_world.specs.declared.fault.FileFault.TheVariants as of_files
+use Rattle.zh_tasks.specs.World.{AreCalls, IsMetAt, IsSetupAt, Known}
 use Rattle.zh_tasks.specs.Load.{WritesPart}
 use Rattle.zh_tasks.specs.OnDisk.{IsOfSetup}
+use Rattle.zh_tasks.specs.declared.file.TaskFile.TheVariants as files
 use Rattle.zh_tasks.specs.declared.fault.TaskFault.{TaskFault}
 use Rattle.zh_tasks.specs.declared.fault.TaskFault.TheVariants as faults
 
@@ -52,18 +55,24 @@ HeldFaultAs why faults.HeldFile = why ≡ loads.Read
 HeldFaultAs why faults.Memory = why ≡ loads.Memory
 HeldFaultAs why fault = ⊥
 
--- the file gives no sheet
+-- a file that was opened gives no sheet
 abbrev pub IsOfSheet : TaskFault → Type 0
 IsOfSheet faults.SheetFile = Unit {0}
 IsOfSheet faults.Memory = Unit {0}
 IsOfSheet fault = ⊥
 
--- the file gives no sums
-abbrev pub IsOfHeld : Option (List ℕ) → Canton → TaskFault → Type 0
-IsOfHeld known canton faults.HeldFile = Unit {0}
-IsOfHeld known canton faults.Memory = Unit {0}
-IsOfHeld known canton (faults.Held fault) = IsBadRecordAt known canton fault
-IsOfHeld known canton fault = ⊥
+-- the file gives no sheet, or the call for it met a fault
+abbrev pub LacksSheetFile : (FileFault → Type 0) → TaskFault → Type 0
+LacksSheetFile Met (faults.Unopened files.Sheet cause) = Met (of_files.Device cause)
+LacksSheetFile Met fault = IsOfSheet fault
+
+-- the file gives no sums, or the call for it met a fault
+abbrev pub IsOfHeld : Option (List ℕ) → Canton → (FileFault → Type 0) → TaskFault → Type 0
+IsOfHeld known canton Met (faults.Unopened files.Held cause) = Met (of_files.Device cause)
+IsOfHeld known canton Met faults.HeldFile = Unit {0}
+IsOfHeld known canton Met faults.Memory = Unit {0}
+IsOfHeld known canton Met (faults.Held fault) = IsBadRecordAt known canton fault
+IsOfHeld known canton Met fault = ⊥
 
 -- the sums that were read are those of the export at this path, or none where there is none
 abbrev pub AreSumsIfNamed : (List ℕ → Option (List ℕ)) → Canton → Option (List ℕ) → Option HeldSums → Type 0
@@ -72,9 +81,9 @@ AreSumsIfNamed text_at canton (Some path) (Some sums) = AreSumsAt (text_at path)
 AreSumsIfNamed text_at canton path held = ⊥
 
 -- the file of the export, where there is one, gives no sums
-abbrev pub IsOfHeldAt : (List ℕ → Option (List ℕ)) → Canton → Option (List ℕ) → TaskFault → Type 0
-IsOfHeldAt text_at canton None fault = ⊥
-IsOfHeldAt text_at canton (Some path) fault = IsOfHeld (text_at path) canton fault
+abbrev pub IsOfHeldAt : (List ℕ → Option (List ℕ)) → Canton → (List ℕ → FileFault → Type 0) → Option (List ℕ) → TaskFault → Type 0
+IsOfHeldAt text_at canton Met None fault = ⊥
+IsOfHeldAt text_at canton Met (Some path) fault = IsOfHeld (text_at path) canton (Met path) fault
 
 -- the path of an export, where one is named
 abbrev pub held_path : CheckPaths → Option (List ℕ)
@@ -87,18 +96,20 @@ pub record AreInputs (text_at : List ℕ → Option (List ℕ)) (paths : CheckPa
   pub held : AreSumsIfNamed text_at inputs.canton (held_path paths) inputs.held
 
 -- the set-up was read, and the file of the sheet gives none
-pub record LacksSheet (text_at : List ℕ → Option (List ℕ)) (paths : CheckPaths) (fault : TaskFault) : Type 0 where
+pub record LacksSheet (text_at : List ℕ → Option (List ℕ)) (Met : List ℕ → FileFault → Type 0) (paths : CheckPaths)
+    (fault : TaskFault) : Type 0 where
   pub canton : Canton
   pub setup : IsSetupAt (text_at paths.setup.now) canton
-  pub none : IsOfSheet fault
+  pub none : LacksSheetFile (Met paths.sheet.now) fault
 
 -- the set-up and the sheet were read, and the file of the export gives no sums
-pub record LacksSums (text_at : List ℕ → Option (List ℕ)) (paths : CheckPaths) (fault : TaskFault) : Type 0 where
+pub record LacksSums (text_at : List ℕ → Option (List ℕ)) (Met : List ℕ → FileFault → Type 0) (paths : CheckPaths)
+    (fault : TaskFault) : Type 0 where
   pub canton : Canton
   pub sheet : List ℕ
   pub setup : IsSetupAt (text_at paths.setup.now) canton
   pub front : IsSheetAt (text_at paths.sheet.now) sheet
-  pub none : IsOfHeldAt text_at canton (held_path paths) fault
+  pub none : IsOfHeldAt text_at canton Met (held_path paths) fault
 
 -- how many calls the reading of an export takes, which may be none
 abbrev pub calls_if_named : Option (List ℕ) → ℕ
@@ -114,10 +125,10 @@ abbrev pub ReadsInputs : (ℕ → Type 0) → (List ℕ → Option (List ℕ)) �
 ReadsInputs IsAfter text_at paths inputs = IsAfter (calls_for paths) × AreInputs text_at paths inputs
 
 -- The first of the texts that gives nothing, with this fault. The set-up is read in the first call, the sheet in the second
--- and the export in the third.
-abbrev pub LacksInputs : (ℕ → Type 0) → (List ℕ → Option (List ℕ)) → CheckPaths → TaskFault → Type 0
-LacksInputs IsAfter text_at paths fault = (IsAfter 1 × IsOfSetup (text_at paths.setup.now) fault)
-    ⊎ ((IsAfter 2 × LacksSheet text_at paths fault) ⊎ (IsAfter (calls_for paths) × LacksSums text_at paths fault))
+-- and the export in the third. The last of these calls may have met the fault.
+abbrev pub LacksInputs : (ℕ → Type 0) → (List ℕ → Option (List ℕ)) → (List ℕ → FileFault → Type 0) → CheckPaths → TaskFault → Type 0
+LacksInputs IsAfter text_at Met paths fault = (IsAfter 1 × IsOfSetup (text_at paths.setup.now) (Met paths.setup.now) fault)
+    ⊎ ((IsAfter 2 × LacksSheet text_at Met paths fault) ⊎ (IsAfter (calls_for paths) × LacksSums text_at Met paths fault))
 
 -- a check that ended so has written the verdict on what it was given: all of it, a front of it, or nothing
 abbrev pub Answers : Type 0 → Option (List ℕ) → Option (List ℕ) → Inputs → Result (Unit {0}) TaskFault → Type 0
@@ -138,7 +149,7 @@ module _ {I O E F T D R : Type 0} where
   -- The check of the sheet at a path: the texts at the paths of its arguments are read, a call of the files for each, and
   -- nothing else is. Then the verdict is written. No disk is used.
   pub record Checked (of : Known I O E F T D R) (paths : CheckPaths) (old new : World I O E F)
-      (ended : Ended (Result (Unit {0}) TaskFault) (Used I O D)) : Type 0 where
+      (ended : Ended (Result (Unit {0}) TaskFault) (Used I O D T)) : Type 0 where
     pub none : ended.used ≡ None
     pub rest : new ≡ record old { output = new.output; files = new.files }
     pub calls : (n : ℕ) × (n ≤ 3) × AreCalls of.files n old.files new.files
@@ -146,4 +157,5 @@ module _ {I O E F T D R : Type 0} where
         (ReadsInputs (λ n. AreCalls of.files n old.files new.files) (of.files.text_at old.files) paths)
         (λ inputs. Answers (new.output ≡ old.output) (of.writers.contents old.output) (of.writers.contents new.output) inputs
         ended.result)
-        (IsErrAnd ended.result (LacksInputs (λ n. AreCalls of.files n old.files new.files) (of.files.text_at old.files) paths))
+        (IsErrAnd ended.result (LacksInputs (λ n. AreCalls of.files n old.files new.files) (of.files.text_at old.files)
+        (λ path. IsMetAt of.files path old.files new.files) paths))

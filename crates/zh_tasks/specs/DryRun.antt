@@ -11,8 +11,11 @@ use Rattle.zh_ledger.specs.Submissions.{OnDisk}
 use Rattle.zh_office.specs.Office.{Office}
 use Rattle.zh_office.specs.declared.service.ServeFault.TheVariants as serving
 use Rattle.zh_world.specs.declared.world.World.{World}
-use Rattle.zh_tasks.specs.World.{Known}
+use Rattle.zh_world.specs.declared.fault.FileFault.{FileFault}
+use Rattle.zh_world.specs.declared.fault.FileFault.TheVariants as of_files
+use Rattle.zh_tasks.specs.World.{IsMetAt, Known}
 use Rattle.zh_tasks.specs.Opened.{LeavesDisk, WithOffice}
+use Rattle.zh_tasks.specs.declared.file.TaskFile.TheVariants as files
 use Rattle.zh_tasks.specs.declared.fault.TaskFault.{TaskFault}
 use Rattle.zh_tasks.specs.declared.fault.TaskFault.TheVariants as faults
 
@@ -36,18 +39,20 @@ pub record BreaksOffJudging (text w w' : Option (List ℕ)) (Spans : OnDisk Offi
   pub spans : Spans start start
   pub broken : IsBrokenOff start.holder.ledger.tally (λ bytes. text ≡ Some bytes) w w' (bytes_left fault) (records_judged fault)
 
--- what a dry run over this text with this result has done
-abbrev pub DryRuns : Option (List ℕ) → Option (List ℕ) → Option (List ℕ) → (OnDisk Office → OnDisk Office → Type 0)
+-- What a dry run over this text with this result has done. Where the call for the file met a fault nothing was judged.
+abbrev pub DryRuns : (FileFault → Type 0) → Option (List ℕ) → Option (List ℕ) → Option (List ℕ) → (OnDisk Office → OnDisk Office → Type 0)
     → Result (Unit {0}) TaskFault → Type 0
-DryRuns text w w' Spans (Ok done) = (forecast : Forecast)
+DryRuns Met text w w' Spans (Ok done) = (forecast : Forecast)
     × ((refused records : ℕ) → forecast ≢ forecasts.Refused refused records) × HasForecast text w w' Spans forecast
-DryRuns text w w' Spans (Err faults.Refused) =
+DryRuns Met text w w' Spans (Err faults.Refused) =
     (refused : ℕ) × (records : ℕ) × HasForecast text w w' Spans (forecasts.Refused refused records)
-DryRuns text w w' Spans (Err faults.Memory) = BreaksOffJudging text w w' Spans judging.Memory
-DryRuns text w w' Spans (Err faults.CsvFile) = BreaksOffJudging text w w' Spans judging.Read
-DryRuns text w w' Spans (Err (faults.Serve serving.Turns)) = BreaksOffJudging text w w' Spans judging.Turns
-DryRuns text w w' Spans (Err faults.Write) = BreaksOffJudging text w w' Spans judging.Write
-DryRuns text w w' Spans (Err fault) = ⊥
+DryRuns Met text w w' Spans (Err faults.Memory) = BreaksOffJudging text w w' Spans judging.Memory
+DryRuns Met text w w' Spans (Err (faults.Unopened files.Csv cause)) =
+    Met (of_files.Device cause) × BreaksOffJudging text w w' Spans judging.Read
+DryRuns Met text w w' Spans (Err faults.CsvFile) = BreaksOffJudging text w w' Spans judging.Read
+DryRuns Met text w w' Spans (Err (faults.Serve serving.Turns)) = BreaksOffJudging text w w' Spans judging.Turns
+DryRuns Met text w w' Spans (Err faults.Write) = BreaksOffJudging text w w' Spans judging.Write
+DryRuns Met text w w' Spans (Err fault) = ⊥
 
 module _ {I O E F T D R : Type 0} where
   -- The dry run of a load of the CSV file at this path: that file is looked for once the office is opened, and no other one
@@ -60,5 +65,6 @@ module _ {I O E F T D R : Type 0} where
     pub text : Option (List ℕ)
     pub read : Keeps (of.files.text_at before.0.files csv) text
     pub judged : WithOffice canton (of.disks.history before.1) (of.disks.history after.1) (after.0 ≡ before.0)
-        (DryRuns text (of.writers.contents before.0.output) (of.writers.contents after.0.output)) result
+        (DryRuns (IsMetAt of.files csv before.0.files after.0.files) text
+        (of.writers.contents before.0.output) (of.writers.contents after.0.output)) result
     pub disk : LeavesDisk (of.disks.history before.1) (of.disks.history after.1) result

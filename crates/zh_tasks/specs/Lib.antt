@@ -1,6 +1,8 @@
+pub mod Fused
 pub mod Check
 pub mod World
 pub mod OnDisk
+pub mod Places
 pub mod Opened
 pub mod Format
 pub mod Run

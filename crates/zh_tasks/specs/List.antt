@@ -13,7 +13,8 @@ use Rattle.zh_world.specs.declared.world.World.{World}
 use Rattle.zh_tasks.specs.Load.{WritesPart}
 use Rattle.zh_tasks.specs.OnDisk.{IsOfSetup}
 use Rattle.zh_tasks.specs.Remarks.{BecameOf}
-use Rattle.zh_tasks.specs.World.{AreCalls, IsSetupAt, Known}
+use Rattle.zh_world.specs.declared.fault.FileFault.{FileFault}
+use Rattle.zh_tasks.specs.World.{AreCalls, IsMetAt, IsSetupAt, Known}
 use Rattle.zh_tasks.specs.declared.fault.TaskFault.{TaskFault}
 use Rattle.zh_tasks.specs.declared.fault.TaskFault.TheVariants as faults
 
@@ -52,18 +53,19 @@ Advises said unsaid canton table (Ok done) = SaysIf (exceeds_load canton table) 
 Advises said unsaid canton table (Err fault) = unsaid
 
 -- no set-up could be read from this text, and nothing is written; or this was done with the one that was
-abbrev pub WithSetup : Option (List ℕ) → Type 0 → (Canton → Result (Unit {0}) TaskFault → Type 0) → Result (Unit {0}) TaskFault → Type 0
-WithSetup text nothing Does result =
-    (nothing × IsErrAnd result (IsOfSetup text)) ⊎ ((canton : Canton) × IsSetupAt text canton × Does canton result)
+abbrev pub WithSetup : Option (List ℕ) → (FileFault → Type 0) → Type 0 → (Canton → Result (Unit {0}) TaskFault → Type 0)
+    → Result (Unit {0}) TaskFault → Type 0
+WithSetup text Met nothing Does result =
+    (nothing × IsErrAnd result (IsOfSetup text Met)) ⊎ ((canton : Canton) × IsSetupAt text canton × Does canton result)
 
 module _ {I O E F T D R : Type 0} where
   -- A table of the set-up at this path is written: its text is read, nothing else is, and no disk is opened.
   pub record Listed (of : Known I O E F T D R) (path : List ℕ) (table : Table) (old new : World I O E F)
-      (ended : Ended (Result (Unit {0}) TaskFault) (Used I O D)) : Type 0 where
+      (ended : Ended (Result (Unit {0}) TaskFault) (Used I O D T)) : Type 0 where
     pub none : ended.used ≡ None
     pub rest : new ≡ record old { output = new.output; faults = new.faults; remark = new.remark; files = new.files }
     pub call : AreCalls of.files 1 old.files new.files
-    pub lists : WithSetup (of.files.text_at old.files path)
+    pub lists : WithSetup (of.files.text_at old.files path) (IsMetAt of.files path old.files new.files)
         ((new.output ≡ old.output) × ((new.faults ≡ old.faults) × (new.remark ≡ old.remark)))
         (λ canton end. Lists (new.output ≡ old.output)
         (of.writers.contents old.output) (of.writers.contents new.output) canton table end

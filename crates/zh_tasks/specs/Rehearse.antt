@@ -52,7 +52,7 @@ module _ {I O E F T D R : Type 0} where
 
   -- a rehearsal, which says so first; its disk is in memory, its film is handed over, and no file is touched
   pub record Rehearses (of : Known I O E F T D R) (old new : World I O E F)
-      (ended : Ended (Result (Unit {0}) TaskFault) (Used I O D)) : Type 0 where
+      (ended : Ended (Result (Unit {0}) TaskFault) (Used I O D T)) : Type 0 where
     pub film : Film I O MemoryDisk
     pub used : ended.used ≡ Some (Rehearsal film)
     pub rest : new ≡ record old { input = new.input; output = new.output; faults = new.faults; remark = new.remark }

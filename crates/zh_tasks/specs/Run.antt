@@ -3,7 +3,6 @@ use Rattle.std.specs.Prelude.{◌≡◌, ◌^◌, ℕ, Bool, true, false, List, 
 use Rattle.zh_districts.specs.Canton.{Canton}
 use Rattle.zh_film.specs.Frames.{Frame, frames}
 use Rattle.zh_film.specs.Scenes.{scenes}
-use Rattle.zh_film.specs.declared.film.Film.{Film}
 use Rattle.zh_ledger.specs.Submissions.{OnDisk}
 use Rattle.zh_office.specs.Office.{Office}
 use Rattle.zh_office.specs.Served.{Session, ServesAll, ServesEnded, ServesFront, TakesFewerReads, TakesReads, TakesReadsUpTo}
@@ -13,6 +12,7 @@ use Rattle.zh_tasks.specs.World.{Known}
 use Rattle.zh_tasks.specs.Opened.{LeavesDisk, WithOffice}
 use Rattle.zh_tasks.specs.declared.fault.TaskFault.{TaskFault}
 use Rattle.zh_tasks.specs.declared.fault.TaskFault.TheVariants as faults
+use Rattle.zh_tasks.specs.declared.used.Observed.{Observed}
 
 -- what the input has left, and what is written of the answers, where that is known; and what a film shows
 pub record Streams : Type 0 where
@@ -73,10 +73,10 @@ module _ {I O E F T D R : Type 0} where
 
   -- a run on a disk, and its film: the lines of the input are served by the office that stands there, and nothing else is touched
   pub record Ran (of : Known I O E F T D R) (canton : Canton) (before after : World I O E F × D)
-      (done : Result (Unit {0}) TaskFault × Film I O D) : Type 0 where
+      (done : Result (Unit {0}) TaskFault × Observed I O D T) : Type 0 where
     pub rest : after.0 ≡ record before.0 { input = after.0.input; output = after.0.output }
     pub served : WithOffice canton (of.disks.history before.1) (of.disks.history after.1)
-        ((after.0.input ≡ before.0.input) × (after.0.output ≡ before.0.output) × (scenes done.1 ≡ []))
-        (Serves (streams_of of before.0 []) (streams_of of after.0 (frames of.readers of.writers of.disks done.1))) done.0
+        ((after.0.input ≡ before.0.input) × (after.0.output ≡ before.0.output) × (scenes done.1.film ≡ []))
+        (Serves (streams_of of before.0 []) (streams_of of after.0 (frames of.readers of.writers of.disks done.1.film))) done.0
     pub reads : IsReadWithin (of.readers.remaining before.0.input) (of.readers.remaining after.0.input) (2 ^ 32) done.0
     pub disk : LeavesDisk (of.disks.history before.1) (of.disks.history after.1) done.0

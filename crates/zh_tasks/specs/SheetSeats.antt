@@ -14,12 +14,13 @@ use Rattle.zh_results.specs.declared.outcome.NoSeats.{NoSeats}
 use Rattle.zh_world.specs.declared.world.Ended.{Ended}
 use Rattle.zh_tasks.specs.declared.used.Used.{Used}
 use Rattle.zh_world.specs.declared.world.World.{World}
-use Rattle.zh_tasks.specs.Check.{IsOfSheet, IsSheetAt}
+use Rattle.zh_tasks.specs.Check.{IsSheetAt, LacksSheetFile}
 use Rattle.zh_tasks.specs.OnDisk.{IsOfSetup}
 use Rattle.zh_tasks.specs.Load.{WritesPart}
 use Rattle.zh_tasks.specs.Remarks.{BecameOf}
 use Rattle.zh_tasks.specs.Seats.{ReportsNone, laid_out}
-use Rattle.zh_tasks.specs.World.{AreCalls, IsSetupAt, Known}
+use Rattle.zh_world.specs.declared.fault.FileFault.{FileFault}
+use Rattle.zh_tasks.specs.World.{AreCalls, IsMetAt, IsSetupAt, Known}
 use Rattle.zh_tasks.specs.declared.fault.TaskFault.{TaskFault}
 use Rattle.zh_tasks.specs.declared.fault.TaskFault.TheVariants as faults
 use Rattle.zh_tasks.specs.declared.sheet_seats.SheetPaths.{SheetPaths}
@@ -46,9 +47,9 @@ stated_text canton layout (Ok right) = Ok (record { text = laid_out layout (stat
 stated_text canton layout (Err why) = Err (refusal_text canton why)
 
 -- the file of the set-up gives none, or it was read and that of the sheet gives none
-abbrev pub FindsNoSheet : (List ℕ → Option (List ℕ)) → SheetPaths → TaskFault → Type 0
-FindsNoSheet text_at paths fault = IsOfSetup (text_at paths.setup.now) fault
-    ⊎ ((canton : Canton) × IsSetupAt (text_at paths.setup.now) canton × IsOfSheet fault)
+abbrev pub FindsNoSheet : (List ℕ → Option (List ℕ)) → (List ℕ → FileFault → Type 0) → SheetPaths → TaskFault → Type 0
+FindsNoSheet text_at Met paths fault = IsOfSetup (text_at paths.setup.now) (Met paths.setup.now) fault
+    ⊎ ((canton : Canton) × IsSetupAt (text_at paths.setup.now) canton × LacksSheetFile (Met paths.sheet.now) fault)
 
 -- this set-up and these bytes were read
 pub record AreBothRead (text_at : List ℕ → Option (List ℕ)) (paths : SheetPaths) (canton : Canton) (bytes : List ℕ) : Type 0 where
@@ -83,10 +84,11 @@ module _ {I O E F T D R : Type 0} where
   -- The seats of the sheet at a path are written: the texts at both paths are read, a call of the files for each, and nothing
   -- else is. No disk is opened.
   pub record HasShownSheet (of : Known I O E F T D R) (paths : SheetPaths) (old new : World I O E F)
-      (ended : Ended (Result (Unit {0}) TaskFault) (Used I O D)) : Type 0 where
+      (ended : Ended (Result (Unit {0}) TaskFault) (Used I O D T)) : Type 0 where
     pub none : ended.used ≡ None
     pub files : F
     pub calls : (n : ℕ) × (n ≤ 2) × AreCalls of.files n old.files files
     pub rest : new ≡ record old { output = new.output; faults = new.faults; remark = new.remark; files = files }
-    pub shown : (IsErrAnd ended.result (FindsNoSheet (of.files.text_at old.files) paths) × (new ≡ record old { files = files }))
+    pub shown : (IsErrAnd ended.result (FindsNoSheet (of.files.text_at old.files) (λ path. IsMetAt of.files path old.files files) paths)
+        × (new ≡ record old { files = files }))
         ⊎ ShowsSheet of paths old files new ended.result

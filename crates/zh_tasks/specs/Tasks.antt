@@ -24,7 +24,7 @@ use Rattle.zh_tasks.specs.declared.used.Used.{Used}
 module _ {I O E F T D R : Type 0} where
   -- what a task that ended so has done, from a world to a world
   abbrev pub Does : Known I O E F T D R → Task → World I O E F → World I O E F
-      → Ended (Result (Unit {0}) TaskFault) (Used I O D) → Type 0
+      → Ended (Result (Unit {0}) TaskFault) (Used I O D T) → Type 0
   Does of Rehearse old new ended = Rehearses of old new ended
   Does of (Format paths) old new ended = UsesDisk (making of.files of.disks) paths old new (Formatted of) ended
   Does of (Run paths) old new ended = UsesFilm (finding of.files of.disks) paths old new (Ran of) ended

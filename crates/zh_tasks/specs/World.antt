@@ -7,7 +7,9 @@ use Rattle.zh_disk.specs.declared.disk.Disk.{Ghosts as Disks}
 use Rattle.zh_districts.specs.Canton.{Canton, IsCanton}
 use Rattle.zh_setups.specs.SetupText.{reading_of}
 use Rattle.zh_world.specs.Files as opened
+use Rattle.zh_world.specs.Causes.{IsFaultIn}
 use Rattle.zh_world.specs.Places.{Touches}
+use Rattle.zh_world.specs.declared.fault.FileFault.{FileFault}
 use Rattle.zh_world.specs.declared.files.Files.{Ghosts as Files}
 
 module _ (I O E F T D R : Type 0) where
@@ -44,6 +46,10 @@ module _ {F T D R : Type 0} where
     pub texts : files.text_at new ≡ files.text_at old
     pub disks : files.disk_at new ≡ files.disk_at old
     pub stays : files.places new ≡ files.places old
+
+  -- the last call met this fault, which is right about what stood at this path before
+  abbrev pub IsMetAt : Files F T D R → List ℕ → F → F → FileFault → Type 0
+  IsMetAt files path old new fault = (files.fault new ≡ Some fault) × IsFaultIn (files.places old) path fault
 
   -- a text was read, and then the disk at this path opened or asked for
   pub record AsksForDisk (files : Files F T D R) (path : List ℕ) (old new : F) : Type 0 where

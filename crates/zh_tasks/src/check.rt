@@ -4,10 +4,11 @@ ghost use Rattle.std.specs.Prelude.{◌≡◌, ◌≤◌, ℕ, IfErr, IfOk, IsEr
 ghost use Rattle.std.specs.Option.{option_copied};
 ghost use Rattle.zh_world.specs.Files.{IsReadOfFiles};
 ghost use Rattle.zh_tasks.specs.Check.{Answers, AreSumsAt, AreSumsIfNamed, Checked, Checks, HeldFaultAs};
-ghost use Rattle.zh_tasks.specs.Check.{IsOfHeld, IsOfHeldAt, IsOfSheet, IsSheetAt, LacksInputs, ReadsInputs, calls_if_named};
-ghost use Rattle.zh_tasks.specs.World.{AreCalls, known};
+ghost use Rattle.zh_tasks.specs.Check.{IsOfHeld, IsOfHeldAt, IsSheetAt, LacksInputs, LacksSheetFile, ReadsInputs, calls_if_named};
+ghost use Rattle.zh_tasks.specs.World.{AreCalls, IsMetAt, known};
 
 use crate::fault::TaskFault;
+use crate::file::TaskFile;
 use crate::front::read_front;
 use crate::setup::setup_at;
 use crate::used::Used;
@@ -18,7 +19,7 @@ use zh_checks::write_check;
 use zh_csv::{LoadFault, NotedReader};
 use zh_districts::Setup;
 use zh_held::{HeldFault, HeldSums, read_held};
-use zh_world::{Ended, Files, World};
+use zh_world::{Ended, FileFault, Files, World};
 
 /// The front of the sheet at this path.
 pub(crate) fn sheet_at<F: Files>(
@@ -28,10 +29,12 @@ pub(crate) fn sheet_at<F: Files>(
 ) -> Result<Vec<u8>, TaskFault>
     ensures call { IsReadOfFiles F.text_at F.disk_at F.places F.calls files.old files.new }
     ensures sheet { IfOk result (λ text. IsSheetAt (F.text_at files.old path.now) text.items) }
-    ensures fault { IfErr result IsOfSheet }
+    ensures fault { IfErr result (LacksSheetFile (IsMetAt F.Files path.now files.old files.new)) }
 {
-    let Ok(file) = files.text(path) else {
-        return Err(TaskFault::SheetFile);
+    let file = match files.text(path) {
+        Ok(file) => file,
+        Err(FileFault::Device(cause)) => return Err(TaskFault::Unopened(TaskFile::Sheet, cause)),
+        Err(_) => return Err(TaskFault::Memory),
     };
     let mut text = NotedReader::new(file);
     read_front(alloc, &mut text)
@@ -57,10 +60,12 @@ fn held_at<'s, F: Files>(
 ) -> Result<HeldSums<'s>, TaskFault>
     ensures call { IsReadOfFiles F.text_at F.disk_at F.places F.calls files.old files.new }
     ensures sums { IfOk result (AreSumsAt (F.text_at files.old path.now) setup.now) }
-    ensures fault { IfErr result (IsOfHeld (F.text_at files.old path.now) setup.now) }
+    ensures fault { IfErr result (IsOfHeld (F.text_at files.old path.now) setup.now (IsMetAt F.Files path.now files.old files.new)) }
 {
-    let Ok(file) = files.text(path) else {
-        return Err(TaskFault::HeldFile);
+    let file = match files.text(path) {
+        Ok(file) => file,
+        Err(FileFault::Device(cause)) => return Err(TaskFault::Unopened(TaskFile::Held, cause)),
+        Err(_) => return Err(TaskFault::Memory),
     };
     let mut text = NotedReader::new(file);
     match read_held(alloc, setup, &mut text) {
@@ -78,7 +83,8 @@ fn held_if_named<'s, F: Files>(
 ) -> Result<Option<HeldSums<'s>>, TaskFault>
     ensures calls { AreCalls F.Files (calls_if_named (option_map (λ p. p.now) path.entry)) files.old files.new }
     ensures held { IfOk result (AreSumsIfNamed (F.text_at files.old) setup.now (option_map (λ p. p.now) path.entry)) }
-    ensures fault { IfErr result (IsOfHeldAt (F.text_at files.old) setup.now (option_map (λ p. p.now) path.entry)) }
+    ensures fault { IfErr result (IsOfHeldAt (F.text_at files.old) setup.now
+        (λ at. IsMetAt F.Files at files.old files.new) (option_map (λ p. p.now) path.entry)) }
 {
     match path {
         Some(path) => {
@@ -119,7 +125,8 @@ fn check_files<O: Write, F: Files>(
     ensures checks { Checks (out.new ≡ out.old)
         (ReadsInputs (λ n. AreCalls F.Files n files.old files.new) (F.text_at files.old) paths.entry)
         (λ inputs. Answers (out.new ≡ out.old) (O.contents out.old) (O.contents out.new) inputs result)
-        (IsErrAnd result (LacksInputs (λ n. AreCalls F.Files n files.old files.new) (F.text_at files.old) paths.entry)) }
+        (IsErrAnd result (LacksInputs (λ n. AreCalls F.Files n files.old files.new) (F.text_at files.old)
+        (λ path. IsMetAt F.Files path files.old files.new) paths.entry)) }
 {
     let setup = setup_at(alloc, files, paths.setup)?;
     let sheet = sheet_at(alloc, files, paths.sheet)?;
@@ -132,7 +139,7 @@ pub(crate) fn check_sheet<I: Read, O: Write, E: Write, F: Files>(
     alloc: Global,
     paths: CheckPaths<'_>,
     world: &mut World<I, O, E, F>,
-) -> Ended<Result<(), TaskFault>, Used<I, O, F::Disk>>
+) -> Ended<Result<(), TaskFault>, Used<I, O, F::Disk, F::Text>>
     ensures { Checked (known I.Read O.Write E.Write F.Files F.Disk.Disk) paths.entry world.old world.new result }
 {
     Ended {

@@ -40,7 +40,7 @@ fn judge_text<R: Read, O: Write>(
     text: &mut NotedReader<R>,
     out: &mut O,
 ) -> Result<(), TaskFault>
-    ensures runs { (start : OnDisk offices.Office) → start.holder ≡ office.now → DryRuns (R.remaining (inner_reader text.old))
+    ensures runs { (start : OnDisk offices.Office) → start.holder ≡ office.now → DryRuns (λ _. ⊥) (R.remaining (inner_reader text.old))
         (O.contents out.old) (O.contents out.new) (λ first last. (first ≡ start) × (last ≡ start)) result }
     ensures read { IsErrOf result TaskFault.CsvFile → has_failed text.new ≡ true }
 {

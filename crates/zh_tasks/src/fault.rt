@@ -1,87 +1,99 @@
 //! Why a task was not done.
 
+use crate::file::TaskFile;
 use crate::place::TaskPlace;
 use std::alloc::AllocError;
-use thiserror::Error;
 use zh_commands::WriteFault;
 use zh_districts::SeatFault;
 use zh_held::HeldFault;
 use zh_office::{OpenFault, ServeFault};
-use zh_setups::SetupRefusal;
+use zh_setups::{SetupFault, SetupRefusal};
 use zh_tables::{ListFault, RecordFault};
 use zh_verdicts::VerdictFault;
-use zh_world::FileFault;
+use zh_world::{FileCause, FileFault};
 
 /// The fault of a task, in the order of the manual.
-#[derive(Clone, Copy, Debug, PartialEq, Eq, Error)]
+#[derive(Clone, Copy, Debug, PartialEq, Eq)]
 pub enum TaskFault {
+    /// A file could not be opened or made, and why.
+    Unopened(TaskFile, FileCause),
     /// The file of the set-up could not be read.
-    #[error("setup file")]
     SetupFile,
-    #[error("{0}")]
     Setup(SetupRefusal),
-    /// The disk could not be opened, made or formatted.
-    #[error("disk device")]
+    /// The disk could not be formatted.
     Device,
     /// Another program has the disk open.
-    #[error("disk busy")]
     Busy,
     /// The file of the disk has so many bytes, and not those of a disk.
-    #[error("disk size")]
     Size(u64),
     /// The disk that is to be formatted is not blank.
-    #[error("disk inuse")]
     InUse,
     /// No office could be opened on the disk.
-    #[error("{0}")]
     Open(OpenFault),
-    /// The CSV file could not be opened, or its first bytes could not be read; of a dry run, any of them.
-    #[error("csv file")]
+    /// The first bytes of the CSV file could not be read; of a dry run, any of them.
     CsvFile,
     /// The file of the sheet could not be read.
-    #[error("sheet file")]
     SheetFile,
     /// The file of the export could not be read.
-    #[error("held file")]
     HeldFile,
     /// A record of the export is refused.
-    #[error("held {0}")]
     Held(HeldFault),
     /// The constituencies get no seats.
-    #[error("{0}")]
     Seats(SeatFault),
     /// The set-up has no municipality of this number.
-    #[error("nomunicipality {0}")]
     NoMunicipality(u32),
     /// The set-up has no constituency of this number.
-    #[error("noconstituency {0}")]
     NoConstituency(u32),
-    #[error("memory")]
     Memory,
-    #[error("{0}")]
     Serve(ServeFault),
     /// What the task answers could not be written to its end.
-    #[error("write")]
     Write,
     /// All is answered, and the device failed under it.
-    #[error("disk device")]
     Faulted,
     /// The answer, which is written, or a remark says why. Nothing else is reported.
-    #[error("refused")]
     Refused,
 }
 
 impl TaskFault {
     ghost use Rattle.std.specs.Prelude.{◌≡◌};
-    ghost use Rattle.zh_tasks.specs.OnDisk.{named_place};
+    ghost use Rattle.zh_tasks.specs.Places.{named_place, role_of};
 
-    /// Where it was met, as far as that is known.
+    /// Where it was met, or why, as far as that is known.
     pub fn place(&self) -> Option<TaskPlace>
         ensures { result ≡ named_place self.now }
     {
         match self {
-            TaskFault::Setup(refusal) => refusal.place.map(TaskPlace::Setup),
+            TaskFault::Unopened(_, cause) => Some(TaskPlace::Cause(*cause)),
+            TaskFault::Setup(refusal) => match refusal.fault {
+                SetupFault::Range => refusal.place.map(TaskPlace::Range),
+                _ => refusal.place.map(TaskPlace::Setup),
+            },
             TaskFault::Size(length) => Some(TaskPlace::Length(*length)),
+            _ => None,
+        }
+    }
+
+    /// The file that it is a fault of, if it is of one.
+    pub fn file(&self) -> Option<TaskFile>
+        ensures { result ≡ role_of self.now }
+    {
+        match self {
+            TaskFault::Unopened(file, _) => Some(*file),
+            TaskFault::SetupFile => Some(TaskFile::Setup),
+            TaskFault::Setup(refusal) => match refusal.fault {
+                SetupFault::Memory => None,
+                _ => Some(TaskFile::Setup),
+            },
+            TaskFault::Open(OpenFault::Memory) => None,
+            TaskFault::Device
+            | TaskFault::Busy
+            | TaskFault::Size(_)
+            | TaskFault::InUse
+            | TaskFault::Open(_)
+            | TaskFault::Faulted => Some(TaskFile::Disk),
+            TaskFault::CsvFile => Some(TaskFile::Csv),
+            TaskFault::SheetFile => Some(TaskFile::Sheet),
+            TaskFault::HeldFile | TaskFault::Held(_) => Some(TaskFile::Held),
             _ => None,
         }
     }
@@ -106,7 +118,7 @@ impl From<FileFault> for TaskFault {
     fn from(fault: FileFault) -> Self {
         match fault {
             FileFault::Memory => TaskFault::Memory,
-            FileFault::Device => TaskFault::Device,
+            FileFault::Device(cause) => TaskFault::Unopened(TaskFile::Disk, cause),
             FileFault::Size(length) => TaskFault::Size(length),
             FileFault::Busy => TaskFault::Busy,
         }

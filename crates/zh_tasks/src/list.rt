@@ -3,7 +3,7 @@
 ghost use Rattle.std.specs.Prelude.{◌≡◌};
 ghost use Rattle.zh_tasks.specs.List.{Advises, Listed, Lists, SaysIf, WithSetup, advice};
 ghost use Rattle.zh_tasks.specs.Remarks.{BecameOf};
-ghost use Rattle.zh_tasks.specs.World.{AreCalls, known};
+ghost use Rattle.zh_tasks.specs.World.{AreCalls, IsMetAt, known};
 
 use crate::fault::TaskFault;
 use crate::remark::make_remark;
@@ -61,7 +61,8 @@ fn list_at<O: Write, E: Write, F: Files>(
     remark: &mut Remark,
 ) -> Result<(), TaskFault>
     ensures call { AreCalls F.Files 1 files.old files.new }
-    ensures lists { WithSetup (F.text_at files.old path.now) ((out.new ≡ out.old) × ((faults.new ≡ faults.old) × (remark.new ≡ remark.old)))
+    ensures lists { WithSetup (F.text_at files.old path.now) (IsMetAt F.Files path.now files.old files.new)
+        ((out.new ≡ out.old) × ((faults.new ≡ faults.old) × (remark.new ≡ remark.old)))
         (λ canton end. Lists (out.new ≡ out.old) (O.contents out.old) (O.contents out.new) canton table end
         × Advises (BecameOf remark.new (E.contents faults.old) (E.contents faults.new) advice)
         ((faults.new ≡ faults.old) × (remark.new ≡ remark.old)) canton table end) result }
@@ -76,7 +77,7 @@ pub(crate) fn list<I: Read, O: Write, E: Write, F: Files>(
     path: &str,
     table: Table,
     world: &mut World<I, O, E, F>,
-) -> Ended<Result<(), TaskFault>, Used<I, O, F::Disk>>
+) -> Ended<Result<(), TaskFault>, Used<I, O, F::Disk, F::Text>>
     ensures { Listed (known I.Read O.Write E.Write F.Files F.Disk.Disk) path.now table world.old world.new result }
 {
     Ended {

@@ -9,13 +9,16 @@ ghost use Rattle.zh_film.specs.Scenes.{scenes};
 ghost use Rattle.zh_ledger.specs.Submissions.{on_disk};
 ghost use Rattle.zh_world.specs.Files.{IsReadOfFiles};
 ghost use Rattle.zh_tasks.specs.Load.{HasBegun, HasLoaded, IsUnreadable, LoadsText, WritesPart};
-ghost use Rattle.zh_tasks.specs.Load.{failed_of, given_text, printed};
+ghost use Rattle.zh_tasks.specs.Load.{given_text, printed};
 ghost use Rattle.zh_tasks.specs.Opened.{IsThis, LeavesDisk};
 ghost use Rattle.zh_tasks.specs.Run.{streams};
-ghost use Rattle.zh_tasks.specs.World.{known};
+ghost use Rattle.zh_tasks.specs.World.{IsMetAt, known};
 
 use crate::fault::TaskFault;
+use crate::file::TaskFile;
+use crate::fused::FusedReader;
 use crate::on_disk::FilmedMiddle;
+use crate::used::Observed;
 use std::alloc::Global;
 use std::io::{BufRead, BufReader, Read, Write};
 use zh_commands::{Reply, WriteFault, put, write_reply};
@@ -23,23 +26,26 @@ use zh_disk::Disk;
 use zh_districts::Setup;
 use zh_film::Film;
 use zh_office::{NotedReader, Office};
-use zh_world::{Files, World};
+use zh_world::{FileFault, Files, World};
 
-/// The text at this path, with its first bytes read.
+/// The text at this path, with its first bytes read. It is over once a read has failed.
 pub(crate) fn text_at<F: Files>(
     alloc: Global,
     files: &mut F,
     path: &str,
-) -> Result<BufReader<F::Text>, TaskFault>
+) -> Result<BufReader<FusedReader<F::Text>>, TaskFault>
     ensures call { IsReadOfFiles F.text_at F.disk_at F.places F.calls files.old files.new }
-    ensures text { IfOk result (λ text. Keeps (F.text_at files.old path.now) (⟦<BufReader<F::Text> as Read>⟧.remaining text)) }
+    ensures text { IfOk result (λ text. Keeps (F.text_at files.old path.now) (⟦<BufReader<FusedReader<F::Text>> as Read>⟧.remaining text)) }
     ensures begun { IfOk result (λ text. HasBegun (F.text_at files.old path.now) (reader_buffer text)) }
-    ensures fault { IfErr result IsUnreadable }
+    ensures fault { IfErr result (IsUnreadable (IsMetAt F.Files path.now files.old files.new)) }
 {
-    let Ok(file) = files.text(path) else {
-        return Err(TaskFault::CsvFile);
+    let file = match files.text(path) {
+        Ok(file) => file,
+        Err(FileFault::Device(cause)) => return Err(TaskFault::Unopened(TaskFile::Csv, cause)),
+        Err(_) => return Err(TaskFault::Memory),
     };
-    let Ok(mut text) = BufReader::new(alloc, file) else {
+    let fused = FusedReader::new(file);
+    let Ok(mut text) = BufReader::new(alloc, fused) else {
         return Err(TaskFault::Memory);
     };
     if text.fill_buf().is_err() {
@@ -89,20 +95,18 @@ fn load_text<I: Read, R: Read, O: Write, D: Disk>(
     }
 }
 
-/// Opens the office on the disk, gives it the text at this path, and writes the reply. `reader` is then that of the text, of
-/// which a clause asks whether a read failed.
+/// Opens the office on the disk, gives it the text at this path, and writes the reply. The reader of the text is handed out.
 fn load_from<I: Read, O: Write, E: Write, F: Files>(
     alloc: Global,
     setup: &Setup,
     world: &mut World<I, O, E, F>,
     disk: &mut F::Disk,
     csv: &str,
-    film: &mut Film<I, O, F::Disk>,
-    reader: &mut Option<NotedReader<BufReader<F::Text>>>,
+    observed: &mut Observed<I, O, F::Disk, F::Text>,
 ) -> Result<(), TaskFault>
-    requires { scenes film.old ≡ [] }
-    ensures { (by : HasLoaded (known I.Read O.Write E.Write F.Files F.Disk.Disk) csv.now setup.now
-        (world.old, disk.old) (world.new, disk.new) (result, film.new)) × (by.text.failed ≡ failed_of reader.new) }
+    requires { scenes observed.old.film ≡ [] }
+    ensures { HasLoaded (known I.Read O.Write E.Write F.Files F.Disk.Disk) csv.now setup.now
+        (world.old, disk.old) (world.new, disk.new) (result, observed.new) }
 {
     let mut office = Office::open(alloc, setup, disk)?;
     let text = text_at(alloc, &mut world.files, csv)?;
@@ -113,9 +117,9 @@ fn load_from<I: Read, O: Write, E: Write, F: Files>(
         &mut noted,
         &world.input,
         &mut world.output,
-        film,
+        &mut observed.film,
     );
-    *reader = Some(noted);
+    observed.text = Some(noted);
     result
 }
 
@@ -128,7 +132,7 @@ pub struct Load<'a> {
 impl<'a, I: Read, O: Write, E: Write, F: Files> FilmedMiddle<
     World<I, O, E, F>,
     F::Disk,
-    Film<I, O, F::Disk>,
+    Observed<I, O, F::Disk, F::Text>,
 > for Load<'a> {
     ghost does = { λ task. HasLoaded (known I.Read O.Write E.Write F.Files F.Disk.Disk) task.csv.now };
 
@@ -138,9 +142,9 @@ impl<'a, I: Read, O: Write, E: Write, F: Files> FilmedMiddle<
         setup: &Setup,
         world: &mut World<I, O, E, F>,
         disk: &mut F::Disk,
-    ) -> (Result<(), TaskFault>, Film<I, O, F::Disk>) {
-        let mut film = Film::new();
-        let result = load_from(alloc, setup, world, disk, self.csv, &mut film, &mut None);
-        (result, film)
+    ) -> (Result<(), TaskFault>, Observed<I, O, F::Disk, F::Text>) {
+        let mut observed = Observed::nothing();
+        let result = load_from(alloc, setup, world, disk, self.csv, &mut observed);
+        (result, observed)
     }
 }

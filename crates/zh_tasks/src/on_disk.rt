@@ -4,16 +4,15 @@ ghost use Rattle.std.specs.Prelude.{◌≤◌, ◌+◌, IfErr, IfOk, Result, Som
 ghost use Rattle.zh_districts.specs.Canton.{Canton};
 ghost use Rattle.zh_world.specs.Places.{Touches};
 ghost use Rattle.zh_tasks.specs.OnDisk.{Began, IsEarly, UsesDisk, UsesFilm};
-ghost use Rattle.zh_tasks.specs.World.{finding, making};
+ghost use Rattle.zh_tasks.specs.World.{IsMetAt, finding, making};
 ghost use Rattle.zh_tasks.specs.declared.fault.TaskFault.{TaskFault};
 
 use crate::fault::TaskFault;
 use crate::setup::setup_at;
-use crate::used::{Filmed, Used};
+use crate::used::{Filmed, Observed, Used};
 use std::alloc::Global;
 use zh_arguments::Paths;
 use zh_districts::Setup;
-use zh_film::Film;
 use zh_world::{Ended, Files, World};
 
 /// What a task does with its disk.
@@ -28,10 +27,10 @@ pub trait Middle<W, D> {
 
 /// What a task does with its disk that answers lines, or loads a text, and is filmed.
 pub trait FilmedMiddle<W, D, S> {
-    /// It takes a world and a disk to these on this set-up, ends so, and its film shows this.
+    /// It takes a world and a disk to these on this set-up, ends so, and this is to be seen of it.
     ghost does: { Self → Canton → W × D → W × D → Result (Unit {0}) TaskFault × S → Type 0 };
 
-    /// Does it, and hands over the film.
+    /// Does it, and hands that over.
     fn on_film(
         &self,
         alloc: Global,
@@ -52,7 +51,8 @@ fn begin<F: Files>(
     ensures began { IfOk result (Began (finding F.Files F.Disk.Disk) paths.entry files.old files.new) }
     ensures counted { F.calls files.new ≤ F.calls files.old + 2 }
     ensures touches { Touches (Some paths.entry.disk.now) (F.places files.old) (F.places files.new) }
-    ensures early { IfErr result (IsEarly (F.text_at files.old paths.entry.setup.now)) }
+    ensures early { IfErr result (IsEarly (F.text_at files.old paths.entry.setup.now)
+        (IsMetAt F.Files paths.entry.setup.now files.old files.new) (IsMetAt F.Files paths.entry.disk.now files.old files.new)) }
 {
     let setup = setup_at(alloc, files, paths.setup)?;
     let disk = files.disk(right, paths.disk)?;
@@ -69,7 +69,8 @@ fn begin_made<F: Files>(
     ensures began { IfOk result (Began (making F.Files F.Disk.Disk) paths.entry files.old files.new) }
     ensures counted { F.calls files.new ≤ F.calls files.old + 2 }
     ensures touches { Touches (Some paths.entry.disk.now) (F.places files.old) (F.places files.new) }
-    ensures early { IfErr result (IsEarly (F.text_at files.old paths.entry.setup.now)) }
+    ensures early { IfErr result (IsEarly (F.text_at files.old paths.entry.setup.now)
+        (IsMetAt F.Files paths.entry.setup.now files.old files.new) (IsMetAt F.Files paths.entry.disk.now files.old files.new)) }
 {
     let setup = setup_at(alloc, files, paths.setup)?;
     let disk = files.disk_or_make(right, paths.disk)?;
@@ -83,16 +84,16 @@ pub(crate) fn on_disk<I, O, E, F: Files, M: Middle<World<I, O, E, F>, F::Disk>>(
     right: F::Right,
     world: &mut World<I, O, E, F>,
     middle: &M,
-) -> Ended<Result<(), TaskFault>, Used<I, O, F::Disk>>
+) -> Ended<Result<(), TaskFault>, Used<I, O, F::Disk, F::Text>>
     ensures { UsesDisk (finding F.Files F.Disk.Disk) paths.entry world.old world.new (M.does middle.now) result }
 {
     match begin(alloc, paths, right, &mut world.files) {
         Ok((setup, mut disk)) => {
             let result = middle.on(alloc, &setup, world, &mut disk);
-            let film = Film::new();
+            let observed = Observed::nothing();
             Ended {
                 result,
-                used: Some(Used::Disk(Filmed { disk, film })),
+                used: Some(Used::Disk(Filmed { disk, observed })),
             }
         }
         Err(fault) => Ended {
@@ -102,28 +103,28 @@ pub(crate) fn on_disk<I, O, E, F: Files, M: Middle<World<I, O, E, F>, F::Disk>>(
     }
 }
 
-/// The same of a task that is filmed. Its film is handed over with the disk.
+/// The same of a task that is filmed. What is to be seen of it is handed over with the disk.
 pub(crate) fn on_filmed_disk<
     I,
     O,
     E,
     F: Files,
-    M: FilmedMiddle<World<I, O, E, F>, F::Disk, Film<I, O, F::Disk>>,
+    M: FilmedMiddle<World<I, O, E, F>, F::Disk, Observed<I, O, F::Disk, F::Text>>,
 >(
     alloc: Global,
     paths: Paths<'_>,
     right: F::Right,
     world: &mut World<I, O, E, F>,
     middle: &M,
-) -> Ended<Result<(), TaskFault>, Used<I, O, F::Disk>>
+) -> Ended<Result<(), TaskFault>, Used<I, O, F::Disk, F::Text>>
     ensures { UsesFilm (finding F.Files F.Disk.Disk) paths.entry world.old world.new (M.does middle.now) result }
 {
     match begin(alloc, paths, right, &mut world.files) {
         Ok((setup, mut disk)) => {
-            let (result, film) = middle.on_film(alloc, &setup, world, &mut disk);
+            let (result, observed) = middle.on_film(alloc, &setup, world, &mut disk);
             Ended {
                 result,
-                used: Some(Used::Disk(Filmed { disk, film })),
+                used: Some(Used::Disk(Filmed { disk, observed })),
             }
         }
         Err(fault) => Ended {
@@ -140,16 +141,19 @@ pub(crate) fn on_made_disk<I, O, E, F: Files, M: Middle<World<I, O, E, F>, F::Di
     right: F::Right,
     world: &mut World<I, O, E, F>,
     middle: &M,
-) -> Ended<Result<(), TaskFault>, Used<I, O, F::Disk>>
+) -> Ended<Result<(), TaskFault>, Used<I, O, F::Disk, F::Text>>
     ensures { UsesDisk (making F.Files F.Disk.Disk) paths.entry world.old world.new (M.does middle.now) result }
 {
     match begin_made(alloc, paths, right, &mut world.files) {
         Ok((setup, mut made)) => {
             let result = middle.on(alloc, &setup, world, &mut made);
-            let film = Film::new();
+            let observed = Observed::nothing();
             Ended {
                 result,
-                used: Some(Used::Disk(Filmed { disk: made, film })),
+                used: Some(Used::Disk(Filmed {
+                    disk: made,
+                    observed,
+                })),
             }
         }
         Err(fault) => Ended {

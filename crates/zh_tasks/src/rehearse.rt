@@ -49,7 +49,7 @@ fn serve_rehearsal<I: Read, O: Write>(
 pub(crate) fn rehearse<I: Read, O: Write, E: Write, F: Files>(
     alloc: Global,
     world: &mut World<I, O, E, F>,
-) -> Ended<Result<(), TaskFault>, Used<I, O, F::Disk>>
+) -> Ended<Result<(), TaskFault>, Used<I, O, F::Disk, F::Text>>
     ensures { Rehearses (known I.Read O.Write E.Write F.Files F.Disk.Disk) world.old world.new result }
 {
     world.remark = announce(&mut world.faults);

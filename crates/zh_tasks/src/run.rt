@@ -10,6 +10,7 @@ ghost use Rattle.zh_tasks.specs.World.{known};
 
 use crate::fault::TaskFault;
 use crate::on_disk::FilmedMiddle;
+use crate::used::Observed;
 use std::alloc::Global;
 use std::io::{Read, Write};
 use zh_disk::Disk;
@@ -75,19 +76,19 @@ fn run_from<I: Read, O: Write, E: Write, F: Files>(
     setup: &Setup,
     world: &mut World<I, O, E, F>,
     disk: &mut F::Disk,
-) -> (Result<(), TaskFault>, Film<I, O, F::Disk>)
+) -> (Result<(), TaskFault>, Observed<I, O, F::Disk, F::Text>)
     ensures { Ran (known I.Read O.Write E.Write F.Files F.Disk.Disk) setup.now (world.old, disk.old) (world.new, disk.new) result }
 {
-    let mut film = Film::new();
+    let mut observed = Observed::nothing();
     let result = serve_on(
         alloc,
         setup,
         disk,
         &mut world.input,
         &mut world.output,
-        &mut film,
+        &mut observed.film,
     );
-    (result, film)
+    (result, observed)
 }
 
 /// Serves the lines of the input on the office on the disk.
@@ -96,7 +97,7 @@ pub struct Run;
 impl<I: Read, O: Write, E: Write, F: Files> FilmedMiddle<
     World<I, O, E, F>,
     F::Disk,
-    Film<I, O, F::Disk>,
+    Observed<I, O, F::Disk, F::Text>,
 > for Run {
     ghost does = { λ task. Ran (known I.Read O.Write E.Write F.Files F.Disk.Disk) };
 
@@ -106,7 +107,7 @@ impl<I: Read, O: Write, E: Write, F: Files> FilmedMiddle<
         setup: &Setup,
         world: &mut World<I, O, E, F>,
         disk: &mut F::Disk,
-    ) -> (Result<(), TaskFault>, Film<I, O, F::Disk>) {
+    ) -> (Result<(), TaskFault>, Observed<I, O, F::Disk, F::Text>) {
         run_from(alloc, setup, world, disk)
     }
 }

@@ -3,14 +3,15 @@
 ghost use Rattle.std.specs.Prelude.{IfErr, IfOk};
 ghost use Rattle.zh_world.specs.Files.{IsReadOfFiles};
 ghost use Rattle.zh_tasks.specs.OnDisk.{IsOfSetup};
-ghost use Rattle.zh_tasks.specs.World.{IsFrontAt, IsSetupAt};
+ghost use Rattle.zh_tasks.specs.World.{IsFrontAt, IsMetAt, IsSetupAt};
 
 use crate::fault::TaskFault;
+use crate::file::TaskFile;
 use std::alloc::Global;
 use std::io::{ErrorKind, Read};
 use zh_districts::Setup;
 use zh_setups::read_setup;
-use zh_world::Files;
+use zh_world::{FileFault, Files};
 
 /// How many bytes of a set-up's file are read at most: one more than a set-up may have, so that a longer one is noticed.
 const LONGEST_READ: u64 = 1_048_577;
@@ -19,10 +20,12 @@ const LONGEST_READ: u64 = 1_048_577;
 fn front_of_text<F: Files>(alloc: Global, files: &mut F, path: &str) -> Result<Vec<u8>, TaskFault>
     ensures call { IsReadOfFiles F.text_at F.disk_at F.places F.calls files.old files.new }
     ensures front { IfOk result (λ text. IsFrontAt (F.text_at files.old path.now) text.items) }
-    ensures fault { IfErr result (IsOfSetup (F.text_at files.old path.now)) }
+    ensures fault { IfErr result (IsOfSetup (F.text_at files.old path.now) (IsMetAt F.Files path.now files.old files.new)) }
 {
-    let Ok(file) = files.text(path) else {
-        return Err(TaskFault::SetupFile);
+    let file = match files.text(path) {
+        Ok(file) => file,
+        Err(FileFault::Device(cause)) => return Err(TaskFault::Unopened(TaskFile::Setup, cause)),
+        Err(_) => return Err(TaskFault::Memory),
     };
     let mut text = Vec::new(alloc);
     match file.take(LONGEST_READ).read_to_end(&mut text) {
@@ -40,7 +43,7 @@ pub(crate) fn setup_at<F: Files>(
 ) -> Result<Setup, TaskFault>
     ensures call { IsReadOfFiles F.text_at F.disk_at F.places F.calls files.old files.new }
     ensures setup { IfOk result (IsSetupAt (F.text_at files.old path.now)) }
-    ensures fault { IfErr result (IsOfSetup (F.text_at files.old path.now)) }
+    ensures fault { IfErr result (IsOfSetup (F.text_at files.old path.now) (IsMetAt F.Files path.now files.old files.new)) }
 {
     let text = front_of_text(alloc, files, path)?;
     match read_setup(alloc, &text) {

@@ -6,7 +6,7 @@ ghost use Rattle.zh_districts.specs.Canton.{Canton};
 ghost use Rattle.zh_results.specs.declared.outcome.NoSeats.{NoSeats};
 ghost use Rattle.zh_tasks.specs.SheetSeats.{AreBothRead, AreSeatsOn, FindsNoSheet, HasShownSheet, WritesStated, stated};
 ghost use Rattle.zh_tasks.specs.SheetSeats.{stated_text};
-ghost use Rattle.zh_tasks.specs.World.{AreCalls, known};
+ghost use Rattle.zh_tasks.specs.World.{AreCalls, IsMetAt, known};
 
 use crate::check::sheet_at;
 use crate::fault::TaskFault;
@@ -41,7 +41,7 @@ fn read_both<F: Files>(
 ) -> Result<(Setup, Vec<u8>), TaskFault>
     ensures calls { (n : ℕ) × (n ≤ 2) × AreCalls F.Files n files.old files.new }
     ensures read { IfOk result (λ both. AreBothRead (F.text_at files.old) paths.entry both.0 both.1.items) }
-    ensures fault { IfErr result (FindsNoSheet (F.text_at files.old) paths.entry) }
+    ensures fault { IfErr result (FindsNoSheet (F.text_at files.old) (λ path. IsMetAt F.Files path files.old files.new) paths.entry) }
 {
     let setup = setup_at(alloc, files, paths.setup)?;
     let text = sheet_at(alloc, files, paths.sheet)?;
@@ -106,7 +106,7 @@ pub(crate) fn sheet_seats<I: Read, O: Write, E: Write, F: Files>(
     alloc: Global,
     paths: SheetPaths<'_>,
     world: &mut World<I, O, E, F>,
-) -> Ended<Result<(), TaskFault>, Used<I, O, F::Disk>>
+) -> Ended<Result<(), TaskFault>, Used<I, O, F::Disk, F::Text>>
     ensures { HasShownSheet (known I.Read O.Write E.Write F.Files F.Disk.Disk) paths.entry world.old world.new result }
 {
     match read_both(alloc, paths, &mut world.files) {

@@ -30,7 +30,7 @@ pub fn carry_out<I: Read, O: Write, E: Write, F: Files>(
     task: Task<'_>,
     right: F::Right,
     world: &mut World<I, O, E, F>,
-) -> Ended<Result<(), TaskFault>, Used<I, O, F::Disk>>
+) -> Ended<Result<(), TaskFault>, Used<I, O, F::Disk, F::Text>>
     ensures { Does (known I.Read O.Write E.Write F.Files F.Disk.Disk) task.entry world.old world.new result }
 {
     match task {

@@ -1,4 +1,4 @@
-//! The count office of a cantonal parliament.
+//! The count office of a cantonal parliament: `main`, over the files of the operating system.
 #![tactic(auto)]
 
 mod unknown;

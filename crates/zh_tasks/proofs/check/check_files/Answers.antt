@@ -2,9 +2,10 @@ use Rattle.std.proofs.Common.{◌≡◌, ◌∙◌, ℕ, List, Option, sym, subs
 use Rattle.std.specs.Option.{option_copied}
 use Rattle.zh_held.specs.declared.held_reader.HeldSums.{HeldSums}
 use Rattle.zh_checks.specs.Checks.{Inputs}
+use Rattle.zh_tasks.specs.World.{IsMetAt}
 use Rattle.zh_tasks.specs.Check.{AreSumsIfNamed, IsOfHeldAt, IsSheetAt, calls_for, calls_if_named, held_path}
-use Rattle.zh_tasks.proofs.CheckLemmas.{calls_after, few_calls}
-use Rattle.zh_tasks.proofs.WorldLemmas.{known_before, one_call, two_calls}
+use Rattle.zh_tasks.proofs.CheckLemmas.{calls_after, few_calls, held_as, sheet_as}
+use Rattle.zh_tasks.proofs.WorldLemmas.{known_before, met_before, one_call, two_calls}
 use Rattle.zh_tasks.proofs.check.check_files.Goals as goal
 
 pub returns-in_err-sheet-clause-calls : goal.returns-in_err-sheet-clause-calls
@@ -51,7 +52,13 @@ returns-in_err-sheet-clause-checks g c =
       refl,
       inr (inl (
         two_calls g.F.Files _ _ _ c.setup_at.ensures.call c.sheet_at.ensures.call,
-        record { canton = c.in_ok-setup.setup; setup = c.in_ok-setup.ensures.setup; none = c.in_err-sheet.ensures.fault },
+        record {
+          canton = c.in_ok-setup.setup;
+          setup = c.in_ok-setup.ensures.setup;
+          none = sheet_as (IsMetAt g.F.Files c.args.paths.sheet.now c.setup_at.new.files c.sheet_at.new.files) (IsMetAt g.F.Files c.args.paths.sheet.now c.args.files.now c.sheet_at.new.files)
+              (met_before g.F.Files c.args.paths.sheet.now c.args.files.now c.setup_at.new.files c.sheet_at.new.files c.setup_at.ensures.call.stays)
+              c.in_err-sheet.field-0.0 c.in_err-sheet.ensures.fault;
+        },
       )),
     ))
 
@@ -70,7 +77,10 @@ returns-in_err-held-clause-checks g c =
           sheet = c.in_ok-sheet.sheet.items;
           setup = c.in_ok-setup.ensures.setup;
           front = known_before at c.args.files.now c.setup_at.new.files c.args.paths.sheet.now (λ known. IsSheetAt known c.in_ok-sheet.sheet.items) c.setup_at.ensures.call.texts c.in_ok-sheet.ensures.sheet;
-          none = subst (λ (f : List ℕ → Option (List ℕ)). IsOfHeldAt f canton (held_path c.args.paths) c.in_err-held.field-0.0) texts c.in_err-held.ensures.fault;
+          none = held_as (at c.args.files.now) canton (λ path. IsMetAt g.F.Files path c.sheet_at.new.files c.held_if_named.new.files) (λ path. IsMetAt g.F.Files path c.args.files.now c.held_if_named.new.files)
+              (λ path. met_before g.F.Files path c.args.files.now c.sheet_at.new.files c.held_if_named.new.files (c.sheet_at.ensures.call.stays ∙ c.setup_at.ensures.call.stays))
+              (held_path c.args.paths) c.in_err-held.field-0.0
+              (subst (λ (f : List ℕ → Option (List ℕ)). IsOfHeldAt f canton (λ path. IsMetAt g.F.Files path c.sheet_at.new.files c.held_if_named.new.files) (held_path c.args.paths) c.in_err-held.field-0.0) texts c.in_err-held.ensures.fault);
         },
       )),
     ))

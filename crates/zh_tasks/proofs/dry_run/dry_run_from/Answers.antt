@@ -1,9 +1,11 @@
 use Rattle.std.proofs.Common.{rules, refl, sym, ap, ◌≡◌, subst, Err, arith, List, Option, ℕ}
 use Rattle.std.specs.Io.Buffered.{reader_remaining}
+use Rattle.zh_tasks.specs.Fused.{fused_inner}
 use Rattle.zh_csv.specs.Noted.{inner_reader}
 use Rattle.zh_ledger.specs.Submissions.{OnDisk, on_disk}
 use Rattle.zh_office.specs.Office.{Office}
 use Rattle.zh_tasks.specs.DryRun.{DryRuns}
+use Rattle.zh_tasks.specs.World.{IsMetAt}
 use Rattle.zh_tasks.specs.Opened.{IsFrom}
 use Rattle.zh_tasks.specs.declared.fault.TaskFault.TheVariants as faults
 use Rattle.zh_tasks.proofs.DryRunLemmas.{dry_run_calm, dry_runs_as, unread_runs}
@@ -36,14 +38,15 @@ returns-in_err-text g c =
     let begins : From start start = begun_at canton first last start (starts canton first start c.in_ok-office.ensures.opening c.in_ok-office.ensures.held) (λ h. h) start start (refl, refl) in
     let text = g.F.Files.text_at c.args.world.now.files c.args.csv.now in
     let w = g.O.Write.contents c.args.world.now.output in
+    let Met = IsMetAt g.F.Files c.args.csv.now c.args.world.now.files c.text_at.new.files in
     rw is (record {
       rest = refl;
       counted = omega (arith, c.text_at.ensures.call.counted);
       stays = c.text_at.ensures.call.stays;
       text = text;
       read = kept_itself _;
-      judged = with_office canton first last _ (DryRuns text w w) (Err c.in_err-text.field-0.0) (λ fault none. none) (unread_runs text w From start begins c.in_err-text.field-0.0 c.in_err-text.ensures.fault);
-      disk = leaves_after canton first last last _ (Err c.in_err-text.field-0.0) c.in_ok-office.ensures.opening (untouched_leaves last (Err c.in_err-text.field-0.0) (unread_calm c.in_err-text.field-0.0 c.in_err-text.ensures.fault));
+      judged = with_office canton first last _ (DryRuns Met text w w) (Err c.in_err-text.field-0.0) (λ fault none. none) (unread_runs Met text w From start begins c.in_err-text.field-0.0 c.in_err-text.ensures.fault);
+      disk = leaves_after canton first last last _ (Err c.in_err-text.field-0.0) c.in_ok-office.ensures.opening (untouched_leaves last (Err c.in_err-text.field-0.0) (unread_calm Met c.in_err-text.field-0.0 c.in_err-text.ensures.fault));
     })
 
 pub returns : goal.returns
@@ -57,14 +60,15 @@ returns g c =
     let same : (s e : OnDisk Office) → (s ≡ start) × (e ≡ start) → From s e = λ s e both. subst (λ (o : OnDisk Office). From s o) (sym both.1) (subst (λ (o : OnDisk Office). From o start) (sym both.0) begins) in
     let w = g.O.Write.contents c.args.world.now.output in
     let w' = g.O.Write.contents c.judge_text.new.out in
-    let given : reader_remaining g.F.Text.Read.remaining (inner_reader c.new-reader.result) ≡ reader_remaining g.F.Text.Read.remaining c.in_ok-text.text = ap (reader_remaining g.F.Text.Read.remaining) c.new-reader.ensures.over in
-    let runs = dry_runs_as _ w w' (λ s e. (s ≡ start) × (e ≡ start)) From same c.judge_text.result (subst (λ (o : Option (List ℕ)). DryRuns o w w' (λ s e. (s ≡ start) × (e ≡ start)) c.judge_text.result) given (c.judge_text.ensures.runs start refl)) in
+    let given : reader_remaining (λ r. g.F.Text.Read.remaining (fused_inner r)) (inner_reader c.new-reader.result) ≡ reader_remaining (λ r. g.F.Text.Read.remaining (fused_inner r)) c.in_ok-text.text = ap (reader_remaining (λ r. g.F.Text.Read.remaining (fused_inner r))) c.new-reader.ensures.over in
+    let Met = IsMetAt g.F.Files c.args.csv.now c.args.world.now.files c.text_at.new.files in
+    let runs = dry_runs_as _ w w' (λ s e. (s ≡ start) × (e ≡ start)) From same Met c.judge_text.result (subst (λ (o : Option (List ℕ)). DryRuns (λ met. ⊥) o w w' (λ s e. (s ≡ start) × (e ≡ start)) c.judge_text.result) given (c.judge_text.ensures.runs start refl)) in
     record {
       rest = refl;
       counted = omega (arith, c.text_at.ensures.call.counted);
       stays = c.text_at.ensures.call.stays;
       text = _;
       read = c.in_ok-text.ensures.text;
-      judged = with_office canton first last _ (DryRuns _ w w') c.judge_text.result (λ fault none. none) runs;
-      disk = leaves_after canton first last last _ c.judge_text.result c.in_ok-office.ensures.opening (untouched_leaves last c.judge_text.result (dry_run_calm _ w w' From c.judge_text.result runs));
+      judged = with_office canton first last _ (DryRuns Met _ w w') c.judge_text.result (λ fault none. none) runs;
+      disk = leaves_after canton first last last _ c.judge_text.result c.in_ok-office.ensures.opening (untouched_leaves last c.judge_text.result (dry_run_calm Met _ w w' From c.judge_text.result runs));
     }

@@ -15,7 +15,7 @@ returns-in_err-forecast-clause-runs g c start is =
     let tally : c.count.result.now ≡ start.holder.ledger.tally = c.count.ensures ∙ ap (λ o. o.ledger.tally) (sym is) in
     let judged = subst (λ (t : Tally). Judges t (λ bytes. g.R.Read.remaining (inner_reader c.args.text.now) ≡ Some bytes) w w' c.write_judgement.result) tally c.write_judgement.ensures.judges in
     let p = err_from_is_err_and c.from_residual.result c.from_residual.ensures.1 in
-    rw p.1 (broken_runs (g.R.Read.remaining (inner_reader c.args.text.now)) w w' (λ first last. (first ≡ start) × (last ≡ start)) start (refl, refl) c.in_err-forecast.field-0.0 p.0 p.2 (rw c.in_err-forecast.was at judged))
+    rw p.1 (broken_runs (λ met. ⊥) (g.R.Read.remaining (inner_reader c.args.text.now)) w w' (λ first last. (first ≡ start) × (last ≡ start)) start (refl, refl) c.in_err-forecast.field-0.0 p.0 p.2 (rw c.in_err-forecast.was at judged))
 
 pub returns-in-Refused-clause-runs : goal.returns-in-Refused-clause-runs
 returns-in-Refused-clause-runs g c start is =
@@ -24,7 +24,7 @@ returns-in-Refused-clause-runs g c start is =
     let tally : c.count.result.now ≡ start.holder.ledger.tally = c.count.ensures ∙ ap (λ o. o.ledger.tally) (sym is) in
     let judged = subst (λ (t : Tally). Judges t (λ bytes. g.R.Read.remaining (inner_reader c.args.text.now) ≡ Some bytes) w w' c.write_judgement.result) tally c.write_judgement.ensures.judges in
     let whole : c.write_judgement.result ≡ Ok (forecasts.Refused c.in-Refused.refused c.in-Refused.records) = search rules in
-    (c.in-Refused.refused, c.in-Refused.records, forecasts_of (g.R.Read.remaining (inner_reader c.args.text.now)) w w' (λ first last. (first ≡ start) × (last ≡ start)) start (refl, refl) (forecasts.Refused c.in-Refused.refused c.in-Refused.records) (rw whole at judged))
+    (c.in-Refused.refused, c.in-Refused.records, forecasts_of (λ met. ⊥) (g.R.Read.remaining (inner_reader c.args.text.now)) w w' (λ first last. (first ≡ start) × (last ≡ start)) start (refl, refl) (forecasts.Refused c.in-Refused.refused c.in-Refused.records) (rw whole at judged))
 
 pub returns-in_default-clause-runs : goal.returns-in_default-clause-runs
 returns-in_default-clause-runs g c start is =
@@ -32,7 +32,7 @@ returns-in_default-clause-runs g c start is =
     let w' = g.O.Write.contents c.write_judgement.new.out in
     let tally : c.count.result.now ≡ start.holder.ledger.tally = c.count.ensures ∙ ap (λ o. o.ledger.tally) (sym is) in
     let judged = subst (λ (t : Tally). Judges t (λ bytes. g.R.Read.remaining (inner_reader c.args.text.now) ≡ Some bytes) w w' c.write_judgement.result) tally c.write_judgement.ensures.judges in
-    (c.in_ok-forecast.forecast, c.in_default.not-Refused, forecasts_of (g.R.Read.remaining (inner_reader c.args.text.now)) w w' (λ first last. (first ≡ start) × (last ≡ start)) start (refl, refl) c.in_ok-forecast.forecast (rw c.in_ok-forecast.was at judged))
+    (c.in_ok-forecast.forecast, c.in_default.not-Refused, forecasts_of (λ met. ⊥) (g.R.Read.remaining (inner_reader c.args.text.now)) w w' (λ first last. (first ≡ start) × (last ≡ start)) start (refl, refl) c.in_ok-forecast.forecast (rw c.in_ok-forecast.was at judged))
 
 pub returns-in_err-forecast-clause-read : goal.returns-in_err-forecast-clause-read
 returns-in_err-forecast-clause-read g c =

@@ -1,9 +1,11 @@
+use Rattle.std.proofs.lemmas.Result.{err_from_is_err_and}
+use Rattle.zh_tasks.specs.World.{IsMetAt}
 use Rattle.std.proofs.Common.{rules, ◌≡◌, Err, List, ℕ, Option}
 use Rattle.zh_world.specs.Files.{BeginsOrIsMade}
 use Rattle.zh_world.specs.Places.{TouchesOnly}
 use Rattle.zh_world.proofs.CallerLemmas.{after_stay, stays_untouched}
 use Rattle.zh_tasks.proofs.SetupLemmas.{is_early}
-use Rattle.zh_tasks.proofs.WorldLemmas.{disk_after, known_before}
+use Rattle.zh_tasks.proofs.WorldLemmas.{disk_after, found_early, known_before, met_before}
 use Rattle.zh_tasks.proofs.on_disk.begin_made.Goals as goal
 
 pub returns-clause-began : goal.returns-clause-began
@@ -16,7 +18,16 @@ returns-clause-began g c = record {
 pub returns-in_err-setup-clause-early : goal.returns-in_err-setup-clause-early
 returns-in_err-setup-clause-early g c =
     let is : c.from_residual.result ≡ Err c.in_err-setup.field-0.0 = search rules in
-    rw is (is_early (g.F.Files.text_at c.args.files.now c.args.paths.setup.now) c.in_err-setup.field-0.0 c.in_err-setup.ensures.fault)
+    rw is (is_early (g.F.Files.text_at c.args.files.now c.args.paths.setup.now) (IsMetAt g.F.Files c.args.paths.setup.now c.args.files.now c.setup_at.new.files)
+    (IsMetAt g.F.Files c.args.paths.disk.now c.args.files.now c.setup_at.new.files)
+    c.in_err-setup.field-0.0 c.in_err-setup.ensures.fault)
+
+pub returns-in_err-disk-clause-early : goal.returns-in_err-disk-clause-early
+returns-in_err-disk-clause-early g c =
+    let p = err_from_is_err_and c.from_residual-in_err-disk.result c.from_residual-in_err-disk.ensures.1 in
+    rw p.1 (found_early (g.F.Files.text_at c.args.files.now c.args.paths.setup.now) (IsMetAt g.F.Files c.args.paths.setup.now c.args.files.now c.disk_or_make.new.self)
+    (IsMetAt g.F.Files c.args.paths.disk.now c.args.files.now c.disk_or_make.new.self) c.in_err-disk.field-0.0 p.0 p.2
+    (met_before g.F.Files c.args.paths.disk.now c.args.files.now c.setup_at.new.files c.disk_or_make.new.self c.setup_at.ensures.call.stays c.in_err-disk.field-0.0 c.in_err-disk.ensures.ends))
 
 pub returns-in_err-setup-clause-touches : goal.returns-in_err-setup-clause-touches
 returns-in_err-setup-clause-touches g c = stays_untouched c.args.paths.disk.now (g.F.Files.places c.args.files.now) (g.F.Files.places c.setup_at.new.files) c.setup_at.ensures.call.stays

@@ -12,10 +12,10 @@ returns g c =
     record {
       rest = refl;
       served = served_blank c.args.setup.now (history c.args.disk.now) (history c.serve_on-result.new.disk) _ (g.I.Read.remaining c.args.world.now.input) (g.O.Write.contents c.args.world.now.output)
-          (shown c.new-film.result) new c.serve_on-result.result (ap (map (frame_of g.I.Read g.O.Write g.F.Disk.Disk)) c.new-film.ensures) c.serve_on-result.ensures.served;
+          (shown c.nothing-observed.result.film) new c.serve_on-result.result (ap (map (frame_of g.I.Read g.O.Write g.F.Disk.Disk)) c.nothing-observed.ensures.film) c.serve_on-result.ensures.served;
       reads = c.serve_on-result.ensures.reads;
       disk = c.serve_on-result.ensures.disk;
     }
 
 pub serve_on-result-requires : goal.serve_on-result-requires
-serve_on-result-requires g c = c.new-film.ensures
+serve_on-result-requires g c = c.nothing-observed.ensures.film

@@ -1,0 +1,64 @@
+-- The path of the file that a fault is of, and how it is shown.
+use Rattle.std.specs.Prelude.{ℕ, List, [], ◌∷◌, ◌-◌, codes, get_or, length, min, Option, Some, None, option_and_then, option_map}
+use Rattle.zh_arguments.specs.declared.arguments.Paths.{Paths}
+use Rattle.zh_arguments.specs.declared.arguments.Task.{Task}
+use Rattle.zh_arguments.specs.declared.arguments.Task.TheVariants.{Rehearse, Format, Run, Load, Export, Check}
+use Rattle.zh_arguments.specs.declared.arguments.Task.TheVariants as tasks
+use Rattle.zh_commands.specs.Shown.{sign_at}
+use Rattle.zh_commands.specs.declared.shown.Sign.{Sign}
+use Rattle.zh_commands.specs.declared.shown.Sign.TheVariants as signs
+use Rattle.zh_judgements.specs.Text.{printable}
+use Rattle.zh_tables.specs.Tables.{each_to}
+use Rattle.zh_tasks.specs.Places.{role_of}
+use Rattle.zh_tasks.specs.declared.fault.TaskFault.{TaskFault}
+use Rattle.zh_tasks.specs.declared.file.TaskFile.{TaskFile}
+use Rattle.zh_tasks.specs.declared.file.TaskFile.TheVariants as files
+
+-- of a set-up and a disk
+abbrev pub path_among : Paths → TaskFile → Option (List ℕ)
+path_among paths files.Setup = Some paths.setup.now
+path_among paths files.Disk = Some paths.disk.now
+path_among paths file = None
+
+-- of a set-up and a sheet
+abbrev pub path_stated : List ℕ → List ℕ → TaskFile → Option (List ℕ)
+path_stated setup sheet files.Setup = Some setup
+path_stated setup sheet files.Sheet = Some sheet
+path_stated setup sheet file = None
+
+-- the path of a file of a task, if it is given one
+abbrev pub file_path : Task → TaskFile → Option (List ℕ)
+file_path Rehearse file = None
+file_path (Format paths) file = path_among paths file
+file_path (Run paths) file = path_among paths file
+file_path (Load paths csv) files.Csv = Some csv.now
+file_path (Load paths csv) file = path_among paths file
+file_path (tasks.DryRun paths csv) files.Csv = Some csv.now
+file_path (tasks.DryRun paths csv) file = path_among paths file
+file_path (Export paths) file = path_among paths file
+file_path (tasks.Status paths view) file = path_among paths file
+file_path (tasks.List setup table) files.Setup = Some setup.now
+file_path (tasks.List setup table) file = None
+file_path (Check paths) files.Held = option_map (λ path. path.now) paths.held
+file_path (Check paths) file = path_stated paths.setup.now paths.sheet.now file
+file_path (tasks.Seats paths is_final layout) file = path_among paths file
+file_path (tasks.SheetSeats setup sheet layout) file = path_stated setup.now sheet.now file
+
+-- the path of the file that a fault of a task is of
+abbrev pub fault_path : Task → TaskFault → Option (List ℕ)
+fault_path task fault = option_and_then (file_path task) (role_of fault)
+
+-- a byte order mark and each control as a question mark
+abbrev pub path_sign : Sign → ℕ → List ℕ
+path_sign signs.Mark byte = codes "?"
+path_sign signs.Control byte = codes "?"
+path_sign signs.Further byte = []
+path_sign signs.Byte byte = printable byte ∷ []
+
+-- the byte of this number, from 1, as it is shown
+abbrev pub path_byte : List ℕ → ℕ → List ℕ
+path_byte path number = path_sign (sign_at path (number - 1)) (get_or path (number - 1) 0)
+
+-- a path, of which at most 4,096 bytes are shown: no file has a longer one
+abbrev pub shown_path : List ℕ → List ℕ
+shown_path path = each_to (min (length path) 4096) (path_byte path)

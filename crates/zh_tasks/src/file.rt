@@ -1,0 +1,13 @@
+//! The files of a task.
+
+/// A file that a task is given.
+#[derive(Clone, Copy, Debug, PartialEq, Eq)]
+pub enum TaskFile {
+    Setup,
+    Disk,
+    /// The returns of a load.
+    Csv,
+    Sheet,
+    /// The rows held.
+    Held,
+}
