@@ -4,8 +4,6 @@ use std::alloc::AllocError;
 use std::io;
 use thiserror::Error;
 use zh_disk::DiskFault;
-use zh_questions::QuestionFault;
-use zh_transcripts::TranscriptFault;
 
 #[derive(Debug, Drop, Error)]
 pub(crate) enum Fault {
@@ -15,13 +13,7 @@ pub(crate) enum Fault {
     File(#[from] io::Error),
     #[error("{0}")]
     Disk(#[from] DiskFault),
-    /// The text is not one of cases.
-    #[error("{0}")]
-    Transcript(#[from] TranscriptFault),
-    /// The text asks no question.
-    #[error("{0}")]
-    Question(#[from] QuestionFault),
-    /// A turn cannot be made.
+    /// What is wrong with the text of a case, a set-up or a question, or why a turn cannot be made.
     #[error("{0}")]
     Text(&'static str),
     /// Another answer was found than was expected.

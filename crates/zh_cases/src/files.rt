@@ -1,9 +1,9 @@
 //! Turns on the files of the folder.
 
 use crate::fault::Fault;
+use crate::words::read_bytes;
 use std::fs;
 use std::io::ErrorKind;
-use zh_transcripts::read_bytes;
 
 /// A name, and what stands after it.
 fn named<'t>(text: &'t str, end: char) -> Result<(&'t str, &'t str), Fault> {

@@ -1,30 +1,37 @@
 //! Runs the cases of the count office that stand in files, and says where an answer is not the one that the file has.
 #![tactic(auto)]
 
+mod answer;
 mod device;
 mod disks;
 mod fault;
 mod files;
 mod fixture;
 mod image;
+mod limits;
+mod lines;
 mod memory;
 mod opening;
+mod outcome;
 mod program;
 mod question;
 mod refusals;
+mod repeat;
 mod serving;
 mod setups;
 mod streams;
+mod sweep;
 mod turn;
 mod words;
+mod written;
 
 use fault::Fault;
 use fixture::Fixture;
+use lines::{NumberedLine, lines_of};
 use setups::{Named, setups_of};
 use std::process::ExitCode;
 use std::{env, fs};
 use turn::run_turn;
-use zh_transcripts::{NumberedLine, lines_of};
 
 /// How far the cases of a file went.
 #[derive(Clone, Copy, Default)]

@@ -4,10 +4,10 @@ use crate::fault::Fault;
 use crate::fixture::Fixture;
 use crate::program::{answer_of, arguments_in, input_in};
 use crate::streams::{SlowInput, SlowOutput};
+use crate::words::read_number;
 use std::alloc::Global;
 use std::fs;
 use zh_program::{Filmed, Used, program};
-use zh_transcripts::read_number;
 use zh_world::{Ended, MemoryFiles, Named, Remark, World};
 
 /// The path of the disk of the case. There is no other disk.
@@ -139,7 +139,10 @@ fn run_on(
     let Ended { result, used } = program(alloc, &given.arguments, OneDisk, &mut world);
     match used {
         Some(Used::Disk(filmed)) => {
-            let Filmed { disk, film: _film } = filmed;
+            let Filmed {
+                disk,
+                observed: _observed,
+            } = filmed;
             fixture.take_over(disk.into_inner());
         }
         Some(Used::Rehearsal(_film)) => {}

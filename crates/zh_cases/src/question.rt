@@ -1,10 +1,11 @@
 //! Turns on questions, and on why there are no seats.
 
+use crate::answer::{Whom, answer_to};
 use crate::fault::Fault;
 use crate::fixture::Fixture;
+use crate::outcome::{impossible, with_lists};
 use std::alloc::Global;
 use std::fs::{self, File};
-use zh_questions::{QuestionFault, answer_to, impossible};
 use zh_returns::Count;
 use zh_sheet::{ExhaustedReason, explain};
 use zh_totals::Totals;
@@ -15,14 +16,19 @@ fn memory(alloc: Global) -> Result<String, Fault> {
 }
 
 /// What becomes of the question in a file.
-pub(crate) fn ask(rt: &HostRuntime, fixture: &Fixture<'_>, name: &str) -> Result<String, Fault> {
+pub(crate) fn ask(
+    rt: &HostRuntime,
+    fixture: &Fixture<'_>,
+    name: &str,
+    whom: Whom,
+) -> Result<String, Fault> {
     let text = fs::read_to_string(rt, name)?;
     let mark = fixture.mark()?;
-    let answer = answer_to(rt.alloc(), text.as_str());
+    let answer = answer_to(rt.alloc(), text.as_str(), whom);
     drop(mark);
     match answer {
-        Err(QuestionFault::Memory(_)) => memory(rt.alloc()),
-        answer => Ok(answer?),
+        Err(Fault::Memory(_)) => memory(rt.alloc()),
+        answer => answer,
     }
 }
 
@@ -45,7 +51,8 @@ pub(crate) fn reason_of(
         Ok(ExhaustedReason::NearlyTied(constituency, group)) => {
             Ok(format!(in alloc; "nearly tied {constituency} {group}")?)
         }
-        Ok(ExhaustedReason::Undecided(_left)) => Ok(String::from_str(alloc, "undecided")?),
+        Ok(ExhaustedReason::Beyond(lists)) => Ok(with_lists(alloc, "beyond", &lists)?),
+        Ok(ExhaustedReason::Missed(lists)) => Ok(with_lists(alloc, "missed", &lists)?),
         Err(fault) => Ok(format!(in alloc; "{fault}")?),
     }
 }

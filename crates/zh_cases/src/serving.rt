@@ -4,11 +4,11 @@ use crate::device::Device;
 use crate::fault::Fault;
 use crate::program::{lines_in, push_lines};
 use crate::streams::{SlowInput, SlowOutput};
+use crate::words::read_number;
 use std::alloc::Global;
 use zh_commands::{Reply, write_reply};
 use zh_film::Film;
 use zh_office::Office;
-use zh_transcripts::read_number;
 
 /// How many reads an office may make of a line.
 pub(crate) const READS_OF_LINE: u64 = 1_000;

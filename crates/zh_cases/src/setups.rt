@@ -1,10 +1,10 @@
 //! The set-ups of a file's cases.
 
 use crate::fault::Fault;
+use crate::lines::{NumberedLine, lines_of};
 use std::fs;
 use zh_districts::Setup;
 use zh_setups::{read_setup, rehearsal};
-use zh_transcripts::{NumberedLine, lines_of};
 
 /// A set-up, and the name by which a file asks for it.
 #[derive(Drop)]

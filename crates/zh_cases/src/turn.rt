@@ -1,16 +1,17 @@
 //! A turn: what is done, and the answer that is expected.
 
+use crate::answer::Whom;
 use crate::fault::Fault;
 use crate::files::{act_on_files, save};
 use crate::fixture::Fixture;
+use crate::lines::NumberedLine;
 use crate::memory::run_within;
 use crate::program::run_program;
 use crate::question::ask;
 use crate::refusals::refuse;
 use crate::serving::read_limits;
-use crate::words::read_stop;
+use crate::words::{read_bytes, read_number, read_stop};
 use std::fs;
-use zh_transcripts::{NumberedLine, read_bytes, read_number};
 
 /// A line of a desk: it begins with a digit, or stands in quotes.
 fn line_in<'t>(text: &'t str) -> Option<&'t str> {
@@ -43,7 +44,8 @@ pub(crate) fn act(
             let (name, limits) = read_limits(rest)?;
             fixture.serve(&fs::read(rt, name)?, limits)
         }
-        "question" => ask(rt, fixture, rest),
+        "question" => ask(rt, fixture, rest, Whom::Searches),
+        "decision" => ask(rt, fixture, rest, Whom::Decision),
         "reason" => fixture.reason(),
         "zhcount" => run_program(rt, rest),
         "within" => run_within(rt, fixture, rest),

@@ -1,9 +1,9 @@
-//! Stops and places on a disk, as a case writes them.
+//! Numbers and bytes, stops, and places on a disk, as a case writes them.
 
 use crate::fault::Fault;
+use hex::decode;
 use std::alloc::Global;
 use zh_disk::Stop;
-use zh_transcripts::{read_bytes, read_number};
 
 /// The first of the set-up bytes.
 const SETUP: usize = 4_096;
@@ -22,6 +22,31 @@ const PAYLOAD: usize = 9;
 
 /// The journal.
 const JOURNAL: usize = 262_400;
+
+const NO_BYTES: Fault = Fault::Text("these are no bytes");
+
+/// Reads a decimal number.
+pub(crate) fn read_number(word: &str) -> Result<u64, Fault> {
+    match word.parse::<u64>() {
+        Ok(number) => Ok(number),
+        Err(_) => Err(Fault::Text("this is no number")),
+    }
+}
+
+/// The bytes of words such as `a5`, `0001` and `78*114`: hexadecimal digits, repeated where a number follows.
+pub(crate) fn read_bytes(alloc: Global, text: &str) -> Result<Vec<u8>, Fault> {
+    let mut bytes = Vec::new(alloc);
+    for word in text.split_whitespace() {
+        let (digits, times) = word.split_once('*').unwrap_or((word, "1"));
+        let (Ok(part), Ok(times)) = (decode(alloc, digits), times.parse::<u32>()) else {
+            return Err(NO_BYTES);
+        };
+        for _ in 0..times {
+            bytes.extend_from_slice(&part)?;
+        }
+    }
+    Ok(bytes)
+}
 
 /// What a stop leaves of the pending bytes: `keep`, `old`, or two hexadecimal digits.
 pub(crate) fn read_stop(word: &str) -> Result<Stop, Fault> {

@@ -1,6 +1,6 @@
 //! The text of a question.
 
-use crate::fault::QuestionFault;
+use crate::fault::Fault;
 use std::alloc::Global;
 
 /// Votes row by row, and the seats that each row and each column is to get.
@@ -11,21 +11,21 @@ pub(crate) struct Written {
     pub(crate) votes: Vec<u64>,
 }
 
-fn read_totals(totals: &mut Vec<u32>, words: &str) -> Result<(), QuestionFault> {
+fn read_totals(totals: &mut Vec<u32>, words: &str) -> Result<(), Fault> {
     for word in words.split_whitespace() {
         match word.parse::<u32>() {
             Ok(total) => totals.push(total)?,
-            Err(_) => return Err(QuestionFault::Text("a total is no number")),
+            Err(_) => return Err(Fault::Text("a total is no number")),
         }
     }
     Ok(())
 }
 
-fn read_votes(votes: &mut Vec<u64>, words: &str) -> Result<(), QuestionFault> {
+fn read_votes(votes: &mut Vec<u64>, words: &str) -> Result<(), Fault> {
     for word in words.split_whitespace() {
         match word.parse::<u64>() {
             Ok(number) => votes.push(number)?,
-            Err(_) => return Err(QuestionFault::Text("votes are no number")),
+            Err(_) => return Err(Fault::Text("votes are no number")),
         }
     }
     Ok(())
@@ -33,18 +33,18 @@ fn read_votes(votes: &mut Vec<u64>, words: &str) -> Result<(), QuestionFault> {
 
 impl Written {
     /// Takes one line: `rows` or `columns` with their totals, or `votes` with those of the next row.
-    fn take(&mut self, line: &str) -> Result<(), QuestionFault> {
+    fn take(&mut self, line: &str) -> Result<(), Fault> {
         let (word, rest) = line.split_once(' ').unwrap_or((line, ""));
         match word {
             "rows" => read_totals(&mut self.row_totals, rest),
             "columns" => read_totals(&mut self.column_totals, rest),
             "votes" => read_votes(&mut self.votes, rest),
-            _ => Err(QuestionFault::Text("a line gives rows, columns or votes")),
+            _ => Err(Fault::Text("a line gives rows, columns or votes")),
         }
     }
 
     /// The question of a text.
-    pub(crate) fn read(alloc: Global, text: &str) -> Result<Written, QuestionFault> {
+    pub(crate) fn read(alloc: Global, text: &str) -> Result<Written, Fault> {
         let mut written = Written {
             row_totals: Vec::new(alloc),
             column_totals: Vec::new(alloc),

@@ -1,8 +1,8 @@
 use Rattle.std.proofs.Common.{arith}
+use Rattle.zh_cases.proofs.limits.column_has_votes.Goals as goal
 use Rattle.zh_divisors.proofs.CallerLemmas.{term-le-sum_to}
 use Rattle.zh_matrices.specs.Asked.{asked}
 use Rattle.zh_matrices.specs.Question.{column_votes}
-use Rattle.zh_questions.proofs.limits.column_has_votes.Goals as goal
 
 pub returns-then-question-row-gt0 : goal.returns-then-question-row-gt0
 returns-then-question-row-gt0 c = λ _. omega (

@@ -1,13 +1,13 @@
 //! Repetitions: lines that come once for each of several values.
 
-use crate::fault::TranscriptFault;
+use crate::fault::Fault;
 use crate::lines::NumberedLine;
 use std::alloc::{AllocError, Global};
 
-const NO_VALUES: TranscriptFault = TranscriptFault::Text("a repetition has a name and values");
+const NO_VALUES: Fault = Fault::Text("a repetition has a name and values");
 
 /// The numbers of `1 to 60`, or of `1 to 59 by 2`.
-fn numbers_of(alloc: Global, from: &str, to: &str) -> Result<Vec<String>, TranscriptFault> {
+fn numbers_of(alloc: Global, from: &str, to: &str) -> Result<Vec<String>, Fault> {
     let (to, by) = to.split_once(" by ").unwrap_or((to, "1"));
     let (Ok(from), Ok(to), Ok(by)) = (from.parse::<u32>(), to.parse::<u32>(), by.parse::<u32>())
     else {
@@ -23,7 +23,7 @@ fn numbers_of(alloc: Global, from: &str, to: &str) -> Result<Vec<String>, Transc
 }
 
 /// The values of such a list, or of one with commas, as `keep, old, a5`.
-fn values_of(alloc: Global, list: &str) -> Result<Vec<String>, TranscriptFault> {
+fn values_of(alloc: Global, list: &str) -> Result<Vec<String>, Fault> {
     if let Some((from, to)) = list.split_once(" to ") {
         return numbers_of(alloc, from.trim(), to.trim());
     }
@@ -85,7 +85,7 @@ pub(crate) fn repeat(
     lines: &mut Vec<NumberedLine>,
     head: &str,
     body: &[NumberedLine],
-) -> Result<(), TranscriptFault> {
+) -> Result<(), Fault> {
     let Some((name, list)) = head.split_once('=') else {
         return Err(NO_VALUES);
     };

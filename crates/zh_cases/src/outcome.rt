@@ -2,8 +2,10 @@
 ghost use Rattle.std.specs.Prelude.{◌≡◌, ◌≤◌, length};
 
 use std::alloc::{AllocError, Global};
+use zh_decided::DecisionRoom;
 use zh_lower::Lower;
-use zh_reasons::MarkedRows;
+use zh_possible::MarkedRows;
+use zh_sheet::ListSeats;
 
 /// Appends a blank and a number.
 fn push_number(alloc: Global, text: &mut String, number: u64) -> Result<(), AllocError> {
@@ -94,7 +96,11 @@ pub(crate) fn found(
 }
 
 /// `impossible`, with those of so many rows that are marked.
-pub fn impossible(alloc: Global, marked: &MarkedRows, rows: u32) -> Result<String, AllocError>
+pub(crate) fn impossible(
+    alloc: Global,
+    marked: &MarkedRows,
+    rows: u32,
+) -> Result<String, AllocError>
     requires { rows ≤ 32 }
 {
     let mut text = String::from_str(alloc, "impossible")?;
@@ -102,6 +108,95 @@ pub fn impossible(alloc: Global, marked: &MarkedRows, rows: u32) -> Result<Strin
         if marked.contains(row) {
             push_number(alloc, &mut text, u64::from(row))?;
         }
+    }
+    Ok(text)
+}
+
+/// Appends cells, row by row.
+fn push_cells(
+    alloc: Global,
+    text: &mut String,
+    cells: &[u32],
+    columns: usize,
+) -> Result<(), AllocError>
+    requires { 1 ≤ columns }
+{
+    for (place, seats) in cells.iter().enumerate() {
+        if place % columns == 0 {
+            text.push(';')?;
+        }
+        push_number(alloc, text, u64::from(*seats))?;
+    }
+    Ok(())
+}
+
+fn push_numbers(alloc: Global, text: &mut String, numbers: &[u64]) -> Result<(), AllocError> {
+    for number in numbers {
+        push_number(alloc, text, *number)?;
+    }
+    Ok(())
+}
+
+/// A word, with seats row by row.
+pub(crate) fn with_seats(
+    alloc: Global,
+    word: &str,
+    seats: &[u32],
+    columns: usize,
+) -> Result<String, AllocError>
+    requires { 1 ≤ columns }
+{
+    let mut text = String::from_str(alloc, word)?;
+    push_cells(alloc, &mut text, seats, columns)?;
+    Ok(text)
+}
+
+/// The seats that are decided, with their divisors, as `found` has them.
+pub(crate) fn with_divisors(
+    alloc: Global,
+    room: &DecisionRoom,
+    columns: usize,
+) -> Result<String, AllocError>
+    requires { 1 ≤ columns }
+{
+    let mut text = with_seats(alloc, "seats", &room.seats, columns)?;
+    text.push_str("; rows")?;
+    push_numbers(alloc, &mut text, &room.of_rows)?;
+    text.push_str("; columns")?;
+    push_numbers(alloc, &mut text, &room.of_columns)?;
+    Ok(text)
+}
+
+/// Appends the lists of a constituency that have seats, each with its constituency, its group and its seats.
+fn push_lists(
+    alloc: Global,
+    text: &mut String,
+    lists: &ListSeats,
+    constituency: u32,
+) -> Result<(), AllocError>
+    requires from_one { 1 ≤ constituency }
+    requires there { constituency ≤ lists.now.constituencies }
+{
+    let groups = lists.groups();
+    for place in 0..groups.len() {
+        let seats = lists.seats(constituency, place as u32 + 1);
+        if seats > 0 {
+            let group = groups[place];
+            text.push_str(format!(in alloc; "; {constituency} {group} {seats}")?.as_str())?;
+        }
+    }
+    Ok(())
+}
+
+/// A word, with the seats of lists.
+pub(crate) fn with_lists(
+    alloc: Global,
+    word: &str,
+    lists: &ListSeats,
+) -> Result<String, AllocError> {
+    let mut text = String::from_str(alloc, word)?;
+    for place in 0..lists.constituencies() {
+        push_lists(alloc, &mut text, lists, place + 1)?;
     }
     Ok(text)
 }

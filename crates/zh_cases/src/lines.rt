@@ -1,15 +1,15 @@
 //! The lines of a text, with its blocks written out.
 
-use crate::fault::TranscriptFault;
+use crate::fault::Fault;
 use crate::repeat::repeat;
 use crate::sweep::sweep;
 use std::alloc::Global;
 
 /// A line without its comment, and its number in the file.
 #[derive(Drop)]
-pub struct NumberedLine {
-    pub number: usize,
-    pub text: String,
+pub(crate) struct NumberedLine {
+    pub(crate) number: usize,
+    pub(crate) text: String,
 }
 
 /// What stands before the comment. A line in quotes has none.
@@ -30,7 +30,7 @@ fn file(
     lines: &mut Vec<NumberedLine>,
     head: &NumberedLine,
     body: &[NumberedLine],
-) -> Result<(), TranscriptFault> {
+) -> Result<(), Fault> {
     let mut text = String::from_str(alloc, head.text.as_str())?;
     for line in body {
         text.push('\n')?;
@@ -50,14 +50,14 @@ fn write_out(
     lines: &mut Vec<NumberedLine>,
     block: &[NumberedLine],
     kind: &str,
-) -> Result<(), TranscriptFault> {
+) -> Result<(), Fault> {
     let [head, body @ ..] = block else {
         return Ok(());
     };
     let text = head.text.as_str();
     let (word, rest) = text.split_once(' ').unwrap_or((text, ""));
     match word {
-        _ if word != kind => Err(TranscriptFault::Text("a block of another kind ends")),
+        _ if word != kind => Err(Fault::Text("a block of another kind ends")),
         "repeat" => repeat(alloc, lines, rest, body),
         "sweep" => sweep(alloc, lines, body),
         _ => file(alloc, lines, head, body),
@@ -72,11 +72,11 @@ struct Open {
 }
 
 impl Open {
-    fn take(&mut self, alloc: Global, number: usize, text: &str) -> Result<(), TranscriptFault> {
+    fn take(&mut self, alloc: Global, number: usize, text: &str) -> Result<(), Fault> {
         if let Some(kind) = text.strip_prefix("end ") {
             let start = self.begun.pop().unwrap_or(self.lines.len());
             if start >= self.lines.len() {
-                return Err(TranscriptFault::Text("a block ends that did not begin"));
+                return Err(Fault::Text("a block ends that did not begin"));
             }
             let block = self.lines.split_off(start)?;
             return write_out(alloc, &mut self.lines, &block, kind);
@@ -93,11 +93,11 @@ impl Open {
 }
 
 /// The lines of a text, with its blocks written out. `number` is that of the line that was read last.
-pub fn lines_of(
+pub(crate) fn lines_of(
     alloc: Global,
     text: &str,
     number: &mut usize,
-) -> Result<Vec<NumberedLine>, TranscriptFault> {
+) -> Result<Vec<NumberedLine>, Fault> {
     let mut open = Open {
         lines: Vec::new(alloc),
         begun: Vec::new(alloc),
@@ -109,6 +109,6 @@ pub fn lines_of(
     if open.begun.is_empty() {
         Ok(open.lines)
     } else {
-        Err(TranscriptFault::Text("a block does not end"))
+        Err(Fault::Text("a block does not end"))
     }
 }

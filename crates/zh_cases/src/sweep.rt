@@ -1,6 +1,6 @@
 //! Sweeps: turns that are made once for each place of a table, which says what they are answered there.
 
-use crate::fault::TranscriptFault;
+use crate::fault::Fault;
 use crate::lines::NumberedLine;
 use crate::repeat::with_value;
 use crate::words::read_number;
@@ -18,7 +18,7 @@ fn answers_of<'t>(
     alloc: Global,
     turns: &'t [NumberedLine],
     name: &str,
-) -> Result<Vec<&'t str>, TranscriptFault> {
+) -> Result<Vec<&'t str>, Fault> {
     let mut answers = Vec::new(alloc);
     for line in turns {
         match line.text.as_str().split_once(':') {
@@ -39,14 +39,14 @@ fn turn_at(
     turn: &str,
     place: Place<'_>,
     answers: &mut &[&str],
-) -> Result<String, TranscriptFault> {
+) -> Result<String, Fault> {
     let turn = with_value(alloc, turn, "calls", place.calls)?;
     let turn = with_value(alloc, turn.as_str(), "stop", place.stop)?;
     let Some(front) = turn.as_str().strip_suffix('?') else {
         return Ok(turn);
     };
     let [answer, rest @ ..] = *answers else {
-        return Err(TranscriptFault::Text("a name has too few answers"));
+        return Err(Fault::Text("a name has too few answers"));
     };
     *answers = rest;
     Ok(format!(in alloc; "{front}{answer}")?)
@@ -59,7 +59,7 @@ fn push_turns(
     turns: &[NumberedLine],
     place: Place<'_>,
     name: &str,
-) -> Result<(), TranscriptFault> {
+) -> Result<(), Fault> {
     let answers = answers_of(alloc, turns, name)?;
     let mut answers = answers.as_slice();
     for line in turns {
@@ -74,7 +74,7 @@ fn push_turns(
     if answers.is_empty() {
         Ok(())
     } else {
-        Err(TranscriptFault::Text("a name has too many answers"))
+        Err(Fault::Text("a name has too many answers"))
     }
 }
 
@@ -86,7 +86,7 @@ fn push_row(
     stops: &str,
     row: &NumberedLine,
     calls: u64,
-) -> Result<(), TranscriptFault> {
+) -> Result<(), Fault> {
     let calls = format!(in alloc; "{calls}")?;
     let names = row.text.as_str().split_whitespace().skip(1);
     for (stop, name) in stops.split_whitespace().skip(1).zip(names) {
@@ -108,14 +108,14 @@ pub(crate) fn sweep(
     alloc: Global,
     lines: &mut Vec<NumberedLine>,
     body: &[NumberedLine],
-) -> Result<(), TranscriptFault> {
+) -> Result<(), Fault> {
     let table = body
         .iter()
         .position(|line| line.text.as_str().starts_with("table "))
         .unwrap_or(body.len());
     let (turns, table) = body.split_at(table);
     let [head, rows @ ..] = table else {
-        return Err(TranscriptFault::Text("a sweep has a table"));
+        return Err(Fault::Text("a sweep has a table"));
     };
     lines.push(NumberedLine {
         number: head.number,
@@ -126,7 +126,7 @@ pub(crate) fn sweep(
     for row in rows {
         let (from, to) = numbers_in(stops, row)?;
         if from != next {
-            return Err(TranscriptFault::Text("rows go from 0 on, without a gap"));
+            return Err(Fault::Text("rows go from 0 on, without a gap"));
         }
         for calls in from..=to {
             push_row(alloc, lines, turns, stops, row, calls)?;
@@ -137,10 +137,10 @@ pub(crate) fn sweep(
 }
 
 /// The first and the last number of calls that a row stands for.
-fn numbers_in(stops: &str, row: &NumberedLine) -> Result<(u64, u64), TranscriptFault> {
+fn numbers_in(stops: &str, row: &NumberedLine) -> Result<(u64, u64), Fault> {
     let text = row.text.as_str();
     if text.split_whitespace().count() != stops.split_whitespace().count() {
-        return Err(TranscriptFault::Text("a row has a name for each stop"));
+        return Err(Fault::Text("a row has a name for each stop"));
     }
     let (calls, _) = text.split_once(' ').unwrap_or((text, ""));
     let (from, to) = calls.split_once('-').unwrap_or((calls, calls));
