@@ -11,14 +11,16 @@ passed=0 failed=0
 whole_tree() {
     rm -rf "${folder:?}/tree" && mkdir -p "$folder/tree/docs" && cd "$folder/tree" || exit 2
     mkdir -p crates/zh_low/{src,specs,must-fail} crates/zh_high/{src,specs}
-    printf '# lowest first\nzh_low:\nzh_high: zh_low\n' > crates.txt
+    printf '# lowest first\n\n# low: numbers\nzh_low:\n\n# high: names\nzh_high: zh_low\n' > crates.txt
+    printf '%s\n' '### Low: numbers' '' '| Crate | Knows |' '|---|---|' '| `zh_low` | A number |' '' \
+        '### High: names' '' '| Crate | Knows |' '|---|---|' '| `zh_high` | A name |' > docs/ARCHITECTURE.md
     printf '%s\n' '-- a sum' 'abbrev pub total : ℕ → ℕ' 'total n = half n' '' 'abbrev pub half : ℕ → ℕ' 'half n = n' '' \
         'abbrev pub lonely : ℕ' 'lonely = 0' > crates/zh_low/specs/Low.antt
-    printf '%s\n' 'ghost use Rattle.zh_low.specs.Low.{total};' 'pub struct Low;' 'impl Low {' '    pub fn get(&self) -> u8' \
+    printf '%s\n' '//! A number: one.' 'ghost use Rattle.zh_low.specs.Low.{total};' 'pub struct Low;' 'impl Low {' '    pub fn get(&self) -> u8' \
         '        ensures got { result ≡ total 1 }' '    {' '        1' '    }' '}' > crates/zh_low/src/lib.rt
     printf '%s\n' 'use Rattle.zh_low.specs.Low as low' 'pub record IsHigh (n : ℕ) : Type 0 where' \
         '  pub same : low.total n ≡ n' > crates/zh_high/specs/High.antt
-    printf '%s\n' 'ghost use Rattle.zh_high.specs.High.{IsHigh};' 'pub fn high() -> u8' '    ensures { IsHigh result }' '{' \
+    printf '%s\n' '//! A name.' 'ghost use Rattle.zh_high.specs.High.{IsHigh};' 'pub fn high() -> u8' '    ensures { IsHigh result }' '{' \
         '    1' '}' 'pub fn program() -> u8' '    ensures headline { IsHigh result }' '{' '    1' '}' > crates/zh_high/src/lib.rt
     printf 'file: src/lib.rt\n' > crates/zh_low/must-fail/wrong.edit
     printf '%s\n' '## `zh_low`' '' '| What | Carried by |' '|---|---|' '| a | `Low::get` got |' '' '## `zh_high`' '' \
@@ -75,6 +77,9 @@ wrong "an edit that is gone" docs/DEFINITIONS.md 's/wrong.edit/right.edit/' "DEF
 wrong "one that the headline's part leaves out" docs/DEFINITIONS.md '18s/, `half`//' "reaches zh_low.specs.Low.half, which"
 wrong "one that the headline does not reach" docs/DEFINITIONS.md '18s/`half`/`half`, `lonely`/' "DEFINITIONS.md:18: the headline does not"
 wrong "one that it reaches no more" crates/zh_low/specs/Low.antt 's/= half n/= n/' "the headline does not reach zh_low.specs.Low.half"
+wrong "a crate that the page has in no layer" docs/ARCHITECTURE.md '/zh_low/d' "crates.txt has the layer 'low: numbers' of zh_low, and"
+wrong "a crate in another layer" crates.txt '/^# high/d' "crates.txt has the layer 'low: numbers' of zh_low zh_high, and"
+wrong "a sentence that is not its crate's" docs/ARCHITECTURE.md 's/A number/A numb/' "the root file of zh_low does not begin with 'A numb'"
 wrong "a file that is gone" docs/DEFINITIONS.md 's/src.lib.rt/src\/main.rt/' "there is no crates/zh_low/src/main.rt"
 wrong "a link that leads nowhere" docs/DEFINITIONS.md 's/(PROVED.md)/(OTHER.md)/' "there is no OTHER.md"
 wrong "a link to a heading that is not there" docs/DEFINITIONS.md 's/(PROVED.md)/(PROVED.md#zh_high-2)/' "there is no PROVED.md#zh_high-2"

@@ -188,6 +188,20 @@ def files_in_part(path, title):
     return found
 
 
+def layers_in(path):
+    """The layers of a page: the crates of the tables below each heading, in order; and what the tables say of each crate, with its
+    line."""
+    layers, said = {}, {}
+    title = None
+    for number, line in enumerate(path.read_text().splitlines(), 1):
+        if line.startswith("#"):
+            title = line.lstrip("# ").lower()
+        elif row := re.match(r"\| `(zh\w+)` \| (.*?) \|", line):
+            layers.setdefault(title, []).append(row.group(1))
+            said[row.group(1)] = number, row.group(2)
+    return layers, said
+
+
 def anchors_in(path):
     """What links may name in a page: its headings in lower case, without marks, with a dash for each blank; a heading that
     comes again gets a number."""

@@ -152,13 +152,24 @@ def contract(text, place):
     return len(text), clauses
 
 
+def layers_of(text):
+    """The layers of crates.txt: the crates below each comment, in order."""
+    layers, title = {}, None
+    for line in filter(None, map(str.strip, text.splitlines())):
+        if line.startswith("#"):
+            title = line.lstrip("# ")
+        else:
+            layers.setdefault(title, []).append(line.split(":")[0].split()[0])
+    return layers
+
+
 class Tree:
     """All crates of a repository."""
 
     def __init__(self, top):
         self.top = Path(top)
-        self.crates = [line.split(":")[0].split()[0] for line in (self.top / "crates.txt").read_text().splitlines()
-                       if line.strip() and not line.startswith("#")]
+        self.layers = layers_of((self.top / "crates.txt").read_text())
+        self.crates = [it for crates in self.layers.values() for it in crates]
         self.definitions, self.scopes, self.clauses, self.source_scopes, self.types = {}, {}, [], {}, set()
         for crate in self.crates:
             folder = self.top / "crates" / crate
@@ -171,6 +182,12 @@ class Tree:
                 self.clauses += found
                 self.source_scopes[path] = scope
                 self.types |= set(re.findall(r"pub(?:\(crate\))? (?:enum|struct|trait|type|const) (\w+)", path.read_text()))
+
+    def head(self, crate):
+        """What the root file of a crate says of it, in one line."""
+        roots = [self.top / "crates" / crate / "src" / name for name in ("lib.rt", "main.rt")]
+        lines = next((it for it in roots if it.exists()), roots[0]).read_text().splitlines()
+        return " ".join(it.removeprefix("//!").strip() for it in lines if it.startswith("//!"))
 
     def used_by(self, text, scope):
         """The full names that a text uses."""
