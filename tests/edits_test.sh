@@ -1,6 +1,6 @@
 #!/usr/bin/env bash
 # Tests of tests/edits on a small tree of its own: of a wrong body of each kind it says what it is, and it tries the crates that
-# changed. Then the tool itself is given four faults, and each is noticed. The prover is asked some fifteen times about a crate
+# changed. Then the tool itself is given five faults, and each is noticed. The prover is asked some thirty times about a crate
 # of five functions. The last line is 'N passed, M failed'; the status is 1 if one failed.
 set -u
 cd "$(dirname "$0")" || exit 2
@@ -41,9 +41,10 @@ faulty() {
     ! cmp -s "$2" "$tool/$2" || { echo "FAIL  $1: nothing changed"; failed=$((failed + 1)); }
 }
 
-# noticed NAME STATUS TEXT ARGUMENT..: what is expected of the tool does not come of the faulty one.
+# noticed NAME TITLE STATUS TEXT ARGUMENT..: what is expected of the tool does not come of the faulty one.
 noticed() {
     local name=$1 was=$failed were=$passed
+    shift
     expect "$@" > "$room/noticed"
     if [ "$failed" -gt "$was" ]; then
         failed=$was passed=$((were + 1))
@@ -163,6 +164,11 @@ refused_ones() {
 proved_one() { edit zh_low at_most.always_zero "old: let most = n;" "new: let most = 0;"; }
 gone_one() { edit zh_low third.adds_one "old: let third = next(n);" "new: let third = n;"; }
 lost_one() { edit zh_low step_of_four "# refused at: stepping" "old: STEP: u64 = 1;" "new: STEP: u64 = 4;"; }
+other_sources() {
+    sed -i 's/    n + 1/    1 + n/' "$room/tree/crates/zh_low/src/lib.rt"
+    edit zh_low next.adds_two "old:     1 + n" "new:     2 + n"
+    edit zh_low next.adds_nothing "old:     1 + n" "new:     0 + n"
+}
 unread_one() { edit zh_low second.is_cut_off "old: let first = next(n);" "new: let first = next(n;"; }
 caller_one() { edit zh_low step_of_two "old: STEP: u64 = 1;" "new: STEP: u64 = 2;"; }
 renamed_one() {
@@ -225,6 +231,18 @@ says "one that does not compile" "zh_low/second.is_cut_off.edit: no longer appli
 says "one that another function alone refuses" "zh_low/step_of_two.edit: refused only elsewhere: it changes no function"
 says "one of which a proof lacks a name" "zh_low/count.sum_is_called_total.edit: refused only because a name in a proof is gone"
 
+# Going on after a run that was cut off, or that found one still proved.
+small_tree
+refused_ones; proved_one
+expect "one of six is still proved" 1 "5 passed, 1 failed" --all
+edit zh_low at_most.always_zero "old: let most = n;" "new: let most = n + 1;"
+expect "the rest is what was mended" 0 "zh_low: 5 of 5 refused at a goal of their own, in 2 checks" --rest
+expect "and is none after that" 0 "0 passed, 0 failed" --rest
+rm "$room/tree/tests/edits.passed"
+expect "what was refused is not tried again" 0 "zh_low: 5 of 5 refused at a goal of their own, in 0 checks" --rest zh_low
+other_sources
+expect "but over other sources it is" 0 "zh_low: 5 of 5 refused at a goal of their own, in 4 checks" --rest zh_low
+
 # Faults of the tool itself.
 faulty edit_that_changes_nothing_passes edited/trial.py 's/return PROVED,/return REFUSED,/'
 small_tree
@@ -244,6 +262,12 @@ refused_ones
 "$tool/edits" --top "$room/tree" --all > "$room/printed"
 sed -i 's/^use .*ℕ, /&ℤ, /' "$room/tree/crates/zh_low/specs/Next.antt"
 noticed sum_forgets_the_specs_below "a spec changed" 0 "$changed: zh_low zh_high;" --differ
+faulty refused_is_kept_over_other_sources edited/tree.py 's/(self.rest + edit.text)/edit.text/'
+small_tree
+refused_ones
+"$tool/edits" --top "$room/tree" --all zh_low > "$room/printed"
+other_sources
+noticed refused_is_kept_over_other_sources "other sources" 0 "zh_low: 4 of 4 refused at a goal of their own, in 4 checks" --rest zh_low
 
 echo "$passed passed, $failed failed"
 [ "$failed" = 0 ]

@@ -22,7 +22,7 @@ class Prover:
     def __init__(self, tree, lanes):
         said = subprocess.run(["rt", "doc"], stdout=subprocess.PIPE, text=True, check=True).stdout
         self.tree, self.lanes, self.kit = tree, lanes, Path(said.strip()).parent
-        self.turns, self.running = threading.Semaphore(lanes), set()
+        self.turns, self.running, self.is_stopped = threading.Semaphore(lanes), set(), False
 
     def words(self, crate):
         """The arguments of a check of the crate in the current folder, over the libraries that are built."""
@@ -50,7 +50,7 @@ class Prover:
             words = [self.kit / "bin/rattle", "check", *self.words(crate), "--incremental", kept]
             with self.turns:
                 said, status = self.call([*words, "--jobs", str(jobs)], room)
-                if status == KILLED:
+                if status == KILLED and not self.is_stopped:
                     # (most likely for memory)
                     said, status = self.call([*words, "--jobs", "1"], room)
             return Report(said, status)
@@ -72,6 +72,7 @@ class Prover:
 
     def stop(self):
         """Ends the checks that run."""
+        self.is_stopped = True
         for ran in [*self.running]:
             ran.kill()
 

@@ -51,7 +51,7 @@ class Report:
 
     @property
     def first_error(self):
-        lines = [it for it in self.text.split("\n") if "error" in it or it.startswith("rattle:")]
+        lines = [it for it in self.text.split("\n") if re.search(r"\berror\b", it) or it.startswith("rattle:")]
         return (lines or self.text.strip().split("\n")[-1:])[0][:200]
 
     def named(self, crate, function):

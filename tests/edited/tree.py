@@ -71,6 +71,11 @@ class Tree:
             found[crate] = hashlib.sha256(repr(whole).encode()).hexdigest()[:32]
         return found
 
+    def sum_of_rest(self, crate):
+        """The sum of all that a wrong body of the crate is refused for, but the wrong body itself."""
+        whole = (self.logic, self.named[crate], self.files(crate, *PARTS), [(it, self.stated(it)) for it in self.below(crate)])
+        return hashlib.sha256(repr(whole).encode()).hexdigest()[:32]
+
     def library(self, crate):
         return self.folder(crate) / f"out/rlib/{crate}.rlib"
 
@@ -131,6 +136,28 @@ class Passed:
         # (another run may have kept others meanwhile)
         kept = {**self.read(), crate: sum}
         self.path.write_text("".join(f"{it} {kept[it]}\n" for it in self.tree.with_edits if it in kept), encoding="utf-8")
+
+
+class Refused:
+    """The file beside a crate's libraries that keeps the sums of its wrong bodies that were refused, so that a run that is cut off
+    loses only the checks under way."""
+
+    def __init__(self, tree, crate):
+        self.tree, self.crate, self.path = tree, crate, tree.folder(crate) / "out/refused"
+        self.rest = tree.sum_of_rest(crate)
+
+    def sum(self, edit):
+        return hashlib.sha256((self.rest + edit.text).encode()).hexdigest()[:32]
+
+    def read(self):
+        return set(self.path.read_text(encoding="utf-8").split()) if self.path.is_file() else set()
+
+    def keep(self, edits):
+        """Keeps that these were refused, unless the sources changed meanwhile."""
+        if edits and self.tree.sum_of_rest(self.crate) == self.rest:
+            kept = sorted(self.read().union(map(self.sum, edits)))
+            self.path.parent.mkdir(exist_ok=True)
+            self.path.write_text("".join(f"{it}\n" for it in kept), encoding="utf-8")
 
 
 def two_more(tree):

@@ -7,6 +7,7 @@ from dataclasses import dataclass, field
 from pathlib import Path
 
 from edited.edit import NoLongerApplies
+from edited.tree import Refused
 
 REFUSED = "refused"
 ELSEWHERE = "refused only elsewhere"
@@ -102,8 +103,8 @@ def try_batch(prover, seed, crate, batch, number):
     return [judged(report, crate, edit, len(batch) == 1) for edit in batch]
 
 
-def try_batches(prover, seed, crate, batches, say):
-    """Tries all edits in these batches, side by side, and those that did not come clear in smaller ones."""
+def try_batches(prover, seed, crate, batches, kept, say):
+    """Tries all edits in these batches, side by side, and those that did not come clear in smaller ones. It keeps which are refused."""
     began = time.monotonic()
     with ThreadPoolExecutor(prover.lanes) as pool:
         running = {}
@@ -118,6 +119,7 @@ def try_batches(prover, seed, crate, batches, say):
             for done in wait(running, return_when=FIRST_COMPLETED).done:
                 batch, found = running.pop(done), done.result()
                 crate.outcomes.update({edit.path: outcome for edit, outcome in zip(batch, found) if outcome})
+                kept.keep([edit for edit, outcome in zip(batch, found) if outcome and outcome[0] == REFUSED])
                 unclear = [edit for edit, outcome in zip(batch, found) if outcome is None]
                 half = (len(unclear) + 1) // 2
                 # (where nothing came clear, fewer at a time)
@@ -127,24 +129,33 @@ def try_batches(prover, seed, crate, batches, say):
                 say(f"{crate.name}: {len(crate.outcomes)} of {crate.number} tried, after {round(time.monotonic() - began)} s")
 
 
-def try_crate(tree, prover, name, folder, jobs, say):
-    """Tries all wrong bodies of a crate, in a folder that is there for that. Its first check may take so many jobs."""
-    edits, began = tree.edits(name), time.monotonic()
-    crate, found = Crate(name, len(edits)), []
+def try_crate(tree, prover, name, folder, jobs, anew, say):
+    """Tries the wrong bodies of a crate, all anew or those that no run refused, in a folder that is there for that. Its first check may
+    take so many jobs."""
+    edits, began, kept = tree.edits(name), time.monotonic(), Refused(tree, name)
+    crate, found, refused = Crate(name, len(edits)), [], set() if anew else kept.read()
     for edit in edits:
         try:
             edit.applied({})
             edit.callers()
-            found.append(edit)
+            if kept.sum(edit) in refused:
+                crate.outcomes[edit.path] = REFUSED, "by an earlier run"
+            else:
+                found.append(edit)
         except NoLongerApplies as why:
             crate.outcomes[edit.path] = GONE, str(why)
-    room = Path(tempfile.mkdtemp(prefix=f"{name}-", dir=folder))
-    seed, report = prover.seed(name, room, jobs)
-    crate.checks += 1
-    if seed:
-        try_batches(prover, seed, crate, batches_of(found), say)
-    else:
-        crate.outcomes.update({it.path: (UNKNOWN, f"the crate itself is not proved: {report.first_error}") for it in found})
-    shutil.rmtree(room)
+    if found:
+        try_these(prover, crate, found, Path(tempfile.mkdtemp(prefix=f"{name}-", dir=folder)), jobs, kept, say)
     crate.seconds = round(time.monotonic() - began)
     return crate
+
+
+def try_these(prover, crate, edits, room, jobs, kept, say):
+    """Tries these wrong bodies of a crate over a first check of it, in this folder, which goes."""
+    seed, report = prover.seed(crate.name, room, jobs)
+    crate.checks += 1
+    if seed:
+        try_batches(prover, seed, crate, batches_of(edits), kept, say)
+    else:
+        crate.outcomes.update({it.path: (UNKNOWN, f"the crate itself is not proved: {report.first_error}") for it in edits})
+    shutil.rmtree(room)
