@@ -77,7 +77,7 @@ expect "the unit names what was installed" grep -q '^ExecStart=/usr/local/bin/zh
     "$room/there/share/examples/zhcount/zhcount-office.service"
 expect "a line has its part" follows '\fBD return M L N V\fR' "a return: list L has V votes"
 expect "an answer" follows '\fBstored K\fR' "a command was accepted, the K\\-th"
-expect "a refusal" follows '\fBgap\fR' "a number above the next one"
+expect "a refusal" follows '\fBgap\fR' "a number above the next"
 expect "each task has its part" says ".SS format"
 expect "its arguments are named" follows '\fB\-\-setup <FILE>\fR' "The set\\-up of the election, in TOML"
 expect "how it is called" says '.B zhcount load \-\-setup <FILE> \-\-disk <FILE>'

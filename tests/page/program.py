@@ -12,6 +12,14 @@ import browser
 PROGRAM = os.environ.get("ZHCOUNT") or str(browser.TOP / "crates" / "zhcount" / "out" / "zhcount")
 
 
+def without_path(report):
+    """A report as the module words it, which is handed texts and no files: of the second line the place alone, without the path
+    before it and the limits after it."""
+    name, _, line = report.partition(b"\n")
+    place = line.removesuffix(b"\n").split(b": ")[1:2]
+    return b"".join(it + b"\n" for it in (name, *place))
+
+
 @functools.cache
 def answer(setup, sheet, held=None):
     """What it answers on these bytes, as the module of the page would: a status and bytes. It is run once on each."""
@@ -25,7 +33,7 @@ def answer(setup, sheet, held=None):
                              stderr=subprocess.PIPE)
     if ran.stdout:
         return ran.returncode, ran.stdout
-    report = ran.stderr.removeprefix(b"zhcount: ")
+    report = without_path(ran.stderr.removeprefix(b"zhcount: "))
     return (2 if report.startswith(b"setup ") else 3 if report.startswith(b"held ") else ran.stderr), report
 
 
