@@ -12,7 +12,7 @@ trap 'rm -rf "$copy"' EXIT
 mkdir "$copy/tree"
 tar -c --exclude=out HANDLES crates.txt crates tests examples | tar -x -C "$copy/tree"
 cd "$copy/tree" || exit 2
-source=crates/zh_host/src/folder.rt
+source=crates/zh_file/src/host_folder.rt
 cp $source "$copy/right"
 
 # compiled: takes the program of 'rt try' while it runs, and waits for its set-up, which is a pipe. It may run under the
@@ -61,7 +61,7 @@ for name; do
     python3 - "$edits/$name.edit" <<'PYTHON' || { outcome "$name" "the edit does not apply"; continue; }
 import sys
 lines = dict(line.split(": ", 1) for line in open(sys.argv[1], encoding="utf-8").read().splitlines())
-path = f"crates/zh_host/{lines['file']}"
+path = f"crates/zh_file/{lines['file']}"
 text = open(path, encoding="utf-8").read()
 sys.exit(1) if text.count(lines["old"]) != 1 else open(path, "w", encoding="utf-8").write(text.replace(lines["old"], lines["new"]))
 PYTHON

@@ -53,7 +53,7 @@ places_of_faults() {
     cp d before
     misplaced '/^house = 10$/d' "setup missing" house
     misplaced '/^persons = 3000$/d' "setup missing" "constituency 2, persons"
-    misplaced '/^name = "C"$/a colour = 1' "setup unknown" "group 3, another key"
+    misplaced '/^name = "C"$/a colour = 1' "setup unknown" "group 3, colour"
     misplaced 's/^house = 10$/house = 401/' "setup range" "house: 1 to 400"
     misplaced 's/^persons = 2000$/persons = 0/' "setup range" "constituency 3, persons: 1 to 10000000"
     misplaced 's/^name = "M"$/name = "N"/' "setup double" "municipality 2, name"

@@ -10,7 +10,7 @@ use Rattle.zh_file.specs.Opening.{AreSame, HasFailed, IsNoFile, IsOpeningCause, 
 use Rattle.zh_file.specs.Steps.{IsUnfit, IsUnlocked, IsUnmeasured, IsUnstarted, Measures, TakesLock}
 use Rattle.zh_world.specs.declared.fault.FileFault.{FileFault}
 use Rattle.zh_world.specs.declared.fault.FileFault.TheVariants as faults
-use Rattle.zh_file.proofs.FolderLemmas.{lock_touches, same_found, same_touches, silent_at, touches_both, chain}
+use Rattle.zh_file.proofs.FolderLemmas.{lock_touches, map_known, same_found, same_touches, silent_at, touches_both, chain}
 
 abbrev pub IsRight : {D : Type 0} → (D → Bool) → (D → List ℕ) → D → D → Type 0
 IsRight is_clean seen before after = IsTrue (is_clean after) → IsTrue (is_clean before)
@@ -33,6 +33,16 @@ nothing_length standing n is none = let wrong : IsLength nothing n = subst (λ (
 
 pub bytes_length : (standing : Standing) (n : ℕ) (bytes : List ℕ) → IsLength standing n → standing ≡ file bytes → n ≡ length bytes
 bytes_length standing n bytes is found = let at : IsLength (file bytes) n = subst (λ (s : Standing). IsLength s n) found is in at
+
+-- the lock of a disk, as one of its file
+module _ {L D : Type 0} (path : List ℕ) (file_of : L → D) (seen : D → List ℕ) (a b : Option Folders) where
+  pub file_locked : (it : L) → IfKnown (TakesLock path (λ (l : L). seen (file_of l)) (Ok it)) a b → IfKnown (TakesLock path seen (Ok (file_of it))) a b
+  file_locked it takes = map_known (TakesLock path (λ (l : L). seen (file_of l)) (Ok it)) (TakesLock path seen (Ok (file_of it))) a b
+      (λ x y by. record { mid = by.mid; made = by.made; clears = by.clears; locked = by.locked; cause = tt }) takes
+
+  pub file_unlocked : (fault : FileFault) → IfKnown (TakesLock path (λ (l : L). seen (file_of l)) (Err fault)) a b → IfKnown (TakesLock path seen (Err fault)) a b
+  file_unlocked fault takes = map_known (TakesLock path (λ (l : L). seen (file_of l)) (Err fault)) (TakesLock path seen (Err fault)) a b
+      (λ x y by. record { mid = by.mid; made = by.made; clears = by.clears; locked = tt; cause = by.cause }) takes
 
 module _ (IsRefused : ℕ → Type 0) (Failed : Type 0) (path : List ℕ) where
   pub unmeasured_cause : (old mid new : Folders) → mid.places ≡ old.places → old.failed ≤ mid.failed → mid.refused ≡ old.refused → new.refused ≡ mid.refused

@@ -4,7 +4,8 @@ ghost use Rattle.sqlite_disk.specs.Disk.{Only};
 ghost use Rattle.zh_world.specs.Places.{IfKnown, companion_of, found_at};
 ghost use Rattle.zh_file.specs.Folder.{LooksAt, ActsAt, Folders, IsEmptyFile, IsKind, Locks, Makes, Removes, SaysWhy, bytes_known};
 
-use sqlite_disk::{Disk as File, Files};
+use crate::stored::Locked;
+use sqlite_disk::Disk as File;
 use sqlite_std_file::OpenError;
 use std::io::{self, Read};
 
@@ -25,8 +26,10 @@ pub enum Found {
 pub trait Folder {
     /// What reads a text.
     type Text: Read + Drop;
-    /// A file that is locked.
-    type File: File + Drop;
+    /// The file of a disk. Code over any folder cannot drop one: what it has locked it must hand over, or unlock.
+    type File: File;
+    /// The companion of a disk, locked with it. Of one nothing can be asked.
+    type Companion: Drop;
     /// The right to lock one disk. Code over any folder can make none and copy none.
     type Right: Drop;
 
@@ -63,17 +66,24 @@ pub trait Folder {
 
     /// Opens and locks the disk at this path, and its companion: for this program alone, until both are dropped. Each is made
     /// where it is missing. The device has what a read gives.
-    fn lock(&mut self, right: Self::Right, path: &str) -> Result<Files<Self::File>, OpenError>
+    fn lock(
+        &mut self,
+        right: Self::Right,
+        path: &str,
+    ) -> Result<(Locked<Self::File>, Self::Companion), OpenError>
         ensures disks { disk_at self.new ≡ disk_at self.old }
-        ensures begins { IfOk result (λ files. IfSome (disk_at self.old path.now) (λ bytes. Self.File.seen files.db ≡ bytes)) }
-        ensures usable { IfOk result (λ files. IsTrue (Self.File.is_usable files.db)) }
-        ensures synced { IfOk result (λ files. Only (Self.File.seen files.db) (Self.File.may_leave files.db)) }
-        ensures unfailed { IfOk result (λ files. Self.File.faults files.db ≡ 0) }
-        ensures call { IfKnown (Locks path.now (λ files. Self.File.seen files.db) result) (known self.old) (known self.new) };
+        ensures begins { IfOk result (λ both. IfSome (disk_at self.old path.now) (λ bytes. Self.File.seen both.0.file ≡ bytes)) }
+        ensures usable { IfOk result (λ both. IsTrue (Self.File.is_usable both.0.file)) }
+        ensures synced { IfOk result (λ both. Only (Self.File.seen both.0.file) (Self.File.may_leave both.0.file)) }
+        ensures unfailed { IfOk result (λ both. Self.File.faults both.0.file ≡ 0) }
+        ensures call { IfKnown (Locks path.now (λ both. Self.File.seen both.0.file) result) (known self.old) (known self.new) };
 
     /// Removes the companion at this path, which was seen to be empty while it was locked, and still is.
-    fn remove(&mut self, path: &str, locked: &Files<Self::File>) -> io::Result<()>
+    fn remove(&mut self, path: &str, locked: &Self::Companion) -> io::Result<()>
         requires { IfSome (known self.old) (λ now. IsEmptyFile path.now now.places) }
         ensures disks { disk_at self.new ≡ disk_at self.old }
         ensures call { IfKnown (ActsAt (Removes path.now) result) (known self.old) (known self.new) };
+
+    /// Drops a file that was locked, as it is.
+    fn unlock(&self, locked: Locked<Self::File>);
 }

@@ -12,6 +12,7 @@ ghost use Rattle.zh_file.specs.Folder.{Removes, SaysWhy, bytes_known};
 ghost use Rattle.zh_file.specs.MemoryFolder.{PutsAt, Spends, disk_in, folders_of, standing_at, stood_as, placed_at};
 
 use crate::folder::{Folder, Found};
+use crate::stored::Locked;
 use sqlite_disk::{Disk as File, Files, Fuse, Memory};
 use sqlite_std_file::OpenError;
 use std::alloc::{AllocError, Global};
@@ -307,6 +308,8 @@ impl<R: Drop> Folder for MemoryFolder<R> {
 
     type File = Fuse<Memory>;
 
+    type Companion = Fuse<Memory>;
+
     type Right = R;
 
     ghost known = { λ folder. Some (folders_of folder) };
@@ -333,13 +336,22 @@ impl<R: Drop> Folder for MemoryFolder<R> {
         self.note(made)
     }
 
-    fn lock(&mut self, _right: R, path: &str) -> Result<Files<Fuse<Memory>>, OpenError> {
+    fn lock(
+        &mut self,
+        _right: R,
+        path: &str,
+    ) -> Result<(Locked<Fuse<Memory>>, Fuse<Memory>), OpenError> {
         let locked = self.lock_at(path);
-        self.note_lock(locked)
+        match self.note_lock(locked) {
+            Ok(files) => Ok((Locked::new(files.db), files.log)),
+            Err(error) => Err(error),
+        }
     }
 
-    fn remove(&mut self, path: &str, _locked: &Files<Fuse<Memory>>) -> io::Result<()> {
+    fn remove(&mut self, path: &str, _locked: &Fuse<Memory>) -> io::Result<()> {
         let removed = self.remove_at(path);
         self.note(removed)
     }
+
+    fn unlock(&self, _locked: Locked<Fuse<Memory>>) {}
 }

@@ -1,19 +1,16 @@
 //! A disk over the file at a path of a folder.
-ghost use Rattle.std.specs.Prelude.{◌≡◌, ◌≢◌, ◌⊎◌, ◌<◌, length, [], IfErr, IfOk, IfSome, IsTrue};
+ghost use Rattle.std.specs.Prelude.{◌≡◌, length, false, IfErr, IfOk, IfSome, IsTrue};
 ghost use Rattle.sqlite_disk.specs.Disk.{Only};
 ghost use Rattle.zh_disk.specs.Disk.{disk_length, fresh_trail};
 ghost use Rattle.zh_world.specs.Files.{BeginsWith};
 ghost use Rattle.zh_world.specs.Places.{IfKnown, companion_of};
-ghost use Rattle.zh_file.specs.Held.{IsZeroed};
 ghost use Rattle.zh_file.specs.Opening.{HasFailed, OpensDisk, OpensOrMakesDisk};
-ghost use Rattle.zh_file.specs.Steps.{IsSetBack, IsUnfit, LeavesCompanion, Measures, TakesLock};
-ghost use Rattle.zh_file.specs.Stored.{stored_history, IsWhole};
+ghost use Rattle.zh_file.specs.Steps.{IsUnfit, IsUnstarted, LeavesCompanion, Measures, TakesLock};
+ghost use Rattle.zh_file.specs.Stored.{stored_history, is_over, IsWhole};
 
 use crate::fault::{fault_of_found, fault_of_opening};
 use crate::folder::{Folder, Found};
-use crate::stored::Stored;
-use crate::zeros::take_space;
-use sqlite_disk::{Disk as File, Files};
+use crate::stored::{Locked, Stored};
 use std::io;
 use zh_disk::DISK_LENGTH;
 use zh_world::{FileCause, FileFault};
@@ -35,8 +32,8 @@ pub fn open<F: Folder>(
     if length != DISK_LENGTH {
         return Err(FileFault::Size(length));
     }
-    let file = lock(folder, right, path)?;
-    Stored::start(file)
+    let locked = lock(folder, right, path)?;
+    hand_over(folder, locked)
 }
 
 /// Opens the file at this path as [`open`] does. Where there is none it makes one of zeros, for its
@@ -61,10 +58,13 @@ pub fn open_or_make<F: Folder>(
     if length != 0 && length != DISK_LENGTH {
         return Err(FileFault::Size(length));
     }
-    let mut file = lock(folder, right, path)?;
-    match fill(&mut file) {
-        Ok(()) => Stored::start(file),
-        Err(error) => Err(fault_of_found(error)),
+    let mut locked = lock(folder, right, path)?;
+    match locked.fill() {
+        Ok(()) => hand_over(folder, locked),
+        Err(error) => {
+            folder.unlock(locked);
+            Err(fault_of_found(error))
+        }
     }
 }
 
@@ -80,47 +80,27 @@ fn length_at<F: Folder>(folder: &mut F, path: &str) -> Result<u64, FileFault>
     }
 }
 
-/// Fills an empty file with zeros. Where that fails the file is set back, so that it can be filled another time: unless the sync
-/// failed, after which nothing is asked of a file.
-fn fill<D: File>(file: &mut D) -> io::Result<()>
-    requires usable { IsTrue (D.is_usable file.old) }
-    requires synced { Only (D.seen file.old) (D.may_leave file.old) }
-    ensures kept { IsTrue (D.is_clean file.new) → IsTrue (D.is_clean file.old) }
-    ensures same { IsTrue (D.is_clean file.new) → (D.seen file.old ≡ []) ⊎ (D.seen file.new ≡ D.seen file.old) }
-    ensures usable { IfOk result (λ _. IsTrue (D.is_usable file.new)) }
-    ensures unfailed { IfOk result (λ _. D.faults file.new ≡ D.faults file.old) }
-    ensures failed { IfErr result (λ _. D.faults file.old ≡ 0 → 0 < D.faults file.new) }
-    ensures synced { IfOk result (λ _. Only (D.seen file.new) (D.may_leave file.new)) }
-    ensures zeroed { IfOk result (λ _. IsTrue (D.is_clean file.new) → D.seen file.old ≡ [] → IsZeroed (D.seen file.new)) }
-    ensures set_back { IfErr result (λ _. IsTrue (D.is_clean file.new) → IsSetBack D.seen D.is_usable D.faults file.old file.new) }
-{
-    if file.len()? != 0 {
-        return Ok(());
-    }
-    let taken = take_space(file);
-    if taken.is_err() && file.may_be_used() {
-        let _also_failed = file.set_len(0);
-    }
-    taken
-}
-
 /// Opens and locks the file at this path. The device has what a read gives.
-fn lock<F: Folder>(folder: &mut F, right: F::Right, path: &str) -> Result<F::File, FileFault>
+fn lock<F: Folder>(
+    folder: &mut F,
+    right: F::Right,
+    path: &str,
+) -> Result<Locked<F::File>, FileFault>
     ensures disks { F.disk_at folder.new ≡ F.disk_at folder.old }
-    ensures begins { IfOk result (λ file. IfSome (F.disk_at folder.old path.now) (λ bytes. F.File.seen file ≡ bytes)) }
-    ensures usable { IfOk result (λ file. IsTrue (F.File.is_usable file)) }
-    ensures synced { IfOk result (λ file. Only (F.File.seen file) (F.File.may_leave file)) }
-    ensures unfailed { IfOk result (λ file. F.File.faults file ≡ 0) }
-    ensures locks { IfKnown (TakesLock path.now F.File.seen result) (F.known folder.old) (F.known folder.new) }
+    ensures begins { IfOk result (λ locked. IfSome (F.disk_at folder.old path.now) (λ bytes. F.File.seen locked.file ≡ bytes)) }
+    ensures usable { IfOk result (λ locked. IsTrue (F.File.is_usable locked.file)) }
+    ensures synced { IfOk result (λ locked. Only (F.File.seen locked.file) (F.File.may_leave locked.file)) }
+    ensures unfailed { IfOk result (λ locked. F.File.faults locked.file ≡ 0) }
+    ensures locks { IfKnown (TakesLock path.now (λ locked. F.File.seen locked.file) result) (F.known folder.old) (F.known folder.new) }
 {
-    let files = folder.lock(right, path).map_err(fault_of_opening)?;
-    let _left_there = clear_companion(folder, path, &files);
-    Ok(files.db)
+    let (locked, companion) = folder.lock(right, path).map_err(fault_of_opening)?;
+    let _left_there = clear_companion(folder, path, &companion);
+    Ok(locked)
 }
 
 /// Removes the companion, which the library makes beside the disk, if it is empty. Only the holder of the lock does so: where a
 /// stop comes first it stays, and the next opening removes it.
-fn clear_companion<F: Folder>(folder: &mut F, path: &str, locked: &Files<F::File>) -> io::Result<()>
+fn clear_companion<F: Folder>(folder: &mut F, path: &str, locked: &F::Companion) -> io::Result<()>
     requires { IfSome (F.known folder.old)
         (λ now. now.places.leads (companion_of now.places path.now) ≡ companion_of now.places path.now) }
     ensures disks { F.disk_at folder.new ≡ F.disk_at folder.old }
@@ -131,4 +111,26 @@ fn clear_companion<F: Folder>(folder: &mut F, path: &str, locked: &Files<F::File
         folder.remove(&companion, locked)?;
     }
     Ok(())
+}
+
+/// The disk that a file holds which was locked, if it has the length of one. If not, it is unlocked.
+fn hand_over<F: Folder>(
+    folder: &F,
+    mut locked: Locked<F::File>,
+) -> Result<Stored<F::File>, FileFault>
+    requires usable { IsTrue (F.File.is_usable locked.file) }
+    requires synced { Only (F.File.seen locked.file) (F.File.may_leave locked.file) }
+    ensures kept { IfOk result (λ d. IsTrue (stored_history d).honest → IsTrue (F.File.is_clean locked.file)) }
+    ensures begins { IfOk result (λ d. (stored_history d).trail ≡ fresh_trail (F.File.seen locked.file)) }
+    ensures failures { IfOk result (λ d. (stored_history d).failures ≡ F.File.faults locked.file) }
+    ensures whole { IfOk result (λ d. is_over d ≡ false) }
+    ensures fault { IfErr result (IsUnstarted (IsUnfit F.File.is_clean F.File.faults F.File.seen locked.file)) }
+{
+    match locked.measure() {
+        Ok(()) => Ok(locked.start()),
+        Err(fault) => {
+            folder.unlock(locked);
+            Err(fault)
+        }
+    }
 }

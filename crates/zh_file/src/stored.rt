@@ -1,25 +1,25 @@
 //! A disk over a file, as the trait of files has it.
-ghost use Rattle.std.specs.Prelude.{◌≡◌, ◌≤◌, ◌+◌, ◌⊎◌, ◌||◌, ℕ, List, length, slice_index, true, false, is_ok, is_err};
-ghost use Rattle.std.specs.Prelude.{IsTrue, IfErr, IfOk, IsErr};
+mod locked;
+
+ghost use Rattle.std.specs.Prelude.{◌≡◌, ◌≤◌, ◌+◌, ◌||◌, ℕ, List, length, slice_index, true, false, is_ok, is_err};
+ghost use Rattle.std.specs.Prelude.{IsTrue, IsErr};
 ghost use Rattle.std.proofs.Common.{sym, ◌∙◌};
-ghost use Rattle.sqlite_disk.specs.Disk.{Only};
 ghost use Rattle.zh_disk.specs.declared.disk.TheConstants.{DISK_LENGTH};
-ghost use Rattle.zh_disk.specs.Disk.{IsSettled, Reads, Writes, Syncs, fresh_trail};
+ghost use Rattle.zh_disk.specs.Disk.{IsSettled, Reads, Writes, Syncs};
 ghost use Rattle.zh_disk.specs.History.{Call, Counts};
 ghost use Rattle.zh_file.specs.Ranges.{pairs};
 
-use crate::fault::fault_of_found;
 use crate::past::Past;
 use crate::ranges::Ranges;
+pub use locked::Locked;
 use sqlite_disk::Disk as File;
 use std::io;
 use std::snapshot::Snapshot;
 use zh_disk::{DISK_LENGTH, Disk, DiskFault};
-use zh_world::{FileCause, FileFault};
 
 /// A file, and the ranges that were written since its last sync, which only clauses read.
 #[derive(Drop)]
-pub struct HeldFile<D: File + Drop> {
+pub struct HeldFile<D: File> {
     pub(crate) file: D,
     pub(crate) written: Ranges,
 }
@@ -28,7 +28,7 @@ pub struct HeldFile<D: File + Drop> {
 /// the file: a write that failed may have reached it, and a sync after one that failed does not report
 /// what was lost.
 #[derive(Drop)]
-pub struct Stored<D: File + Drop> {
+pub struct Stored<D: File> {
     held: HeldFile<D>,
     // what was held before each write and each sync that succeeded
     before: Past<HeldFile<D>>,
@@ -43,36 +43,6 @@ pub struct Stored<D: File + Drop> {
     ghost same: { IsTrue (D.is_clean held.file) → (c : List ℕ) → D.may_leave held.file c → (k : ℕ)
         → IsSettled (pairs held.written) k → slice_index c k ≡ slice_index (D.seen held.file) k },
     ghost unrefused: { is_over ≡ false → refusals ≡ 0 },
-}
-
-impl<D: File + Drop> Stored<D> {
-    ghost use Rattle.zh_file.specs.Stored.{stored_history, is_over};
-    ghost use Rattle.zh_file.specs.Steps.{IsUnfit, IsUnstarted};
-
-    /// The disk that a file holds, as it was synced. It is to have the length of one.
-    pub(crate) fn start(mut file: D) -> Result<Stored<D>, FileFault>
-        requires usable { IsTrue (D.is_usable file) }
-        requires synced { Only (D.seen file) (D.may_leave file) }
-        ensures kept { IfOk result (λ d. IsTrue (stored_history d).honest → IsTrue (D.is_clean file)) }
-        ensures begins { IfOk result (λ d. (stored_history d).trail ≡ fresh_trail (D.seen file)) }
-        ensures failures { IfOk result (λ d. (stored_history d).failures ≡ D.faults file) }
-        ensures whole { IfOk result (λ d. is_over d ≡ false) }
-        ensures fault { IfErr result (IsUnstarted (IsUnfit D.is_clean D.faults D.seen file)) }
-    {
-        // It had the length of a disk when it was locked.
-        if file.len().map_err(fault_of_found)? as u64 != DISK_LENGTH {
-            return Err(FileFault::Device(FileCause::Failed));
-        }
-        Ok(Stored {
-            held: HeldFile {
-                file,
-                written: Ranges::new(),
-            },
-            before: Past::new(),
-            is_over: false,
-            refusals: 0,
-        })
-    }
 }
 
 /// The answer of a call of the file.
@@ -91,7 +61,7 @@ fn refused(refusals: &mut u64) -> Result<(), DiskFault>
     Err(DiskFault::Device)
 }
 
-impl<D: File + Drop> Disk for Stored<D> {
+impl<D: File> Disk for Stored<D> {
     ghost use Rattle.zh_file.specs.Stored.{stored_history, is_over, Reports};
 
     ghost history = { stored_history };

@@ -3,7 +3,9 @@ ghost use Rattle.std.specs.Prelude.{◌≡◌, None, Some, MatchResult, option_m
 ghost use Rattle.zh_file.specs.Folder.{bytes_known};
 ghost use Rattle.zh_world.specs.Count.{number};
 
-use zh_file::{Folder, Stored, open, open_or_make};
+use crate::folder::Folder;
+use crate::opening::{open, open_or_make};
+use crate::stored::Stored;
 use zh_world::{CallCount, FileFault, Files};
 
 /// The texts and the disks in a folder.

@@ -1,12 +1,14 @@
 //! The folders of the operating system.
 ghost use Rattle.std.specs.Prelude.{Some, None};
 
-use sqlite_disk::Files;
+use crate::FileOf;
+use crate::folder::{Folder, Found};
+use crate::stored::Locked;
+use sqlite_std_file::{OpenError, Start};
 use std::fs::{self, File, OpenOptions};
 use std::io::{self, ErrorKind};
 use std::marker::PhantomData;
 use std::os::unix::fs::OpenOptionsExt;
-use zh_file::{FileOf, Folder, Found, OpenError, Start};
 
 /// The folders of the operating system. That each method does what [`Folder`] says is believed: the clauses are proved for
 /// every folder, and of this one nothing is known.
@@ -32,6 +34,8 @@ impl<S: Start> Folder for HostFolder<'_, S> {
     type Text = File;
 
     type File = FileOf<S>;
+
+    type Companion = FileOf<S>;
 
     type Right = S;
 
@@ -77,11 +81,14 @@ impl<S: Start> Folder for HostFolder<'_, S> {
         }
     }
 
-    fn lock(&mut self, right: S, path: &str) -> Result<Files<FileOf<S>>, OpenError> {
-        sqlite_std_file::open(self.rt, path, right)
+    fn lock(&mut self, right: S, path: &str) -> Result<(Locked<FileOf<S>>, FileOf<S>), OpenError> {
+        let files = sqlite_std_file::open(self.rt, path, right)?;
+        Ok((Locked::new(files.db), files.log))
     }
 
-    fn remove(&mut self, path: &str, _locked: &Files<FileOf<S>>) -> io::Result<()> {
+    fn remove(&mut self, path: &str, _locked: &FileOf<S>) -> io::Result<()> {
         fs::remove_file(self.rt, path)
     }
+
+    fn unlock(&self, _locked: Locked<FileOf<S>>) {}
 }

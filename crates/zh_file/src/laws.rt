@@ -4,9 +4,10 @@ ghost use Rattle.sqlite_disk.specs.Events.{replay};
 ghost use Rattle.sqlite_disk.specs.Modelled.{calls_of, is_log};
 ghost use Rattle.zh_file.specs.Stored.{stored_file, stored_history};
 
+use crate::FileOf;
+use crate::stored::Stored;
 use sqlite_disk::Calls;
-use sqlite_std_file::Host;
-use zh_file::{FileOf, Start, Stored};
+use sqlite_std_file::{Host, Start};
 
 /// It is honest exactly as long as the calls of its file, with their answers, are those of a file that held what `S` says.
 pub fn honest_as_replayed<S: Start>(disk: &Stored<FileOf<S>>)

@@ -1,7 +1,7 @@
 use Rattle.zh_file.specs.Opening.{HasFailed, OpensDisk}
 use Rattle.zh_file.specs.Stored.{stored_history}
-use Rattle.zh_host.proofs.FolderLemmas.{same_texts}
-use Rattle.zh_host.proofs.files.FolderFilesFiles.disk.Goals as goal
+use Rattle.zh_file.proofs.TextLemmas.{same_texts}
+use Rattle.zh_file.proofs.folder_files.FolderFilesFiles.disk.Goals as goal
 
 pub returns-clause-call : goal.returns-clause-call
 returns-clause-call g c = record {

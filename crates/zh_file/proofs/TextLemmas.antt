@@ -1,12 +1,11 @@
 -- What is known of texts stays so while a disk is opened.
-use Rattle.std.proofs.Common.{◌≡◌, ◌∙◌, ℕ, List, [], Bool, true, false, Option, Some, None, refl, sym, ap, subst, inl, inr, ⊎_elim, Result, IfOk}
+use Rattle.std.proofs.Common.{◌≡◌, ◌∙◌, ℕ, List, [], Option, Some, None, sym, ap, subst, ⊎_elim}
 use Rattle.std.proofs.Math.Path.{fun_ext}
 use Rattle.std.proofs.lemmas.Bool.{cases_Bool}
 use Rattle.std.proofs.lemmas.Bool.Decides.{not_from_Decides}
 use Rattle.std.proofs.lemmas.Slice.Eq.{bytes_eq-Decides}
-use Rattle.std.specs.Prelude.{bytes_eq, option_map}
+use Rattle.std.specs.Prelude.{bytes_eq}
 use Rattle.zh_world.specs.Places.{IfKnown, IsBare, IsSameOrBare, IsSameOrMade, Places, Standing, TouchesOnly, bytes_of, companion_of, found_at}
-use Rattle.zh_world.specs.Places.Standing.{nothing, file}
 use Rattle.zh_file.specs.Folder.{Folders, bytes_known}
 
 made_bytes : (old new : Standing) → IsSameOrMade old new → bytes_of new ≡ bytes_of old
