@@ -7,8 +7,8 @@ use Rattle.std.proofs.lemmas.Fmt.{decimal_is_IsNumeral}
 use Rattle.std.proofs.lemmas.Str.Parse.{digit_at}
 use Rattle.csv.specs.Writing.{default_writer, needs_byte, needs_quotes, fields_text, row_text, is_blank}
 use Rattle.csv.specs.declared.writer.Writer.{Writer}
-use Rattle.zh_tables.specs.Records.{IsBetweenRecords, PutsText, record_text}
-use Rattle.zh_tables.proofs.CallerLemmas.{Puts-none, Puts-push}
+use Rattle.zh_record_text.specs.Records.{IsBetweenRecords, PutsText, record_text}
+use Rattle.zh_record_text.proofs.CallerLemmas.{Puts-none, Puts-push}
 use Rattle.zh_returns.specs.declared.entry.Entry.{Entry}
 use Rattle.zh_returns.specs.Payload.{numbers}
 use Rattle.zh_csv.specs.Records.{Record}

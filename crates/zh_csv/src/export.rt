@@ -4,15 +4,15 @@ ghost use Rattle.std.specs.Prelude.{◌≡◌, ◌≤◌, length, OnOk, IfOk};
 ghost use Rattle.std.specs.Io.KnownBytes.{Appends};
 ghost use Rattle.std.specs.List.{flat_map};
 ghost use Rattle.zh_returns.specs.Payload.{numbers};
-ghost use Rattle.zh_tables.specs.Records.{IsBetweenRecords, PutsText};
+ghost use Rattle.zh_record_text.specs.Records.{IsBetweenRecords, PutsText};
 ghost use Rattle.zh_csv.specs.Load.{names};
 ghost use Rattle.zh_csv.specs.Export.{line, record_of, entry_text, municipality_text, export_text, votes_field};
 
 use csv::{Writer, WriterBuilder};
 use itoa::Buffer;
 use std::io::Write;
+use zh_record_text::{RecordFault, write_record};
 use zh_returns::{Count, Entry};
-use zh_tables::{RecordFault, write_record};
 
 /// The field of votes: their numeral, or that the list is withdrawn.
 fn votes_field(votes: Option<u32>, numeral: &mut Buffer) -> &[u8]

@@ -2,7 +2,7 @@
 use Rattle.std.proofs.Common.{◌≡◌, ◌<◌, ◌+◌, ℕ, suc, List, [], ◌∷◌, ◌++◌, length, take, Option, sym, ap, ◌∙◌, subst, arith}
 use Rattle.std.proofs.lemmas.List.{length-append, take-append-le, take_all}
 use Rattle.std.specs.Io.KnownBytes.{Appends}
-use Rattle.zh_tables.proofs.CallerLemmas.{Appends-join, Appends-none}
+use Rattle.zh_record_text.proofs.CallerLemmas.{Appends-join, Appends-none}
 use Rattle.zh_judgements.specs.Judged.{BreaksOffLine, WritesUpTo}
 use Rattle.zh_judgements.specs.declared.fault.JudgementFault.{JudgementFault}
 

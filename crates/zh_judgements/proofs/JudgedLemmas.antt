@@ -7,7 +7,7 @@ use Rattle.std.proofs.lemmas.List.{length_push}
 use Rattle.csv.specs.declared.reader.Reader.{Reader}
 use Rattle.zh_records.specs.declared.row.Row.{Row}
 use Rattle.zh_returns.specs.Tally.{Tally}
-use Rattle.zh_tables.proofs.CallerLemmas.{Appends-join}
+use Rattle.zh_record_text.proofs.CallerLemmas.{Appends-join}
 use Rattle.zh_csv.specs.Records.{Record, AreAll}
 use Rattle.zh_csv.proofs.CallerLemmas.{all_first}
 use Rattle.zh_judgements.specs.Findings.{judgement, rows_after, rows_kept, findings_on, first_findings, begun, findings, counts_of, counts_with, forecast_by, forecast_of}

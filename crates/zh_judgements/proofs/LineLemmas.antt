@@ -6,7 +6,7 @@ use Rattle.std.specs.Result.{is_ok}
 use Rattle.zh_commands.specs.Replies.{answer, reply_text}
 use Rattle.zh_commands.specs.declared.replies.Reply.{Reply}
 use Rattle.zh_csv.specs.Records.{Record}
-use Rattle.zh_tables.specs.Tables.{each_to}
+use Rattle.zh_record_text.specs.Each.{each_to}
 use Rattle.std.specs.List.{flat_map, range_with_len}
 use Rattle.std.proofs.lemmas.List.Concat.{flat_map-append}
 use Rattle.zh_commands.specs.Shown.{sign_at}

@@ -9,7 +9,7 @@ use Rattle.zh_commands.specs.Replies.{answer}
 use Rattle.zh_commands.specs.Shown.{sign_at}
 use Rattle.zh_commands.specs.declared.shown.Sign.{Sign}
 use Rattle.zh_commands.specs.declared.shown.Sign.TheVariants.{Mark, Control, Further, Byte}
-use Rattle.zh_tables.specs.Tables.{each_to}
+use Rattle.zh_record_text.specs.Each.{each_to}
 use Rattle.zh_commands.specs.declared.replies.Reply.TheVariants as replies
 use Rattle.zh_commands.specs.declared.replies.Refusal.{Refusal}
 use Rattle.zh_csv.specs.Records.{Record}

@@ -7,7 +7,7 @@ ghost use Rattle.zh_csv.specs.Export.{export_text};
 use crate::office::Office;
 use std::io::Write;
 use zh_csv::write_count;
-use zh_tables::RecordFault;
+use zh_record_text::RecordFault;
 
 impl<'s> Office<'s> {
     /// Writes what is held as comma-separated text, by municipality and then list, and gives the writer back.

@@ -7,7 +7,7 @@ use Rattle.std.proofs.lemmas.Fmt.{decimal_digit}
 use Rattle.zh_sheet.proofs.CallerLemmas.{numbers_more}
 use Rattle.zh_commands.specs.Replies.{answer, reply_text}
 use Rattle.zh_commands.specs.declared.replies.Reply.{Reply}
-use Rattle.zh_tables.specs.Tables.{each_to}
+use Rattle.zh_record_text.specs.Each.{each_to}
 
 -- a reply is its desk, a space, and then the answer with the end of its line
 text_at : (desk : ℕ) (reply : Reply) (numeral : List ℕ) → decimal desk ≡ numeral → reply_text desk reply ≡ numeral ++ 32 ∷ (answer reply ++ 10 ∷ [])

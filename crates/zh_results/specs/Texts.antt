@@ -10,7 +10,7 @@ use Rattle.zh_commands.specs.Replies.{answer}
 use Rattle.zh_commands.specs.declared.replies.Reply.TheVariants as replies
 use Rattle.zh_commands.specs.declared.replies.Refusal.{Refusal}
 use Rattle.zh_commands.specs.declared.replies.Refusal.TheVariants as refusals
-use Rattle.zh_tables.specs.Tables.{each_to}
+use Rattle.zh_record_text.specs.Each.{each_to}
 use Rattle.zh_results.specs.declared.outcome.NoSeats.{NoSeats}
 use Rattle.zh_results.specs.declared.outcome.NoSeats.TheVariants.{Refused, Exhausted, Wrong}
 

@@ -1,7 +1,7 @@
 //! What is reported where there are no seats.
 
 ghost use Rattle.std.specs.Prelude.{◌≡◌, ◌≤◌, ◌++◌, ◌∷◌, [], IfOk, OnOk, codes, decimal, length};
-ghost use Rattle.zh_tables.specs.Tables.{each_to};
+ghost use Rattle.zh_record_text.specs.Each.{each_to};
 ghost use Rattle.zh_results.specs.Texts.{number_if_among, only_seats_text, reason_text, refusal_line, refusal_text};
 ghost use Rattle.zh_results.specs.Texts.{seats_line, seats_line_of};
 

@@ -4,7 +4,7 @@ use Rattle.std.specs.List.{flat_map, range_with_len}
 use Rattle.std.proofs.lemmas.List.{append-nil}
 use Rattle.std.proofs.lemmas.List.Concat.{flat_map-append}
 use Rattle.zh_sheet.proofs.CallerLemmas.{numbers_more}
-use Rattle.zh_tables.specs.Tables.{each_to}
+use Rattle.zh_record_text.specs.Each.{each_to}
 
 -- what there is for the numbers so far, and then for the next
 each_to_next : (f : ℕ → List ℕ) (n : ℕ) → each_to n f ++ f (n + 1) ≡ each_to (n + 1) f

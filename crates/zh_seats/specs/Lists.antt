@@ -8,8 +8,9 @@ use Rattle.zh_totals.specs.Totals.{votes_in}
 use Rattle.zh_upper.specs.VoterNumbers.{voter_number}
 use Rattle.zh_sheet.specs.Distribution.{Distribution}
 use Rattle.zh_sheet.specs.Readings.{column_of, list_seats, takes_part}
-use Rattle.zh_tables.specs.Records.{TableRecord, record_text}
-use Rattle.zh_tables.specs.Tables.{each_to, name_of_constituency, name_of_group}
+use Rattle.zh_record_text.specs.Each.{each_to}
+use Rattle.zh_record_text.specs.Names.{name_of_constituency, name_of_group}
+use Rattle.zh_record_text.specs.Records.{TableRecord, record_text}
 use Rattle.zh_sheet_text.specs.SheetText.{divisor_text}
 use Rattle.zh_seats.specs.Quotients.{quotient}
 use Rattle.zh_seats.specs.declared.lists.Texts.{Texts}

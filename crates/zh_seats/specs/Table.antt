@@ -6,7 +6,8 @@ use Rattle.std.specs.List.{range_with_len}
 use Rattle.zh_districts.specs.Canton.{Canton, stands}
 use Rattle.zh_sheet.specs.Distribution.{Distribution}
 use Rattle.zh_sheet.specs.Readings.{list_seats}
-use Rattle.zh_tables.specs.Tables.{each_to, name_of_constituency, name_of_group}
+use Rattle.zh_record_text.specs.Each.{each_to}
+use Rattle.zh_record_text.specs.Names.{name_of_constituency, name_of_group}
 use Rattle.zh_seats.specs.Lists.{finality}
 use Rattle.zh_seats.specs.declared.cells.Line.{Line}
 use Rattle.zh_seats.specs.declared.cells.Line.TheVariants.{Heading, Constituency, Total}

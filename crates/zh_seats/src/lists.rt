@@ -1,7 +1,7 @@
 //! The record of a list.
 
 ghost use Rattle.std.specs.Prelude.{◌≤◌, IfOk, OnOk, length};
-ghost use Rattle.zh_tables.specs.Records.{IsBetweenRecords, PutsText, record_text};
+ghost use Rattle.zh_record_text.specs.Records.{IsBetweenRecords, PutsText, record_text};
 ghost use Rattle.zh_seats.specs.Lists.{AreTexts, seats_columns, seats_row, standing_row};
 
 use crate::mark::Mark;
@@ -11,8 +11,8 @@ use csv::Writer;
 use itoa::Buffer;
 use std::alloc::{AllocError, Global};
 use std::io::Write;
+use zh_record_text::{RecordFault, write_record};
 use zh_sheet::Sheet;
-use zh_tables::{RecordFault, write_record};
 
 /// Writes the names of the columns.
 pub(crate) fn write_header<W: Write + Drop>(writer: &mut Writer<W>) -> Result<(), RecordFault>

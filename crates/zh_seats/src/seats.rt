@@ -2,7 +2,7 @@
 
 ghost use Rattle.std.specs.Prelude.{◌≤◌, IfOk, OnOk, length};
 ghost use Rattle.std.specs.Io.KnownBytes.{Appends};
-ghost use Rattle.zh_tables.specs.Records.{IsBetweenRecords, PutsText};
+ghost use Rattle.zh_record_text.specs.Records.{IsBetweenRecords, PutsText};
 ghost use Rattle.zh_seats.specs.Lists.{standing_rows, standing_rows_in, seats_text};
 
 use crate::lists::{write_header, write_standing};
@@ -10,8 +10,8 @@ use crate::mark::Mark;
 use csv::{Writer, WriterBuilder};
 use std::alloc::Global;
 use std::io::Write;
+use zh_record_text::RecordFault;
 use zh_sheet::Sheet;
-use zh_tables::RecordFault;
 
 /// Writes the records of a constituency, one for each list that stands.
 fn write_lists_in<W: Write + Drop>(

@@ -1,7 +1,7 @@
 //! The seats as a table for people.
 
 ghost use Rattle.std.specs.Prelude.{◌≡◌, ◌≤◌, ◌++◌, IfOk, OnOk, length};
-ghost use Rattle.zh_tables.specs.Tables.{each_to};
+ghost use Rattle.zh_record_text.specs.Each.{each_to};
 ghost use Rattle.zh_seats.specs.Table.{HasLine, group_cells, tall_group_line, table_text, tall_lines, tall_table, title};
 ghost use Rattle.zh_seats.specs.Table.{wide_line, wide_table};
 

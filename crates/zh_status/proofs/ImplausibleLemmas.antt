@@ -1,7 +1,7 @@
 -- The row of a municipality that outweighs others, or none.
 use Rattle.std.proofs.Common.{◌≡◌, ◌*◌, ℕ, true, false, [], refl, sym, ◌∙◌}
 use Rattle.zh_returns.specs.Tally.{Tally}
-use Rattle.zh_tables.specs.Tables.{name_of_municipality}
+use Rattle.zh_record_text.specs.Names.{name_of_municipality}
 use Rattle.zh_status.specs.Implausible.{implausible_row, neighbours, outweighing_row, outweighs}
 use Rattle.zh_status.specs.Progress.{progress_of}
 use Rattle.zh_status.specs.declared.progress.Progress.{Progress}

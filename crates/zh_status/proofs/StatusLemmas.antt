@@ -3,9 +3,9 @@ use Rattle.std.proofs.Common.{◌≡◌, ◌+◌, ℕ, List, [], Option, Some, N
 use Rattle.std.specs.List.{flat_map, range_with_len}
 use Rattle.std.specs.Option.{option_map_or}
 use Rattle.csv.specs.declared.writer.Writer.{Writer}
-use Rattle.zh_tables.specs.Records.{PutsText}
-use Rattle.zh_tables.specs.Tables.{each_to}
-use Rattle.zh_tables.proofs.CallerLemmas.{Puts-push}
+use Rattle.zh_record_text.specs.Each.{each_to}
+use Rattle.zh_record_text.specs.Records.{PutsText}
+use Rattle.zh_record_text.proofs.CallerLemmas.{Puts-push}
 use Rattle.zh_status.specs.Status.{progress_row}
 use Rattle.zh_status.specs.declared.progress.Progress.{Progress}
 use Rattle.zh_status.proofs.ProgressLemmas.{range_more}

@@ -7,8 +7,10 @@ use Rattle.zh_districts.specs.Canton.{Canton, constituency_of, persons_of}
 use Rattle.zh_districts.specs.declared.shares.SeatFault.{SeatFault}
 use Rattle.zh_districts.specs.declared.shares.SeatFault.TheVariants as refusals
 use Rattle.zh_returns.specs.Tally.{Tally, held}
-use Rattle.zh_tables.specs.Records.{record_text}
-use Rattle.zh_tables.specs.Tables.{HasSeats, RefusesTable, each_to, name_of_group, name_of_municipality}
+use Rattle.zh_record_text.specs.Each.{each_to}
+use Rattle.zh_record_text.specs.Names.{name_of_group, name_of_municipality}
+use Rattle.zh_record_text.specs.Records.{record_text}
+use Rattle.zh_tables.specs.Tables.{HasSeats, RefusesTable}
 use Rattle.zh_tables.specs.declared.fault.ListFault.TheVariants.{Seats}
 use Rattle.zh_tables.specs.declared.table.Table.TheVariants.{Constituencies}
 use Rattle.zh_status.specs.Progress.{entry_votes, progress_of, progress_over, within}

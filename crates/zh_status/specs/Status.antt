@@ -3,8 +3,9 @@ use Rattle.std.specs.Prelude.{◌≡◌, ℕ, ◌==◌, List, [], ◌∷◌, ◌
 use Rattle.zh_divisors.specs.Shares.{Apportionment}
 use Rattle.zh_districts.specs.declared.shares.SeatFault.{SeatFault}
 use Rattle.zh_returns.specs.Tally.{Tally}
-use Rattle.zh_tables.specs.Records.{TableRecord, record_text}
-use Rattle.zh_tables.specs.Tables.{each_to, name_of_constituency, name_of_group, name_of_municipality}
+use Rattle.zh_record_text.specs.Each.{each_to}
+use Rattle.zh_record_text.specs.Names.{name_of_constituency, name_of_group, name_of_municipality}
+use Rattle.zh_record_text.specs.Records.{TableRecord, record_text}
 use Rattle.zh_status.specs.Implausible.{AreFound, found_note, implausible_rows}
 use Rattle.zh_status.specs.Progress.{is_missing, progress_of, progress_over, within}
 use Rattle.zh_status.specs.declared.progress.Progress.{Progress}

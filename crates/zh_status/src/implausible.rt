@@ -1,7 +1,7 @@
 //! Votes that are hardly true, written row by row.
 
 ghost use Rattle.std.specs.Prelude.{◌≡◌, ◌≤◌, OnOk, length};
-ghost use Rattle.zh_tables.specs.Records.{IsBetweenRecords, PutsText};
+ghost use Rattle.zh_record_text.specs.Records.{IsBetweenRecords, PutsText};
 ghost use Rattle.zh_status.specs.Implausible.{exceeding_in, exceeding_row, implausible_in, implausible_row, implausible_rows, most_in};
 ghost use Rattle.zh_status.specs.Implausible.{AreFound, outweighing_row, outweighs};
 ghost use Rattle.zh_status.specs.Progress.{AreFew};
@@ -13,8 +13,8 @@ use itoa::Buffer;
 use std::io::Write;
 use zh_districts::Setup;
 use zh_divisors::Shares;
+use zh_record_text::{RecordFault, write_record};
 use zh_returns::Count;
-use zh_tables::{RecordFault, write_record};
 
 /// Votes, and what they are more than.
 #[derive(Clone, Copy)]

@@ -1,7 +1,7 @@
 //! The records of each view.
 
 ghost use Rattle.std.specs.Prelude.{◌≡◌, ◌≤◌, OnOk, length};
-ghost use Rattle.zh_tables.specs.Records.{IsBetweenRecords, PutsText, record_text};
+ghost use Rattle.zh_record_text.specs.Records.{IsBetweenRecords, PutsText, record_text};
 ghost use Rattle.zh_status.specs.Status.{columns, missing_row, progress_row, state_of};
 
 use crate::progress::{Progress, is_missing};
@@ -9,8 +9,8 @@ use crate::view::View;
 use csv::Writer;
 use itoa::Buffer;
 use std::io::Write;
+use zh_record_text::{RecordFault, write_record};
 use zh_returns::Count;
-use zh_tables::{RecordFault, write_record};
 
 /// Writes the names of the columns.
 pub(crate) fn write_header<W: Write + Drop>(

@@ -2,7 +2,7 @@
 
 ghost use Rattle.std.specs.Prelude.{◌≡◌, ◌≤◌, ℕ, List, IfOk, OnOk, length};
 ghost use Rattle.std.specs.Io.KnownBytes.{Appends};
-ghost use Rattle.zh_tables.specs.Records.{IsBetweenRecords, PutsText};
+ghost use Rattle.zh_record_text.specs.Records.{IsBetweenRecords, PutsText};
 ghost use Rattle.zh_status.specs.Status.{AreRowsOf, IsStatusText, constituency_progress, missing_in, missing_rows, municipality_progress};
 
 use crate::implausible::write_all_implausible;
@@ -13,8 +13,8 @@ use crate::view::View;
 use csv::{Writer, WriterBuilder};
 use std::alloc::Global;
 use std::io::Write;
+use zh_record_text::RecordFault;
 use zh_returns::Count;
-use zh_tables::RecordFault;
 
 /// Writes how far each municipality has come.
 fn write_municipalities<W: Write + Drop>(

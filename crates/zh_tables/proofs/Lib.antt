@@ -1,4 +1,3 @@
-pub mod CallerLemmas
+mod DueLemmas
 mod ProblemLemmas
-mod RecordLemmas
 mod TextLemmas

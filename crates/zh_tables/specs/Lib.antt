@@ -1,4 +1,4 @@
+pub mod HeldRows
 pub mod Problems
-pub mod Records
 pub mod Returns
 pub mod Tables

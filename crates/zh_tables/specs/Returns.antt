@@ -1,8 +1,8 @@
 -- The returns that are due: one for each list that stands in the constituency of a municipality.
 use Rattle.std.specs.Prelude.{◌≡◌, ◌≤◌, ◌==◌, ℕ, Bool, true, false, List, [], ◌∷◌, length, nat_lt, if◌then◌else◌, codes, decimal}
-use Rattle.std.specs.List.{flat_map, range_with_len}
 use Rattle.zh_districts.specs.Canton.{Canton, constituency_of, stands}
-use Rattle.zh_tables.specs.Records.{record_text}
+use Rattle.zh_record_text.specs.Each.{each_to}
+use Rattle.zh_record_text.specs.Records.{record_text}
 use Rattle.zh_tables.specs.declared.due.Due.{Due}
 use Rattle.zh_tables.specs.declared.fault.ListFault.{ListFault}
 use Rattle.zh_tables.specs.declared.fault.ListFault.TheVariants as faults
@@ -10,10 +10,6 @@ use Rattle.zh_tables.specs.declared.table.Part.{Part}
 use Rattle.zh_tables.specs.declared.table.Part.TheVariants as parts
 use Rattle.zh_tables.specs.declared.table.Table.{Table}
 use Rattle.zh_tables.specs.declared.table.Table.TheVariants.{Returns}
-
--- what there is for each number from 1 to n, in order
-abbrev pub each_to : {A : Type 0} → ℕ → (ℕ → List A) → List A
-each_to n f = flat_map f (range_with_len 1 n)
 
 -- the return of a list in a municipality, if the list stands there
 abbrev pub due_of : Canton → ℕ → ℕ → List Due

@@ -1,33 +1,24 @@
 -- The tables of a set-up. Constituencies, municipalities and groups are numbered from 1, and a list has the number of its group.
-use Rattle.std.specs.Prelude.{◌≡◌, ◌<◌, ◌≤◌, ℕ, ◌-◌, List, [], ◌∷◌, ◌++◌, length, slice_get, slice_index}
+use Rattle.std.specs.Prelude.{◌≡◌, ◌<◌, ◌≤◌, ℕ, ◌-◌, List, [], ◌∷◌, ◌++◌, length, slice_index}
 use Rattle.std.specs.Prelude.{if◌then◌else◌, codes, decimal, Bool, false, slice_index_or}
 use Rattle.std.specs.List.{flat_map}
-use Rattle.std.specs.Option.{option_map_or}
 use Rattle.zh_divisors.specs.Fit.{IsTied}
 use Rattle.zh_districts.specs.Canton.{Canton, persons_of, constituency_of, stands}
 use Rattle.zh_districts.specs.Seats.{persons, AreSeats, IsFirstWithout}
 use Rattle.zh_districts.specs.declared.shares.SeatFault.TheVariants as refusals
+use Rattle.zh_record_text.specs.Each.{each_to}
+use Rattle.zh_record_text.specs.Names.{name_of_constituency, name_of_group, name_of_municipality}
+use Rattle.zh_record_text.specs.Records.{TableRecord, record_text}
+use Rattle.zh_record_text.specs.declared.records.RecordFault.{RecordFault}
+use Rattle.zh_record_text.specs.declared.records.RecordFault.TheVariants as records
 use Rattle.zh_tables.specs.Problems.{AreProblems}
-use Rattle.zh_tables.specs.Records.{TableRecord, record_text}
 use Rattle.zh_tables.specs.declared.fault.ListFault.{ListFault}
 use Rattle.zh_tables.specs.declared.fault.ListFault.TheVariants as faults
 use Rattle.zh_tables.specs.declared.problems.SetupProblems.{SetupProblems}
-use Rattle.zh_tables.specs.declared.records.RecordFault.{RecordFault}
-use Rattle.zh_tables.specs.declared.records.RecordFault.TheVariants as records
 use Rattle.zh_tables.specs.declared.table.Part.{Part}
 use Rattle.zh_tables.specs.declared.table.Table.{Table}
 use Rattle.zh_tables.specs.declared.table.Table.TheVariants.{Constituencies, Municipalities, Groups, Lists, Problems, Returns}
 use Rattle.zh_tables.specs.Returns.{HasPart, IsMissing, return_row, returns_due}
-pub use Rattle.zh_tables.specs.Returns.{each_to}
-
-abbrev pub name_of_constituency : Canton → ℕ → List ℕ
-name_of_constituency canton d = option_map_or (λ x. x.name) (slice_get canton.constituencies (d - 1)) []
-
-abbrev pub name_of_municipality : Canton → ℕ → List ℕ
-name_of_municipality canton m = option_map_or (λ x. x.name) (slice_get canton.municipalities (m - 1)) []
-
-abbrev pub name_of_group : Canton → ℕ → List ℕ
-name_of_group canton g = option_map_or (λ x. x.name) (slice_get canton.groups (g - 1)) []
 
 -- the names of the columns
 abbrev pub header : Table → TableRecord

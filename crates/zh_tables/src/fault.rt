@@ -5,10 +5,10 @@ ghost use Rattle.zh_districts.specs.declared.shares.SeatFault.{SeatFault as Refu
 ghost use Rattle.zh_tables.specs.Tables.{RecordedAs};
 ghost use Rattle.zh_tables.specs.declared.fault.ListFault.TheVariants as faults;
 
-use crate::records::RecordFault;
 use std::alloc::AllocError;
 use thiserror::Error;
 use zh_districts::SeatFault;
+use zh_record_text::RecordFault;
 
 /// Why a table is not written to its end.
 #[derive(Clone, Copy, Debug, PartialEq, Eq, Error)]

@@ -4,9 +4,9 @@
 
 mod due;
 mod fault;
+mod held_rows;
 mod problem_rows;
 mod problems;
-mod records;
 mod returns;
 mod rows;
 mod table;
@@ -14,7 +14,7 @@ mod tables;
 
 pub use due::exceeds_load;
 pub use fault::ListFault;
+pub use held_rows::HeldRows;
 pub use problems::{SetupProblems, problems_line, setup_problems};
-pub use records::{RecordFault, write_record};
 pub use table::{Part, Table};
 pub use tables::write_list;

@@ -1,16 +1,16 @@
 //! The rows of the table of problems.
 
 ghost use Rattle.std.specs.Prelude.{◌≡◌, ◌≤◌, OnOk, length};
+ghost use Rattle.zh_record_text.specs.Records.{IsBetweenRecords, PutsText};
 ghost use Rattle.zh_tables.specs.Problems.{AreProblems};
-ghost use Rattle.zh_tables.specs.Records.{IsBetweenRecords, PutsText};
 ghost use Rattle.zh_tables.specs.Tables.{marked_rows, problem_row, problem_rows};
 
 use crate::problems::SetupProblems;
-use crate::records::{RecordFault, write_record};
 use csv::Writer;
 use itoa::Buffer;
 use std::io::Write;
 use zh_districts::Setup;
+use zh_record_text::{RecordFault, write_record};
 
 /// Writes the record of this problem of a constituency, if it is marked.
 fn write_problem<W: Write + Drop>(

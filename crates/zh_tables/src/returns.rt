@@ -2,14 +2,14 @@
 
 ghost use Rattle.std.specs.Prelude.{OnOk};
 ghost use Rattle.std.specs.List.{flat_map};
-ghost use Rattle.zh_tables.specs.Records.{IsBetweenRecords, PutsText};
+ghost use Rattle.zh_record_text.specs.Records.{IsBetweenRecords, PutsText};
 ghost use Rattle.zh_tables.specs.Returns.{return_row};
 
 use crate::due::Due;
-use crate::records::{RecordFault, write_record};
 use csv::Writer;
 use itoa::Buffer;
 use std::io::Write;
+use zh_record_text::{RecordFault, write_record};
 
 /// Writes the record of a return: number 1, and its votes to be filled in.
 fn write_return<W: Write + Drop>(writer: &mut Writer<W>, due: &Due) -> Result<(), RecordFault>

@@ -1,15 +1,15 @@
 //! The rows of each table.
 
 ghost use Rattle.std.specs.Prelude.{◌≤◌, OnOk, length};
-ghost use Rattle.zh_tables.specs.Records.{IsBetweenRecords, PutsText, record_text};
+ghost use Rattle.zh_record_text.specs.Records.{IsBetweenRecords, PutsText, record_text};
 ghost use Rattle.zh_tables.specs.Tables.{constituency_row, group_row, header, list_row, municipality_row};
 
-use crate::records::{RecordFault, write_record};
 use crate::table::Table;
 use csv::Writer;
 use itoa::Buffer;
 use std::io::Write;
 use zh_districts::Setup;
+use zh_record_text::{RecordFault, write_record};
 
 /// Writes the names of the columns.
 pub(crate) fn write_header<W: Write + Drop>(

@@ -2,7 +2,7 @@
 
 ghost use Rattle.std.specs.Prelude.{◌≡◌, ◌≤◌, ℕ, List, IfErr, IfOk, OnOk, length};
 ghost use Rattle.std.specs.Io.KnownBytes.{Appends};
-ghost use Rattle.zh_tables.specs.Records.{IsBetweenRecords, PutsText};
+ghost use Rattle.zh_record_text.specs.Records.{IsBetweenRecords, PutsText};
 ghost use Rattle.zh_tables.specs.Tables.{RefusesTable, IsTableText, constituency_rows, group_rows};
 ghost use Rattle.zh_tables.specs.Tables.{list_rows, lists_in, municipality_rows};
 
@@ -10,7 +10,6 @@ use crate::due::returns_due;
 use crate::fault::ListFault;
 use crate::problem_rows::write_problems;
 use crate::problems::setup_problems;
-use crate::records::RecordFault;
 use crate::returns::write_returns;
 use crate::rows::{
     write_constituency, write_group, write_header, write_list_in, write_municipality,
@@ -20,6 +19,7 @@ use csv::{Writer, WriterBuilder};
 use std::alloc::Global;
 use std::io::Write;
 use zh_districts::{Setup, seats};
+use zh_record_text::RecordFault;
 
 /// Writes the constituencies with these seats.
 fn write_constituencies<W: Write + Drop>(

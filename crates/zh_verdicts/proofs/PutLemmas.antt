@@ -1,11 +1,8 @@
 -- Bytes that are put at the end of a text.
 use Rattle.std.proofs.Common.{◌≡◌, ◌+◌, ◌-◌, ◌≤◌, ◌++◌, ◌∷◌, [], ℕ, List, Result, Ok, Err, OnOk, if◌then◌else◌, is_ok, take, replicate, length, decimal, sym, ap, ◌∙◌, arith, append_assoc}
 use Rattle.std.proofs.lemmas.List.{take-replicate}
-use Rattle.std.proofs.lemmas.List.{append-nil}
-use Rattle.std.proofs.lemmas.List.Concat.{flat_map-append}
-use Rattle.std.specs.List.{flat_map, range_with_len}
-use Rattle.zh_sheet.proofs.CallerLemmas.{numbers_more}
-use Rattle.zh_tables.specs.Tables.{each_to}
+use Rattle.zh_record_text.specs.Each.{each_to}
+use Rattle.zh_record_text.proofs.CallerLemmas.{each_to_next}
 use Rattle.zh_verdicts.specs.Quotient.{padded}
 
 -- a part after a part
@@ -33,11 +30,6 @@ padded_put (Ok done) old mid new written digits number room few is left zeros pu
     put
     ∙ (ap (λ (t : List ℕ). t ++ written) (zeros ∙ ap (λ (t : List ℕ). old ++ t) front)
     ∙ (append_assoc old (replicate (digits - length written) zero) written ∙ ap (λ (w : List ℕ). old ++ (replicate (digits - length w) zero ++ w)) is))
-
--- what there is for the numbers so far, and for the next
-pub each_to_next : {A : Type 0} (f : ℕ → List A) (n : ℕ) → each_to n f ++ f (n + 1) ≡ each_to (n + 1) f
-each_to_next f n =
-    sym (ap (flat_map f) (numbers_more n) ∙ (flat_map-append f (range_with_len 1 n) ((n + 1) ∷ []) ∙ ap (λ l. each_to n f ++ l) (append-nil (f (n + 1)))))
 
 -- one byte more
 pub next_after : (f : ℕ → List ℕ) (before old new : List ℕ) (n : ℕ) → old ≡ before ++ each_to n f → new ≡ old ++ f (n + 1) → new ≡ before ++ each_to (n + 1) f

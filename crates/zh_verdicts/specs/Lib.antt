@@ -1,4 +1,3 @@
-pub mod Rows
 pub mod Parts
 pub mod Right
 pub mod Wrong

@@ -1,7 +1,7 @@
 -- The parts of a sheet that hold, each in a line: 10 ends a line.
 use Rattle.std.specs.Prelude.{ℕ, nat_eq, if◌then◌else◌, Option, Some, None, codes, decimal, List, [], ◌++◌}
 use Rattle.std.specs.List.{starts_with}
-use Rattle.zh_verdicts.specs.declared.rows.HeldRows.{HeldRows}
+use Rattle.zh_tables.specs.declared.held_rows.HeldRows.{HeldRows}
 
 -- so many rows, of one for each return that is due
 abbrev pub rows_part : HeldRows → List ℕ

@@ -2,8 +2,8 @@
 use Rattle.std.specs.Prelude.{ℕ, ◌-◌, nat_lt, if◌then◌else◌, Bool, true, false, Option, Some, None, codes, decimal}
 use Rattle.std.specs.Prelude.{List, [], ◌∷◌, ◌++◌}
 use Rattle.zh_check.specs.declared.checked.RightSheet.{RightSheet}
+use Rattle.zh_tables.specs.declared.held_rows.HeldRows.{HeldRows}
 use Rattle.zh_verdicts.specs.Parts.{parts_text, rows_part}
-use Rattle.zh_verdicts.specs.declared.rows.HeldRows.{HeldRows}
 
 abbrev pub kind_part : Bool → List ℕ
 kind_part true = codes "not checked: final"

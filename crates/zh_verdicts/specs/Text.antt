@@ -6,11 +6,11 @@ use Rattle.zh_check.specs.declared.checked.OffList as off_lists
 use Rattle.zh_check.specs.declared.checked.OffTotal as off_totals
 use Rattle.zh_check.specs.declared.checked.OtherVotes as others
 use Rattle.zh_check.specs.declared.checked.WrongLine.{WrongLine}
+use Rattle.zh_tables.specs.declared.held_rows.HeldRows.{HeldRows}
 use Rattle.zh_verdicts.specs.Parts.{form_and_votes, parts_above}
 use Rattle.zh_verdicts.specs.Quotient.{off_text}
 use Rattle.zh_verdicts.specs.Right.{right_verdict}
 use Rattle.zh_verdicts.specs.Wrong.{differs_text, held_text, total_text}
-use Rattle.zh_verdicts.specs.declared.rows.HeldRows.{HeldRows}
 
 -- a line that is none of its kind
 abbrev pub off_form_text : WrongLine → List ℕ

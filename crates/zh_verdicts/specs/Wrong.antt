@@ -6,7 +6,7 @@ use Rattle.std.specs.Str.{bytes_eq}
 use Rattle.zh_commands.specs.Shown.{sign_at}
 use Rattle.zh_commands.specs.declared.shown.Sign.{Sign}
 use Rattle.zh_commands.specs.declared.shown.Sign.TheVariants.{Mark, Control, Further, Byte}
-use Rattle.zh_tables.specs.Tables.{each_to}
+use Rattle.zh_record_text.specs.Each.{each_to}
 use Rattle.zh_check.specs.declared.checked.OffTotal.{OffTotal}
 use Rattle.zh_check.specs.declared.checked.OtherVotes.{OtherVotes}
 use Rattle.zh_check.specs.declared.checked.WrongLine.{WrongLine}

@@ -4,11 +4,9 @@
 mod parts;
 mod quotient;
 mod right;
-mod rows;
 mod text;
 mod writer;
 mod wrong;
 
 pub use right::unchecked_line;
-pub use rows::HeldRows;
 pub use writer::{VerdictFault, write_verdict};

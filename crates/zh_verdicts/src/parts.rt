@@ -4,8 +4,8 @@ ghost use Rattle.std.specs.Prelude.{◌≡◌, ◌++◌, OnOk};
 ghost use Rattle.zh_verdicts.specs.Parts.{form_and_votes, parts_above, parts_text, rows_part, votes_line};
 
 use crate::right::push_number;
-use crate::rows::HeldRows;
 use std::alloc::AllocError;
+use zh_tables::HeldRows;
 
 /// Puts how many rows there are at the end, of how many that are due.
 pub(crate) fn push_rows(text: &mut Vec<u8>, rows: HeldRows) -> Result<(), AllocError>

@@ -4,10 +4,10 @@ ghost use Rattle.std.specs.Prelude.{◌≡◌, ◌≤◌, ◌++◌, decimal, IfO
 ghost use Rattle.zh_verdicts.specs.Right.{commands_part, desk_part, kind_part, missing_line, right_verdict, unchecked_line, worth_line};
 
 use crate::parts::{push_parts, push_rows};
-use crate::rows::HeldRows;
 use itoa::Buffer;
 use std::alloc::{AllocError, Global};
 use zh_check::RightSheet;
+use zh_tables::HeldRows;
 
 /// Puts a number at the end of a text.
 pub(crate) fn push_number(text: &mut Vec<u8>, number: u64) -> Result<(), AllocError>

@@ -7,10 +7,10 @@ ghost use Rattle.zh_verdicts.specs.Text.{other_votes_text, verdict_text};
 use crate::parts::{push_form_and_votes, push_parts_above};
 use crate::quotient::push_off;
 use crate::right::push_right;
-use crate::rows::HeldRows;
 use crate::wrong::{push_differs, push_held, push_total};
 use std::alloc::{AllocError, Global};
 use zh_check::{OffList, OffTotal, OtherVotes, SheetVerdict, WrongLine};
+use zh_tables::HeldRows;
 
 /// Puts a line that is none of its kind at the end, and that the sheet is wrong.
 fn push_off_form(text: &mut Vec<u8>, wrong: &WrongLine) -> Result<(), AllocError>

@@ -5,13 +5,13 @@ ghost use Rattle.std.specs.Io.KnownBytes.{Appends};
 ghost use Rattle.zh_verdicts.specs.Text.{verdict_text};
 ghost use Rattle.zh_verdicts.specs.declared.writer.VerdictFault.{VerdictFault};
 
-use crate::rows::HeldRows;
 use crate::text::verdict_text;
 use std::alloc::{AllocError, Global};
 use std::io::Write;
 use thiserror::Error;
 use zh_check::SheetVerdict;
 use zh_commands::{WriteFault, put};
+use zh_tables::HeldRows;
 
 /// Why a verdict is not written to its end.
 #[derive(Clone, Copy, Debug, PartialEq, Eq, Error)]

@@ -2,7 +2,7 @@ use Rattle.std.proofs.Common.{length, ◌++◌}
 use Rattle.std.specs.List.{flat_map}
 use Rattle.std.specs.Io.KnownBytes.{append_known}
 use Rattle.zh_returns.specs.Payload.{numbers}
-use Rattle.zh_tables.proofs.CallerLemmas.{Puts-back, Puts-join}
+use Rattle.zh_record_text.proofs.CallerLemmas.{Puts-back, Puts-join}
 use Rattle.zh_csv.specs.Export.{line, municipality_text}
 use Rattle.zh_csv.specs.Load.{names}
 use Rattle.zh_csv.proofs.export.write_count.Goals as goal

@@ -1,5 +1,5 @@
 use Rattle.std.proofs.Common.{arith, rules, ◌∙◌, List, ℕ, OnOk, subst}
-use Rattle.zh_tables.specs.Records.{PutsText}
+use Rattle.zh_record_text.specs.Records.{PutsText}
 use Rattle.zh_csv.proofs.ExportLemmas.{record_plain, plain_record}
 use Rattle.zh_csv.proofs.export.write_entry.Goals as goal
 

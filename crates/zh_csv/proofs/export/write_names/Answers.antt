@@ -1,5 +1,5 @@
 use Rattle.std.proofs.Common.{rules, List, ℕ, codes, OnOk, subst}
-use Rattle.zh_tables.specs.Records.{PutsText}
+use Rattle.zh_record_text.specs.Records.{PutsText}
 use Rattle.zh_csv.proofs.ExportLemmas.{names_plain, plain_record}
 use Rattle.zh_csv.proofs.export.write_names.Goals as goal
 

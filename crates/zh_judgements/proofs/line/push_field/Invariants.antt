@@ -1,5 +1,5 @@
 use Rattle.std.proofs.Common.{◌≡◌, ◌++◌}
-use Rattle.zh_tables.specs.Tables.{each_to}
+use Rattle.zh_record_text.specs.Each.{each_to}
 use Rattle.zh_judgements.specs.Text.{printed_at}
 use Rattle.zh_judgements.proofs.line.push_field.Given as goal
 

@@ -1,5 +1,5 @@
 use Rattle.std.proofs.Common.{◌++◌, ◌≡◌}
-use Rattle.zh_tables.specs.Tables.{each_to}
+use Rattle.zh_record_text.specs.Each.{each_to}
 use Rattle.zh_results.specs.Texts.{number_if_among}
 use Rattle.zh_results.proofs.refusals.push_marked.Given as goal
 

@@ -1,5 +1,5 @@
 use Rattle.std.proofs.Common.{◌≡◌, ℕ, ◌++◌, ◌∙◌, List, ap, append_assoc, codes, length, arith}
-use Rattle.zh_tables.specs.Tables.{each_to}
+use Rattle.zh_record_text.specs.Each.{each_to}
 use Rattle.zh_results.specs.Texts.{seats_line_of}
 use Rattle.zh_results.proofs.ReplyLemmas.{number_next}
 use Rattle.zh_results.proofs.refusals.push_only_seats.Goals as goal

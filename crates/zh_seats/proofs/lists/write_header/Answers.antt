@@ -1,5 +1,5 @@
 use Rattle.std.proofs.Common.{OnOk, [], codes, rules, subst, ◌∷◌, ◌≡◌}
-use Rattle.zh_tables.specs.Records.{PutsText, TableRecord, record_text}
+use Rattle.zh_record_text.specs.Records.{PutsText, TableRecord, record_text}
 use Rattle.zh_seats.specs.Lists.{seats_columns}
 use Rattle.zh_seats.proofs.lists.write_header.Goals as goal
 

@@ -1,7 +1,7 @@
 use Rattle.std.proofs.Common.{List, [], ap, cond, false, rules, subst, sym, ◌≡◌, ℕ}
 use Rattle.zh_districts.specs.Canton.{stands}
-use Rattle.zh_tables.specs.Records.{PutsText}
-use Rattle.zh_tables.proofs.CallerLemmas.{Puts-none}
+use Rattle.zh_record_text.specs.Records.{PutsText}
+use Rattle.zh_record_text.proofs.CallerLemmas.{Puts-none}
 use Rattle.zh_seats.specs.Lists.{seats_row, standing_row}
 use Rattle.zh_seats.proofs.lists.write_standing.Goals as goal
 

@@ -1,5 +1,5 @@
-use Rattle.zh_tables.specs.Records.{PutsText}
-use Rattle.zh_tables.specs.Tables.{each_to}
+use Rattle.zh_record_text.specs.Each.{each_to}
+use Rattle.zh_record_text.specs.Records.{PutsText}
 use Rattle.zh_seats.specs.Lists.{standing_rows_in}
 use Rattle.zh_seats.proofs.seats.write_lists.Given as goal
 

@@ -1,5 +1,5 @@
 use Rattle.std.proofs.Common.{◌≡◌, ap, arith, length}
-use Rattle.zh_tables.proofs.CallerLemmas.{Puts-next, Puts-none}
+use Rattle.zh_record_text.proofs.CallerLemmas.{Puts-next, Puts-none}
 use Rattle.zh_seats.specs.Lists.{standing_row}
 use Rattle.zh_seats.proofs.seats.write_lists_in.Goals as goal
 

@@ -1,5 +1,5 @@
 use Rattle.std.proofs.Common.{◌++◌, ◌≡◌}
-use Rattle.zh_tables.specs.Tables.{each_to}
+use Rattle.zh_record_text.specs.Each.{each_to}
 use Rattle.zh_seats.specs.Table.{cell_in, group_width, on_right}
 use Rattle.zh_seats.proofs.table.push_cells.Given as goal
 

@@ -1,5 +1,5 @@
 use Rattle.std.proofs.Common.{[], ◌++◌, ◌∷◌, ◌≡◌}
-use Rattle.zh_tables.specs.Tables.{each_to}
+use Rattle.zh_record_text.specs.Each.{each_to}
 use Rattle.zh_seats.specs.Table.{tall_group_line, last_in, label_in, on_left, on_right}
 use Rattle.zh_seats.proofs.table.push_tall_lines.Given as goal
 

@@ -1,5 +1,5 @@
 use Rattle.std.proofs.Common.{ap, append_assoc, arith, length, ◌++◌, ◌∙◌, ◌≡◌, ℕ}
-use Rattle.zh_tables.specs.Tables.{each_to}
+use Rattle.zh_record_text.specs.Each.{each_to}
 use Rattle.zh_seats.specs.Table.{wide_line}
 use Rattle.zh_seats.specs.declared.cells.Line.TheVariants.{Constituency, Heading, Total}
 use Rattle.zh_seats.proofs.TextLemmas.{put_last, put_next}

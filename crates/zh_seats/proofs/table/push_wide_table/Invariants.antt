@@ -1,5 +1,5 @@
 use Rattle.std.proofs.Common.{◌++◌, ◌≡◌}
-use Rattle.zh_tables.specs.Tables.{each_to}
+use Rattle.zh_record_text.specs.Each.{each_to}
 use Rattle.zh_seats.specs.Table.{wide_line}
 use Rattle.zh_seats.specs.declared.cells.Line.TheVariants.{Constituency, Heading}
 use Rattle.zh_seats.proofs.table.push_wide_table.Given as goal

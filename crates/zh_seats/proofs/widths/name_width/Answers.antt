@@ -1,5 +1,5 @@
 use Rattle.std.proofs.Common.{ap, arith, max, rules, sym, ◌+◌, ◌∙◌, ◌≡◌, ℕ}
-use Rattle.zh_tables.specs.Tables.{name_of_constituency}
+use Rattle.zh_record_text.specs.Names.{name_of_constituency}
 use Rattle.zh_seats.specs.Table.{characters}
 use Rattle.zh_seats.proofs.WidthLemmas.{fold_next}
 use Rattle.zh_seats.proofs.widths.name_width.Goals as goal

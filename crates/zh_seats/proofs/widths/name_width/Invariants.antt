@@ -1,6 +1,6 @@
 use Rattle.std.proofs.Common.{max, ◌≡◌, ◌≤◌}
 use Rattle.std.specs.List.{fold, range_with_len}
-use Rattle.zh_tables.specs.Tables.{name_of_constituency}
+use Rattle.zh_record_text.specs.Names.{name_of_constituency}
 use Rattle.zh_seats.specs.Table.{characters}
 use Rattle.zh_seats.proofs.widths.name_width.Given as goal
 

@@ -1,5 +1,5 @@
 use Rattle.std.proofs.Common.{◌≡◌, ap, arith, length}
-use Rattle.zh_tables.proofs.CallerLemmas.{Puts-none}
+use Rattle.zh_record_text.proofs.CallerLemmas.{Puts-none}
 use Rattle.zh_status.specs.Implausible.{implausible_in}
 use Rattle.zh_status.proofs.StatusLemmas.{Puts-next}
 use Rattle.zh_status.proofs.implausible.write_all_implausible.Goals as goal

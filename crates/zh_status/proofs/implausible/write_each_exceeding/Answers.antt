@@ -1,5 +1,5 @@
 use Rattle.std.proofs.Common.{◌≡◌, ap, arith, length}
-use Rattle.zh_tables.proofs.CallerLemmas.{Puts-none}
+use Rattle.zh_record_text.proofs.CallerLemmas.{Puts-none}
 use Rattle.zh_status.specs.Implausible.{exceeding_row}
 use Rattle.zh_status.proofs.StatusLemmas.{Puts-next}
 use Rattle.zh_status.proofs.implausible.write_each_exceeding.Goals as goal

@@ -1,8 +1,8 @@
 use Rattle.std.proofs.Common.{rules, ◌≡◌, ◌∙◌, ◌*◌, ◌-◌, true, false, List, [], ℕ, OnOk, ap, slice_get, subst, sym}
 use Rattle.zh_districts.specs.Canton.{constituency_of}
-use Rattle.zh_tables.specs.Records.{PutsText}
-use Rattle.zh_tables.specs.Tables.{name_of_municipality}
-use Rattle.zh_tables.proofs.CallerLemmas.{Puts-none}
+use Rattle.zh_record_text.specs.Names.{name_of_municipality}
+use Rattle.zh_record_text.specs.Records.{PutsText}
+use Rattle.zh_record_text.proofs.CallerLemmas.{Puts-none}
 use Rattle.zh_status.specs.Implausible.{implausible_row, neighbours}
 use Rattle.zh_status.specs.Progress.{progress_over, within}
 use Rattle.zh_status.specs.declared.progress.Region.TheVariants.{Others}

@@ -1,5 +1,5 @@
 use Rattle.std.proofs.Common.{rules, ◌≡◌, [], ◌∷◌, codes, OnOk, refl, subst}
-use Rattle.zh_tables.specs.Records.{PutsText, TableRecord, record_text}
+use Rattle.zh_record_text.specs.Records.{PutsText, TableRecord, record_text}
 use Rattle.zh_status.specs.Status.{columns}
 use Rattle.zh_status.proofs.rows.write_header.Goals as goal
 

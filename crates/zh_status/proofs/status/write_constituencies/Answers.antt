@@ -1,6 +1,6 @@
 use Rattle.std.proofs.Common.{◌≡◌, ◌+◌, ◌-◌, ap, arith, length, slice_get}
-use Rattle.zh_tables.specs.Tables.{name_of_constituency}
-use Rattle.zh_tables.proofs.CallerLemmas.{Puts-none}
+use Rattle.zh_record_text.specs.Names.{name_of_constituency}
+use Rattle.zh_record_text.proofs.CallerLemmas.{Puts-none}
 use Rattle.zh_status.specs.Progress.{progress_over, within}
 use Rattle.zh_status.specs.Status.{progress_row}
 use Rattle.zh_status.specs.declared.progress.Region.TheVariants.{Constituency}

@@ -1,5 +1,6 @@
-use Rattle.zh_tables.specs.Records.{PutsText}
-use Rattle.zh_tables.specs.Tables.{each_to, name_of_constituency}
+use Rattle.zh_record_text.specs.Each.{each_to}
+use Rattle.zh_record_text.specs.Names.{name_of_constituency}
+use Rattle.zh_record_text.specs.Records.{PutsText}
 use Rattle.zh_status.specs.Progress.{progress_over, within}
 use Rattle.zh_status.specs.Status.{progress_row}
 use Rattle.zh_status.specs.declared.progress.Region.TheVariants.{Constituency}

@@ -1,5 +1,5 @@
 use Rattle.std.proofs.Common.{◌≡◌, ap, arith, length}
-use Rattle.zh_tables.proofs.CallerLemmas.{Puts-none}
+use Rattle.zh_record_text.proofs.CallerLemmas.{Puts-none}
 use Rattle.zh_status.specs.Status.{missing_row}
 use Rattle.zh_status.proofs.StatusLemmas.{Puts-next}
 use Rattle.zh_status.proofs.status.write_missing_in.Goals as goal

@@ -1,5 +1,5 @@
-use Rattle.zh_tables.specs.Records.{PutsText}
-use Rattle.zh_tables.specs.Tables.{each_to}
+use Rattle.zh_record_text.specs.Each.{each_to}
+use Rattle.zh_record_text.specs.Records.{PutsText}
 use Rattle.zh_status.specs.Status.{missing_row}
 use Rattle.zh_status.proofs.status.write_missing_in.Given as goal
 

@@ -1,7 +1,7 @@
 use Rattle.std.proofs.Common.{◌++◌, refl}
 use Rattle.std.specs.Io.KnownBytes.{append_known}
-use Rattle.zh_tables.specs.Records.{record_text}
-use Rattle.zh_tables.proofs.CallerLemmas.{Puts-back, Puts-join}
+use Rattle.zh_record_text.specs.Records.{record_text}
+use Rattle.zh_record_text.proofs.CallerLemmas.{Puts-back, Puts-join}
 use Rattle.zh_status.specs.Status.{columns}
 use Rattle.zh_status.proofs.status.write_status.Goals as goal
 

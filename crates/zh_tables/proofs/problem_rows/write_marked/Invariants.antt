@@ -1,5 +1,6 @@
-use Rattle.zh_tables.specs.Records.{PutsText}
-use Rattle.zh_tables.specs.Tables.{each_to, problem_row}
+use Rattle.zh_record_text.specs.Each.{each_to}
+use Rattle.zh_record_text.specs.Records.{PutsText}
+use Rattle.zh_tables.specs.Tables.{problem_row}
 use Rattle.zh_tables.proofs.problem_rows.write_marked.Given as goal
 
 abbrev pub invariant-loop-place : goal.invariant-loop-place

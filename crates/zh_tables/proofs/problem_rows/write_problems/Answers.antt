@@ -1,9 +1,9 @@
 use Rattle.std.proofs.Common.{◌≡◌, ℕ, List, Bool, Option, codes, rules, subst}
 use Rattle.csv.specs.declared.writer.Writer.{Writer}
 use Rattle.zh_districts.specs.Canton.{Canton}
-use Rattle.zh_tables.specs.Records.{PutsText}
+use Rattle.zh_record_text.specs.Records.{PutsText}
+use Rattle.zh_record_text.proofs.CallerLemmas.{Puts-join}
 use Rattle.zh_tables.specs.Tables.{marked_rows}
-use Rattle.zh_tables.proofs.RecordLemmas.{Puts-join}
 use Rattle.zh_tables.proofs.problem_rows.write_problems.Goals as goal
 
 -- under the name of the problem, by the marks of the set-up

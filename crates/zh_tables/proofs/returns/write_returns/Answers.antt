@@ -1,6 +1,5 @@
+use Rattle.zh_record_text.proofs.CallerLemmas.{Puts-none, Puts-element}
 use Rattle.zh_tables.specs.Returns.{return_row}
-use Rattle.zh_tables.proofs.RecordLemmas.{Puts-none}
-use Rattle.zh_tables.proofs.TextLemmas.{Puts-element}
 use Rattle.zh_tables.proofs.returns.write_returns.Goals as goal
 
 pub loop-due-init : goal.loop-due-init

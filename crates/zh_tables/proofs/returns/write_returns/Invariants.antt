@@ -1,6 +1,6 @@
 use Rattle.std.proofs.Common.{take}
 use Rattle.std.specs.List.{flat_map}
-use Rattle.zh_tables.specs.Records.{PutsText}
+use Rattle.zh_record_text.specs.Records.{PutsText}
 use Rattle.zh_tables.specs.Returns.{return_row}
 use Rattle.zh_tables.proofs.returns.write_returns.Given as goal
 

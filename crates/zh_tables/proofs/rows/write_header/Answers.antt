@@ -1,5 +1,5 @@
 use Rattle.std.proofs.Common.{rules, ◌≡◌, [], ◌∷◌, codes, OnOk, refl, subst}
-use Rattle.zh_tables.specs.Records.{PutsText, TableRecord, record_text}
+use Rattle.zh_record_text.specs.Records.{PutsText, TableRecord, record_text}
 use Rattle.zh_tables.specs.Tables.{header}
 use Rattle.zh_tables.proofs.rows.write_header.Goals as goal
 

@@ -1,5 +1,5 @@
 use Rattle.std.proofs.Common.{◌≡◌, arith, length}
-use Rattle.zh_tables.proofs.RecordLemmas.{Puts-none}
+use Rattle.zh_record_text.proofs.CallerLemmas.{Puts-none}
 use Rattle.zh_tables.proofs.TextLemmas.{constituencies-next}
 use Rattle.zh_tables.proofs.tables.write_constituencies.Goals as goal
 

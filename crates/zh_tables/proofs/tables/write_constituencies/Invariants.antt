@@ -1,6 +1,7 @@
 use Rattle.std.proofs.Common.{slice_index, ◌-◌}
-use Rattle.zh_tables.specs.Records.{PutsText}
-use Rattle.zh_tables.specs.Tables.{each_to, constituency_row}
+use Rattle.zh_record_text.specs.Each.{each_to}
+use Rattle.zh_record_text.specs.Records.{PutsText}
+use Rattle.zh_tables.specs.Tables.{constituency_row}
 use Rattle.zh_tables.proofs.tables.write_constituencies.Given as goal
 
 abbrev pub invariant-loop-place : goal.invariant-loop-place

@@ -1,7 +1,6 @@
 use Rattle.std.proofs.Common.{◌≡◌, arith, length}
+use Rattle.zh_record_text.proofs.CallerLemmas.{Puts-none, Puts-next}
 use Rattle.zh_tables.specs.Tables.{lists_in}
-use Rattle.zh_tables.proofs.RecordLemmas.{Puts-none}
-use Rattle.zh_tables.proofs.TextLemmas.{Puts-next}
 use Rattle.zh_tables.proofs.tables.write_lists.Goals as goal
 
 pub loop-place-init : goal.loop-place-init

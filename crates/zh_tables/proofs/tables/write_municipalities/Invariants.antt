@@ -1,5 +1,6 @@
-use Rattle.zh_tables.specs.Records.{PutsText}
-use Rattle.zh_tables.specs.Tables.{each_to, municipality_row}
+use Rattle.zh_record_text.specs.Each.{each_to}
+use Rattle.zh_record_text.specs.Records.{PutsText}
+use Rattle.zh_tables.specs.Tables.{municipality_row}
 use Rattle.zh_tables.proofs.tables.write_municipalities.Given as goal
 
 abbrev pub invariant-loop-place : goal.invariant-loop-place

@@ -1,6 +1,6 @@
 use Rattle.std.proofs.Common.{refl, subst, List, ℕ, ◌∙◌}
 use Rattle.std.specs.List.{flat_map}
-use Rattle.zh_tables.specs.Records.{PutsText}
+use Rattle.zh_record_text.specs.Records.{PutsText}
 use Rattle.zh_tables.specs.Tables.{constituency_rows, municipality_rows, group_rows, list_rows, problem_rows, return_rows}
 use Rattle.zh_tables.specs.Returns.{return_row}
 use Rattle.zh_tables.specs.declared.due.Due.{Due}

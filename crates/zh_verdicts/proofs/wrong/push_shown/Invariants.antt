@@ -1,5 +1,5 @@
 use Rattle.std.proofs.Common.{◌≡◌, ◌++◌}
-use Rattle.zh_tables.specs.Tables.{each_to}
+use Rattle.zh_record_text.specs.Each.{each_to}
 use Rattle.zh_verdicts.specs.Wrong.{shown_at}
 use Rattle.zh_verdicts.proofs.wrong.push_shown.Given as goal
 

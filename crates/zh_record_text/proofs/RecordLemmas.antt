@@ -5,7 +5,7 @@ use Rattle.std.specs.Io.KnownBytes.{Appends, Keeps, append_known}
 use Rattle.std.proofs.lemmas.List.{append-nil, flat_map_more}
 use Rattle.csv.specs.Writing.{text_written}
 use Rattle.csv.specs.declared.writer.Writer.{Writer}
-use Rattle.zh_tables.specs.Records.{IsBetweenRecords, PutsText}
+use Rattle.zh_record_text.specs.Records.{IsBetweenRecords, PutsText}
 
 -- bytes, and then more
 pub Appends-join : (a b c : Option (List ℕ)) (xs ys : List ℕ) → Appends a b xs → Appends b c ys → Appends a c (xs ++ ys)

@@ -1,8 +1,8 @@
 //! How many rows an export has, of all that can be held.
 
 ghost use Rattle.std.specs.Prelude.{◌≡◌, ◌≤◌, length};
+ghost use Rattle.zh_tables.specs.HeldRows.{rows_held};
 ghost use Rattle.zh_tables.specs.Returns.{returns_in};
-ghost use Rattle.zh_verdicts.specs.Rows.{rows_held};
 
 use zh_districts::Setup;
 

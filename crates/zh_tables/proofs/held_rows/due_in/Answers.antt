@@ -1,9 +1,9 @@
 use Rattle.std.proofs.Common.{◌≡◌, ◌+◌, ◌∙◌, ap, arith, sym}
 use Rattle.zh_districts.specs.Canton.{constituency_of, stands}
 use Rattle.zh_tables.specs.Returns.{due_of}
-use Rattle.zh_verdicts.proofs.RowLemmas.{length_more, length_next, none_due, one_due}
-use Rattle.zh_verdicts.proofs.rows.due_in.Goals as goal
-use Rattle.zh_verdicts.proofs.rows.due_in.Goals.{then-stands, else-stands}
+use Rattle.zh_tables.proofs.DueLemmas.{length_more, length_next, none_due, one_due}
+use Rattle.zh_tables.proofs.held_rows.due_in.Goals as goal
+use Rattle.zh_tables.proofs.held_rows.due_in.Goals.{then-stands, else-stands}
 
 pub loop-place-preserved : goal.loop-place-preserved
 loop-place-preserved c =

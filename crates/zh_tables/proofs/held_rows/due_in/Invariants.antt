@@ -1,6 +1,7 @@
 use Rattle.std.proofs.Common.{◌≡◌, ◌≤◌, length}
-use Rattle.zh_tables.specs.Returns.{due_of, each_to}
-use Rattle.zh_verdicts.proofs.rows.due_in.Given as goal
+use Rattle.zh_record_text.specs.Each.{each_to}
+use Rattle.zh_tables.specs.Returns.{due_of}
+use Rattle.zh_tables.proofs.held_rows.due_in.Given as goal
 
 abbrev pub invariant-loop-place : goal.invariant-loop-place
 invariant-loop-place l = record {

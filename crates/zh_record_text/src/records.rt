@@ -1,7 +1,7 @@
 //! Records of comma-separated text.
 
 ghost use Rattle.std.specs.Prelude.{OnOk, map};
-ghost use Rattle.zh_tables.specs.Records.{IsBetweenRecords, PutsText, record_text};
+ghost use Rattle.zh_record_text.specs.Records.{IsBetweenRecords, PutsText, record_text};
 
 use csv::{Error, ErrorKind, Writer};
 use std::io::Write;

@@ -1,6 +1,7 @@
 use Rattle.std.proofs.Common.{◌≡◌, ◌≤◌, ◌*◌, length}
-use Rattle.zh_tables.specs.Returns.{each_to, returns_in}
-use Rattle.zh_verdicts.proofs.rows.HeldRows.new.Given as goal
+use Rattle.zh_record_text.specs.Each.{each_to}
+use Rattle.zh_tables.specs.Returns.{returns_in}
+use Rattle.zh_tables.proofs.held_rows.HeldRows.new.Given as goal
 
 abbrev pub invariant-loop-place : goal.invariant-loop-place
 invariant-loop-place l = record {

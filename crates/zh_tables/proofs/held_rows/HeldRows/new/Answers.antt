@@ -1,7 +1,7 @@
 use Rattle.std.proofs.Common.{arith}
 use Rattle.zh_tables.specs.Returns.{returns_in}
-use Rattle.zh_verdicts.proofs.RowLemmas.{length_next}
-use Rattle.zh_verdicts.proofs.rows.HeldRows.new.Goals as goal
+use Rattle.zh_tables.proofs.DueLemmas.{length_next}
+use Rattle.zh_tables.proofs.held_rows.HeldRows.new.Goals as goal
 
 pub loop-place-preserved : goal.loop-place-preserved
 loop-place-preserved c = record {

@@ -1,8 +1,9 @@
--- Numbers of rows, summed from 1 on.
+-- Numbers of returns that are due, summed from 1 on.
 use Rattle.std.proofs.Common.{◌≡◌, ◌+◌, ℕ, true, false, List, length, refl, sym, ap, ◌∙◌, arith, length-append}
 use Rattle.zh_districts.specs.Canton.{Canton, constituency_of, stands}
-use Rattle.zh_tables.specs.Returns.{due_of, each_to}
-use Rattle.zh_verdicts.proofs.PutLemmas.{each_to_next}
+use Rattle.zh_record_text.specs.Each.{each_to}
+use Rattle.zh_record_text.proofs.CallerLemmas.{each_to_next}
+use Rattle.zh_tables.specs.Returns.{due_of}
 
 -- a sum so far, and what the next number adds to it
 pub length_next : {A : Type 0} (f : ℕ → List A) (n so_far more : ℕ) → so_far ≡ length (each_to n f) → more ≡ length (f (n + 1)) → so_far + more ≡ length (each_to (n + 1) f)
