@@ -16,8 +16,10 @@ def without_path(report):
     """A report as the module words it, which is handed texts and no files: of the second line the place alone, without the path
     before it and the limits after it."""
     name, _, line = report.partition(b"\n")
-    place = line.removesuffix(b"\n").split(b": ")[1:2]
-    return b"".join(it + b"\n" for it in (name, *place))
+    place = line.removesuffix(b"\n").partition(b": ")[2]
+    if name == b"setup range":
+        place = place.partition(b": ")[0]
+    return b"".join(it + b"\n" for it in (name, place) if it)
 
 
 @functools.cache

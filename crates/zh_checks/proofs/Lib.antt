@@ -1,1 +1,2 @@
+mod ShownLemmas
 mod WriteLemmas

@@ -7,8 +7,8 @@ use Rattle.zh_check.specs.declared.checked.SheetVerdict.{SheetVerdict}
 use Rattle.zh_check.specs.declared.checked.SheetVerdict.TheVariants.{Right}
 use Rattle.zh_districts.specs.Canton.{Canton}
 use Rattle.zh_held.specs.declared.held_reader.HeldSums.{HeldSums}
+use Rattle.zh_tables.specs.HeldRows.{rows_held}
 use Rattle.zh_totals.specs.Totals.{VoteTotals}
-use Rattle.zh_verdicts.specs.Rows.{rows_held}
 use Rattle.zh_verdicts.specs.Text.{verdict_text}
 use Rattle.zh_verdicts.specs.declared.writer.VerdictFault.{VerdictFault}
 use Rattle.zh_verdicts.specs.declared.writer.VerdictFault.TheVariants as faults

@@ -1,5 +1,11 @@
 -- What is reported of a text that gives no set-up, or no export of one, in bytes: 10 is LF, 32 the space.
-use Rattle.std.specs.Prelude.{ℕ, List, [], ◌∷◌, ◌++◌, Option, Some, None, codes, decimal}
+use Rattle.std.specs.Prelude.{ℕ, Bool, ◌==◌, ◌||◌, ◌&&◌, ◌-◌, nat_lt, if◌then◌else◌, List, [], ◌∷◌, ◌++◌, get_or, length}
+use Rattle.std.specs.Prelude.{Option, Some, None, codes, decimal}
+use Rattle.std.specs.Char.{is_ascii_alphanumeric}
+use Rattle.std.specs.List.{list_all}
+use Rattle.zh_commands.specs.Shown.{sign_at}
+use Rattle.zh_commands.specs.declared.shown.Sign.{Sign}
+use Rattle.zh_commands.specs.declared.shown.Sign.TheVariants as signs
 use Rattle.zh_held.specs.declared.fault.HeldFault.{HeldFault}
 use Rattle.zh_held.specs.declared.fault.HeldFault.TheVariants as of_held
 use Rattle.zh_setups.specs.PlaceNames.{key_name, kind_name}
@@ -8,6 +14,8 @@ use Rattle.zh_setups.specs.declared.fault.SetupFault.TheVariants as of_setup
 use Rattle.zh_setups.specs.declared.fault.SetupRefusal.{SetupRefusal}
 use Rattle.zh_setups.specs.declared.place.FaultPlace.{FaultPlace}
 use Rattle.zh_setups.specs.declared.place.FaultPlace.TheVariants as places
+use Rattle.zh_setups.specs.declared.place.Key.{Key}
+use Rattle.zh_record_text.specs.Each.{each_to}
 
 -- the name of a fault of a set-up
 abbrev pub setup_name : SetupFault → List ℕ
@@ -27,11 +35,32 @@ held_name of_held.List = codes "held list"
 held_name of_held.Votes = codes "held votes"
 held_name of_held.Twice = codes "held twice"
 
+-- a byte order mark and each control as a question mark, which is 63
+abbrev pub safe_sign : Sign → ℕ → List ℕ
+safe_sign signs.Mark byte = codes "?"
+safe_sign signs.Control byte = codes "?"
+safe_sign signs.Further byte = []
+safe_sign signs.Byte byte = (if nat_lt byte 32 || (byte == 127) then 63 else byte) ∷ []
+
+-- the byte of this number, from 1, as it is shown
+abbrev pub safe_byte : List ℕ → ℕ → List ℕ
+safe_byte text number = safe_sign (sign_at text (number - 1)) (get_or text (number - 1) 0)
+
+-- a letter, a digit, _ or -, which are 95 and 45
+abbrev pub is_bare : ℕ → Bool
+is_bare byte = is_ascii_alphanumeric byte || (byte == 95) || (byte == 45)
+
+-- a key as it is shown: in quotes, which are 34, if it is empty or has any other byte
+abbrev pub shown_key : Key → List ℕ
+shown_key key =
+    if nat_lt 0 (length (key_name key)) && list_all is_bare (key_name key) then key_name key
+    else 34 ∷ each_to (length (key_name key)) (safe_byte (key_name key)) ++ 34 ∷ []
+
 -- a place in the text of a set-up: a position, or a key at the top or in a table
 abbrev pub setup_place : FaultPlace → List ℕ
 setup_place (places.At position) = codes "line " ++ decimal position.line ++ codes ", column " ++ decimal position.column
-setup_place (places.Top key) = key_name key
-setup_place (places.Table kind number key) = kind_name kind ++ 32 ∷ decimal number ++ codes ", " ++ key_name key
+setup_place (places.Top key) = shown_key key
+setup_place (places.Table kind number key) = kind_name kind ++ 32 ∷ decimal number ++ codes ", " ++ shown_key key
 
 -- the line of a place, if it is known
 abbrev pub setup_place_line : Option FaultPlace → List ℕ

@@ -3,15 +3,16 @@
 ghost use Rattle.std.specs.Prelude.{◌≡◌, option_map};
 ghost use Rattle.std.specs.Option.{option_copied};
 ghost use Rattle.zh_checks.specs.Checks.{WritesCheck};
-ghost use Rattle.zh_verdicts.specs.Rows.{rows_held};
+ghost use Rattle.zh_tables.specs.HeldRows.{rows_held};
 
 use std::alloc::Global;
 use std::io::Write;
 use zh_check::{SheetVerdict, check};
 use zh_districts::Setup;
 use zh_held::HeldSums;
+use zh_tables::HeldRows;
 use zh_totals::Totals;
-use zh_verdicts::{HeldRows, VerdictFault, write_verdict};
+use zh_verdicts::{VerdictFault, write_verdict};
 
 /// The sums of an export, where there is one.
 fn totals_in<'a, 's>(held: Option<&'a HeldSums<'s>>) -> Option<&'a Totals<'s>>

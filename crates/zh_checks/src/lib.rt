@@ -3,6 +3,8 @@
 
 mod checked;
 mod reports;
+mod shown;
 
 pub use checked::write_check;
 pub use reports::{name_of_held, name_of_setup, rows_report, setup_report};
+pub use shown::{ShownKey, push_shown, shown_key};

@@ -4,6 +4,7 @@
 ghost use Rattle.std.specs.Prelude.{◌≡◌, ◌≤◌, ◌++◌, OnOk, IfOk, decimal, length};
 ghost use Rattle.zh_checks.specs.Reports.{held_name, rows_report, setup_name, setup_place, setup_report};
 
+use crate::shown::shown_key;
 use itoa::Buffer;
 use std::alloc::{AllocError, Global};
 use zh_held::HeldFault;
@@ -57,13 +58,13 @@ fn push_place(text: &mut Vec<u8>, place: &FaultPlace) -> Result<(), AllocError>
             text.extend_from_slice(b", column ")?;
             push_number(text, position.column as u64)
         }
-        FaultPlace::Top(key) => text.extend_from_slice(key.as_str().as_bytes()),
+        FaultPlace::Top(key) => text.extend_from_slice(shown_key(key).as_slice()),
         FaultPlace::Table { kind, number, key } => {
             text.extend_from_slice(kind.as_str().as_bytes())?;
             text.extend_from_slice(b" ")?;
             push_number(text, *number as u64)?;
             text.extend_from_slice(b", ")?;
-            text.extend_from_slice(key.as_str().as_bytes())
+            text.extend_from_slice(shown_key(key).as_slice())
         }
     }
 }

@@ -8,8 +8,9 @@ use Rattle.std.proofs.lemmas.Bool.{and_parts, cases_Bool, false≢true}
 use Rattle.std.proofs.lemmas.Map.Text.{is_eq-slice_cmp}
 use Rattle.std.proofs.lemmas.Slice.Eq.{bytes_eq-Decides}
 use Rattle.toml.specs.Data.{Data, Members, no_members, member, get_member}
-use Rattle.zh_setups.specs.Keys.{tables_at, knows_keys, knows_keys_of, document_keys, known_keys, constituency_keys, municipality_keys, group_keys, has_other_key}
+use Rattle.zh_setups.specs.Keys.{tables_at, first_other, knows_keys, knows_keys_of, document_keys, known_keys, own_keys, has_other_key}
 use Rattle.zh_setups.specs.SetupText.{HasVersion}
+use Rattle.zh_setups.specs.declared.place.Kind.TheVariants as kinds
 
 passed : (o : Ordering) (d : Data) (found : Option Data) → is_eq o ≡ false → match_ordering o found (Some d) found ≡ found
 passed Less d found e = refl
@@ -36,9 +37,9 @@ not_false false e = absurd cc
 -- the keys at the top are known
 pub knows_top : (document : Members) → has_other_key document ≡ false → knows_keys (known_keys document) document ≡ true
 knows_top document e =
-    let cs = list_all (knows_keys_of constituency_keys) (tables_at (codes "constituency") document) in
-    let ms = list_all (knows_keys_of municipality_keys) (tables_at (codes "municipality") document) in
-    let gs = list_all (knows_keys_of group_keys) (tables_at (codes "group") document) in
+    let cs = list_all (knows_keys_of (own_keys kinds.Constituency)) (tables_at (codes "constituency") document) in
+    let ms = list_all (knows_keys_of (own_keys kinds.Municipality)) (tables_at (codes "municipality") document) in
+    let gs = list_all (knows_keys_of (own_keys kinds.Group)) (tables_at (codes "group") document) in
     let top = knows_keys (known_keys document) document in
     (and_parts top cs (and_parts (top && cs) ms (and_parts (top && cs && ms) gs (not_false (top && cs && ms && gs) e)).0).0).0
 
@@ -47,3 +48,10 @@ pub no_quorum_key : (document : Members) → HasVersion document 1 → knows_key
 no_quorum_key document version knows =
     let keys : known_keys document ≡ document_keys = rw version refl in
     no_member document_keys (codes "canton_quorum") document (subst (λ (keys : List (List ℕ)). knows_keys keys document ≡ true) keys knows) refl
+
+-- the first key that is not one of these, where a table begins with such a key, and where it does not
+pub other_here : (keys : List (List ℕ)) (key : List ℕ) (d : Data) (others : Members) (known : Bool) → known ≡ list_any (λ k. bytes_eq k key) keys → known ≡ false → Some key ≡ first_other keys (member key d others)
+other_here keys key d others known is other = rw (sym is, other) refl
+
+pub other_later : (keys : List (List ℕ)) (key : List ℕ) (d : Data) (others : Members) (known : Bool) → known ≡ list_any (λ k. bytes_eq k key) keys → known ≡ true → first_other keys others ≡ first_other keys (member key d others)
+other_later keys key d others known is one = rw (sym is, one) refl

@@ -6,7 +6,7 @@ use Rattle.std.specs.Option.{option_or}
 use Rattle.toml.specs.Data.{Data, Members, table}
 use Rattle.zh_districts.specs.Canton.{Canton}
 use Rattle.zh_setups.specs.Document.{undoubled, has_double, repeats, same_name, same_number, stands_in}
-use Rattle.zh_setups.specs.Keys.{tables_at, has_keys, knows_keys, knows_keys_of, document_keys, known_keys, constituency_keys, municipality_keys, group_keys, misses_key, has_other_key}
+use Rattle.zh_setups.specs.Keys.{tables_at, has_keys, knows_keys, knows_keys_of, document_keys, known_keys, own_keys, misses_key, has_other_key}
 use Rattle.zh_setups.specs.Places.{constituencies_in, fault_place, first_failing, first_of, first_table, looked_into, namesake_of, table_checks, top_checks}
 use Rattle.zh_setups.specs.declared.fault.SetupFault.{SetupFault}
 use Rattle.zh_setups.specs.declared.fault.SetupFault.TheVariants as faults
@@ -84,24 +84,24 @@ one_fails P true true true true of_a of_b of_c of_d h = absurd cc
 
 pub missing_placed : (document : Members) → misses_key document ≡ true → HasPlace faults.Missing document
 missing_placed document h =
-    one_fails (HasPlace faults.Missing document) (has_keys document_keys (table document)) (list_all (has_keys constituency_keys) (tables_at (codes "constituency") document))
-    (list_all (has_keys municipality_keys) (tables_at (codes "municipality") document)) (list_all (has_keys group_keys) (tables_at (codes "group") document))
+    one_fails (HasPlace faults.Missing document) (has_keys document_keys (table document)) (list_all (has_keys (own_keys kinds.Constituency)) (tables_at (codes "constituency") document))
+    (list_all (has_keys (own_keys kinds.Municipality)) (tables_at (codes "municipality") document)) (list_all (has_keys (own_keys kinds.Group)) (tables_at (codes "group") document))
     (λ e. at_top faults.Missing document e)
-    (λ e. in_constituencies faults.Missing document (in_tables faults.Missing kinds.Constituency (codes "constituency") document (has_keys constituency_keys) (λ value fails. fails) e))
-    (λ e. in_municipalities faults.Missing document (in_tables faults.Missing kinds.Municipality (codes "municipality") document (has_keys municipality_keys) (λ value fails. fails) e))
-    (λ e. in_groups faults.Missing document (in_tables faults.Missing kinds.Group (codes "group") document (has_keys group_keys) (λ value fails. fails) e)) h
+    (λ e. in_constituencies faults.Missing document (in_tables faults.Missing kinds.Constituency (codes "constituency") document (has_keys (own_keys kinds.Constituency)) (λ value fails. fails) e))
+    (λ e. in_municipalities faults.Missing document (in_tables faults.Missing kinds.Municipality (codes "municipality") document (has_keys (own_keys kinds.Municipality)) (λ value fails. fails) e))
+    (λ e. in_groups faults.Missing document (in_tables faults.Missing kinds.Group (codes "group") document (has_keys (own_keys kinds.Group)) (λ value fails. fails) e)) h
 
 alone : (b : Bool) → b ≡ false → (b && true) ≡ false
 alone b h = ap (λ x. x && true) h
 
 pub unknown_placed : (document : Members) → has_other_key document ≡ true → HasPlace faults.Unknown document
 unknown_placed document h =
-    one_fails (HasPlace faults.Unknown document) (knows_keys (known_keys document) document) (list_all (knows_keys_of constituency_keys) (tables_at (codes "constituency") document))
-    (list_all (knows_keys_of municipality_keys) (tables_at (codes "municipality") document)) (list_all (knows_keys_of group_keys) (tables_at (codes "group") document))
+    one_fails (HasPlace faults.Unknown document) (knows_keys (known_keys document) document) (list_all (knows_keys_of (own_keys kinds.Constituency)) (tables_at (codes "constituency") document))
+    (list_all (knows_keys_of (own_keys kinds.Municipality)) (tables_at (codes "municipality") document)) (list_all (knows_keys_of (own_keys kinds.Group)) (tables_at (codes "group") document))
     (λ e. at_top faults.Unknown document (alone (knows_keys (known_keys document) document) e))
-    (λ e. in_constituencies faults.Unknown document (in_tables faults.Unknown kinds.Constituency (codes "constituency") document (knows_keys_of constituency_keys) (λ value. alone (knows_keys_of constituency_keys value)) e))
-    (λ e. in_municipalities faults.Unknown document (in_tables faults.Unknown kinds.Municipality (codes "municipality") document (knows_keys_of municipality_keys) (λ value. alone (knows_keys_of municipality_keys value)) e))
-    (λ e. in_groups faults.Unknown document (in_tables faults.Unknown kinds.Group (codes "group") document (knows_keys_of group_keys) (λ value. alone (knows_keys_of group_keys value)) e)) h
+    (λ e. in_constituencies faults.Unknown document (in_tables faults.Unknown kinds.Constituency (codes "constituency") document (knows_keys_of (own_keys kinds.Constituency)) (λ value. alone (knows_keys_of (own_keys kinds.Constituency) value)) e))
+    (λ e. in_municipalities faults.Unknown document (in_tables faults.Unknown kinds.Municipality (codes "municipality") document (knows_keys_of (own_keys kinds.Municipality)) (λ value. alone (knows_keys_of (own_keys kinds.Municipality) value)) e))
+    (λ e. in_groups faults.Unknown document (in_tables faults.Unknown kinds.Group (codes "group") document (knows_keys_of (own_keys kinds.Group)) (λ value. alone (knows_keys_of (own_keys kinds.Group) value)) e)) h
 
 -- ---- what stands twice
 

@@ -80,8 +80,8 @@ values_fail kind key most document read values says found none =
     (subst (λ (all : List Data). list_all (λ value. is_some (read value)) all ≡ false) (sym (under key most document values found)) (each-none read values none))
 
 -- a check at the top fails
-fails_at : (document : Members) (place : ℕ) → place < 6 → (get_or (top_checks faults.Range document) place (keys.Other, true)).1 ≡ false → HasPlace faults.Range document
-fails_at document place within h = at_top faults.Range document (list_all_at (λ check. check.1) (top_checks faults.Range document) place (keys.Other, true) within h)
+fails_at : (document : Members) (place : ℕ) → place < 6 → (get_or (top_checks faults.Range document) place (keys.Name, true)).1 ≡ false → HasPlace faults.Range document
+fails_at document place within h = at_top faults.Range document (list_all_at (λ check. check.1) (top_checks faults.Range document) place (keys.Name, true) within h)
 
 -- the constituencies that were read are as many as there are
 as_many : (document : Members) (constituencies : List Constituency) → (values_at (codes "constituency") 32 document >>= each constituency_from) ≡ Some constituencies → length constituencies ≡ constituencies_in document

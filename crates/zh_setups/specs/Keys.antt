@@ -1,11 +1,14 @@
 -- The keys of a set-up text: which are there, and which should not be.
 use Rattle.std.specs.Prelude.{ℕ, Bool, true, false, not, ◌&&◌, if◌then◌else◌, pos, List, [], ◌∷◌, is_some, option_and_then, codes}
+use Rattle.std.specs.Prelude.{Option, Some, None}
 use Rattle.std.specs.Option.{option_map_or}
 use Rattle.std.specs.List.{list_all, list_any}
 use Rattle.std.specs.Ordering.{int_eq}
 use Rattle.std.specs.Str.{bytes_eq}
 use Rattle.toml.specs.Data.{Data, Items, no_items, item, Members, no_members, member, table}
 use Rattle.toml.specs.Data.{get, get_member, as_table, as_array, as_integer}
+use Rattle.zh_setups.specs.declared.place.Kind.{Kind}
+use Rattle.zh_setups.specs.declared.place.Kind.TheVariants as kinds
 
 -- the values of an array
 abbrev pub list_of : Items → List Data
@@ -33,6 +36,11 @@ abbrev pub knows_keys : List (List ℕ) → Members → Bool
 knows_keys keys no_members = true
 knows_keys keys (member key _ others) = list_any (λ known. bytes_eq known key) keys && knows_keys keys others
 
+-- the first key of the members, in their order, that is not one of these
+abbrev pub first_other : List (List ℕ) → Members → Option (List ℕ)
+first_other keys no_members = None
+first_other keys (member key _ others) = if list_any (λ known. bytes_eq known key) keys then first_other keys others else Some key
+
 -- the same of a table; another value has no keys
 abbrev pub knows_keys_of : List (List ℕ) → Data → Bool
 knows_keys_of keys value = option_map_or (knows_keys keys) (as_table value) true
@@ -50,32 +58,28 @@ is_version_2 document =
 abbrev pub known_keys : Members → List (List ℕ)
 known_keys document = if is_version_2 document then codes "canton_quorum" ∷ document_keys else document_keys
 
--- the keys of a constituency
-abbrev pub constituency_keys : List (List ℕ)
-constituency_keys = codes "name" ∷ codes "persons" ∷ []
-
--- the keys of a municipality
-abbrev pub municipality_keys : List (List ℕ)
-municipality_keys = codes "name" ∷ codes "constituency" ∷ []
-
--- the keys of a group
-abbrev pub group_keys : List (List ℕ)
-group_keys = codes "name" ∷ codes "stands" ∷ []
+-- the keys of a table
+abbrev pub own_keys : Kind → List (List ℕ)
+own_keys kinds.Constituency = codes "name" ∷ codes "persons" ∷ []
+own_keys kinds.Municipality = codes "name" ∷ codes "constituency" ∷ []
+own_keys kinds.Group = codes "name" ∷ codes "stands" ∷ []
 
 -- a key is missing at the top or in a table
 abbrev pub misses_key : Members → Bool
 misses_key document =
     not (
-    has_keys document_keys (table document) && list_all (has_keys constituency_keys) (tables_at (codes "constituency") document)
-    && list_all (has_keys municipality_keys) (tables_at (codes "municipality") document)
-    && list_all (has_keys group_keys) (tables_at (codes "group") document)
+    has_keys document_keys (table document)
+    && list_all (has_keys (own_keys kinds.Constituency)) (tables_at (codes "constituency") document)
+    && list_all (has_keys (own_keys kinds.Municipality)) (tables_at (codes "municipality") document)
+    && list_all (has_keys (own_keys kinds.Group)) (tables_at (codes "group") document)
     )
 
 -- another key stands at the top or in a table
 abbrev pub has_other_key : Members → Bool
 has_other_key document =
     not (
-    knows_keys (known_keys document) document && list_all (knows_keys_of constituency_keys) (tables_at (codes "constituency") document)
-    && list_all (knows_keys_of municipality_keys) (tables_at (codes "municipality") document)
-    && list_all (knows_keys_of group_keys) (tables_at (codes "group") document)
+    knows_keys (known_keys document) document
+    && list_all (knows_keys_of (own_keys kinds.Constituency)) (tables_at (codes "constituency") document)
+    && list_all (knows_keys_of (own_keys kinds.Municipality)) (tables_at (codes "municipality") document)
+    && list_all (knows_keys_of (own_keys kinds.Group)) (tables_at (codes "group") document)
     )

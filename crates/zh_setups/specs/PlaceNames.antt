@@ -1,11 +1,17 @@
 -- The names of the keys and of the tables of a set-up text.
-use Rattle.std.specs.Prelude.{ℕ, List, codes}
+use Rattle.std.specs.Fmt.Cut.{cut_to}
+use Rattle.std.specs.Prelude.{ℕ, List, ◌++◌, codes, drop, length, replicate, take}
+use Rattle.zh_setups.specs.declared.place.OtherKey.{OtherKey}
 use Rattle.zh_setups.specs.declared.place.Key.{Key}
 use Rattle.zh_setups.specs.declared.place.Key.TheVariants as keys
 use Rattle.zh_setups.specs.declared.place.Kind.{Kind}
 use Rattle.zh_setups.specs.declared.place.Kind.TheVariants as kinds
 
--- the name of a key, as a text spells it; one that should not be there is not named
+-- a key that is not known, cut to 40 bytes; zeros stand after it
+abbrev pub kept_key : List ℕ → OtherKey
+kept_key key = record { bytes = cut_to 40 key ++ drop (length (cut_to 40 key)) (replicate 40 0); length = length (cut_to 40 key) }
+
+-- the name of a key, as a text spells it, or what is kept of it
 abbrev pub key_name : Key → List ℕ
 key_name keys.Version = codes "version"
 key_name keys.House = codes "house"
@@ -16,7 +22,7 @@ key_name keys.Group = codes "group"
 key_name keys.Name = codes "name"
 key_name keys.Persons = codes "persons"
 key_name keys.Stands = codes "stands"
-key_name keys.Other = codes "another key"
+key_name (keys.Other key) = take key.length key.bytes
 
 -- the name of the tables of a kind
 abbrev pub kind_name : Kind → List ℕ

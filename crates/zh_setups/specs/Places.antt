@@ -1,13 +1,13 @@
 -- Where a set-up text has its fault: the first key of which a check fails, at the top and then table by table.
-use Rattle.std.specs.Prelude.{◌+◌, ℕ, Bool, false, not, if◌then◌else◌, List, [], ◌∷◌, ◌++◌, length, min}
+use Rattle.std.specs.Prelude.{◌+◌, ℕ, Bool, false, not, if◌then◌else◌, List, [], ◌∷◌, ◌++◌, length, map, min}
 use Rattle.std.specs.Prelude.{Option, Some, None, is_some, option_map, unwrap_or, codes}
 use Rattle.std.specs.Option.{option_map_or, option_or}
 use Rattle.std.specs.List.{list_all, list_any}
-use Rattle.toml.specs.Data.{Data, Members, get, get_member}
-use Rattle.zh_setups.specs.Keys.{constituency_keys, group_keys, known_keys, knows_keys, knows_keys_of}
-use Rattle.zh_setups.specs.Keys.{municipality_keys, tables_at}
+use Rattle.toml.specs.Data.{Data, Members, as_table, get, get_member}
+use Rattle.zh_setups.specs.Keys.{first_other, known_keys, knows_keys, knows_keys_of, own_keys, tables_at}
 use Rattle.zh_setups.specs.Document.{◌>>=◌, name_of, number_within, quorum_of, repeats, same_name, same_number, stands_in}
 use Rattle.zh_setups.specs.Document.{values_at, values_of}
+use Rattle.zh_setups.specs.PlaceNames.{kept_key, key_name}
 use Rattle.zh_setups.specs.declared.fault.SetupFault.{SetupFault}
 use Rattle.zh_setups.specs.declared.fault.SetupFault.TheVariants as faults
 use Rattle.zh_setups.specs.declared.place.Key.{Key}
@@ -22,23 +22,13 @@ abbrev pub first_failing : List (Key × Bool) → Option Key
 first_failing [] = None
 first_failing (check ∷ checks) = if check.1 then first_failing checks else Some check.0
 
--- whether a key stands at the top, and whether one stands in a table
-abbrev pub at_top : List ℕ → Members → Bool
-at_top key document = is_some (get_member key document)
+-- the key by which one that is not known is named
+abbrev pub other_key : Option (List ℕ) → Key
+other_key found = keys.Other (kept_key (unwrap_or found []))
 
-abbrev pub in_table : List ℕ → Data → Bool
-in_table key value = is_some (get key value)
-
--- whether the value at a key is a number within its limits, at the top and in a table
+-- whether the value at a key at the top is a number within its limits
 abbrev pub number_at_top : List ℕ → ℕ → ℕ → Members → Bool
 number_at_top key low high document = is_some (get_member key document >>= number_within low high)
-
-abbrev pub number_in_table : List ℕ → ℕ → ℕ → Data → Bool
-number_in_table key low high value = is_some (get key value >>= number_within low high)
-
--- whether a table has a name that is one
-abbrev pub is_named : Data → Bool
-is_named value = is_some (get (codes "name") value >>= name_of)
 
 -- whether these are numbers of constituencies, of which there are n
 abbrev pub are_within : ℕ → List Data → Bool
@@ -51,35 +41,29 @@ stands_within n value = option_map_or (are_within n) (get (codes "stands") value
 -- the checks of a fault at the top
 abbrev pub top_checks : SetupFault → Members → List (Key × Bool)
 top_checks faults.Missing document =
-    (keys.Version, at_top (codes "version") document) ∷ (keys.House, at_top (codes "house") document)
-    ∷ (keys.Constituency, at_top (codes "constituency") document) ∷ (keys.Municipality, at_top (codes "municipality") document)
-    ∷ (keys.Group, at_top (codes "group") document) ∷ []
+    map (λ key. (key, is_some (get_member (key_name key) document)))
+    (keys.Version ∷ keys.House ∷ keys.Constituency ∷ keys.Municipality ∷ keys.Group ∷ [])
 top_checks faults.Range document =
     (keys.Version, number_at_top (codes "version") 1 2 document) ∷ (keys.House, number_at_top (codes "house") 1 400 document)
     ∷ (keys.Constituency, is_some (values_at (codes "constituency") 32 document))
     ∷ (keys.Municipality, is_some (values_at (codes "municipality") 512 document))
     ∷ (keys.Group, is_some (values_at (codes "group") 32 document))
     ∷ (keys.CantonQuorum, is_some (quorum_of (get_member (codes "canton_quorum") document))) ∷ []
-top_checks faults.Unknown document = (keys.Other, knows_keys (known_keys document) document) ∷ []
+top_checks faults.Unknown document =
+    (other_key (first_other (known_keys document) document), knows_keys (known_keys document) document) ∷ []
 top_checks fault document = []
 
 -- whether a table has its key beside the name
 abbrev pub missing_check : Kind → Data → Key × Bool
-missing_check kinds.Constituency value = (keys.Persons, in_table (codes "persons") value)
-missing_check kinds.Municipality value = (keys.Constituency, in_table (codes "constituency") value)
-missing_check kinds.Group value = (keys.Stands, in_table (codes "stands") value)
+missing_check kinds.Constituency value = (keys.Persons, is_some (get (codes "persons") value))
+missing_check kinds.Municipality value = (keys.Constituency, is_some (get (codes "constituency") value))
+missing_check kinds.Group value = (keys.Stands, is_some (get (codes "stands") value))
 
 -- whether the value of a table beside its name is within its limits, where there are n constituencies
 abbrev pub range_check : Kind → ℕ → Data → Key × Bool
-range_check kinds.Constituency n value = (keys.Persons, number_in_table (codes "persons") 1 10000000 value)
-range_check kinds.Municipality n value = (keys.Constituency, number_in_table (codes "constituency") 1 n value)
+range_check kinds.Constituency n value = (keys.Persons, is_some (get (codes "persons") value >>= number_within 1 10000000))
+range_check kinds.Municipality n value = (keys.Constituency, is_some (get (codes "constituency") value >>= number_within 1 n))
 range_check kinds.Group n value = (keys.Stands, stands_within n value)
-
--- whether a table has no other keys than its own
-abbrev pub has_own_keys : Kind → Data → Bool
-has_own_keys kinds.Constituency value = knows_keys_of constituency_keys value
-has_own_keys kinds.Municipality value = knows_keys_of municipality_keys value
-has_own_keys kinds.Group value = knows_keys_of group_keys value
 
 -- whether a group stands nowhere twice
 abbrev pub double_checks : Kind → Data → List (Key × Bool)
@@ -88,9 +72,10 @@ double_checks kind value = []
 
 -- the checks of a fault in a table, where there are n constituencies
 abbrev pub table_checks : SetupFault → Kind → ℕ → Data → List (Key × Bool)
-table_checks faults.Missing kind n value = (keys.Name, in_table (codes "name") value) ∷ missing_check kind value ∷ []
-table_checks faults.Range kind n value = (keys.Name, is_named value) ∷ range_check kind n value ∷ []
-table_checks faults.Unknown kind n value = (keys.Other, has_own_keys kind value) ∷ []
+table_checks faults.Missing kind n value = (keys.Name, is_some (get (codes "name") value)) ∷ missing_check kind value ∷ []
+table_checks faults.Range kind n value = (keys.Name, is_some (get (codes "name") value >>= name_of)) ∷ range_check kind n value ∷ []
+table_checks faults.Unknown kind n value =
+    (other_key (as_table value >>= first_other (own_keys kind)), knows_keys_of (own_keys kind) value) ∷ []
 table_checks faults.Double kind n value = double_checks kind value
 table_checks fault kind n value = []
 

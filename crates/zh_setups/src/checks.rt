@@ -1,17 +1,17 @@
 //! The checks of a set-up text, key by key: the first that fails names the place of a fault.
 
-ghost use Rattle.std.specs.Prelude.{◌≡◌, map, is_some, codes};
-ghost use Rattle.toml.specs.Data.{get_member};
+ghost use Rattle.std.specs.Prelude.{◌≡◌, map, is_some, option_and_then, option_copied, codes};
+ghost use Rattle.toml.specs.Data.{as_table, get, get_member};
 ghost use Rattle.toml.specs.View.{view, table_view};
 ghost use Rattle.zh_setups.specs.Document.{quorum_of};
-ghost use Rattle.zh_setups.specs.Keys.{knows_keys_of};
-ghost use Rattle.zh_setups.specs.Places.{are_within, at_top, double_checks, first_failing, has_own_keys, in_table, missing_check};
-ghost use Rattle.zh_setups.specs.Places.{number_at_top, range_check, stands_within, table_checks, top_checks};
+ghost use Rattle.zh_setups.specs.Keys.{first_other, knows_keys_of, own_keys};
+ghost use Rattle.zh_setups.specs.Places.{are_within, double_checks, first_failing, missing_check, number_at_top};
+ghost use Rattle.zh_setups.specs.Places.{other_key, range_check, stands_within, table_checks, top_checks};
 
 use crate::doubles::{repeats_number, stands_in};
 use crate::fault::SetupFault;
-use crate::keys::{knows_document_keys, knows_keys};
-use crate::place::{Key, Kind};
+use crate::keys::{first_other, known_keys, knows_document_keys, knows_keys};
+use crate::place::{Key, Kind, OtherKey};
 use crate::table::{name, number, number_at, value_at, value_of, values, values_at};
 use toml::{Table, Value};
 
@@ -28,7 +28,7 @@ fn first_failing(checks: &[(Key, bool)]) -> Option<Key>
 }
 
 fn at_top(document: &Table, key: &str) -> bool
-    ensures { result ≡ at_top key.now (table_view document.now) }
+    ensures { result ≡ is_some (get_member key.now (table_view document.now)) }
 {
     value_at(document, key).is_some()
 }
@@ -53,7 +53,7 @@ fn quorum_passes(document: &Table) -> bool
 }
 
 fn in_table(value: &Value, key: &str) -> bool
-    ensures { result ≡ in_table key.now (view value.now) }
+    ensures { result ≡ is_some (get key.now (view value.now)) }
 {
     value_of(value, key).is_some()
 }
@@ -82,6 +82,24 @@ fn stands_within(group: &Value, constituencies: u32) -> bool
     }
 }
 
+/// The key by which one that is not known is named.
+fn other_key(found: Option<&str>) -> Key
+    ensures { result ≡ other_key (option_copied found.entry) }
+{
+    match found {
+        Some(key) => Key::Other(OtherKey::new(key)),
+        None => Key::Other(OtherKey::new("")),
+    }
+}
+
+/// The key at the top that is not known, if there is one.
+fn other_key_at_top(document: &Table) -> Option<Key>
+    ensures { result ≡ first_failing (top_checks SetupFault.Unknown (table_view document.now)) }
+{
+    let other = first_other(document, known_keys(document));
+    first_failing(&[(other_key(other), knows_document_keys(document))])
+}
+
 /// The key at the top that has this fault.
 pub(crate) fn top_key(document: &Table, fault: SetupFault) -> Option<Key>
     ensures { result ≡ first_failing (top_checks fault (table_view document.now)) }
@@ -108,7 +126,7 @@ pub(crate) fn top_key(document: &Table, fault: SetupFault) -> Option<Key>
             (Key::Group, values_at(document, "group", 32).is_some()),
             (Key::CantonQuorum, quorum_passes(document)),
         ]),
-        SetupFault::Unknown => first_failing(&[(Key::Other, knows_document_keys(document))]),
+        SetupFault::Unknown => other_key_at_top(document),
         _ => None,
     }
 }
@@ -123,15 +141,34 @@ fn knows_keys_of(value: &Value, keys: &[&str]) -> bool
     }
 }
 
-/// Whether a table has no other keys than its own.
-fn has_own_keys(value: &Value, kind: Kind) -> bool
-    ensures { result ≡ has_own_keys kind (view value.now) }
+/// The keys of a table.
+fn own_keys(kind: Kind) -> &'static [&'static str]
+    ensures { map (λ k. k.now) result.now ≡ own_keys kind }
 {
     match kind {
-        Kind::Constituency => knows_keys_of(value, &["name", "persons"]),
-        Kind::Municipality => knows_keys_of(value, &["name", "constituency"]),
-        Kind::Group => knows_keys_of(value, &["name", "stands"]),
+        Kind::Constituency => &["name", "persons"],
+        Kind::Municipality => &["name", "constituency"],
+        Kind::Group => &["name", "stands"],
     }
+}
+
+/// The first key of a value, if it is a table, that is not one of these.
+fn first_other_of<'a>(value: &'a Value, keys: &[&str]) -> Option<&'a str>
+    ensures { option_copied result ≡ option_and_then (first_other (map (λ k. k.now) keys.now)) (as_table (view value.now)) }
+{
+    match value.as_table() {
+        Some(table) => first_other(table, keys),
+        None => None,
+    }
+}
+
+/// The key of a table that is not known, if there is one.
+fn other_key_in(value: &Value, kind: Kind) -> Option<Key>
+    ensures { result ≡ first_failing (table_checks SetupFault.Unknown kind 0 (view value.now)) }
+{
+    let keys = own_keys(kind);
+    let other = first_other_of(value, keys);
+    first_failing(&[(other_key(other), knows_keys_of(value, keys))])
 }
 
 /// Whether a table has its key beside the name, and that key.
@@ -200,7 +237,7 @@ pub(crate) fn table_key(
     match fault {
         SetupFault::Missing => missing_key(value, kind),
         SetupFault::Range => key_out_of_range(value, kind, constituencies),
-        SetupFault::Unknown => first_failing(&[(Key::Other, has_own_keys(value, kind))]),
+        SetupFault::Unknown => other_key_in(value, kind),
         SetupFault::Double => key_of_double(value, kind),
         _ => None,
     }

@@ -1,11 +1,12 @@
 //! The keys of a document: which are missing, and which should not be there.
 
-ghost use Rattle.std.specs.Prelude.{◌≡◌, map};
+ghost use Rattle.std.specs.Prelude.{◌≡◌, map, option_copied};
 ghost use Rattle.std.specs.List.{list_all, list_any};
 ghost use Rattle.std.specs.Str.{bytes_eq};
 ghost use Rattle.toml.specs.Data.{table};
 ghost use Rattle.toml.specs.View.{view, table_view};
-ghost use Rattle.zh_setups.specs.Keys.{has_keys, knows_keys, knows_keys_of, is_version_2, known_keys, misses_key, has_other_key, tables_at};
+ghost use Rattle.zh_setups.specs.Keys.{first_other, has_keys, has_other_key, is_version_2, known_keys, knows_keys, knows_keys_of};
+ghost use Rattle.zh_setups.specs.Keys.{misses_key, tables_at};
 
 use crate::table::{tables_at, value_at, value_of};
 use toml::{Table, Value};
@@ -90,6 +91,18 @@ pub(crate) fn knows_keys(table: &Table, keys: &[&str]) -> bool
     true
 }
 
+/// The first key of a table, in its order, that is not one of these.
+pub(crate) fn first_other<'a>(table: &'a Table, keys: &[&str]) -> Option<&'a str>
+    ensures { option_copied result ≡ first_other (map (λ k. k.now) keys.now) (table_view table.now) }
+{
+    for (name, _) in table {
+        if !is_among(name.as_str(), keys) {
+            return Some(name.as_str());
+        }
+    }
+    None
+}
+
 fn each_knows_keys(values: &[Value], keys: &[&str]) -> bool
     ensures { result ≡ list_all (knows_keys_of (map (λ k. k.now) keys.now)) (map view values.now) }
 {
@@ -119,28 +132,29 @@ fn is_version_2(document: &Table) -> bool
     }
 }
 
+/// The keys that may stand at the top.
+pub(crate) fn known_keys(document: &Table) -> &'static [&'static str]
+    ensures { map (λ k. k.now) result.now ≡ known_keys (table_view document.now) }
+{
+    if is_version_2(document) {
+        &[
+            "canton_quorum",
+            "version",
+            "house",
+            "constituency",
+            "municipality",
+            "group",
+        ]
+    } else {
+        &["version", "house", "constituency", "municipality", "group"]
+    }
+}
+
 /// Whether each key at the top may stand there.
 pub(crate) fn knows_document_keys(document: &Table) -> bool
     ensures { result ≡ knows_keys (known_keys (table_view document.now)) (table_view document.now) }
 {
-    if is_version_2(document) {
-        knows_keys(
-            document,
-            &[
-                "canton_quorum",
-                "version",
-                "house",
-                "constituency",
-                "municipality",
-                "group",
-            ],
-        )
-    } else {
-        knows_keys(
-            document,
-            &["version", "house", "constituency", "municipality", "group"],
-        )
-    }
+    knows_keys(document, known_keys(document))
 }
 
 /// Whether another key stands at the top or in a table.

@@ -16,6 +16,6 @@ mod text;
 
 pub use example::rehearsal;
 pub use fault::{SetupFault, SetupRefusal};
-pub use place::{FaultPlace, Key, Kind};
+pub use place::{FaultPlace, Key, Kind, OtherKey};
 pub use position::Position;
 pub use text::read_setup;
