@@ -1,6 +1,5 @@
 mod CheckLemmas
 mod DryRunLemmas
-mod ExportLemmas
 mod FormatLemmas
 mod FrontLemmas
 mod KeptLemmas
@@ -9,8 +8,7 @@ mod LoadLemmas
 mod OrderLemmas
 mod RehearseLemmas
 mod RunLemmas
-mod SeatsLemmas
 mod SetupLemmas
+mod ShownLemmas
 mod StartLemmas
 mod WorldLemmas
-mod StatusLemmas

@@ -13,6 +13,7 @@ pub mod Remarks
 pub mod Rehearse
 pub mod Tasks
 pub mod List
+pub mod Shown
 pub mod Status
 pub mod Seats
 pub mod SheetSeats

@@ -7,8 +7,9 @@ use zh_commands::WriteFault;
 use zh_districts::SeatFault;
 use zh_held::HeldFault;
 use zh_office::{OpenFault, ServeFault};
+use zh_record_text::RecordFault;
 use zh_setups::{SetupFault, SetupRefusal};
-use zh_tables::{ListFault, RecordFault};
+use zh_tables::ListFault;
 use zh_verdicts::VerdictFault;
 use zh_world::{FileCause, FileFault};
 

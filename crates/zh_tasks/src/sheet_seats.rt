@@ -1,24 +1,20 @@
 //! Writing the seats of a published sheet.
 
-ghost use Rattle.std.specs.Prelude.{◌≡◌, ◌≤◌, ℕ, IfErr, IfOk, Ok, Result};
-ghost use Rattle.zh_check.specs.declared.checked.RightSheet.{RightSheet};
-ghost use Rattle.zh_districts.specs.Canton.{Canton};
-ghost use Rattle.zh_results.specs.declared.outcome.NoSeats.{NoSeats};
-ghost use Rattle.zh_tasks.specs.SheetSeats.{AreBothRead, AreSeatsOn, FindsNoSheet, HasShownSheet, WritesStated, stated};
-ghost use Rattle.zh_tasks.specs.SheetSeats.{stated_text};
+ghost use Rattle.std.specs.Prelude.{◌≡◌, ◌≤◌, ℕ, IfErr, IfOk};
+ghost use Rattle.zh_tasks.specs.SheetSeats.{AreBothRead, AreStated, FindsNoSheet, HasShownSheet, MayShowSheet, stated};
+ghost use Rattle.zh_tasks.specs.Shown.{GivesShown, Shows};
 ghost use Rattle.zh_tasks.specs.World.{AreCalls, IsMetAt, known};
 
 use crate::check::sheet_at;
 use crate::fault::TaskFault;
-use crate::remark::make_remark;
-use crate::seats::{report_none, text_of};
+use crate::seats::{shown_reason, text_of};
 use crate::setup::setup_at;
+use crate::shown::{Shown, write_shown};
 use crate::used::Used;
 use std::alloc::Global;
 use std::io::{Read, Write};
 use zh_arguments::Layout;
 use zh_check::RightSheet;
-use zh_commands::put;
 use zh_districts::Setup;
 use zh_results::{MarkedSheet, seats_by_sheet};
 use zh_seats::{Mark, Source};
@@ -63,26 +59,26 @@ fn stated(right: RightSheet<'_>) -> MarkedSheet<'_>
     }
 }
 
-/// Writes the seats of a right sheet, and then what no check can tell of them to the standard error. Where that can't be
-/// written the seats stand all the same.
-fn write_stated<I: Read, O: Write, E: Write, F: Files>(
-    alloc: Global,
-    right: RightSheet<'_>,
-    layout: Layout,
-    world: &mut World<I, O, E, F>,
-) -> Result<(), TaskFault>
-    ensures rest { world.new ≡ record world.old { output = world.new.output; faults = world.new.faults; remark = world.new.remark } }
-    ensures written { (canton : Canton) → WritesStated (known I.Read O.Write E.Write F.Files F.Disk.Disk) world.old world.new
-        (stated_text canton layout (Ok right.entry)) result }
+/// The seats of a right sheet, and beside them what no check can tell of them.
+fn shown_stated(alloc: Global, right: RightSheet<'_>, layout: Layout) -> Result<Shown, TaskFault>
+    ensures { GivesShown (AreStated layout right.entry) result }
 {
     let line = unchecked_line(alloc, &right)?;
     let text = text_of(alloc, &stated(right), layout)?;
-    put(&mut world.output, &text)?;
-    world.remark = make_remark(&line, &mut world.faults);
-    Ok(())
+    Ok(Shown::Advised(text, line))
 }
 
-/// Writes the seats on a text, if it is a right sheet of a set-up, or else why there are none.
+/// The seats on a text, if it is a right sheet of a set-up, or else why there are none.
+fn shown_of(alloc: Global, setup: &Setup, text: &[u8], layout: Layout) -> Result<Shown, TaskFault>
+    ensures { GivesShown (MayShowSheet setup.now text.now layout) result }
+{
+    match seats_by_sheet(alloc, setup, text) {
+        Ok(right) => shown_stated(alloc, right, layout),
+        Err(why) => shown_reason(alloc, setup, &why),
+    }
+}
+
+/// Shows the seats on a text.
 fn show_text<I: Read, O: Write, E: Write, F: Files>(
     alloc: Global,
     setup: &Setup,
@@ -91,14 +87,11 @@ fn show_text<I: Read, O: Write, E: Write, F: Files>(
     world: &mut World<I, O, E, F>,
 ) -> Result<(), TaskFault>
     ensures rest { world.new ≡ record world.old { output = world.new.output; faults = world.new.faults; remark = world.new.remark } }
-    ensures shown { (seats : Result RightSheet NoSeats) × AreSeatsOn setup.now text.now seats
-        × WritesStated (known I.Read O.Write E.Write F.Files F.Disk.Disk) world.old world.new
-        (stated_text setup.now layout seats) result }
+    ensures shown { Shows (known I.Read O.Write E.Write F.Files F.Disk.Disk) world.old world.new
+        (MayShowSheet setup.now text.now layout) result }
 {
-    match seats_by_sheet(alloc, setup, text) {
-        Ok(right) => write_stated(alloc, right, layout, world),
-        Err(why) => report_none(alloc, setup, &why, world),
-    }
+    let shown = shown_of(alloc, setup, text, layout)?;
+    write_shown(&shown, world)
 }
 
 /// Writes the seats of a published sheet, if it is right. No disk is opened.

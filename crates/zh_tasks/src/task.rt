@@ -11,6 +11,7 @@ use crate::format::FormatDisk;
 use crate::list::list;
 use crate::load::Load;
 use crate::on_disk::{on_disk, on_filmed_disk, on_made_disk};
+use crate::reading::Showing;
 use crate::rehearse::rehearse;
 use crate::run::Run;
 use crate::seats::Seats;
@@ -39,15 +40,31 @@ pub fn carry_out<I: Read, O: Write, E: Write, F: Files>(
         Task::Run(paths) => on_filmed_disk(alloc, paths, right, world, &Run),
         Task::Load { paths, csv } => on_filmed_disk(alloc, paths, right, world, &Load { csv }),
         Task::DryRun { paths, csv } => on_disk(alloc, paths, right, world, &DryRun { csv }),
-        Task::Export(paths) => on_disk(alloc, paths, right, world, &Export),
-        Task::Status { paths, view } => on_disk(alloc, paths, right, world, &Status { view }),
+        Task::Export(paths) => on_disk(alloc, paths, right, world, &Showing { task: &Export }),
+        Task::Status { paths, view } => on_disk(
+            alloc,
+            paths,
+            right,
+            world,
+            &Showing {
+                task: &Status { view },
+            },
+        ),
         Task::List { setup, table } => list(alloc, setup, table, world),
         Task::Check(paths) => check_sheet(alloc, paths, world),
         Task::Seats {
             paths,
             is_final,
             layout,
-        } => on_disk(alloc, paths, right, world, &Seats { is_final, layout }),
+        } => on_disk(
+            alloc,
+            paths,
+            right,
+            world,
+            &Showing {
+                task: &Seats { is_final, layout },
+            },
+        ),
         Task::SheetSeats {
             setup,
             sheet,

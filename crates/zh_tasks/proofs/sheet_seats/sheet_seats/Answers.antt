@@ -6,7 +6,6 @@ pub returns-in-Ok : goal.returns-in-Ok
 returns-in-Ok g c =
     let at = g.F.Files.text_at c.args.world.now.files in
     let canton = c.in-Ok.setup in
-    let shown = c.show_text.ensures.shown in
     record {
       none = refl;
       files = c.read_both.new.files;
@@ -16,9 +15,7 @@ returns-in-Ok g c =
         canton = canton;
         bytes = c.deref.result.now;
         read = subst (λ (bytes : List ℕ). AreBothRead at c.args.paths canton bytes) (sym c.deref.ensures.value) c.in-Ok.ensures.read;
-        seats = shown.0;
-        are = shown.1;
-        written = shown.2;
+        shown = c.show_text.ensures.shown;
       });
     }
 

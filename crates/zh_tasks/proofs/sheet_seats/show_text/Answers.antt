@@ -1,5 +1,9 @@
-use Rattle.std.proofs.Common.{Ok}
+use Rattle.zh_tasks.specs.SheetSeats.{MayShowSheet}
+use Rattle.zh_tasks.specs.World.{known}
+use Rattle.zh_tasks.proofs.ShownLemmas.{shows}
 use Rattle.zh_tasks.proofs.sheet_seats.show_text.Goals as goal
 
-pub returns-in-Ok-clause-shown : goal.returns-in-Ok-clause-shown
-returns-in-Ok-clause-shown g c = (Ok c.in-Ok.right, c.in-Ok.ensures.right, c.write_stated.ensures.written c.args.setup.now)
+pub returns-clause-shown : goal.returns-clause-shown
+returns-clause-shown g c =
+    shows (known g.I.Read g.O.Write g.E.Write g.F.Files g.F.Disk.Disk) c.args.world.now c.write_shown.new.world
+    (MayShowSheet c.args.setup.now c.args.text.now c.args.layout) c.in_ok-shown.shown c.write_shown.result c.in_ok-shown.ensures c.write_shown.ensures.written
