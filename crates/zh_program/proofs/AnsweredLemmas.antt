@@ -87,7 +87,7 @@ fault_fair totals (faults.NoVotes d) made = plain totals _ (λ no. no)
 fault_fair totals faults.Exhausted made = plain totals _ (λ no. no)
 
 follows : (totals : VoteTotals) (sheet : Distribution) → IsSheetOf totals sheet → FollowsFrom totals sheet
-follows totals sheet is = record { votes = is.votes; meets = is.meets; one_answer = is.one_answer }
+follows totals sheet is = record { votes = is.votes; meets = is.meets }
 
 sheet_in : Distribution → Answer → Distribution
 sheet_in other (answers.Reply reply) = other

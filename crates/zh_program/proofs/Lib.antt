@@ -1,4 +1,3 @@
-mod PathLemmas
 mod EndingLemmas
 mod AlwaysLemmas
 mod SoundLemmas

@@ -27,24 +27,25 @@ use Rattle.zh_program.proofs.TurnLemmas.{IsAt}
 -- an image that holds a count opens to it
 pub opens_to : (count : Tally) (c : List ℕ) → Holds count c → OpensTo count c
 opens_to count c holds = record {
+  stands = record { content = holds.content; end = holds.end; format = holds.format; framed = holds.clean.framed; stands = holds.stands };
   only = λ other own stood. (one_count c stood.content holds.content stood.end holds.end stood.format holds.format other count stood.framed holds.clean.framed stood.stands holds.stands own).1;
-  refused = refused;
 }
-  where
-    refused : (fault : OpenFault) → IsCause count.canton c fault → (fault ≡ faults.Memory) ⊎ (fault ≡ faults.Device)
-    refused faults.Memory cause = inl refl
-    refused faults.Device cause = inr refl
-    refused faults.Blank cause = absurd (cause holds.clean.framed.gate)
-    refused faults.SetupDiffers cause =
-        let same = framed_alike cause.content holds.content cause.end holds.end c cause.framed holds.clean.framed in
-        absurd (cause.other (ap (λ (x : Content). x.setup) same.0 ∙ holds.stands.setup))
-    refused faults.Damaged cause = absurd (cause.nothing holds.content holds.end holds.clean.framed holds.format count refl holds.stands)
+
+-- so there is no cause to refuse it, memory and the device aside
+pub no_cause : (count : Tally) (c : List ℕ) (fault : OpenFault) → OpensTo count c → IsCause count.canton c fault → (fault ≡ faults.Memory) ⊎ (fault ≡ faults.Device)
+no_cause count c faults.Memory to cause = inl refl
+no_cause count c faults.Device to cause = inr refl
+no_cause count c faults.Blank to cause = absurd (cause to.stands.framed.gate)
+no_cause count c faults.SetupDiffers to cause =
+    let same = framed_alike cause.content to.stands.content cause.end to.stands.end c cause.framed to.stands.framed in
+    absurd (cause.other (ap (λ (x : Content). x.setup) same.0 ∙ to.stands.stands.setup))
+no_cause count c faults.Damaged to cause = absurd (cause.nothing to.stands.content to.stands.end to.stands.framed to.stands.format count refl to.stands.stands)
 
 -- and so each opening of such an image ends
 pub reopens : (count : Tally) (result : Result Ledger OpenFault) (old new : Trail) → OpensTo count old.now.bytes → Opens count.canton result old new
     → MatchResult result (λ ledger. ledger.tally ≡ count) (λ fault. (fault ≡ faults.Memory) ⊎ (fault ≡ faults.Device))
 reopens count (Ok ledger) old new to opens = to.only ledger.tally opens.opened.opened.ready.set_up opens.opened.stood
-reopens count (Err fault) old new to opens = to.refused fault opens.refused
+reopens count (Err fault) old new to opens = no_cause count old.now.bytes fault to opens.refused
 
 -- The set-up of a count that the bytes stand for.
 module _ (canton : Canton) (bytes : List ℕ) (tally : Tally) (limits : IsCanton canton) (own : IsCanton tally.canton) (holds : Holds tally bytes) where

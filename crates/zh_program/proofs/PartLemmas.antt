@@ -1,8 +1,9 @@
 -- What a task on a disk has done, by the task.
 use Rattle.std.proofs.Common.{◌≡◌, ◌≢◌, ◌⊎◌, inl, inr, ⊎_elim, ℕ, List, [], Option, Some, None, Bool, Result, Err, Ok, OnOk, IsTrue, refl, sym, ◌∙◌, ◌∷◌, ap, map, subst}
+use Rattle.std.specs.Prelude.{length, slice_index}
 use Rattle.std.specs.Borrow.{Bor}
 use Rattle.std.specs.Io.KnownBytes.{Keeps as KeepsBytes}
-use Rattle.zh_disk.specs.Disk.{Trail, fresh_trail}
+use Rattle.zh_disk.specs.Disk.{Trail, disk_length, fresh_trail}
 use Rattle.zh_disk.specs.History.{History}
 use Rattle.zh_districts.specs.Canton.{Canton, IsCanton}
 use Rattle.zh_returns.specs.Tally.{Tally}
@@ -11,7 +12,6 @@ use Rattle.zh_ledger.specs.Stands.{Holds}
 use Rattle.zh_ledger.specs.Submissions.{OnDisk}
 use Rattle.zh_ledger.specs.declared.fault.OpenFault.{OpenFault}
 use Rattle.zh_office.specs.Office.{Office}
-use Rattle.zh_status.specs.declared.view.View.{View}
 use Rattle.zh_arguments.specs.declared.arguments.Paths.{Paths}
 use Rattle.zh_arguments.specs.declared.arguments.Task.{Task}
 use Rattle.zh_arguments.specs.declared.arguments.Task.TheVariants as tasks
@@ -20,16 +20,14 @@ use Rattle.zh_world.specs.Files.{Begins, BeginsOrIsMade, BeginsWith}
 use Rattle.zh_world.specs.declared.world.World.{World}
 use Rattle.zh_office.specs.declared.service.ServeFault.TheVariants as serving
 use Rattle.zh_tasks.specs.DryRun.{DryRuns, HasDryRun}
-use Rattle.zh_tasks.specs.Export.{Exported, Exports}
 use Rattle.zh_tasks.specs.Format.{Formatted, FormatsBlank}
 use Rattle.zh_tasks.specs.Load.{HasLoaded, LoadsFile, LoadsText}
 use Rattle.zh_tasks.specs.Opened.{IsFrom, IsOnlyOpened, WithOffice}
 use Rattle.zh_film.specs.Frames.{frame_of, frames}
 use Rattle.zh_film.specs.Scenes.{scenes}
 use Rattle.zh_tasks.specs.Run.{Ran, Serves, Streams, streams_of}
-use Rattle.zh_arguments.specs.declared.seats.Layout.{Layout}
-use Rattle.zh_tasks.specs.Seats.{HasShownSeats, ShowsSeats}
-use Rattle.zh_tasks.specs.Status.{Shown, Shows}
+use Rattle.zh_tasks.specs.Shown.{HasShown, ShowsHeld}
+use Rattle.zh_tasks.specs.declared.shown.Shown.{Shown}
 use Rattle.zh_tasks.specs.World.{IsMetAt, IsSetupAt, Known}
 use Rattle.zh_tasks.specs.declared.fault.TaskFault.{TaskFault}
 use Rattle.zh_tasks.specs.declared.used.Filmed.{Filmed}
@@ -64,14 +62,7 @@ by_office canton first last nothing Does (Err (faults.Open fault)) by refused op
 by_office canton first last nothing Does (Ok done) by refused opened = opened by
 by_office canton first last nothing Does (Err fault) by refused opened = opened by
 
--- of an export nothing is written but the count
-only_opened : (unwritten : Type 0) (w w' : Option (List ℕ)) (Spans : OnDisk Office → OnDisk Office → Type 0) (result : Result (Unit {0}) TaskFault) → Exports unwritten w w' Spans result → IsOnlyOpened Spans
-only_opened unwritten w w' Spans (Ok done) (start, from, written) = (start, from)
-only_opened unwritten w w' Spans (Err faults.Write) (start, from, part) = (start, from)
-only_opened unwritten w w' Spans (Err faults.Memory) (same, by) = by
-only_opened unwritten w w' Spans (Err fault) by = absurd by
-
--- nor is anything given to an office by a dry run
+-- nothing is given to an office by a dry run
 only_judged : (Met : FileFault → Type 0) (text w w' : Option (List ℕ)) (Spans : OnDisk Office → OnDisk Office → Type 0) (result : Result (Unit {0}) TaskFault) → DryRuns Met text w w' Spans result → IsOnlyOpened Spans
 only_judged Met text w w' Spans (Ok done) (forecast, other, has) = (has.start, has.spans)
 only_judged Met text w w' Spans (Err faults.Refused) (refused, records, has) = (has.start, has.spans)
@@ -81,13 +72,6 @@ only_judged Met text w w' Spans (Err faults.CsvFile) by = (by.start, by.spans)
 only_judged Met text w w' Spans (Err (faults.Serve serving.Turns)) by = (by.start, by.spans)
 only_judged Met text w w' Spans (Err faults.Write) by = (by.start, by.spans)
 only_judged Met text w w' Spans (Err fault) by = absurd by
-
--- nor of a view
-only_shown : {I O E F T D R : Type 0} (of : Known I O E F T D R) (view : View) (old new : World I O E F) (Spans : OnDisk Office → OnDisk Office → Type 0) (result : Result (Unit {0}) TaskFault) → Shows of view old new Spans result → IsOnlyOpened Spans
-only_shown of view old new Spans (Ok done) (start, from, written, said) = (start, from)
-only_shown of view old new Spans (Err faults.Write) (start, from, part, unsaid) = (start, from)
-only_shown of view old new Spans (Err faults.Memory) (same, by) = by
-only_shown of view old new Spans (Err fault) by = absurd by
 
 pub known_fresh : (known : Option (List ℕ)) (first : History) (bytes : List ℕ) → Begins known first → known ≡ Some bytes → first.trail ≡ fresh_trail bytes
 known_fresh None first bytes begins is = absurd cc
@@ -100,6 +84,16 @@ known_made None first bytes begins honest is = absurd cc
 known_made (Some xs) first bytes begins honest is =
     let same : xs ≡ bytes = cc in
     subst (λ (b : List ℕ). BeginsWith b first.trail) same (begins.trail honest)
+
+-- those of its file, where it has some
+begun_there : (bytes : List ℕ) (t : Trail) → BeginsWith bytes t → bytes ≢ [] → t.now.bytes ≡ bytes
+begun_there [] t new some = absurd (some refl)
+begun_there (byte ∷ bytes) t is some = ap (λ (x : Trail). x.now.bytes) is
+
+-- and else zeros
+begun_filled : (bytes : List ℕ) (t : Trail) → BeginsWith bytes t → bytes ≡ [] → (length t.now.bytes ≡ disk_length) × ((k : ℕ) → slice_index t.now.bytes k ≡ 0)
+begun_filled [] t new none = (new.size, new.zero)
+begun_filled (byte ∷ bytes) t is none = absurd cc
 
 -- with nothing before it
 fresh_made : (bytes : List ℕ) (t : Trail) → BeginsWith bytes t → t ≡ fresh_trail t.now.bytes
@@ -218,25 +212,16 @@ module _ {I O E F T D R : Type 0} (of : Known I O E F T D R) where
           kept = subst (λ (talk : Conversation). Keeps canton begun ended talk []) (silent opened) (opened_keeps canton begun ended opens.0 opens.0 [] apart apart limits opens.1 (nothing_given opens.0) told);
         })
 
-    pub export_part : (paths : Paths) → Exported of canton (record old { files = files }, first) (after, last) result → HasDone (Export paths) old after status canton begun used
-    export_part paths by =
-        only_part (Export paths) (λ text_at talk. refl) (λ opened. refl) (after.output ≡ old.output) (Exports (after.output ≡ old.output) (of.writers.contents old.output) (of.writers.contents after.output))
-        (only_opened (after.output ≡ old.output) (of.writers.contents old.output) (of.writers.contents after.output) (IsFrom canton begun ended) result) by.written
+    -- the same of a task that shows what is held
+    pub shown_part : (task : Task) → ((text_at : List ℕ → Option (List ℕ)) (talk : Conversation) → AreOfTask text_at task talk status []) → ((opened : Trail) → none_told opened ≡ talk_of of task old after opened used) → (May : Tally → Shown → Type 0)
+        → HasShown of May canton (record old { files = files }, first) (after, last) result → HasDone task old after status canton begun used
+    shown_part task none silent May by =
+        only_part task none silent (after ≡ record old { files = files }) (ShowsHeld of (record old { files = files }) after May) (λ shows. (shows.0, shows.1)) by.shown
 
     pub dry_part : (paths : Paths) (csv : Bor (List ℕ)) → HasDryRun of csv.now canton (record old { files = files }, first) (after, last) result → HasDone (tasks.DryRun paths csv) old after status canton begun used
     dry_part paths csv by =
         only_part (tasks.DryRun paths csv) (λ text_at talk. refl) (λ opened. refl) (after ≡ record old { files = files }) (DryRuns (IsMetAt of.files csv.now files after.files) by.text (of.writers.contents old.output) (of.writers.contents after.output))
         (only_judged (IsMetAt of.files csv.now files after.files) by.text (of.writers.contents old.output) (of.writers.contents after.output) (IsFrom canton begun ended) result) by.judged
-
-    pub status_part : (paths : Paths) (view : View) → Shown of view canton (record old { files = files }, first) (after, last) result → HasDone (tasks.Status paths view) old after status canton begun used
-    status_part paths view by =
-        only_part (tasks.Status paths view) (λ text_at talk. refl) (λ opened. refl) (after ≡ record old { files = files }) (Shows of view (record old { files = files }) after)
-        (only_shown of view (record old { files = files }) after (IsFrom canton begun ended) result) by.shown
-
-    pub seats_part : (paths : Paths) (is_final : Bool) (layout : Layout) → HasShownSeats of (record { is_final = is_final; layout = layout }) canton (record old { files = files }, first) (after, last) result → HasDone (tasks.Seats paths is_final layout) old after status canton begun used
-    seats_part paths is_final layout by =
-        only_part (tasks.Seats paths is_final layout) (λ text_at talk. refl) (λ opened. refl) (after ≡ record old { files = files }) (ShowsSeats of (record { is_final = is_final; layout = layout }) (record old { files = files }) after)
-        (λ shows. (shows.0, shows.1)) by.shown
 
     pub format_part : (paths : Paths) → Formatted of canton (record old { files = files }, first) (after, last) result → HasDone (Format paths) old after status canton begun used
     format_part paths by =
@@ -256,7 +241,8 @@ module _ {I O E F T D R : Type 0} (of : Known I O E F T D R) where
         let fresh = fresh_made bytes begun.trail began in
         record {
           first = begun.trail.now.bytes;
-          began = subst (BeginsWith bytes) fresh began;
+          began = begun_there bytes begun.trail began;
+          filled = begun_filled bytes begun.trail began;
           canton = canton;
           limits = limits;
           moments = formatted_left canton limits begun.trail.now.bytes result ended.trail

@@ -16,13 +16,14 @@ use Rattle.zh_world.specs.Files.{Begins}
 use Rattle.zh_world.specs.declared.world.Remark.{Remark}
 use Rattle.zh_world.specs.declared.world.World.{World}
 use Rattle.zh_tasks.specs.DryRun.{HasDryRun}
-use Rattle.zh_tasks.specs.Export.{Exported}
+use Rattle.zh_tasks.specs.Export.{MayExport}
 use Rattle.zh_tasks.specs.Format.{Formatted}
 use Rattle.zh_tasks.specs.Load.{HasLoaded}
 use Rattle.zh_tasks.specs.OnDisk.{HasUsed, UsesFilm}
 use Rattle.zh_tasks.specs.Run.{Ran}
-use Rattle.zh_tasks.specs.Seats.{HasShownSeats}
-use Rattle.zh_tasks.specs.Status.{Shown}
+use Rattle.zh_tasks.specs.Seats.{MayShowSeats}
+use Rattle.zh_tasks.specs.Shown.{HasShown}
+use Rattle.zh_tasks.specs.Status.{MayShowStatus}
 use Rattle.zh_tasks.specs.Tasks.{Does}
 use Rattle.zh_tasks.specs.World.{Known, finding, making}
 use Rattle.zh_tasks.specs.declared.fault.TaskFault.{TaskFault}
@@ -36,7 +37,7 @@ use Rattle.zh_program.specs.Promise.{Promise}
 use Rattle.zh_program.specs.Stopped.{MakesEmpty}
 use Rattle.zh_program.proofs.OrderLemmas.{awaited_of}
 use Rattle.zh_program.proofs.TouchLemmas.{unfilmed}
-use Rattle.zh_program.proofs.PartLemmas.{HasDone, dry_part, export_part, format_part, known_fresh, held_made, known_made, load_part, made_empty, run_part, seats_part, setup_limits, status_part}
+use Rattle.zh_program.proofs.PartLemmas.{HasDone, dry_part, format_part, known_fresh, held_made, known_made, load_part, made_empty, run_part, setup_limits, shown_part}
 
 at_path : (rows : List Row) (paths : Paths) (path : List ℕ) → Some paths.disk.now ≡ Some path → ArePaths rows paths → path ≡ path_in (codes "disk") rows
 at_path rows paths path on are = let is : paths.disk.now ≡ path = cc in sym is ∙ are.1
@@ -110,12 +111,12 @@ module _ {I O E F T D R : Type 0} (of : Known I O E F T D R) where
         (λ uses limits. load_part of old after uses.files uses.first uses.last uses.observed uses.canton limits status result failed paths csv uses.began.calls.texts uses.does) by
     promise_said (tasks.DryRun paths csv) asked by = found_on (tasks.DryRun paths csv) asked paths refl (λ p is. absurd cc) (λ canton first here. record { exchanges = here.exchanges; opened = here.opened; due = here.due; told = here.told; kept = here.kept }) (unfilmed (HasDryRun of csv.now))
         (λ uses limits. dry_part of old after uses.files uses.first uses.last uses.observed uses.canton limits status result failed paths csv uses.does) by
-    promise_said (Export paths) asked by = found_on (Export paths) asked paths refl (λ p is. absurd cc) (λ canton first here. record { exchanges = here.exchanges; opened = here.opened; due = here.due; told = here.told; kept = here.kept }) (unfilmed (Exported of))
-        (λ uses limits. export_part of old after uses.files uses.first uses.last uses.observed uses.canton limits status result failed paths uses.does) by
-    promise_said (tasks.Status paths view) asked by = found_on (tasks.Status paths view) asked paths refl (λ p is. absurd cc) (λ canton first here. record { exchanges = here.exchanges; opened = here.opened; due = here.due; told = here.told; kept = here.kept }) (unfilmed (Shown of view))
-        (λ uses limits. status_part of old after uses.files uses.first uses.last uses.observed uses.canton limits status result failed paths view uses.does) by
-    promise_said (tasks.Seats paths is_final layout) asked by = found_on (tasks.Seats paths is_final layout) asked paths refl (λ p is. absurd cc) (λ canton first here. record { exchanges = here.exchanges; opened = here.opened; due = here.due; told = here.told; kept = here.kept }) (unfilmed (HasShownSeats of (record { is_final = is_final; layout = layout })))
-        (λ uses limits. seats_part of old after uses.files uses.first uses.last uses.observed uses.canton limits status result failed paths is_final layout uses.does) by
+    promise_said (Export paths) asked by = found_on (Export paths) asked paths refl (λ p is. absurd cc) (λ canton first here. record { exchanges = here.exchanges; opened = here.opened; due = here.due; told = here.told; kept = here.kept }) (unfilmed (HasShown of MayExport))
+        (λ uses limits. shown_part of old after uses.files uses.first uses.last uses.observed uses.canton limits status result failed (Export paths) (λ text_at talk. refl) (λ opened. refl) MayExport uses.does) by
+    promise_said (tasks.Status paths view) asked by = found_on (tasks.Status paths view) asked paths refl (λ p is. absurd cc) (λ canton first here. record { exchanges = here.exchanges; opened = here.opened; due = here.due; told = here.told; kept = here.kept }) (unfilmed (HasShown of (MayShowStatus view)))
+        (λ uses limits. shown_part of old after uses.files uses.first uses.last uses.observed uses.canton limits status result failed (tasks.Status paths view) (λ text_at talk. refl) (λ opened. refl) (MayShowStatus view) uses.does) by
+    promise_said (tasks.Seats paths is_final layout) asked by = found_on (tasks.Seats paths is_final layout) asked paths refl (λ p is. absurd cc) (λ canton first here. record { exchanges = here.exchanges; opened = here.opened; due = here.due; told = here.told; kept = here.kept }) (unfilmed (HasShown of (MayShowSeats (record { is_final = is_final; layout = layout }))))
+        (λ uses limits. shown_part of old after uses.files uses.first uses.last uses.observed uses.canton limits status result failed (tasks.Seats paths is_final layout) (λ text_at talk. refl) (λ opened. refl) (MayShowSeats (record { is_final = is_final; layout = layout })) uses.does) by
     promise_said (Format paths) asked by = ⊎_elim {B = HasUsed (making of.files of.disks) paths old after (λ canton before end film. Formatted of canton before end result) used} {C = Promise of arguments old new status filmed}
         (λ early. none_early early.none)
         (λ uses.

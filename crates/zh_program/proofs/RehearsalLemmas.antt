@@ -11,14 +11,15 @@ use Rattle.zh_arguments.specs.declared.arguments.Task.{Task}
 use Rattle.zh_arguments.specs.declared.arguments.Task.TheVariants as tasks
 use Rattle.zh_world.specs.declared.world.World.{World}
 use Rattle.zh_tasks.specs.DryRun.{HasDryRun}
-use Rattle.zh_tasks.specs.Export.{Exported}
+use Rattle.zh_tasks.specs.Export.{MayExport}
 use Rattle.zh_tasks.specs.Format.{Formatted}
 use Rattle.zh_tasks.specs.Load.{HasLoaded}
 use Rattle.zh_tasks.specs.OnDisk.{HasUsed, UsesFilm}
 use Rattle.zh_tasks.specs.Rehearse.{IsRehearsal, Rehearsed as HasRehearsed, Rehearses, in_memory, rehearsal_shown}
 use Rattle.zh_tasks.specs.Run.{Ran, Serves, Streams, streams_of}
-use Rattle.zh_tasks.specs.Seats.{HasShownSeats}
-use Rattle.zh_tasks.specs.Status.{Shown}
+use Rattle.zh_tasks.specs.Seats.{MayShowSeats}
+use Rattle.zh_tasks.specs.Shown.{HasShown}
+use Rattle.zh_tasks.specs.Status.{MayShowStatus}
 use Rattle.zh_tasks.specs.Tasks.{Does}
 use Rattle.zh_tasks.specs.World.{Known, Sight, finding, making}
 use Rattle.zh_tasks.specs.declared.fault.TaskFault.{TaskFault}
@@ -99,9 +100,9 @@ module _ {I O E F T D R : Type 0} (of : Known I O E F T D R) where
     said (tasks.Run paths) by = on_a_disk (finding of.files of.disks) paths (Ran of) by
     said (tasks.Load paths csv) by = on_a_disk (finding of.files of.disks) paths (HasLoaded of csv.now) by
     said (tasks.DryRun paths csv) by = on_a_disk (finding of.files of.disks) paths (unfilmed (HasDryRun of csv.now)) by
-    said (tasks.Export paths) by = on_a_disk (finding of.files of.disks) paths (unfilmed (Exported of)) by
-    said (tasks.Status paths view) by = on_a_disk (finding of.files of.disks) paths (unfilmed (Shown of view)) by
-    said (tasks.Seats paths is_final layout) by = on_a_disk (finding of.files of.disks) paths (unfilmed (HasShownSeats of (record { is_final = is_final; layout = layout }))) by
+    said (tasks.Export paths) by = on_a_disk (finding of.files of.disks) paths (unfilmed (HasShown of MayExport)) by
+    said (tasks.Status paths view) by = on_a_disk (finding of.files of.disks) paths (unfilmed (HasShown of (MayShowStatus view))) by
+    said (tasks.Seats paths is_final layout) by = on_a_disk (finding of.files of.disks) paths (unfilmed (HasShown of (MayShowSeats (record { is_final = is_final; layout = layout })))) by
     said (tasks.Format paths) by = on_a_disk (making of.files of.disks) paths (unfilmed (Formatted of)) by
 
     -- and no more changed after it than what was said of it

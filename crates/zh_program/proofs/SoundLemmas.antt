@@ -1,6 +1,6 @@
 -- What a command leaves of a disk, on which a ledger keeps the count after those before it.
 use Rattle.std.proofs.Common.{◌≡◌, inl, ⊎_elim, ℕ, ◌+◌, ◌≤◌, List, [], ◌∷◌, ◌++◌, length, take, refl, sym, ◌∙◌, ap, subst, arith, length-append, add-zero, Bool, true, false, IsTrue, Option, Some, None}
-use Rattle.std.proofs.lemmas.List.{take_all, append-nil}
+use Rattle.std.proofs.lemmas.List.{take_all, take-append-le, append-nil}
 use Rattle.std.proofs.Math.Seq.{take-append-add}
 use Rattle.std.specs.Prelude.{IfSome}
 use Rattle.zh_disk.specs.Disk.{Trail, IsImage, Leaves, Moves}
@@ -48,6 +48,15 @@ has_one s command c holds = record { number = 1; at_least = omega arith; within 
 
 pub has_any : (tally : Tally) (commands : List Command) (least fewer : ℕ) (c : List ℕ) → fewer ≤ least → HasSome tally commands least c → HasSome tally commands fewer c
 has_any tally commands least fewer c le some = record { number = some.number; at_least = omega (arith, some.at_least, le); within = some.within; holds = some.holds }
+
+-- and some of more than these
+pub has_front : (tally : Tally) (cs ds : List Command) (least : ℕ) (c : List ℕ) → HasSome tally cs least c → HasSome tally (cs ++ ds) least c
+has_front tally cs ds least c some = record {
+  number = some.number;
+  at_least = some.at_least;
+  within = omega (arith, some.within, length-append cs ds);
+  holds = subst (λ (l : List Command). Holds (after tally l) c) (sym (take-append-le some.number cs ds some.within)) some.holds;
+}
 
 -- while the device has not failed, all that is accepted is acknowledged, and each image is the one that the ledger knows
 pub record IsWhole (log : Log) (o : OnDisk Ledger) : Type 0 where

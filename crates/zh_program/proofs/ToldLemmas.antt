@@ -1,8 +1,9 @@
 -- What the order excludes.
-use Rattle.std.proofs.Common.{◌≡◌, ◌≢◌, ◌⊎◌, ◌<◌, ◌≤◌, ◌+◌, inl, inr, ⊎_elim, ℕ, List, [], ◌∷◌, ◌++◌, map, length, take, refl, sym, ◌∙◌, ap, subst, arith, append_assoc, append-nil, length-append, length-take, decimal, Option, None, Some}
+use Rattle.std.proofs.Common.{◌≡◌, ◌≢◌, ◌⊎◌, ◌<◌, ◌≤◌, ◌+◌, inl, inr, ⊎_elim, ℕ, List, [], ◌∷◌, ◌++◌, map, length, drop, take, refl, sym, ◌∙◌, ap, subst, arith, append_assoc, append-nil, length-append, length-take, decimal, Option, None, Some}
 use Rattle.std.specs.Prelude.{flat_map}
 use Rattle.std.specs.Io.KnownBytes.{Appends, Consumes}
-use Rattle.std.proofs.lemmas.List.{append_cancel_left, append_cancel_right}
+use Rattle.std.proofs.Math.Seq.{take-add}
+use Rattle.std.proofs.lemmas.List.{append_cancel_left, append_cancel_right, take-append-drop}
 use Rattle.zh_disk.specs.Disk.{IsImage, Trail}
 use Rattle.zh_film.specs.Frames.{Frame, InOrder}
 use Rattle.zh_film.specs.declared.kind.FrameKind.TheVariants.{Asks}
@@ -23,6 +24,7 @@ use Rattle.zh_program.specs.Exchanges.{Exchange, Given, answer_to_given, line_in
 use Rattle.zh_program.specs.Exchanges.Given.{line, text}
 use Rattle.zh_program.specs.Headline.{Headline}
 use Rattle.zh_program.specs.Order.{AnswersBeforeReading, AreNext, Conversation, KeepsWhatIsTold}
+use Rattle.zh_program.specs.Stopped.{Always}
 use Rattle.zh_program.proofs.ExchangeLemmas.{log_append, log_more}
 use Rattle.zh_program.proofs.ExcludeLemmas.{after_canton, all_judged, always_at, judged_number, judged_take, one_at_most, same_held}
 
@@ -135,9 +137,52 @@ one_more done (x ∷ []) single =
     (one_at_most x.command x.answer)
 one_more done (x ∷ (y ∷ more)) single = absurd (omega (arith, single))
 
+-- what is told by the parts of the exchanges: those that are answered by the earlier time, one more at most, and the others
+record IsParted (tally : Tally) (exchanges : List Exchange) (first a b : Frame) : Type 0 where
+  done : List Exchange
+  answered : Appends first.written a.written (flat_map text_of done)
+  one : List Exchange
+  single : length one ≤ 1
+  rest : List Exchange
+  parts : exchanges ≡ done ++ (one ++ rest)
+  told : List Exchange
+  with_it : (told ≡ done) ⊎ (told ≡ done ++ one)
+  text : List ℕ
+  more : List ℕ
+  front : text ++ more ≡ flat_map text_of told
+  written : Appends first.written b.written text
+  kept : Always (HasSome tally (log_of (done ++ one)).accepted (log_of told).acknowledged) a.disk b.disk
+
+parted : (tally : Tally) (exchanges : List Exchange) (first a b : Frame) → KeepsWhatIsTold tally exchanges first a b → IsParted tally exchanges first a b
+parted tally exchanges first a b k =
+    let left = drop k.done exchanges in
+    let next : take (k.done + 1) exchanges ≡ take k.done exchanges ++ take 1 left = take-add k.done 1 exchanges in
+    let texts = flat_map text_of (take k.told exchanges) in
+    record {
+      done = take k.done exchanges;
+      answered = k.answered;
+      one = take 1 left;
+      single = omega (arith, length-take 1 left);
+      rest = drop 1 left;
+      parts = sym (ap (λ (l : List Exchange). take k.done exchanges ++ l) (take-append-drop 1 left) ∙ take-append-drop k.done exchanges);
+      told = take k.told exchanges;
+      with_it = ⊎_elim
+          (λ (is : k.told ≡ k.done). inl (ap (λ (n : ℕ). take n exchanges) is))
+          (λ (is : k.told ≡ k.done + 1). inr (ap (λ (n : ℕ). take n exchanges) is ∙ next))
+          k.one_more;
+      text = take k.front texts;
+      more = drop k.front texts;
+      front = take-append-drop k.front texts;
+      written = k.written;
+      kept = subst (λ (l : List Exchange). Always (HasSome tally (log_of l).accepted (log_of (take k.told exchanges)).acknowledged) a.disk b.disk) next k.kept;
+    }
+
 module _ (tally : Tally) (before : Trail) (talk : Conversation) (exchanges : List Exchange) (promise : Headline tally before talk exchanges) (a b : Frame) (near : AreNext talk a b) where
   follows : KeepsWhatIsTold tally exchanges talk.first a b × AnswersBeforeReading exchanges talk.first a b
   follows = next_by (λ x y. KeepsWhatIsTold tally exchanges talk.first x y × AnswersBeforeReading exchanges talk.first x y) talk.first talk.noted talk.last promise.order a b near.0 near.1 near.2
+
+  tells : IsParted tally exchanges talk.first a b
+  tells = parted tally exchanges talk.first a b follows.0
 
   -- two first parts of the accepted commands in one image are equally long
   same_length : (done rest others more : List Exchange) (c : List ℕ) (m n : ℕ) → exchanges ≡ done ++ rest → exchanges ≡ others ++ more → m ≤ length (log_of done).accepted → n ≤ length (log_of others).accepted
@@ -151,7 +196,7 @@ module _ (tally : Tally) (before : Trail) (talk : Conversation) (exchanges : Lis
       omega (arith, within, within', length-take m xs, length-take n ys, one, other, ap (λ (t : Tally). t.accepted) same)
 
   -- what of the exchanges is told, and what comes after it
-  others_of : (k : KeepsWhatIsTold tally exchanges talk.first a b) → (others : List Exchange) × (exchanges ≡ k.told ++ others)
+  others_of : (k : IsParted tally exchanges talk.first a b) → (others : List Exchange) × (exchanges ≡ k.told ++ others)
   others_of k = ⊎_elim
       (λ (is : k.told ≡ k.done). (k.one ++ k.rest, k.parts ∙ ap (λ (l : List Exchange). l ++ (k.one ++ k.rest)) (sym is)))
       (λ (is : k.told ≡ k.done ++ k.one). (k.rest, k.parts ∙ sym (append_assoc k.done k.one k.rest) ∙ ap (λ (l : List Exchange). l ++ k.rest) (sym is)))
@@ -159,15 +204,15 @@ module _ (tally : Tally) (before : Trail) (talk : Conversation) (exchanges : Lis
 
   module _ (done rest : List Exchange) (is : exchanges ≡ done ++ rest) (known : List ℕ) where
     module _ (c : List ℕ) (was : talk.first.written ≡ Some known) (stop : StopsWithin a.disk b.disk c) (n : ℕ) where
-      some : HasSome tally (log_of (follows.0.done ++ follows.0.one)).accepted (log_of follows.0.told).acknowledged c
-      some = always_at (HasSome tally (log_of (follows.0.done ++ follows.0.one)).accepted (log_of follows.0.told).acknowledged) a.disk b.disk c follows.0.kept stop
+      some : HasSome tally (log_of (tells.done ++ tells.one)).accepted (log_of tells.told).acknowledged c
+      some = always_at (HasSome tally (log_of (tells.done ++ tells.one)).accepted (log_of tells.told).acknowledged) a.disk b.disk c tells.kept stop
 
-      all_parts : exchanges ≡ (follows.0.done ++ follows.0.one) ++ follows.0.rest
-      all_parts = follows.0.parts ∙ sym (append_assoc follows.0.done follows.0.one follows.0.rest)
+      all_parts : exchanges ≡ (tells.done ++ tells.one) ++ tells.rest
+      all_parts = tells.parts ∙ sym (append_assoc tells.done tells.one tells.rest)
 
       pub none_early : b.written ≡ Some (known ++ flat_map text_of done) → n < (log_of done).acknowledged → n ≤ length (log_of done).accepted → Holds (after tally (take n (log_of done).accepted)) c → ⊥
       none_early written fewer within holds =
-          let k = follows.0 in
+          let k = tells in
           let told : k.text ≡ flat_map text_of done = appended known (flat_map text_of done) k.text talk.first.written b.written was written k.written in
           let others = others_of k in
           let logs = logs_more done k.told rest others.0 k.more (sym is ∙ others.1) (ap (λ (l : List ℕ). l ++ k.more) (sym told) ∙ k.front) in
@@ -176,7 +221,7 @@ module _ (tally : Tally) (before : Trail) (talk : Conversation) (exchanges : Lis
 
       pub none_unanswered : a.written ≡ Some (known ++ flat_map text_of done) → length (log_of done).accepted + 1 < n → n ≤ length (log_of exchanges).accepted → Holds (after tally (take n (log_of exchanges).accepted)) c → ⊥
       none_unanswered written more within holds =
-          let k = follows.0 in
+          let k = tells in
           let told : flat_map text_of k.done ≡ flat_map text_of done = appended known (flat_map text_of done) (flat_map text_of k.done) talk.first.written a.written was written k.answered in
           let logs = logs_more k.done done (k.one ++ k.rest) rest [] (sym k.parts ∙ is) (append-nil (flat_map text_of k.done) ∙ told) in
           let same = same_length exchanges [] (k.done ++ k.one) k.rest c n some.number (sym (append-nil exchanges)) all_parts within some.within holds some.holds in
@@ -203,6 +248,7 @@ module _ (tally : Tally) (before : Trail) (talk : Conversation) (exchanges : Lis
         → talk.first.written ≡ Some known → a.written ≢ Some (known ++ flat_map text_of done) → ⊥
     none_late asks input left had has lines was other =
         let all = follows.1.reads asks in
+        let whole = sym (take-append-drop all.done exchanges) in
         let read : all.input ≡ input = consumed input left all.input talk.first.left a.left had has all.read in
-        let same : all.done ≡ done = same_part all.done all.rest all.parts (all.lines ∙ ap (λ (l : List ℕ). map Some (ended_lines l)) read ∙ sym lines) in
+        let same : take all.done exchanges ≡ done = same_part (take all.done exchanges) (drop all.done exchanges) whole (all.lines ∙ ap (λ (l : List ℕ). map Some (ended_lines l)) read ∙ sym lines) in
         other (after_known known (flat_map text_of done) talk.first.written a.written was (subst (λ (l : List Exchange). Appends talk.first.written a.written (flat_map text_of l)) same all.written))

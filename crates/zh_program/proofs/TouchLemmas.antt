@@ -10,13 +10,14 @@ use Rattle.zh_world.specs.declared.world.Ended.{Ended}
 use Rattle.zh_world.specs.declared.world.World.{World}
 use Rattle.zh_world.proofs.CallerLemmas.{before_stay}
 use Rattle.zh_tasks.specs.DryRun.{HasDryRun}
-use Rattle.zh_tasks.specs.Export.{Exported}
+use Rattle.zh_tasks.specs.Export.{MayExport}
 use Rattle.zh_tasks.specs.Format.{Formatted}
 use Rattle.zh_tasks.specs.Load.{HasLoaded}
 use Rattle.zh_tasks.specs.OnDisk.{UsesFilm}
 use Rattle.zh_tasks.specs.Run.{Ran}
-use Rattle.zh_tasks.specs.Seats.{HasShownSeats}
-use Rattle.zh_tasks.specs.Status.{Shown}
+use Rattle.zh_tasks.specs.Seats.{MayShowSeats}
+use Rattle.zh_tasks.specs.Shown.{HasShown}
+use Rattle.zh_tasks.specs.Status.{MayShowStatus}
 use Rattle.zh_tasks.specs.Tasks.{Does}
 use Rattle.zh_tasks.specs.World.{Known, Sight, finding, making}
 use Rattle.zh_tasks.specs.declared.fault.TaskFault.{TaskFault}
@@ -57,13 +58,13 @@ module _ {I O E F T D R : Type 0} where
         (λ canton before after film does. does.stays) by
     does_touch (tasks.DryRun paths csv) old new ended by = uses_touch (finding of.files of.disks) paths old new (unfilmed (HasDryRun of csv.now)) ended
         (λ canton before after film does. does.stays) by
-    does_touch (Export paths) old new ended by = uses_touch (finding of.files of.disks) paths old new (unfilmed (Exported of)) ended
+    does_touch (Export paths) old new ended by = uses_touch (finding of.files of.disks) paths old new (unfilmed (HasShown of MayExport)) ended
         (λ canton before after film does. same_files before.0 after.0 (ap (λ (w : World I O E F). w.files) does.rest)) by
-    does_touch (tasks.Status paths view) old new ended by = uses_touch (finding of.files of.disks) paths old new (unfilmed (Shown of view)) ended
+    does_touch (tasks.Status paths view) old new ended by = uses_touch (finding of.files of.disks) paths old new (unfilmed (HasShown of (MayShowStatus view))) ended
         (λ canton before after film does. same_files before.0 after.0 (ap (λ (w : World I O E F). w.files) does.rest)) by
     does_touch (tasks.List setup table) old new ended by = by.call.stays
     does_touch (Check paths) old new ended by = by.calls.2.stays
-    does_touch (tasks.Seats paths is_final layout) old new ended by = uses_touch (finding of.files of.disks) paths old new (unfilmed (HasShownSeats of (record { is_final = is_final; layout = layout }))) ended
+    does_touch (tasks.Seats paths is_final layout) old new ended by = uses_touch (finding of.files of.disks) paths old new (unfilmed (HasShown of (MayShowSeats (record { is_final = is_final; layout = layout })))) ended
         (λ canton before after film does. same_files before.0 after.0 (ap (λ (w : World I O E F). w.files) does.rest)) by
     does_touch (tasks.SheetSeats setup sheet layout) old new ended by =
         ap of.files.places (ap (λ (w : World I O E F). w.files) by.rest) ∙ by.calls.2.stays

@@ -2,7 +2,8 @@
 use Rattle.std.specs.Prelude.{◌≡◌, ◌≢◌, ◌⊎◌, ◌<◌, ℕ, List, [], ◌∷◌, ◌++◌, flat_map, length, map, take, Option, Some, Result}
 use Rattle.std.specs.Io.KnownBytes.{Appends, Consumes, IsAtEnd, Keeps}
 use Rattle.zh_disk.specs.Disk.{Trail}
-use Rattle.zh_film.specs.Frames.{Frame, frames, now_at}
+use Rattle.zh_film.specs.Frames.{Frame, frames}
+use Rattle.zh_film.specs.declared.kind.FrameKind.TheVariants.{Between}
 use Rattle.zh_records.specs.declared.row.Row.{Row}
 use Rattle.zh_csv.specs.declared.fault.LoadFault.{LoadFault}
 use Rattle.zh_office.specs.Text.{ended_lines, lines_of}
@@ -53,12 +54,13 @@ AreOfTask text_at (Load paths csv) talk status exchanges = AnswerText (text_at c
 AreOfTask text_at task talk status exchanges = exchanges ≡ []
 
 module _ {I O E F T D R : Type 0} where
-  -- the conversation from the one world to the other, in which the disk went from the one trail to the other, and a film shows this
+  -- the conversation from the one world to the other, in which the disk went from the one trail to the other, and a film shows this;
+  -- no read comes just before or after it
   abbrev pub conversation : Known I O E F T D R → World I O E F → World I O E F → Trail → Trail → List Frame → Conversation
   conversation of old new opened last noted = record {
-    first = now_at (of.readers.remaining old.input) (of.writers.contents old.output) opened;
+    first = record { kind = Between; left = of.readers.remaining old.input; written = of.writers.contents old.output; disk = opened };
     noted = noted;
-    last = now_at (of.readers.remaining new.input) (of.writers.contents new.output) last;
+    last = record { kind = Between; left = of.readers.remaining new.input; written = of.writers.contents new.output; disk = last };
   }
 
   -- That of a task, once its disk was opened. One that answers no line and loads no text has none, whatever else it writes.

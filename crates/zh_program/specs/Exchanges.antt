@@ -1,5 +1,5 @@
 -- What an office is given on its disk, one thing after the other, and what it answers.
-use Rattle.std.specs.Prelude.{◌≡◌, ℕ, List, [], ◌∷◌, ◌++◌, map, take, Option, Some, None, IfSome, Result, Ok, Err}
+use Rattle.std.specs.Prelude.{◌≡◌, ℕ, List, [], ◌∷◌, ◌++◌, fold, map, take, Option, Some, None, IfSome, Result, Ok, Err}
 use Rattle.zh_disk.specs.Disk.{Trail}
 use Rattle.zh_districts.specs.Canton.{Canton}
 use Rattle.zh_records.specs.declared.command.Command.{Command}
@@ -85,13 +85,11 @@ count_by tally log = after tally (take log.acknowledged log.accepted)
 
 -- what the desks hold after these
 abbrev pub held_by : Held → List Exchange → Held
-held_by held [] = held
-held_by held (x ∷ xs) = held_by (held_then held x.given x.answer) xs
+held_by = fold (λ held x. held_then held x.given x.answer)
 
--- the disk after these
+-- the disk after these, that of the last of them
 abbrev pub disk_by : Trail → List Exchange → Trail
-disk_by disk [] = disk
-disk_by disk (x ∷ xs) = disk_by x.disk xs
+disk_by = fold (λ disk x. x.disk)
 
 -- the text of an answer
 abbrev pub text_of : Exchange → List ℕ

@@ -21,7 +21,7 @@ use Rattle.zh_program.specs.Stopped.{Always, OpensTo}
 -- holds the count after a prefix, in order, of the accepted commands, which includes every acknowledged one; and every sheet is
 -- that of the count at its line, and right. Acknowledged is a command answered `stored`, accepted one answered `stored` or
 -- `device`. Not said here: when a line is refused, or a run fails; when a sheet is final, which tie it is, what other answers show.
--- The disk was this before it was opened; the conversation goes from then, or from when that was refused, to the end.
+-- The disk was this before it was opened; the conversation begins when it was opened, or refused, and goes to the end.
 pub record Headline (tally : Tally) (before : Trail) (talk : Conversation) (exchanges : List Exchange) : Type 0 where
   -- each line, and each text, is read by its rules, and gives the command that it says
   pub read : EachIn exchanges (λ done x. IsReadRight tally.canton x.given)
@@ -44,12 +44,13 @@ pub record Headline (tally : Tally) (before : Trail) (talk : Conversation) (exch
       → HasSome tally (log_of done).accepted (log_of done).acknowledged c
   pub stopped_within : EachIn exchanges (λ done x. Always
       (HasSome tally (log_of (done ++ x ∷ [])).accepted (log_of done).acknowledged) (disk_by talk.first.disk done) x.disk)
+  -- after the last exchange nothing changes the disk
   pub end : disk_by talk.first.disk exchanges ≡ talk.last.disk
-  -- an answer is written once the disk has what it acknowledges, and at most one accepted command is unanswered at any moment
-  -- of the disk; the input is read only when all lines that are complete in what was read before are answered
-  pub order : Throughout
-      (λ a b. KeepsWhatIsTold tally exchanges talk.first a b × AnswersBeforeReading exchanges talk.first a b) talk
-  -- of bytes, not of runs: an image that holds a count gives no cause to refuse it, and stands for no other of its set-up
+  -- an answer is written only after the disk has what it acknowledges, and at no moment of the disk has an image more than one
+  -- accepted command whose answer is not wholly written; the input is read only when all lines that are complete in what was
+  -- read before are answered
+  pub order : Throughout (λ first a b. KeepsWhatIsTold tally exchanges first a b × AnswersBeforeReading exchanges first a b) talk
+  -- of bytes, not of runs: an image that holds a count opens to it, and to no other of its set-up
   pub reopened : (count : Tally) (c : List ℕ) → Holds count c → OpensTo count c
   -- every sheet follows strictly from the count at its line, so at a tie there is none; a tie is answered only where none is right
   pub sheets : EachIn exchanges (λ done x. (sheet : Distribution) (is_final : Bool) → x.answer ≡ Sheet sheet is_final

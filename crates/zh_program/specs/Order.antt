@@ -1,5 +1,5 @@
 -- In which order a task reads its input, works on its disk, and writes its answers.
-use Rattle.std.specs.Prelude.{◌≡◌, ◌≢◌, ◌⊎◌, ◌≤◌, ℕ, List, [], ◌∷◌, ◌++◌, flat_map, length, map, Some}
+use Rattle.std.specs.Prelude.{◌≡◌, ◌≢◌, ◌⊎◌, ◌+◌, ℕ, List, [], ◌∷◌, ◌++◌, flat_map, map, take, Some}
 use Rattle.std.specs.Io.KnownBytes.{Appends, Consumes}
 use Rattle.zh_film.specs.Frames.{Frame, InOrder}
 use Rattle.zh_film.specs.declared.kind.FrameKind.TheVariants.{Asks}
@@ -16,9 +16,9 @@ pub record Conversation : Type 0 where
   pub noted : List Frame
   pub last : Frame
 
--- so it is of each two times that follow each other
-abbrev pub Throughout : (Frame → Frame → Type 0) → Conversation → Type 0
-Throughout P talk = InOrder P talk.first talk.noted talk.last
+-- so it is of each two times that follow each other, by what was at first
+abbrev pub Throughout : (Frame → Frame → Frame → Type 0) → Conversation → Type 0
+Throughout P talk = InOrder (P talk.first) talk.first talk.noted talk.last
 
 -- of its times a and then b follow each other
 abbrev pub AreNext : Conversation → Frame → Frame → Type 0
@@ -27,33 +27,25 @@ AreNext talk a b = (newer : List Frame) × (older : List Frame) × (talk.last �
 -- From one time to the next: at each moment of the disk each image has every command that is acknowledged in what is written
 -- by the later time, and at most one accepted command that is not answered in what is written by the earlier one.
 pub record KeepsWhatIsTold (tally : Tally) (exchanges : List Exchange) (first earlier later : Frame) : Type 0 where
-  -- by the earlier time these are answered, whole, and no other
-  pub done : List Exchange
-  pub answered : Appends first.written earlier.written (flat_map text_of done)
-  -- one more at most is worked on, or answered
-  pub one : List Exchange
-  pub single : length one ≤ 1
-  pub rest : List Exchange
-  pub parts : exchanges ≡ done ++ (one ++ rest)
-  -- by the later time a front of the answers to these is written
-  pub told : List Exchange
-  pub with_it : (told ≡ done) ⊎ (told ≡ done ++ one)
-  pub text : List ℕ
-  pub more : List ℕ
-  pub front : text ++ more ≡ flat_map text_of told
-  pub written : Appends first.written later.written text
-  -- and the disk has all that they acknowledge, even if it is stopped before the first byte of it
-  pub kept : Always (HasSome tally (log_of (done ++ one)).accepted (log_of told).acknowledged) earlier.disk later.disk
+  -- by the earlier time so many are answered, whole, and no other
+  pub done : ℕ
+  pub answered : Appends first.written earlier.written (flat_map text_of (take done exchanges))
+  -- by the later time a front of the answers to so many is written, to one more at most
+  pub told : ℕ
+  pub one_more : (told ≡ done) ⊎ (told ≡ done + 1)
+  pub front : ℕ
+  pub written : Appends first.written later.written (take front (flat_map text_of (take told exchanges)))
+  -- and the disk has all that these acknowledge, even if it is stopped before the first byte of it
+  pub kept : Always (HasSome tally (log_of (take (done + 1) exchanges)).accepted (log_of (take told exchanges)).acknowledged)
+      earlier.disk later.disk
 
 -- by this time all lines that are complete in what was read are answered, whole, and nothing else is written
 pub record HasAnswered (exchanges : List Exchange) (first now : Frame) : Type 0 where
   pub input : List ℕ
   pub read : Consumes first.left now.left input
-  pub done : List Exchange
-  pub rest : List Exchange
-  pub parts : exchanges ≡ done ++ rest
-  pub lines : map (λ x. line_in x.given) done ≡ map Some (ended_lines input)
-  pub written : Appends first.written now.written (flat_map text_of done)
+  pub done : ℕ
+  pub lines : map (λ x. line_in x.given) (take done exchanges) ≡ map Some (ended_lines input)
+  pub written : Appends first.written now.written (flat_map text_of (take done exchanges))
 
 -- From one time to the next: a read, if it comes, comes once all lines are answered, and the input is taken in no other way.
 pub record AnswersBeforeReading (exchanges : List Exchange) (first earlier later : Frame) : Type 0 where

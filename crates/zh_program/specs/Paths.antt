@@ -1,14 +1,11 @@
 -- The path of the file that a fault is of, and how it is shown.
-use Rattle.std.specs.Prelude.{ℕ, List, [], ◌∷◌, ◌-◌, codes, get_or, length, min, Option, Some, None, option_and_then, option_map}
+use Rattle.std.specs.Prelude.{ℕ, List, length, min, Option, Some, None, option_and_then, option_map}
 use Rattle.zh_arguments.specs.declared.arguments.Paths.{Paths}
 use Rattle.zh_arguments.specs.declared.arguments.Task.{Task}
 use Rattle.zh_arguments.specs.declared.arguments.Task.TheVariants.{Rehearse, Format, Run, Load, Export, Check}
 use Rattle.zh_arguments.specs.declared.arguments.Task.TheVariants as tasks
-use Rattle.zh_commands.specs.Shown.{sign_at}
-use Rattle.zh_commands.specs.declared.shown.Sign.{Sign}
-use Rattle.zh_commands.specs.declared.shown.Sign.TheVariants as signs
-use Rattle.zh_judgements.specs.Text.{printable}
-use Rattle.zh_tables.specs.Tables.{each_to}
+use Rattle.zh_checks.specs.Reports.{safe_byte}
+use Rattle.zh_record_text.specs.Each.{each_to}
 use Rattle.zh_tasks.specs.Places.{role_of}
 use Rattle.zh_tasks.specs.declared.fault.TaskFault.{TaskFault}
 use Rattle.zh_tasks.specs.declared.file.TaskFile.{TaskFile}
@@ -48,17 +45,6 @@ file_path (tasks.SheetSeats setup sheet layout) file = path_stated setup.now she
 abbrev pub fault_path : Task → TaskFault → Option (List ℕ)
 fault_path task fault = option_and_then (file_path task) (role_of fault)
 
--- a byte order mark and each control as a question mark
-abbrev pub path_sign : Sign → ℕ → List ℕ
-path_sign signs.Mark byte = codes "?"
-path_sign signs.Control byte = codes "?"
-path_sign signs.Further byte = []
-path_sign signs.Byte byte = printable byte ∷ []
-
--- the byte of this number, from 1, as it is shown
-abbrev pub path_byte : List ℕ → ℕ → List ℕ
-path_byte path number = path_sign (sign_at path (number - 1)) (get_or path (number - 1) 0)
-
 -- a path, of which at most 4,096 bytes are shown: no file has a longer one
 abbrev pub shown_path : List ℕ → List ℕ
-shown_path path = each_to (min (length path) 4096) (path_byte path)
+shown_path path = each_to (min (length path) 4096) (safe_byte path)

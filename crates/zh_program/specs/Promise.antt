@@ -35,13 +35,12 @@ module _ {I O E F T D R : Type 0} where
     pub opened : Trail
     pub due : AreOfTask (of.files.text_at old.files) task (talk_of of task old new opened used) status exchanges
     -- the input is read only when all lines that are complete in what was read before are answered
-    pub awaited : Throughout (AnswersBeforeReading exchanges (talk_of of task old new opened used).first)
-        (talk_of of task old new opened used)
-    -- if the disk was honest, and its file held a count when it was opened: the clean image of one within the limits
+    pub awaited : Throughout (AnswersBeforeReading exchanges) (talk_of of task old new opened used)
+    -- if the disk was honest, and the bytes of its file, where these are known, held a count: the clean image of one within the limits
     pub office : IsTrue (of.disks.history used.disk).honest → (bytes : List ℕ) → of.files.disk_at old.files path ≡ Some bytes
         → (tally : Tally) → IsCanton tally.canton → Holds tally bytes
         → Headline tally (fresh_trail bytes) (talk_of of task old new opened used) exchanges
-    -- if it was honest, and its file held no such count, not even in an image that isn't clean (of which nothing is said): no answer
+    -- if it was honest, and they held no such count, not even in an image that isn't clean: no answer; of such an image nothing is said
     pub idle : IsTrue (of.disks.history used.disk).honest → (bytes : List ℕ) → of.files.disk_at old.files path ≡ Some bytes
         → ((tally : Tally) → IsCanton tally.canton → ¬ Stands tally bytes) → exchanges ≡ []
     pub formatted : (paths : Paths) → task ≡ Format paths → IsTrue (of.disks.history used.disk).honest
@@ -53,5 +52,4 @@ module _ {I O E F T D R : Type 0} where
     pub opened : Trail
     pub last : Trail
     pub due : AnswerLines (conversation of old new opened last (rehearsal_shown of film)) status exchanges
-    pub awaited : Throughout (AnswersBeforeReading exchanges (conversation of old new opened last (rehearsal_shown of film)).first)
-        (conversation of old new opened last (rehearsal_shown of film))
+    pub awaited : Throughout (AnswersBeforeReading exchanges) (conversation of old new opened last (rehearsal_shown of film))

@@ -3,24 +3,24 @@ use Rattle.std.specs.Prelude.{◌≡◌, ℕ, List}
 use Rattle.zh_commands.specs.declared.replies.Reply.TheVariants.{Refused}
 use Rattle.zh_commands.specs.declared.replies.Refusal.TheVariants as refusals
 use Rattle.zh_matrices.specs.Divisors.{Divisors}
-use Rattle.zh_matrices.specs.SeatMatrix.{IsWeak}
+use Rattle.zh_matrices.specs.SeatMatrix.{IsStrict}
 use Rattle.zh_totals.specs.Totals.{VoteTotals}
-use Rattle.zh_sheet.specs.Distribution.{Distribution, IsDistribution, Targets, question_of}
-use Rattle.zh_sheet.specs.Refusals.{HasNoMatrix}
+use Rattle.zh_sheet.specs.Distribution.{Distribution, IsDistribution, Targets, lower_question}
 use Rattle.zh_answers.specs.declared.answer.Answer.{Answer}
 use Rattle.zh_answers.specs.declared.answer.Answer.TheVariants.{Reply}
 
 -- The distribution of the seats by these totals: each part follows from those before it, all totals are met, and each
--- quotient rounds without a half to its seats under the divisors that the sheet carries; no divisors lead to other seats.
+-- quotient rounds without a half to its seats under the divisors that the sheet carries. So no divisors lead to other seats:
+-- `headline_excludes` says that of every sheet.
 pub record FollowsFrom (totals : VoteTotals) (sheet : Distribution) : Type 0 where
   pub votes : sheet.totals ≡ totals
   pub meets : IsDistribution sheet
-  pub one_answer : (divisors : Divisors) (seats : List ℕ) → IsWeak (question_of sheet) divisors seats → seats ≡ sheet.lower.seats
 
 -- No seats of the lists follow from these totals without a half, under any divisors, of any scale, whatever seats of the
 -- constituencies and of the groups they are to add up to.
 abbrev pub LeaveNoSeats : VoteTotals → Type 0
-LeaveNoSeats totals = (targets : Targets totals) → HasNoMatrix totals targets
+LeaveNoSeats totals = (targets : Targets totals) (divisors : Divisors) (seats : List ℕ) →
+    ¬ IsStrict (lower_question totals targets.seats targets.upper) divisors seats
 
 -- the answer reports a tie: of the constituencies' seats, of the groups', or of the lists'
 abbrev pub IsTie : Answer → Type 0

@@ -1,14 +1,10 @@
 -- What a stop leaves of a disk, and what an opening finds there.
-use Rattle.std.specs.Prelude.{◌≡◌, ◌⊎◌, ℕ, List, [], ◌∷◌, ◌++◌, All}
-use Rattle.zh_disk.specs.Disk.{Moment, Trail, IsImage, fresh_trail}
+use Rattle.std.specs.Prelude.{◌≡◌, ◌≢◌, ◌⊎◌, ℕ, List, [], ◌∷◌, ◌++◌, All, length, slice_index}
+use Rattle.zh_disk.specs.Disk.{Moment, Trail, IsImage, disk_length, fresh_trail}
 use Rattle.zh_districts.specs.Canton.{Canton, IsCanton}
 use Rattle.zh_returns.specs.Tally.{Tally, empty}
 use Rattle.zh_snapshot.specs.Image.{IsBlank}
-use Rattle.zh_ledger.specs.Opening.{IsCause}
 use Rattle.zh_ledger.specs.Stands.{Holds, Stands}
-use Rattle.zh_ledger.specs.declared.fault.OpenFault.{OpenFault}
-use Rattle.zh_ledger.specs.declared.fault.OpenFault.TheVariants as faults
-use Rattle.zh_world.specs.Files.{BeginsWith}
 
 -- at each moment from that of the one trail to that of the other a stop leaves an image of this kind
 pub record Always (IsLeft : List ℕ → Type 0) (old new : Trail) : Type 0 where
@@ -16,18 +12,19 @@ pub record Always (IsLeft : List ℕ → Type 0) (old new : Trail) : Type 0 wher
   pub run : new.now ∷ new.past ≡ between ++ old.now ∷ old.past
   pub each : All (λ m. (c : List ℕ) → IsImage m c → IsLeft c) (between ++ old.now ∷ [])
 
--- An image opens to this count: it stands for no other one of its set-up, and there is no cause to refuse it, memory and
--- the device aside. The law `reopenings` says the same of each opening.
+-- An image opens to this count: it stands for it, and for no other one of its set-up. The law `reopenings` says of each opening
+-- that there is then no cause to refuse it, memory and the device aside.
 pub record OpensTo (count : Tally) (c : List ℕ) : Type 0 where
+  pub stands : Stands count c
   pub only : (other : Tally) → other.canton ≡ count.canton → Stands other c → other ≡ count
-  pub refused : (fault : OpenFault) → IsCause count.canton c fault → (fault ≡ faults.Memory) ⊎ (fault ≡ faults.Device)
 
 -- At each moment of a formatting a stop leaves what the disk began with or, if that was blank, a blank disk or the empty
 -- count of a set-up; with status 0 it ends with this count. That the set-up is the one at `--setup` is said by `done`. The
 -- disk began with the bytes of its file or, where these are none at all, as a new one, of zeros.
 pub record MakesEmpty (bytes : List ℕ) (status : ℕ) (last : Trail) : Type 0 where
   pub first : List ℕ
-  pub began : BeginsWith bytes (fresh_trail first)
+  pub began : bytes ≢ [] → first ≡ bytes
+  pub filled : bytes ≡ [] → (length first ≡ disk_length) × ((k : ℕ) → slice_index first k ≡ 0)
   pub canton : Canton
   pub limits : IsCanton canton
   pub moments : Always (λ c. (c ≡ first) ⊎ (IsBlank first × (IsBlank c ⊎ Holds (empty canton) c))) (fresh_trail first) last

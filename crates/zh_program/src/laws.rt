@@ -14,12 +14,12 @@ ghost use Rattle.zh_returns.specs.declared.verdict.Verdict.TheVariants as verdic
 ghost use Rattle.zh_commands.specs.declared.replies.Reply.TheVariants as replies;
 ghost use Rattle.zh_matrices.specs.Divisors.{Divisors};
 ghost use Rattle.zh_matrices.specs.Question.{cell};
-ghost use Rattle.zh_matrices.specs.SeatMatrix.{IsStrict};
+ghost use Rattle.zh_matrices.specs.SeatMatrix.{IsStrict, IsWeak};
 ghost use Rattle.zh_totals.specs.Counting.{totals_of};
 ghost use Rattle.zh_sheet.specs.Distribution.{Distribution, Targets, lower_question, question_of};
 ghost use Rattle.zh_ledger.specs.Ledger.{Ledger};
 ghost use Rattle.zh_ledger.specs.Night.{StopsWithin};
-ghost use Rattle.zh_ledger.specs.Opening.{Opens};
+ghost use Rattle.zh_ledger.specs.Opening.{IsCause, Opens};
 ghost use Rattle.zh_ledger.specs.Stands.{Holds, Stands};
 ghost use Rattle.zh_ledger.specs.declared.fault.OpenFault.{OpenFault};
 ghost use Rattle.zh_ledger.specs.declared.fault.OpenFault.TheVariants as faults;
@@ -70,6 +70,11 @@ pub fn headline_excludes()
         → d < (question_of sheet).rows → g < (question_of sheet).columns
         → 2 * (cell (question_of sheet).columns (question_of sheet).votes d g * (sheet.lower.divisors.scale * sheet.lower.divisors.scale))
         ≡ (2 * k + 1) * (slice_index sheet.lower.divisors.of_rows d * slice_index sheet.lower.divisors.of_columns g) → ⊥ }
+    // Seats beside those of a sheet, by whatever divisors, of any scale, halves rounded either way.
+    ensures other_seats { (tally : Tally) (before : Trail) (talk : Conversation) (exchanges done rest : List Exchange) (x : Exchange)
+        (sheet : Distribution) (is_final : Bool) (divisors : Divisors) (seats : List ℕ) → Headline tally before talk exchanges
+        → exchanges ≡ done ++ x ∷ rest → x.answer ≡ answers.Sheet sheet is_final
+        → IsWeak (question_of sheet) divisors seats → seats ≢ sheet.lower.seats → ⊥ }
     // Seats where the answer is a tie, by whatever divisors.
     ensures tie { (tally : Tally) (before : Trail) (talk : Conversation) (exchanges done rest : List Exchange) (x : Exchange)
         (targets : Targets (totals_of x.count)) (divisors : Divisors) (seats : List ℕ)
@@ -104,7 +109,10 @@ pub fn promise_excludes<I: Read, O: Write, E: Write, F: Files>()
 
 /// Each opening of an image that opens to a count gives that count, or is refused for memory or by the device.
 pub fn reopenings()
-    ensures { (count : Tally) (result : Result Ledger OpenFault) (old new : Trail) → OpensTo count old.now.bytes
+    ensures ends { (count : Tally) (result : Result Ledger OpenFault) (old new : Trail) → OpensTo count old.now.bytes
         → Opens count.canton result old new
         → MatchResult result (λ ledger. ledger.tally ≡ count) (λ fault. (fault ≡ faults.Memory) ⊎ (fault ≡ faults.Device)) }
+    // There is no cause to refuse it but these.
+    ensures causes { (count : Tally) (c : List ℕ) (fault : OpenFault) → OpensTo count c → IsCause count.canton c fault
+        → (fault ≡ faults.Memory) ⊎ (fault ≡ faults.Device) }
 {}

@@ -1,13 +1,11 @@
 //! The path of the file that a fault is of, and how it is shown.
 
-ghost use Rattle.std.specs.Prelude.{◌≡◌, ◌+◌, ◌≤◌, ◌<◌, ◌++◌, None, Some, MatchOption, length};
-ghost use Rattle.zh_judgements.specs.Text.{printable};
-ghost use Rattle.zh_program.specs.Paths.{fault_path, file_path, path_among, path_stated};
-ghost use Rattle.zh_program.specs.Paths.{path_byte, shown_path};
+ghost use Rattle.std.specs.Prelude.{◌≡◌, ◌+◌, ◌≤◌, ◌++◌, None, Some, MatchOption, length};
+ghost use Rattle.zh_program.specs.Paths.{fault_path, file_path, path_among, path_stated, shown_path};
 
 use arrayvec::ArrayVec;
 use zh_arguments::{Paths, Task};
-use zh_commands::{Sign, sign_at};
+use zh_checks::push_shown;
 use zh_tasks::{TaskFault, TaskFile};
 
 /// How many bytes of a path are shown at most: no file has a longer one.
@@ -73,35 +71,11 @@ pub(crate) fn fault_path<'a>(task: Task<'a>, fault: &TaskFault) -> Option<&'a st
     }
 }
 
-/// A byte as it is shown: a control byte as a question mark.
-fn shown_byte(byte: u8) -> u8
-    ensures { result ≡ printable byte }
-{
-    if byte < 32 || byte == 127 { b'?' } else { byte }
-}
-
-/// Writes the byte of a path at this place as it is shown.
-fn push_byte(report: &mut Report, path: &[u8], place: usize)
-    requires room { length report.old.items < 4352 }
-    requires within { place < length path.now }
-    ensures shown { report.new.items ≡ report.old.items ++ path_byte path.now (place + 1) }
-    ensures short { length report.new.items ≤ length report.old.items + 1 }
-{
-    match sign_at(path, place) {
-        Sign::Mark | Sign::Control => report.push(b'?'),
-        Sign::Further => {}
-        Sign::Byte => report.push(shown_byte(path[place])),
-    }
-}
-
 /// Writes a path as it is shown.
 pub(crate) fn push_path(report: &mut Report, path: &str)
     requires { length report.old.items ≤ 128 }
     ensures shown { report.new.items ≡ report.old.items ++ shown_path path.now }
     ensures short { length report.new.items ≤ length report.old.items + 4096 }
 {
-    let bytes = path.as_bytes();
-    for place in 0..bytes.len().min(LONGEST_SHOWN) {
-        push_byte(report, bytes, place);
-    }
+    push_shown(report, path.as_bytes(), path.len().min(LONGEST_SHOWN));
 }

@@ -5,34 +5,26 @@ ghost use Rattle.zh_program.specs.Reports.{fault_text, place_text, report_text, 
 ghost use Rattle.zh_tasks.specs.Remarks.{BecameOf};
 
 use crate::paths::{Report, push_path};
-use crate::report_parts::{ReportWords, push_fault, push_place};
+use crate::report_parts::{ReportWords, push, push_bytes, push_fault, push_place};
 use std::io::Write;
 use zh_tasks::{TaskFault, TaskPlace, make_remark};
 use zh_world::Remark;
 
-/// Writes words.
-fn push(report: &mut Report, words: &str)
-    requires { length report.old.items + length words.now ≤ 4352 }
-    ensures { report.new.items ≡ report.old.items ++ words.now }
-{
-    let _fits = report.try_extend_from_slice(words.as_bytes());
-}
-
 /// The line with the name of a fault.
 fn first_line(fault: &TaskFault) -> ReportWords
-    ensures name { result.bytes ≡ codes "zhcount: " ++ fault_text fault.now ++ 10 ∷ [] }
-    ensures short { length result.bytes ≤ 35 }
+    ensures name { result.items ≡ codes "zhcount: " ++ fault_text fault.now ++ 10 ∷ [] }
+    ensures short { length result.items ≤ 35 }
 {
     let mut words = ReportWords::new();
-    words.push_str("zhcount: ");
+    push(&mut words, "zhcount: ");
     push_fault(&mut words, fault);
-    words.push_str("\n");
+    push(&mut words, "\n");
     words
 }
 
 /// Where it was met, or why.
 fn place_words(place: &TaskPlace) -> ReportWords
-    ensures place { result.bytes ≡ place_text place.now }
+    ensures place { result.items ≡ place_text place.now }
 {
     let mut words = ReportWords::new();
     push_place(&mut words, place);
@@ -47,7 +39,7 @@ fn push_second(report: &mut Report, path: Option<&str>, place: Option<TaskPlace>
     match (path, place) {
         (None, None) => {}
         (None, Some(place)) => {
-            push(report, place_words(&place).as_str());
+            push_bytes(report, place_words(&place).as_slice());
             report.push(b'\n');
         }
         (Some(path), None) => {
@@ -57,7 +49,7 @@ fn push_second(report: &mut Report, path: Option<&str>, place: Option<TaskPlace>
         (Some(path), Some(place)) => {
             push_path(report, path);
             push(report, ": ");
-            push(report, place_words(&place).as_str());
+            push_bytes(report, place_words(&place).as_slice());
             report.push(b'\n');
         }
     }
@@ -69,7 +61,7 @@ fn report_lines(path: Option<&str>, fault: TaskFault) -> Report
     ensures { result.items ≡ report_text (option_map (λ p. p.now) path.entry) fault }
 {
     let mut report = Report::new();
-    push(&mut report, first_line(&fault).as_str());
+    push_bytes(&mut report, first_line(&fault).as_slice());
     push_second(&mut report, path, fault.place());
     report
 }

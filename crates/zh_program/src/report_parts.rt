@@ -4,34 +4,50 @@ ghost use Rattle.std.specs.Prelude.{◌≡◌, ◌+◌, ◌≤◌, ◌++◌, len
 ghost use Rattle.zh_program.specs.Reports.{fault_text, limits_text, opening_name, place_text, serving_name, unopened_name};
 ghost use Rattle.zh_checks.specs.Reports.{setup_place};
 
-use arrayvec::ArrayString;
+use arrayvec::ArrayVec;
 use itoa::Buffer;
-use zh_checks::{name_of_held, name_of_setup};
+use zh_checks::{name_of_held, name_of_setup, shown_key};
 use zh_disk::DISK_LENGTH;
 use zh_districts::SeatFault;
 use zh_office::{OpenFault, ServeFault};
 use zh_setups::{FaultPlace, Key};
 use zh_tasks::{TaskFault, TaskFile, TaskPlace};
 
-/// The name of a fault in its line, or a place or a cause: at most 102 bytes.
-pub(crate) type ReportWords = ArrayString<128>;
+/// The name of a fault in its line, or a place or a cause: at most 115 bytes.
+pub(crate) type ReportWords = ArrayVec<u8, 128>;
+
+/// Writes bytes.
+pub(crate) fn push_bytes<const N: usize>(words: &mut ArrayVec<u8, N>, bytes: &[u8])
+    requires { length words.old.items + length bytes.now ≤ N }
+    ensures { words.new.items ≡ words.old.items ++ bytes.now }
+{
+    let _fits = words.try_extend_from_slice(bytes);
+}
+
+/// Writes a text.
+pub(crate) fn push<const N: usize>(words: &mut ArrayVec<u8, N>, text: &str)
+    requires { length words.old.items + length text.now ≤ N }
+    ensures { words.new.items ≡ words.old.items ++ text.now }
+{
+    push_bytes(words, text.as_bytes());
+}
 
 /// Writes a numeral, which has at most 20 digits.
 fn push_number(words: &mut ReportWords, number: u64)
-    requires { length words.old.bytes + 20 ≤ 128 }
-    ensures text { words.new.bytes ≡ words.old.bytes ++ decimal number }
-    ensures short { length words.new.bytes ≤ length words.old.bytes + 20 }
+    requires { length words.old.items + 20 ≤ 128 }
+    ensures text { words.new.items ≡ words.old.items ++ decimal number }
+    ensures short { length words.new.items ≤ length words.old.items + 20 }
 {
-    words.push_str(Buffer::new().format(number));
+    push(words, Buffer::new().format(number));
 }
 
 /// Writes a word and then a numeral, which has at most 10 digits.
 fn push_numbered(words: &mut ReportWords, word: &str, number: u32)
-    requires { length words.old.bytes + length word.now + 20 ≤ 128 }
-    ensures text { words.new.bytes ≡ words.old.bytes ++ word.now ++ decimal number }
-    ensures short { length words.new.bytes ≤ length words.old.bytes + length word.now + 10 }
+    requires { length words.old.items + length word.now + 20 ≤ 128 }
+    ensures text { words.new.items ≡ words.old.items ++ word.now ++ decimal number }
+    ensures short { length words.new.items ≤ length words.old.items + length word.now + 10 }
 {
-    words.push_str(word);
+    push(words, word);
     push_number(words, u64::from(number));
 }
 
@@ -74,33 +90,31 @@ fn name_of_unopened(file: TaskFile) -> &'static str
 
 /// Writes the name of a fault.
 pub(crate) fn push_fault(words: &mut ReportWords, fault: &TaskFault)
-    requires { length words.old.bytes ≤ 9 }
-    ensures name { words.new.bytes ≡ words.old.bytes ++ fault_text fault.now }
-    ensures short { length words.new.bytes ≤ length words.old.bytes + 25 }
+    requires { length words.old.items ≤ 9 }
+    ensures name { words.new.items ≡ words.old.items ++ fault_text fault.now }
+    ensures short { length words.new.items ≤ length words.old.items + 25 }
 {
     match fault {
-        TaskFault::Unopened(file, _) => words.push_str(name_of_unopened(*file)),
-        TaskFault::SetupFile => words.push_str(name_of_unopened(TaskFile::Setup)),
-        TaskFault::Setup(refusal) => words.push_str(name_of_setup(refusal.fault)),
-        TaskFault::Device | TaskFault::Faulted => {
-            words.push_str(name_of_unopened(TaskFile::Disk))
-        }
-        TaskFault::Busy => words.push_str("disk busy"),
-        TaskFault::Size(_) => words.push_str("disk size"),
-        TaskFault::InUse => words.push_str("disk inuse"),
-        TaskFault::Open(opening) => words.push_str(name_of_opening(*opening)),
-        TaskFault::CsvFile => words.push_str(name_of_unopened(TaskFile::Csv)),
-        TaskFault::SheetFile => words.push_str(name_of_unopened(TaskFile::Sheet)),
-        TaskFault::HeldFile => words.push_str(name_of_unopened(TaskFile::Held)),
-        TaskFault::Held(record) => words.push_str(name_of_held(*record)),
-        TaskFault::Seats(SeatFault::Tied) => words.push_str("tied seats"),
+        TaskFault::Unopened(file, _) => push(words, name_of_unopened(*file)),
+        TaskFault::SetupFile => push(words, name_of_unopened(TaskFile::Setup)),
+        TaskFault::Setup(refusal) => push(words, name_of_setup(refusal.fault)),
+        TaskFault::Device | TaskFault::Faulted => { push(words, name_of_unopened(TaskFile::Disk)) }
+        TaskFault::Busy => push(words, "disk busy"),
+        TaskFault::Size(_) => push(words, "disk size"),
+        TaskFault::InUse => push(words, "disk inuse"),
+        TaskFault::Open(opening) => push(words, name_of_opening(*opening)),
+        TaskFault::CsvFile => push(words, name_of_unopened(TaskFile::Csv)),
+        TaskFault::SheetFile => push(words, name_of_unopened(TaskFile::Sheet)),
+        TaskFault::HeldFile => push(words, name_of_unopened(TaskFile::Held)),
+        TaskFault::Held(record) => push(words, name_of_held(*record)),
+        TaskFault::Seats(SeatFault::Tied) => push(words, "tied seats"),
         TaskFault::Seats(SeatFault::NoSeat(number)) => push_numbered(words, "noseat ", *number),
         TaskFault::NoMunicipality(number) => push_numbered(words, "nomunicipality ", *number),
         TaskFault::NoConstituency(number) => push_numbered(words, "noconstituency ", *number),
-        TaskFault::Seats(SeatFault::Memory) | TaskFault::Memory => words.push_str("memory"),
-        TaskFault::Serve(serving) => words.push_str(name_of_serving(*serving)),
-        TaskFault::Write => words.push_str("write"),
-        TaskFault::Refused => words.push_str("refused"),
+        TaskFault::Seats(SeatFault::Memory) | TaskFault::Memory => push(words, "memory"),
+        TaskFault::Serve(serving) => push(words, name_of_serving(*serving)),
+        TaskFault::Write => push(words, "write"),
+        TaskFault::Refused => push(words, "refused"),
     }
 }
 
@@ -131,44 +145,44 @@ fn limits_of(place: &FaultPlace) -> &'static str
 
 /// Writes a place in the text of a set-up.
 fn push_setup_place(words: &mut ReportWords, place: &FaultPlace)
-    requires { length words.old.bytes ≡ 0 }
-    ensures place { words.new.bytes ≡ words.old.bytes ++ setup_place place.now }
-    ensures short { length words.new.bytes ≤ 60 }
+    requires { length words.old.items ≡ 0 }
+    ensures place { words.new.items ≡ words.old.items ++ setup_place place.now }
+    ensures short { length words.new.items ≤ 80 }
 {
     match place {
         FaultPlace::At(position) => {
-            words.push_str("line ");
+            push(words, "line ");
             push_number(words, position.line as u64);
-            words.push_str(", column ");
+            push(words, ", column ");
             push_number(words, position.column as u64);
         }
-        FaultPlace::Top(key) => words.push_str(key.as_str()),
+        FaultPlace::Top(key) => push_bytes(words, shown_key(key).as_slice()),
         FaultPlace::Table { kind, number, key } => {
-            words.push_str(kind.as_str());
-            words.push_str(" ");
+            push(words, kind.as_str());
+            push(words, " ");
             push_number(words, *number as u64);
-            words.push_str(", ");
-            words.push_str(key.as_str());
+            push(words, ", ");
+            push_bytes(words, shown_key(key).as_slice());
         }
     }
 }
 
 /// Writes a place, or a cause.
 pub(crate) fn push_place(words: &mut ReportWords, place: &TaskPlace)
-    requires { length words.old.bytes ≡ 0 }
-    ensures place { words.new.bytes ≡ words.old.bytes ++ place_text place.now }
-    ensures short { length words.new.bytes ≤ 102 }
+    requires { length words.old.items ≡ 0 }
+    ensures place { words.new.items ≡ words.old.items ++ place_text place.now }
+    ensures short { length words.new.items ≤ 115 }
 {
     match place {
-        TaskPlace::Cause(cause) => words.push_str(cause.as_str()),
+        TaskPlace::Cause(cause) => push(words, cause.as_str()),
         TaskPlace::Setup(place) => push_setup_place(words, place),
         TaskPlace::Range(place) => {
             push_setup_place(words, place);
-            words.push_str(limits_of(place));
+            push(words, limits_of(place));
         }
         TaskPlace::Length(found) => {
             push_number(words, *found);
-            words.push_str(" bytes instead of ");
+            push(words, " bytes instead of ");
             push_number(words, DISK_LENGTH);
         }
     }

@@ -4,6 +4,8 @@ use Rattle.zh_records.specs.declared.command.Command.{Command}
 use Rattle.zh_returns.specs.Judgement.{judge}
 use Rattle.zh_returns.specs.declared.verdict.Verdict.TheVariants as verdicts
 use Rattle.zh_totals.specs.Counting.{totals_of}
+use Rattle.zh_matrices.proofs.CallerLemmas.{only_seats}
+use Rattle.zh_sheet.specs.Distribution.{question_of}
 use Rattle.zh_program.proofs.ExcludeLemmas.{none_lost, none_new, none_on_half, none_other}
 use Rattle.zh_program.proofs.ToldLemmas.{none_early, none_late, none_unanswered}
 use Rattle.zh_program.specs.Exchanges.{count_by, log_of}
@@ -29,6 +31,10 @@ returns-clause-other_count c = λ tally before talk exchanges done rest x sheet 
 pub returns-clause-half : goal.returns-clause-half
 returns-clause-half c = λ tally before talk exchanges done rest x sheet is_final d g k promise is answer row column half.
     none_on_half _ _ _ k ((promise.sheets done rest x is sheet is_final answer).meets.lower.each_rounds d g row column) half
+
+pub returns-clause-other_seats : goal.returns-clause-other_seats
+returns-clause-other_seats c = λ tally before talk exchanges done rest x sheet is_final divisors seats promise is answer weak other.
+    other (only_seats (question_of sheet) sheet.lower.divisors divisors sheet.lower.seats seats (promise.sheets done rest x is sheet is_final answer).meets.lower weak)
 
 pub returns-clause-tie : goal.returns-clause-tie
 returns-clause-tie c = λ tally before talk exchanges done rest x targets divisors seats promise is tie strict. promise.ties_are_true done rest x is tie targets divisors seats strict
