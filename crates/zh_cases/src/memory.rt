@@ -1,12 +1,12 @@
 //! Runs of the program in memory, on the disk of the case.
 
-use crate::fault::Fault;
-use crate::fixture::Fixture;
-use crate::program::{answer_of, arguments_in, input_in};
-use crate::streams::{SlowInput, SlowOutput};
-use crate::words::read_number;
 use std::alloc::Global;
-use std::fs;
+use zh_case_files::{
+    Passes, RunTexts, SlowInput, SlowOutput, TextAtPath, answer_of, arguments_in, input_in,
+    read_passes,
+};
+use zh_case_lines::CaseFault;
+use zh_case_office::Fixture;
 use zh_program::{Filmed, Used, program};
 use zh_world::{Ended, MemoryFiles, Named, Remark, World};
 
@@ -17,87 +17,10 @@ const DISK: &str = "disk";
 #[derive(Drop)]
 struct OneDisk;
 
-/// How much passes before all fails: calls of the files, reads of each text, calls of the disk, and bytes of the input and
-/// the output.
-#[derive(Clone, Copy)]
-struct Passes {
-    files: u64,
-    reads: u64,
-    calls: u64,
-    input: u64,
-    output: u64,
-}
-
-/// What passes, as in `calls 3 zhcount ..`, and what stands after `zhcount`. Without a limit all passes.
-fn read_passes(text: &str) -> Result<(Passes, &str), Fault> {
-    let Some((limit, given)) = text.split_once("zhcount") else {
-        return Err(Fault::Text("a run within a limit needs zhcount"));
-    };
-    let mut passes = Passes {
-        files: u64::MAX,
-        reads: u64::MAX,
-        calls: u64::MAX,
-        input: u64::MAX,
-        output: u64::MAX,
-    };
-    let limit = limit.trim();
-    if limit.is_empty() {
-        return Ok((passes, given));
-    }
-    let (word, number) = limit.split_once(' ').unwrap_or((limit, ""));
-    let number = read_number(number)?;
-    match word {
-        "files" => passes.files = number,
-        "reads" => passes.reads = number,
-        "calls" => passes.calls = number,
-        "input" => passes.input = number,
-        "output" => passes.output = number,
-        _ => return Err(Fault::Text("there is no such limit")),
-    }
-    Ok((passes, given))
-}
-
-/// The argument after the one of this name, or nothing.
-fn path_after<'t>(arguments: &'t [String], name: &str) -> &'t str {
-    let mut is_next = false;
-    for argument in arguments {
-        if is_next {
-            return argument.as_str();
-        }
-        is_next = argument.as_str() == name;
-    }
-    ""
-}
-
-/// A text of the folder. One that is not there stands at the empty path, which no argument is.
-#[derive(Drop)]
-struct FolderText {
-    path: String,
-    bytes: Vec<u8>,
-}
-
-impl FolderText {
-    /// The text at the path after the argument of this name.
-    fn read(rt: &HostRuntime, arguments: &[String], name: &str) -> Result<FolderText, Fault> {
-        let alloc = rt.alloc();
-        let path = path_after(arguments, name);
-        Ok(match fs::read(rt, path) {
-            Ok(bytes) => FolderText {
-                path: String::from_str(alloc, path)?,
-                bytes,
-            },
-            Err(_) => FolderText {
-                path: String::new(alloc),
-                bytes: Vec::new(alloc),
-            },
-        })
-    }
-
-    fn lend(&self) -> Named<'_> {
-        Named {
-            path: &self.path,
-            bytes: &self.bytes,
-        }
+fn lend(text: &TextAtPath) -> Named<'_> {
+    Named {
+        path: &text.path,
+        bytes: &text.bytes,
     }
 }
 
@@ -106,10 +29,7 @@ impl FolderText {
 struct Given {
     arguments: Vec<String>,
     input: Vec<u8>,
-    setup: FolderText,
-    csv: FolderText,
-    sheet: FolderText,
-    held: FolderText,
+    texts: RunTexts,
     /// The image of the disk of the case.
     image: Vec<u8>,
 }
@@ -121,7 +41,7 @@ fn run_on(
     files: MemoryFiles<'_, OneDisk>,
     given: &Given,
     passes: Passes,
-) -> Result<String, Fault> {
+) -> Result<String, CaseFault> {
     let mut world = World {
         input: SlowInput {
             text: &given.input,
@@ -157,12 +77,12 @@ fn run_on_given(
     fixture: &mut Fixture<'_>,
     given: &Given,
     passes: Passes,
-) -> Result<String, Fault> {
+) -> Result<String, CaseFault> {
     let texts = [
-        given.setup.lend(),
-        given.csv.lend(),
-        given.sheet.lend(),
-        given.held.lend(),
+        lend(&given.texts.setup),
+        lend(&given.texts.csv),
+        lend(&given.texts.sheet),
+        lend(&given.texts.held),
     ];
     let disks = [Named {
         path: DISK,
@@ -181,17 +101,14 @@ pub(crate) fn run_within(
     rt: &HostRuntime,
     fixture: &mut Fixture<'_>,
     text: &str,
-) -> Result<String, Fault> {
+) -> Result<String, CaseFault> {
     let alloc = rt.alloc();
     let (passes, run) = read_passes(text)?;
     let (arguments, input) = run.split_once('<').unwrap_or((run, ""));
     let arguments = arguments_in(alloc, arguments)?;
     let given = Given {
         input: input_in(rt, input.trim())?,
-        setup: FolderText::read(rt, &arguments, "--setup")?,
-        csv: FolderText::read(rt, &arguments, "--csv")?,
-        sheet: FolderText::read(rt, &arguments, "--sheet")?,
-        held: FolderText::read(rt, &arguments, "--held")?,
+        texts: RunTexts::read(rt, &arguments)?,
         image: fixture.image()?,
         arguments,
     };

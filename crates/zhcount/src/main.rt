@@ -7,8 +7,7 @@ use std::io::ErrorKind;
 use std::process::ExitCode;
 use std::{env, io};
 use unknown::UnknownContent;
-use zh_file::Start;
-use zh_host::{FolderFiles, HostFolder};
+use zh_file::{FolderFiles, HostFolder, Start};
 use zh_program::program;
 use zh_world::{Remark, World};
 

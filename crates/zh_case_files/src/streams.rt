@@ -1,0 +1,55 @@
+//! An input that gives one byte of each read, and an output that takes so many of each write. Both may fail.
+
+use std::io::{self, ErrorKind, Read, Write};
+
+/// Gives the bytes of a text one by one, as long as bytes are left to give, and then fails.
+#[derive(Drop)]
+pub struct SlowInput<'a> {
+    pub text: &'a [u8],
+    pub left: u64,
+}
+
+impl Read for SlowInput<'_> {
+    fn read(&mut self, buf: &mut [u8]) -> io::Result<usize> {
+        if self.left == 0 {
+            return Err(ErrorKind::Other.into());
+        }
+        let [first, rest @ ..] = self.text else {
+            return Ok(0);
+        };
+        let Some(place) = buf.first_mut() else {
+            return Ok(0);
+        };
+        *place = *first;
+        self.text = rest;
+        self.left -= 1;
+        Ok(1)
+    }
+}
+
+/// Takes bytes of each write, as long as writes are left to take, and then fails.
+#[derive(Drop)]
+pub struct SlowOutput {
+    pub bytes: Vec<u8>,
+    pub left: u64,
+    /// The most bytes that a write takes.
+    pub takes: usize,
+}
+
+impl Write for SlowOutput {
+    fn write(&mut self, buf: &[u8]) -> io::Result<usize> {
+        if self.left == 0 {
+            return Err(ErrorKind::BrokenPipe.into());
+        }
+        let taken = buf.get(..self.takes).unwrap_or(buf);
+        if !taken.is_empty() {
+            self.bytes.extend_from_slice(taken)?;
+            self.left -= 1;
+        }
+        Ok(taken.len())
+    }
+
+    fn flush(&mut self) -> io::Result<()> {
+        Ok(())
+    }
+}

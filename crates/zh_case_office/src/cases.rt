@@ -1,0 +1,81 @@
+//! The cases of files.
+
+use crate::fixture::Fixture;
+use crate::turn::{Runner, run_line};
+use std::fs;
+use zh_case_files::{NamedSetup, Progress, names_of_files, setups_of};
+use zh_case_lines::{CaseFault, NumberedLine, lines_of};
+
+/// Runs lines, and counts the turns and the cases.
+fn run_lines<R: Runner>(
+    rt: &HostRuntime,
+    runner: &R,
+    fixture: &mut Fixture<'_>,
+    lines: &[NumberedLine],
+    progress: &mut Progress,
+) -> Result<(), CaseFault> {
+    for line in lines {
+        progress.line = line.number;
+        run_line(rt, runner, fixture, line)?;
+        progress.count(line.text.as_str());
+    }
+    Ok(())
+}
+
+/// Runs the lines of a text that asks for these set-ups.
+fn run_with<R: Runner>(
+    rt: &HostRuntime,
+    runner: &R,
+    setups: &[NamedSetup],
+    lines: &[NumberedLine],
+    progress: &mut Progress,
+) -> Result<(), CaseFault> {
+    let mut fixture = Fixture::new(rt, setups)?;
+    run_lines(rt, runner, &mut fixture, lines, progress)
+}
+
+/// Runs the cases of a text.
+fn run_text<R: Runner>(
+    rt: &HostRuntime,
+    runner: &R,
+    text: &str,
+    progress: &mut Progress,
+) -> Result<(), CaseFault> {
+    let lines = lines_of(rt.alloc(), text, &mut progress.line)?;
+    let setups = setups_of(rt, &lines, &mut progress.line)?;
+    run_with(rt, runner, &setups, &lines, progress)
+}
+
+/// Runs the cases of a file, and prints how it went. It gives the cases and the turns, none where one went wrong.
+fn run_file<R: Runner>(
+    rt: &HostRuntime,
+    runner: &R,
+    name: &str,
+) -> Result<Option<Progress>, CaseFault> {
+    let text = fs::read_to_string(rt, name)?;
+    let mut progress = Progress::default();
+    match run_text(rt, runner, text.as_str(), &mut progress) {
+        Ok(()) => {
+            progress.print(rt, name)?;
+            Ok(Some(progress))
+        }
+        Err(fault) => {
+            progress.print_fault(rt, name, &fault)?;
+            Ok(None)
+        }
+    }
+}
+
+/// Runs the files that the arguments name, or else all, and says whether all answers were the expected ones.
+pub fn run_files<R: Runner>(rt: &HostRuntime, runner: &R) -> Result<bool, CaseFault> {
+    let mut all = Progress::default();
+    let mut is_right = true;
+    for name in names_of_files(rt)? {
+        match run_file(rt, runner, name.as_str())? {
+            Some(done) => all.add(done),
+            None => is_right = false,
+        }
+    }
+    all.print(rt, "all")?;
+    Ok(is_right)
+}

@@ -1,0 +1,218 @@
+//! What a case works on: a set-up, a disk, and the office that is open there.
+
+use crate::opening::{open_on, opening_of};
+use crate::refusals::Held;
+use crate::serving::{Limits, READS_OF_LINE, ROOM, loaded, serve_within};
+use std::alloc::Global;
+use zh_case_disk::{CaseDisk, disk_of, image_of};
+use zh_case_files::NamedSetup;
+use zh_case_lines::{CaseFault, joined, lines_in};
+use zh_disk::{MemoryDisk, Stop};
+use zh_districts::Setup;
+use zh_film::Film;
+use zh_office::{FormatFault, NotedReader, Office};
+use zh_questions::reason_of;
+
+/// What a case works on.
+#[derive(Drop)]
+pub struct Fixture<'s> {
+    pub(crate) rt: &'s HostRuntime,
+    pub(crate) alloc: Global,
+    setups: &'s [NamedSetup],
+    setup: &'s Setup,
+    pub(crate) disk: CaseDisk,
+    pub(crate) office: Option<Office<'s>>,
+    /// The place of a sweep's table, after the word `at`.
+    pub(crate) place: String,
+    /// What was held when the turn `hold` was made last.
+    pub(crate) held: Held,
+    /// Whether memory may be refused to the calls of this turn.
+    pub(crate) is_refusing: bool,
+    /// Whether the rest of the case is skipped.
+    pub(crate) is_over: bool,
+}
+
+impl<'s> Fixture<'s> {
+    /// The first of the set-ups, and no disk.
+    pub(crate) fn new(
+        rt: &'s HostRuntime,
+        setups: &'s [NamedSetup],
+    ) -> Result<Fixture<'s>, CaseFault> {
+        let alloc = rt.alloc();
+        let Some(first) = setups.first() else {
+            return Err(CaseFault::Text("a file begins with a set-up"));
+        };
+        Ok(Fixture {
+            rt,
+            alloc,
+            setups,
+            setup: &first.setup,
+            disk: CaseDisk::none(alloc),
+            office: None,
+            place: String::new(alloc),
+            held: Held::nothing(alloc),
+            is_refusing: false,
+            is_over: false,
+        })
+    }
+
+    fn close(&mut self) {
+        self.office = None;
+    }
+
+    /// Takes a disk of these bytes, on which no office is open.
+    pub(crate) fn take_disk(&mut self, image: &[u8]) -> Result<(), CaseFault> {
+        self.close();
+        self.disk.take_image(image)
+    }
+
+    /// Takes the disk that a run of the program handed over.
+    pub fn take_over(&mut self, disk: MemoryDisk) {
+        self.close();
+        self.disk.take_over(disk);
+    }
+
+    /// The bytes of the disk.
+    pub fn image(&mut self) -> Result<Vec<u8>, CaseFault> {
+        self.disk.image()
+    }
+
+    /// A disk of zeros, and the first of the set-ups.
+    pub(crate) fn begin(&mut self) -> Result<(), CaseFault> {
+        self.place.clear();
+        self.is_over = false;
+        if let Some(first) = self.setups.first() {
+            self.setup = &first.setup;
+        }
+        self.close();
+        self.disk.take_zeros()
+    }
+
+    /// A power failure.
+    pub(crate) fn stop(&mut self, how: Stop) -> Result<(), CaseFault> {
+        self.close();
+        self.disk.stop(how)
+    }
+
+    /// Puts bytes on the disk.
+    pub(crate) fn poke(&mut self, text: &str) -> Result<(), CaseFault> {
+        self.close();
+        self.disk.poke(text)
+    }
+
+    /// Goes back to the disk at the beginning of a sweep, for the next place of its table.
+    pub(crate) fn back(&mut self, place: &str) -> Result<(), CaseFault> {
+        self.place = joined(self.alloc, &[" at ", place])?;
+        self.close();
+        self.disk.back()
+    }
+
+    pub(crate) fn take_setup(&mut self, name: &str) -> Result<(), CaseFault> {
+        for named in self.setups {
+            if named.name.as_str() == name {
+                self.close();
+                self.setup = &named.setup;
+                return Ok(());
+            }
+        }
+        Err(CaseFault::Text("there is no such set-up"))
+    }
+
+    pub(crate) fn format(&mut self) -> Result<&'static str, CaseFault> {
+        self.close();
+        let mark = self.mark()?;
+        let formatted = Office::format(self.alloc, self.setup, self.disk.device()?);
+        drop(mark);
+        match formatted {
+            Ok(()) => Ok("ok"),
+            Err(FormatFault::Memory) => Ok("memory"),
+            Err(FormatFault::Device) => Ok("device"),
+        }
+    }
+
+    pub(crate) fn open(&mut self) -> Result<&'static str, CaseFault> {
+        let mark = self.mark()?;
+        let (office, answer) = open_on(self.alloc, self.setup, self.disk.device()?);
+        drop(mark);
+        self.office = office;
+        Ok(answer)
+    }
+
+    /// How a copy of the disk is opened that has these bytes from a place on; or `changed`, where that changes it.
+    pub(crate) fn damage(&mut self, text: &str) -> Result<&'static str, CaseFault> {
+        let image = self.disk.damaged(text)?;
+        let mut disk = disk_of(self.alloc, &image)?;
+        let answer = opening_of(self.alloc, self.setup, &mut disk);
+        if image_of(self.alloc, &mut disk)? == image {
+            Ok(answer)
+        } else {
+            Ok("changed")
+        }
+    }
+
+    /// What the office answers to these bytes and a line's end.
+    pub(crate) fn send(&mut self, bytes: &[u8]) -> Result<String, CaseFault> {
+        let mut text = bytes.to_vec(self.alloc)?;
+        text.push(b'\n')?;
+        let mut out = Vec::with_capacity(self.alloc, ROOM)?;
+        let mark = self.mark()?;
+        let Some(office) = &mut self.office else {
+            return Ok(String::from_str(self.alloc, "closed")?);
+        };
+        let disk = self.disk.device()?;
+        let mut input = text.as_slice();
+        let served = office.serve(&mut input, &mut out, disk, &mut Film::new(), READS_OF_LINE);
+        drop(mark);
+        if served.is_err() {
+            return Err(CaseFault::Text("the line is too long"));
+        }
+        lines_in(self.alloc, &out)
+    }
+
+    /// What comes of serving a text within these limits.
+    pub(crate) fn serve(&mut self, text: &[u8], limits: Limits) -> Result<String, CaseFault> {
+        let Some(office) = &mut self.office else {
+            return Ok(String::from_str(self.alloc, "closed")?);
+        };
+        let disk = self.disk.device()?;
+        serve_within(self.alloc, office, disk, text, limits)
+    }
+
+    /// What the office answers to a text that is loaded byte by byte. There is no desk in it. With a limit it also says how
+    /// many bytes were not read.
+    pub(crate) fn load(&mut self, text: &[u8], limits: Limits) -> Result<String, CaseFault> {
+        let mark = self.mark()?;
+        let Some(office) = &mut self.office else {
+            return Ok(String::from_str(self.alloc, "closed")?);
+        };
+        let disk = self.disk.device()?;
+        let mut input = limits.input_of(text);
+        let reply = office.load(disk, &mut NotedReader::new(&mut input));
+        drop(mark);
+        loaded(self.alloc, &reply, limits, &input)
+    }
+
+    /// What the office exports.
+    pub(crate) fn export(&self) -> Result<String, CaseFault> {
+        let out = Vec::with_capacity(self.alloc, ROOM)?;
+        let mark = self.mark()?;
+        let Some(office) = &self.office else {
+            return Ok(String::from_str(self.alloc, "closed")?);
+        };
+        let exported = office.export(out);
+        drop(mark);
+        match exported {
+            Ok(out) => lines_in(self.alloc, &out),
+            Err(fault) => Ok(format!(in self.alloc; "{fault}")?),
+        }
+    }
+
+    /// Why the lists of the office's count have no seats.
+    pub(crate) fn reason(&self) -> Result<String, CaseFault> {
+        let mark = self.mark()?;
+        match &self.office {
+            Some(office) => reason_of(self.alloc, office.count(), mark),
+            None => Ok(String::from_str(self.alloc, "closed")?),
+        }
+    }
+}
