@@ -2,7 +2,7 @@
 import re
 from dataclasses import dataclass
 
-HEAD = re.compile(r"( *)(?:pub(?:\([a-z]+\))? )?(?:(?:final|const|unsafe|ghost) )*fn (\w+)")
+HEAD = re.compile(r'( *)(?:pub(?:\([a-z]+\))? )?(?:(?:final|const|unsafe|ghost|extern "C") )*fn (\w+)')
 BLOCK = re.compile(r"( *)(?:unsafe )?(impl|trait|pub trait|pub\(crate\) trait)\b(.*)")
 CLAUSE = re.compile(r" *(requires|ensures|ghost|decreases)\b")
 
