@@ -16,8 +16,9 @@ whole_tree() {
         '### High: names' '' '| Crate | Knows |' '|---|---|' '| `zh_high` | A name |' > docs/ARCHITECTURE.md
     printf '%s\n' '-- a sum' 'abbrev pub total : ℕ → ℕ' 'total n = half n' '' 'abbrev pub half : ℕ → ℕ' 'half n = n' '' \
         'abbrev pub lonely : ℕ' 'lonely = 0' > crates/zh_low/specs/Low.antt
-    printf '%s\n' '//! A number: one.' 'ghost use Rattle.zh_low.specs.Low.{total};' 'pub struct Low;' 'impl Low {' '    pub fn get(&self) -> u8' \
-        '        ensures got { result ≡ total 1 }' '    {' '        1' '    }' '}' > crates/zh_low/src/lib.rt
+    printf '%s\n' '//! A number: one.' 'ghost use Rattle.zh_low.specs.Low.{lonely, total};' 'pub struct Low;' 'impl Low {' \
+        '    pub fn get(&self) -> u8' '        ensures got { result ≡ total 1 }' '    {' '        1' '    }' '}' \
+        'fn none() -> u8' '    ensures { result ≡ lonely }' '{' '    0' '}' > crates/zh_low/src/lib.rt
     printf '%s\n' 'use Rattle.zh_low.specs.Low as low' 'pub record IsHigh (n : ℕ) : Type 0 where' \
         '  pub same : low.total n ≡ n' > crates/zh_high/specs/High.antt
     printf '%s\n' '//! A name.' 'ghost use Rattle.zh_high.specs.High.{IsHigh};' 'pub fn high() -> u8' '    ensures { IsHigh result }' '{' \
@@ -25,13 +26,11 @@ whole_tree() {
     printf 'file: src/lib.rt\n' > crates/zh_low/must-fail/wrong.edit
     printf '%s\n' '## `zh_low`' '' '| What | Carried by |' '|---|---|' '| a | `Low::get` got |' '' '## `zh_high`' '' \
         '| What | Carried by |' '|---|---|' '| b | `high` |' > docs/PROVED.md
-    printf '%s\n' '| Name | Sentence |' '|---|---|' '| `total n`, `half` | a |' '| `IsHigh` | b |' '' \
-        '## The headline' '' '`crates/zh_high/specs/High.antt`' '' '| Name | Sentence |' '|---|---|' '| `IsHigh` | a |' '' \
-        '`crates/zh_low/specs/Low.antt`' '' '| Name | Sentence |' '|---|---|' '| `total n`, `half` | a |' '' \
-        'See `wrong.edit`, `zh_low`, `crates/zh_low/src/lib.rt`, [this](PROVED.md), [that](PROVED.md#zh_high).' '' \
-        '## The other files' '' '`crates/zh_low/specs`' '' '- `Low.antt`: a number' > docs/DEFINITIONS.md
+    printf '%s\n' '# Definitions' '' '## The headline' '' 'It lists:' '' '### Nothing yet' '' '## Further' '' \
+        'See `wrong.edit`, `zh_low`, `crates/zh_low/src/lib.rt`, [this](PROVED.md), [that](PROVED.md#zh_high).' > docs/DEFINITIONS.md
     : > README.md
     cd - > /dev/null || exit 2
+    ./definitions --top "$folder/tree" --write
 }
 
 # expect TITLE STATUS TEXT ARGUMENT..: of the tree, with these arguments.
@@ -60,6 +59,8 @@ wrong() {
 whole_tree
 expect "a tree without a fault" 0 "0 wrong" --check
 expect "what the promises rest on" 0 "2 clauses, 3 of 4 definitions, 6 lines"
+sed -i 's/get` got/get`/' "$folder/tree/docs/PROVED.md"
+expect "a function with all that it has" 0 "2 clauses, 3 of 4 definitions, 6 lines"
 expect "one function alone" 0 "1 clauses, 2 of 4 definitions, 4 lines" Low::get
 expect "one clause alone" 0 "1 clauses, 2 of 4 definitions, 4 lines" Low::get.got
 expect "a clause that is not there" 1 "no such function" Low::get.given
@@ -70,13 +71,24 @@ sed -i 's/^total n = n/total n = n + lonely/' "$folder/tree/crates/zh_low/specs/
 expect "a use added" 0 "2 clauses, 3 of 4 definitions"
 wrong "a function that is gone" docs/PROVED.md 's/Low::get/Low::put/' "PROVED.md:5: there is no Low::put"
 wrong "a clause that is gone" docs/PROVED.md 's/get` got/get` given/' "PROVED.md:5: Low::get has no clause given"
-wrong "a clause without its name" docs/PROVED.md 's/get` got/get`/' "PROVED.md:5: Low::get has clauses with names"
 wrong "a cell that can't be read" docs/PROVED.md 's/`high` |/as above |/' "PROVED.md:11: can't be read: as above"
-wrong "a definition that is gone" docs/DEFINITIONS.md 's/`half`/`third`/' "DEFINITIONS.md:3: there is no definition third"
-wrong "an edit that is gone" docs/DEFINITIONS.md 's/wrong.edit/right.edit/' "DEFINITIONS.md:20: there is no right.edit"
-wrong "one that the headline's part leaves out" docs/DEFINITIONS.md '18s/, `half`//' "reaches zh_low.specs.Low.half, which"
-wrong "one that the headline does not reach" docs/DEFINITIONS.md '18s/`half`/`half`, `lonely`/' "DEFINITIONS.md:18: the headline does not"
-wrong "one that it reaches no more" crates/zh_low/specs/Low.antt 's/= half n/= n/' "the headline does not reach zh_low.specs.Low.half"
+wrong "an edit that is gone" docs/DEFINITIONS.md 's/wrong.edit/right.edit/' "DEFINITIONS.md:17: there is no right.edit"
+low='- [`zh_low/Low`](../crates/zh_low/specs/Low.antt):'
+wrong "a definition that the page leaves out" docs/DEFINITIONS.md 's/, `half`//' "DEFINITIONS.md:9: \`tests/definitions --write\` writes '$low a sum"
+wrong "a comment that is another one" crates/zh_low/specs/Low.antt 's/a sum/a half/' "writes '$low a half \`total\`, \`half\`' here"
+wrong "a definition that the headline reaches no more" crates/zh_low/specs/Low.antt 's/= half n/= n/' "writes '$low a sum \`total\`' here"
+wrong "a definition that no clause reaches" crates/zh_low/src/lib.rt 's/≡ lonely/≡ 0/' "no clause reaches zh_low.specs.Low.lonely"
+wrong "an operator that no clause reaches" crates/zh_low/specs/Low.antt '$aabbrev pub ◌~◌ : ℕ → ℕ → ℕ' "no clause reaches zh_low.specs.Low.◌~◌"
+wrong "no list" docs/DEFINITIONS.md '/^### /d' "DEFINITIONS.md has no list of what the headline reaches"
+
+whole_tree
+sed -i -e 's/lonely = 0/lonely = 0 ~ 0/' -e '$aabbrev pub ◌~◌ : ℕ → ℕ → ℕ' "$folder/tree/crates/zh_low/specs/Low.antt"
+expect "an operator that a clause reaches" 0 "0 wrong" --check
+sed -i '1s/-- a sum/-- some sum of a number and another -- 1. one/' "$folder/tree/crates/zh_low/specs/Low.antt"
+./definitions --top "$folder/tree" --write
+grep -q '^  another -- 1. one' "$folder/tree/docs/DEFINITIONS.md"
+expect "a comment of two lines, of which none begins as an item does" $? "0 wrong" --check
+
 wrong "a crate that the page has in no layer" docs/ARCHITECTURE.md '/zh_low/d' "crates.txt has the layer 'low: numbers' of zh_low, and"
 wrong "a crate in another layer" crates.txt '/^# high/d' "crates.txt has the layer 'low: numbers' of zh_low zh_high, and"
 wrong "a sentence that is not its crate's" docs/ARCHITECTURE.md 's/A number/A numb/' "the root file of zh_low does not begin with 'A numb'"
@@ -96,24 +108,6 @@ with_words 'two [Gates](docs/DEFINITIONS.md#words)'
 expect "a word with such a link" 0 "0 wrong" --check
 with_words 'end'
 expect "a word in backticks" 0 "0 wrong" --check
-wrong "a file that the other part leaves out" docs/DEFINITIONS.md 's/^- `Low.antt`: /- /' "nothing is said of crates/zh_low/specs/Low.antt"
-wrong "a file of which nothing is left" docs/DEFINITIONS.md 's/^- `Low.antt`/- `Low.antt`, `High.antt`/;s/zh_low.specs`$/zh_high\/specs`/' \
-    "nothing of crates/zh_high/specs/High.antt is left to be said"
-
-# in_items: a tree whose part of the headline has sections, and in them items of a list in place of rows.
-in_items() {
-    whole_tree
-    sed -i -e '8,18s/^| \(`.*`\) | a |$/- \1: a/' -e 's/^`crates.zh_low/### Low\n\n&/' "$folder/tree/docs/DEFINITIONS.md"
-}
-in_items
-expect "items in sections" 0 "0 wrong" --check
-sed -i 's/`total n`, `half`:/`total n`,\n  `half`:/' "$folder/tree/docs/DEFINITIONS.md"
-expect "an item of two lines" 0 "0 wrong" --check
-sed -i 's/^  `half`:/  `third`:/' "$folder/tree/docs/DEFINITIONS.md"
-expect "an item that names what is gone" 1 "DEFINITIONS.md:20: there is no definition third" --check
-in_items
-sed -i 's/^### Low/## Low/' "$folder/tree/docs/DEFINITIONS.md"
-expect "an item after the headline's part" 1 "reaches zh_low.specs.Low.half, which its part leaves out" --check
 
 echo "$passed passed, $failed failed"
 [ "$failed" = 0 ]

@@ -1,9 +1,10 @@
-"""What the pages of docs/ cite: the functions and clauses of PROVED, the definitions of DEFINITIONS, files and edits."""
+"""What the pages of docs/ cite, the functions and clauses of PROVED, files and edits; and what DEFINITIONS prints."""
 import re
 from dataclasses import dataclass
+from itertools import groupby
+from textwrap import fill
 
 CELL = re.compile(r"(?<!\\)\|")
-ITEM = re.compile(r"- (`[^`]+`(?:, `[^`]+`)*): ")
 FUNCTION = re.compile(r"`([^`]+)`(,? and |, )?")
 # Words of the glossary that pages use as everybody does, too.
 ORDINARY = {"moment", "history", "record", "accepted", "follow", "clean", "handed over"}
@@ -12,7 +13,7 @@ CLAUSES = re.compile(r"(\w+)(?: \(([^)]*)\))?(, | and |$)")
 
 @dataclass
 class Citation:
-    """A function, and the clauses of it that carry a promise; none where it has a single one without a name."""
+    """A function, and the clauses of it that carry a promise; none where all of them do."""
     page: str
     line: int
     crates: list
@@ -108,11 +109,8 @@ class Contracts:
             if not found:
                 faults.append(f"{citation.page}:{citation.line}: there is no {name}")
                 continue
-            for function, clauses in found.items():
-                names = {it.name for it in clauses}
+            for clauses in found.values():
                 meant += [it for it in clauses if not citation.clauses or it.name in citation.clauses]
-                if not citation.clauses and names != {""}:
-                    faults.append(f"{citation.page}:{citation.line}: {function} has clauses with names")
             known = {it.name for clauses in found.values() for it in clauses}
             faults += [f"{citation.page}:{citation.line}: {name} has no clause {it}"
                        for it in citation.clauses if found and it not in known]
@@ -130,26 +128,6 @@ def lines_joined(path):
     return joined
 
 
-def names_in(text):
-    """The definitions that a cell names: the first word of each thing in backticks. Files are none."""
-    return [it.split()[0] for it in re.findall(r"`([^`]+)`", text) if not it.endswith((".antt", ".rt"))]
-
-
-def names_in_item(line):
-    """What an item of a list names before its colon."""
-    item = ITEM.match(line)
-    return names_in(item.group(1)) if item else []
-
-
-def names_listed(path):
-    """The definitions that the tables and the items of a page name, each with its line."""
-    for line, _, head, cells in rows_of(path):
-        if head and "Name" in head:
-            yield from ((line, it) for it in names_in(cells[head.index("Name")]))
-    for number, line in lines_joined(path):
-        yield from ((number, it) for it in names_in_item(line))
-
-
 def lines_in_part(path, title):
     """The lines of a part of a page, up to the next heading of its level, each with its number."""
     level = 0
@@ -161,31 +139,31 @@ def lines_in_part(path, title):
             yield number, line
 
 
-def names_in_part(path, title):
-    """The full names of the definitions that a part lists, in rows or in items, each with its line and under its file's
-    name. A heading ends a file."""
-    found, module = {}, None
-    for number, line in lines_in_part(path, title):
-        if line.startswith("#"):
-            module = None
-        elif file := re.match(r"`crates/(\w+)/specs/(\w+)\.antt`", line):
-            module = f"{file.group(1)}.specs.{file.group(2)}"
-        elif module:
-            names = names_in(CELL.split(line)[1]) if line.startswith("|") else names_in_item(line)
-            found |= {f"{module}.{it}": number for it in names}
-    return found
+def split_at_list(text):
+    """A page before, within and after its list of the definitions that the headline reaches, from the first section of the part
+    'The headline' to the next part."""
+    found = re.search(r"^## The headline\n(?:(?!##? ).*\n)*?(?=### )((?:(?!##? ).*\n)*)", text, re.MULTILINE)
+    return (text[: found.start(1)], found[1], text[found.end(1) :]) if found else (text, "", "")
 
 
-def files_in_part(path, title):
-    """The files of specs that a part names, in whole or before the colon of an item below its crate's, each with its line."""
-    found, folder = {}, None
-    for number, line in lines_in_part(path, title):
-        found |= {it: number for it in re.findall(r"`(crates/\w+/specs/\w+\.antt)`", line)}
-        if crate := re.match(r"`(crates/\w+/specs)`", line):
-            folder = crate.group(1)
-        elif folder and line.startswith("- "):
-            found |= {f"{folder}/{it}": number for it in re.findall(r"`(\w+\.antt)`", line.split(": ")[0])}
-    return found
+def wrapped(text):
+    """An item of a list in lines of 80 characters, none of which begins as an item or a heading would."""
+    kept = re.sub(r" (?=[-+*#>] |\d+[.)])", "\0", text)
+    return fill(kept, 80, subsequent_indent="  ", break_long_words=False, break_on_hyphens=False).replace("\0", " ")
+
+
+def printed(tree, reached):
+    """The files of these definitions by layer, each with the comment at its head and the names."""
+    lines = []
+    for title, crates in tree.layers.items():
+        found = [tree.definitions[key] for crate in crates for key in tree.in_order(crate) if key in reached]
+        lines += [f"### {title[0].upper()}{title[1:]}", ""] if found else []
+        for (crate, module), inside in groupby(found, lambda it: (it.crate, it.module)):
+            names = ", ".join(f"`{it.name.strip('◌')}`" for it in inside)
+            link = f"[`{crate}/{module}`](../crates/{crate}/specs/{module}.antt)"
+            lines.append(wrapped(" ".join(filter(None, [f"- {link}:", tree.scopes[f"{crate}.specs.{module}"].head, names]))))
+        lines += [""] if found else []
+    return "\n".join(lines) + "\n"
 
 
 def layers_in(path):

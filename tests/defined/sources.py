@@ -1,6 +1,7 @@
 """The definitions of crates/*/specs and the contracts of crates/*/src, and which names each of them uses."""
 import re
 from dataclasses import dataclass, field
+from itertools import takewhile
 from pathlib import Path
 
 NAME = re.compile(r"[^\W\d]\w*'*(?:\.[^\W\d]\w*'*)*")
@@ -14,6 +15,7 @@ class Definition:
     module: str
     name: str
     line: int
+    comment: str = ""
     text: list = field(default_factory=list)
 
     @property
@@ -27,9 +29,11 @@ class Definition:
 
 @dataclass
 class Scope:
-    """What the names of a file stand for: full names below 'Rattle.', by the name or the alias that the file uses."""
+    """What the names of a file stand for: full names below 'Rattle.', by the name or the alias that the file uses. And the
+    comment at the head of the file."""
     names: dict = field(default_factory=dict)
     modules: dict = field(default_factory=dict)
+    head: str = ""
 
     def read(self, line):
         """Takes in an import, if the line is one."""
@@ -58,9 +62,11 @@ def code_of(line):
 
 
 def read_specs(path, crate):
-    """The definitions of a file of specs, in order, and its scope."""
-    module, scope, found, indent = path.stem, Scope(), [], ""
-    for number, line in enumerate(path.read_text().splitlines(), 1):
+    """The definitions of a file of specs, in order, each with the comment above it, and its scope."""
+    lines = path.read_text().splitlines()
+    module, found, indent, above = path.stem, [], "", []
+    scope = Scope(head=" ".join(line.removeprefix("--").strip() for line in takewhile(lambda it: it.startswith("--"), lines)))
+    for number, line in enumerate(lines, 1):
         if line.startswith("use "):
             scope.read(line)
             continue
@@ -72,7 +78,8 @@ def read_specs(path, crate):
         head = HEAD.match(line)
         name = head and head.group(1)
         if name and name != "mod" and not (found and name == found[-1].name):
-            found.append(Definition(crate, module, name, number))
+            found.append(Definition(crate, module, name, number, " ".join(above)))
+        above = above + [line.removeprefix("--").strip()] if line.startswith("--") else []
         if found and code_of(line).strip():
             found[-1].text.append(code_of(line))
     for it in found:
@@ -90,12 +97,15 @@ class Clause:
     is_public: bool
 
 
-def clauses_of(path, crate):
-    """The `ensures` clauses of a file of src, and its scope."""
-    text = "\n".join(re.sub(r"(^|\s)//.*", "", line) for line in path.read_text().splitlines())
+def read_source(path):
+    """The code of a file of src without its comments and imports, and its scope."""
     scope = Scope()
-    for line in text.splitlines():
-        scope.read(line)
+    lines = [re.sub(r"(^|\s)//.*", "", line) for line in path.read_text().splitlines()]
+    return "\n".join("" if scope.read(line) else line for line in lines), scope
+
+
+def clauses_of(text, path, crate):
+    """The `ensures` clauses of the code of a file."""
     found, owner, depth_of_owner = [], None, None
     place, depth = 0, 0
     token = re.compile(r"\b(impl|trait)\b|\bfn (\w+)|[{}]")
@@ -121,7 +131,7 @@ def clauses_of(path, crate):
             depth -= 1
             if owner and depth == depth_of_owner:
                 owner = None
-    return found, scope
+    return found
 
 
 def owner_of(head):
@@ -170,7 +180,7 @@ class Tree:
         self.top = Path(top)
         self.layers = layers_of((self.top / "crates.txt").read_text())
         self.crates = [it for crates in self.layers.values() for it in crates]
-        self.definitions, self.scopes, self.clauses, self.source_scopes, self.types = {}, {}, [], {}, set()
+        self.definitions, self.scopes, self.clauses, self.sources = {}, {}, [], {}
         for crate in self.crates:
             folder = self.top / "crates" / crate
             for path in sorted(folder.glob("specs/**/*.antt")):
@@ -178,10 +188,8 @@ class Tree:
                 self.definitions.update((it.key, it) for it in found)
                 self.scopes[f"{crate}.specs.{path.stem}"] = scope
             for path in sorted(folder.glob("src/**/*.rt")):
-                found, scope = clauses_of(path, crate)
-                self.clauses += found
-                self.source_scopes[path] = scope
-                self.types |= set(re.findall(r"pub(?:\(crate\))? (?:enum|struct|trait|type|const) (\w+)", path.read_text()))
+                self.sources[path] = read_source(path)
+                self.clauses += clauses_of(self.sources[path][0], path, crate)
 
     def head(self, crate):
         """What the root file of a crate says of it, in one line."""
@@ -190,8 +198,9 @@ class Tree:
         return " ".join(it.removeprefix("//!").strip() for it in lines if it.startswith("//!"))
 
     def used_by(self, text, scope):
-        """The full names that a text uses."""
-        return {full for word in NAME.findall(text) if (full := scope.full(word))}
+        """The full names that a text uses, of operators those of our own."""
+        operators = {full for name, full in scope.names.items() if "◌" in name and full in self.definitions and name.strip("◌") in text}
+        return operators | {full for word in NAME.findall(text) if (full := scope.full(word))}
 
     def uses(self, key):
         it = self.definitions[key]
@@ -200,8 +209,16 @@ class Tree:
 
     def closure(self, clauses):
         """The definitions that these clauses rest on, and the other names that they use: types and words of the kit."""
-        reached, others = set(), set()
-        todo = set().union(*[self.used_by(it.text, self.source_scopes[it.path]) for it in clauses])
+        return self.followed(set().union(*[self.used_by(it.text, self.sources[it.path][1]) for it in clauses]))
+
+    def unreached(self):
+        """The definitions on which no clause, law or ghost field of the sources rests, in order."""
+        reached, _ = self.followed(set().union(*[self.used_by(text, scope) for text, scope in self.sources.values()]))
+        return [key for key in self.definitions if key not in reached]
+
+    def followed(self, names):
+        """The definitions that these names lead to, and the other names that they use."""
+        reached, others, todo = set(), set(), set(names)
         while todo:
             key = todo.pop()
             if key in self.definitions and key not in reached:

@@ -7,7 +7,8 @@ use Rattle.zh_disk.specs.History.{History}
 use Rattle.zh_disk.specs.Failing.{FailsAfter, IsOneCall, inside, calls_left, fails_once}
 
 -- every call but the first that fails is one call of the disk inside
-module _ {D : Type 0} (history : D → History) (last : D → D → Type 0) (old new : FailingDisk D) (result : Result (Unit {0}) DiskFault) (failing : FailsAfter history last old new result) (once : fails_once old ≡ true) where
+module _ {D : Type 0} (history : D → History) (last : D → D → Type 0) (old new : FailingDisk D) (result : Result (Unit {0}) DiskFault)
+    (failing : FailsAfter history last old new result) (once : fails_once old ≡ true) where
   passes_at : (left : Option ℕ) → calls_left old ≡ left → left ≢ Some 0 → IsOneCall history (inside old) (inside new) result
   passes_at None is other = failing.mended is once
   passes_at (Some zero) is other = absurd (other refl)

@@ -22,11 +22,13 @@ none_of true false a b none = absurd (cc)
 none_of false standing a b none = absurd (cc)
 
 -- a list that is not misplaced stands in a municipality of the set-up
-pub placed : (canton : Canton) (municipality list : ℕ) → misplaced canton municipality list ≡ None → (has_municipality canton municipality ≡ true) × (stands canton (constituency_of canton municipality) list ≡ true)
+pub placed : (canton : Canton) (municipality list : ℕ) → misplaced canton municipality list ≡ None
+    → (has_municipality canton municipality ≡ true) × (stands canton (constituency_of canton municipality) list ≡ true)
 placed canton municipality list none = none_of (has_municipality canton municipality) (stands canton (constituency_of canton municipality) list) _ _ none
 
 -- the other way round
-pub not_misplaced : (canton : Canton) (municipality list : ℕ) → has_municipality canton municipality ≡ true → stands canton (constituency_of canton municipality) list ≡ true → misplaced canton municipality list ≡ None
+pub not_misplaced : (canton : Canton) (municipality list : ℕ) → has_municipality canton municipality ≡ true
+    → stands canton (constituency_of canton municipality) list ≡ true → misplaced canton municipality list ≡ None
 not_misplaced canton municipality list there standing = rw (there, standing) refl
 
 -- a list after the last group stands nowhere, nor does list 0
@@ -39,6 +41,7 @@ pub stands_zero : (canton : Canton) (constituency list : ℕ) → list ≡ 0 →
 stands_zero canton constituency list zero = rw zero refl
 
 -- a list that does not stand in its municipality is misplaced
-pub misplaced_list : (canton : Canton) (municipality list constituency : ℕ) → has_municipality canton municipality ≡ true → constituency ≡ constituency_of canton municipality → stands canton constituency list ≡ false
+pub misplaced_list : (canton : Canton) (municipality list constituency : ℕ) → has_municipality canton municipality ≡ true → constituency
+    ≡ constituency_of canton municipality → stands canton constituency list ≡ false
     → Some reasons.List ≡ misplaced canton municipality list
 misplaced_list canton municipality list constituency there lies standing = rw (there, ← lies, standing) refl

@@ -39,8 +39,10 @@ length-quorum_spelling (Some q) = omega arith
 -- the bytes of a set-up
 pub length-setup_spelling : (canton : Canton) → IsCanton canton → length (setup_spelling canton) ≤ 24392
 length-setup_spelling canton h =
-    let a = length-parts constituency_spelling 45 32 canton.constituencies h.constituencies.1 (λ k d lt. let s = short_names (λ x. x.name) canton.constituencies h.constituency_names k d lt in omega arith) in
-    let b = length-parts municipality_spelling 42 512 canton.municipalities h.municipalities.1 (λ k d lt. let s = short_names (λ x. x.name) canton.municipalities h.municipality_names k d lt in omega arith) in
+    let a = length-parts constituency_spelling 45 32 canton.constituencies h.constituencies.1
+    (λ k d lt. let s = short_names (λ x. x.name) canton.constituencies h.constituency_names k d lt in omega arith) in
+    let b = length-parts municipality_spelling 42 512 canton.municipalities h.municipalities.1
+    (λ k d lt. let s = short_names (λ x. x.name) canton.municipalities h.municipality_names k d lt in omega arith) in
     let c = length-parts group_spelling 45 32 canton.groups h.groups.1 (λ k d lt. let s = short_names (λ x. x.name) canton.groups h.group_names k d lt in omega arith) in
     let d = length-quorum_spelling canton.canton_quorum in
     simp length-append (omega arith)

@@ -86,7 +86,9 @@ Describes {X} P f = (x y : X) (c d : List ℕ) → P x → P y → f x ++ c ≡ 
 
 constituencies_tell : Describes (λ (x : Constituency). x.persons < 2 ^ 32) constituency_spelling
 constituencies_tell x y c d px py e =
-    let apart = same_front (to_be_bytes w32 x.persons) (to_be_bytes w32 y.persons) (name_spelling x.name ++ c) (name_spelling y.name ++ d) refl (sym (append_assoc (to_be_bytes w32 x.persons) (name_spelling x.name) c) ∙ e ∙ append_assoc (to_be_bytes w32 y.persons) (name_spelling y.name) d) in
+    let apart = same_front (to_be_bytes w32 x.persons) (to_be_bytes w32 y.persons) (name_spelling x.name ++ c) (name_spelling y.name ++ d)
+    refl (sym (append_assoc (to_be_bytes w32 x.persons) (name_spelling x.name) c) ∙ e ∙ append_assoc (to_be_bytes w32 y.persons)
+    (name_spelling y.name) d) in
     let persons = same_32 x.persons y.persons px py apart.0 in
     let name = same_name x.name y.name c d apart.1 in
     (same_constituency x y name.0 persons, name.1)
@@ -99,14 +101,17 @@ municipalities_tell x y c d px py e =
 
 groups_tell : (n : ℕ) → n ≤ 32 → Describes (λ (x : Group). length x.stands ≡ n) group_spelling
 groups_tell n few x y c d px py e =
-    let apart = same_front (to_be_bytes w32 (mask_of x.stands)) (to_be_bytes w32 (mask_of y.stands)) (name_spelling x.name ++ c) (name_spelling y.name ++ d) refl (sym (append_assoc (to_be_bytes w32 (mask_of x.stands)) (name_spelling x.name) c) ∙ e ∙ append_assoc (to_be_bytes w32 (mask_of y.stands)) (name_spelling y.name) d) in
+    let apart = same_front (to_be_bytes w32 (mask_of x.stands)) (to_be_bytes w32 (mask_of y.stands)) (name_spelling x.name ++ c)
+    (name_spelling y.name ++ d) refl (sym (append_assoc (to_be_bytes w32 (mask_of x.stands)) (name_spelling x.name) c) ∙ e
+    ∙ append_assoc (to_be_bytes w32 (mask_of y.stands)) (name_spelling y.name) d) in
     let mask = same_32 (mask_of x.stands) (mask_of y.stands) (mask_of-fits x.stands (omega arith)) (mask_of-fits y.stands (omega arith)) apart.0 in
     let stands = same_mask x.stands y.stands (px ∙ sym py) mask in
     let name = same_name x.name y.name c d apart.1 in
     (same_group x y name.0 stands, name.1)
 
 -- as many parts
-parts_determine : {X : Type 0} (P : X → Type 0) (f : X → List ℕ) → Describes P f → (xs ys : List X) (c d : List ℕ) → length xs ≡ length ys → AllByRecursion P xs → AllByRecursion P ys → flat_map f xs ++ c ≡ flat_map f ys ++ d → (xs ≡ ys) × (c ≡ d)
+parts_determine : {X : Type 0} (P : X → Type 0) (f : X → List ℕ) → Describes P f → (xs ys : List X) (c d : List ℕ) → length xs ≡ length ys
+    → AllByRecursion P xs → AllByRecursion P ys → flat_map f xs ++ c ≡ flat_map f ys ++ d → (xs ≡ ys) × (c ≡ d)
 parts_determine P f determines [] [] c d len px py e = (refl, e)
 parts_determine P f determines [] (y ∷ ys) c d len px py e = absurd (omega arith)
 parts_determine P f determines (x ∷ xs) [] c d len px py e = absurd (omega arith)
@@ -136,18 +141,26 @@ same_setup a b ha hb e =
     let house = same_16 a.house b.house (omega (arith, ha.house.1)) (omega (arith, hb.house.1)) start.0 in
     let count : length a.constituencies ≡ length b.constituencies = ap (λ (xs : List ℕ). get_or xs 0 0) start.1 in
     let P = λ (x : Constituency). x.persons < 2 ^ 32 in
-    let fits : (canton : Canton) → IsCanton canton → AllByRecursion P canton.constituencies = λ canton h. recursion_from_All P canton.constituencies (All-weaker (λ (x : Constituency). (1 ≤ x.persons) × (x.persons ≤ 10000000)) P (λ x p. omega (arith, p.1)) canton.constituencies h.persons) in
-    let constituencies = parts_determine P constituency_spelling constituencies_tell a.constituencies b.constituencies (after_constituencies a) (after_constituencies b) count (fits a ha) (fits b hb) (ap (drop 1) start.1) in
-    let then = same_front (to_be_bytes w16 (length a.municipalities)) (to_be_bytes w16 (length b.municipalities)) (flat_map municipality_spelling a.municipalities ++ after_municipalities a) (flat_map municipality_spelling b.municipalities ++ after_municipalities b) refl constituencies.1 in
-    let count' : length a.municipalities ≡ length b.municipalities = same_16 (length a.municipalities) (length b.municipalities) (omega (arith, ha.municipalities.1)) (omega (arith, hb.municipalities.1)) then.0 in
+    let fits : (canton : Canton) → IsCanton canton → AllByRecursion P canton.constituencies = λ canton h.
+    recursion_from_All P canton.constituencies (All-weaker (λ (x : Constituency). (1 ≤ x.persons) × (x.persons ≤ 10000000)) P
+    (λ x p. omega (arith, p.1)) canton.constituencies h.persons) in
+    let constituencies = parts_determine P constituency_spelling constituencies_tell a.constituencies b.constituencies
+    (after_constituencies a) (after_constituencies b) count (fits a ha) (fits b hb) (ap (drop 1) start.1) in
+    let then = same_front (to_be_bytes w16 (length a.municipalities)) (to_be_bytes w16 (length b.municipalities))
+    (flat_map municipality_spelling a.municipalities ++ after_municipalities a) (flat_map municipality_spelling b.municipalities
+    ++ after_municipalities b) refl constituencies.1 in
+    let count' : length a.municipalities ≡ length b.municipalities = same_16 (length a.municipalities) (length b.municipalities)
+    (omega (arith, ha.municipalities.1)) (omega (arith, hb.municipalities.1)) then.0 in
     let Q = λ (x : Municipality). Unit {0} in
     let all_of : (xs : List Municipality) → AllByRecursion Q xs = λ xs. recursion_from_All Q xs (λ k d lt. tt) in
-    let municipalities = parts_determine Q municipality_spelling municipalities_tell a.municipalities b.municipalities (after_municipalities a) (after_municipalities b) count' (all_of a.municipalities) (all_of b.municipalities) then.1 in
+    let municipalities = parts_determine Q municipality_spelling municipalities_tell a.municipalities b.municipalities
+    (after_municipalities a) (after_municipalities b) count' (all_of a.municipalities) (all_of b.municipalities) then.1 in
     let count'' : length a.groups ≡ length b.groups = ap (λ (xs : List ℕ). get_or xs 0 0) municipalities.1 in
     let n = length a.constituencies in
     let R = λ (x : Group). length x.stands ≡ n in
     let ga : AllByRecursion R a.groups = recursion_from_All R a.groups ha.stands in
     let gb : AllByRecursion R b.groups = recursion_from_All R b.groups (subst (λ (m : ℕ). All (λ (x : Group). length x.stands ≡ m) b.groups) (sym count) hb.stands) in
-    let groups = parts_determine R group_spelling (groups_tell n ha.constituencies.1) a.groups b.groups (quorum_spelling a.canton_quorum) (quorum_spelling b.canton_quorum) count'' ga gb (ap (drop 1) municipalities.1) in
+    let groups = parts_determine R group_spelling (groups_tell n ha.constituencies.1) a.groups b.groups (quorum_spelling a.canton_quorum)
+    (quorum_spelling b.canton_quorum) count'' ga gb (ap (drop 1) municipalities.1) in
     let quorum = same_quorum a.canton_quorum b.canton_quorum ha.canton_quorum hb.canton_quorum groups.1 in
     same_parts a b house constituencies.0 municipalities.0 groups.0 quorum

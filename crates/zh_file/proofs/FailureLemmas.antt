@@ -31,7 +31,8 @@ more_rose faults faults' refusals more = ⊎_elim (λ (low : faults < faults'). 
 
 module _ {E : Type 0} (faults faults' refusals : ℕ) where
   -- a call of the file, beside the calls that were refused
-  pub file_counts : (done : Result (Unit {0}) E) (result : Result (Unit {0}) DiskFault) → is_ok result ≡ is_ok done → CountsFault done faults faults' → Counts (is_err result) (faults + refusals) (faults' + refusals)
+  pub file_counts : (done : Result (Unit {0}) E) (result : Result (Unit {0}) DiskFault) → is_ok result ≡ is_ok done
+      → CountsFault done faults faults' → Counts (is_err result) (faults + refusals) (faults' + refusals)
   file_counts (Ok x) (Ok y) is counts = record { later = omega (arith, counts); rose = λ failed. absurd cc; same = λ failed. ap (λ (n : ℕ). n + refusals) counts }
   file_counts (Err x) (Err y) is counts = record {
     later = let later = counts.1 in omega arith;

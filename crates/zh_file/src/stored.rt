@@ -19,7 +19,7 @@ use zh_disk::{DISK_LENGTH, Disk, DiskFault};
 
 /// A file, and the ranges that were written since its last sync, which only clauses read.
 #[derive(Drop)]
-pub struct HeldFile<D: File> {
+pub(crate) struct HeldFile<D: File> {
     pub(crate) file: D,
     pub(crate) written: Ranges,
 }

@@ -1,6 +1,5 @@
 -- Floating numbers and their logarithms.
-use Rattle.std.specs.Prelude.{IsTrue}
-use Rattle.std.proofs.Common.{Bool, ◌↔◌, ◌≡◌, ℕ, ◌+◌, ◌*◌, ◌/◌, ◌%◌, ◌^◌, ◌≤◌, List, map, get_or, slice_index, sym, ap, ◌∙◌, arith}
+use Rattle.std.proofs.Common.{◌≡◌, ℕ, ◌+◌, ◌*◌, ◌/◌, ◌%◌, ◌^◌, ◌≤◌, List, map, get_or, slice_index, sym, ap, ◌∙◌, arith}
 use Rattle.std.proofs.Math.ListN as lists
 use Rattle.zh_floating.specs.Floats.{float_at, float_scale, value_of}
 use Rattle.zh_floating.specs.declared.floating.Floating.{Floating}
@@ -26,12 +25,3 @@ value_at xs i =
 -- the square of the scale
 pub of_scale : IsLog 0 2 (float_scale * float_scale) (65598 * log_unit)
 of_scale = rw (sym (power-add 2 32799 32799)) (of_power 65598)
-
--- one cell of the test
-pub cell-given : (P : ℕ → ℕ → ℕ → Type 0) (r : Bool) (v m e n f s v' p x s' : ℕ) → v' ≡ v → p ≡ m * n → x ≡ e + f → s' ≡ s →
-    (IsTrue r ↔ P (v' * power 2 65598) (p * power 2 x) s') →
-    (IsTrue r ↔ P (v * (float_scale * float_scale)) (m * power 2 e * (n * power 2 f)) s)
-cell-given P r v m e n f s v' p x s' same-votes product sum same-seats given =
-    let square : float_scale * float_scale ≡ power 2 65598 = sym (power-add 2 32799 32799) in
-    let whole : m * power 2 e * (n * power 2 f) ≡ p * power 2 x = rw (product, sum, power-add 2 e f) (omega arith) in
-    rw (square, whole, sym same-votes, sym same-seats) given

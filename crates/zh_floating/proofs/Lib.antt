@@ -1,3 +1,2 @@
 pub mod CallerLemmas
 mod FloatLemmas
-mod LessLemmas

@@ -31,14 +31,16 @@ module _ (base j : ℕ) (r : List ℕ) (sized : HasSize r) (room : j + pages_of 
       let same : SameOutside (base + 256 * j) 1 t1.now.bytes f = subst (λ (b : List ℕ). SameOutside (base + 256 * j) 1 b f) by.0 by.1 in
       (came.0, came.1, opening base j r sized room came.0 t1.now.bytes (long_image came.0 came.1) came.2 staged f same))
 
-  pub at_end : (t2 : Trail) → IsWritten t1.now.bytes (base + 256 * j) r → t2.now ≡ record { bytes = splice (base + 256 * j) (165 ∷ []) t1.now.bytes; pending = [] } → Moves (Adds base j r) t0.now t2.now
+  pub at_end : (t2 : Trail) → IsWritten t1.now.bytes (base + 256 * j) r → t2.now
+      ≡ record { bytes = splice (base + 256 * j) (165 ∷ []) t1.now.bytes; pending = [] } → Moves (Adds base j r) t0.now t2.now
   at_end t2 staged is = λ c image.
       let b = t1.now.bytes in
       let fits : base + 256 * j + 1 ≤ length b = omega (arith, came.2.size, long_image came.0 came.1) in
       let only : c ≡ splice (base + 256 * j) (165 ∷ []) b = synced_image (record { bytes = splice (base + 256 * j) (165 ∷ []) b; pending = [] }) c (subst (λ (m : Moment). IsImage m c) is image) in
       let same : SameOutside (base + 256 * j) 1 b c = subst (λ (l : List ℕ). SameOutside (base + 256 * j) 1 b l) (sym only) (splice_same (base + 256 * j) (165 ∷ []) b fits) in
       let here : base + 256 * j + 0 ≡ base + 256 * j = omega arith in
-      let gate : slice_index c (base + 256 * j) ≡ 165 = ap (λ (l : List ℕ). slice_index l (base + 256 * j)) only ∙ ap (slice_index (splice (base + 256 * j) (165 ∷ []) b)) (sym here) ∙ splice_inside (base + 256 * j) (165 ∷ []) b 0 fits (omega arith) in
+      let gate : slice_index c (base + 256 * j) ≡ 165 = ap (λ (l : List ℕ). slice_index l (base + 256 * j)) only
+      ∙ ap (slice_index (splice (base + 256 * j) (165 ∷ []) b)) (sym here) ∙ splice_inside (base + 256 * j) (165 ∷ []) b 0 fits (omega arith) in
       (came.0, came.1, opened base j r sized room came.0 b (long_image came.0 came.1) came.2 staged c same gate)
 
 -- the pages alone are changed

@@ -19,8 +19,10 @@ pub cleared : (base : ℕ) (zeros : List ℕ) (t u : Trail) → base + 262144 �
 cleared base zeros t u fits long zero is =
     let b = t.now.bytes in
     let now : u.now.bytes ≡ splice base zeros t.now.bytes = ap (λ (x : Trail). x.now.bytes) is in
-    let same : SameOutside base 262144 t.now.bytes (splice base zeros t.now.bytes) = subst (λ (n : ℕ). SameOutside base n t.now.bytes (splice base zeros t.now.bytes)) long (splice_same base zeros t.now.bytes (omega arith)) in
-    let nought : (k : ℕ) → base ≤ k → k < base + 262144 → slice_index (splice base zeros t.now.bytes) k ≡ 0 = λ k from inside. splice_in base zeros t.now.bytes k (omega arith) from (omega arith) ∙ zero (k - base) in
+    let same : SameOutside base 262144 t.now.bytes (splice base zeros t.now.bytes) =
+    subst (λ (n : ℕ). SameOutside base n t.now.bytes (splice base zeros t.now.bytes)) long (splice_same base zeros t.now.bytes (omega arith)) in
+    let nought : (k : ℕ) → base ≤ k → k < base + 262144 → slice_index (splice base zeros t.now.bytes) k ≡ 0 = λ k from inside.
+    splice_in base zeros t.now.bytes k (omega arith) from (omega arith) ∙ zero (k - base) in
     subst (λ (l : List ℕ). IsCleared base t.now.bytes l) (sym now) (record { around = same; zero = nought; area = zero_holds base (splice base zeros t.now.bytes) nought })
 
 -- Zeros are written over an area.

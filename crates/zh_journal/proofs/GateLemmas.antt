@@ -11,7 +11,8 @@ module _ (gate : ℕ) (t0 t1 t2 : Trail) (room : gate + 1 ≤ length t0.now.byte
   at_first : Leaves (FromBytes gate t0) t0 t1
   at_first = leaves_weaken _ _ t0 t1 (λ d c image by. (by.0, record { size = ap length by.1; same = λ k out. ap (λ (l : List ℕ). slice_index l k) by.1 })) (sync_leaves t0 t1 (Ok tt) first)
 
-  pub behind_write : (bytes : List ℕ) → length bytes ≡ 1 → (result : Result (Unit {0}) DiskFault) → Writes gate bytes result t1 t2 → Leaves (FromBytes gate t0) t0 t2 × Moves (FromBytes gate t0) t0.now t2.now
+  pub behind_write : (bytes : List ℕ) → length bytes ≡ 1 → (result : Result (Unit {0}) DiskFault) → Writes gate bytes result t1 t2
+      → Leaves (FromBytes gate t0) t0 t2 × Moves (FromBytes gate t0) t0.now t2.now
   behind_write bytes one result writes =
       let long : length t1.now.bytes ≡ length t0.now.bytes = ap (λ (t : Trail). length t.now.bytes) first.ok in
       write_more _ t0 t1 t2 gate bytes result (omega (arith, long, one, room)) writes (λ x f image by.
@@ -19,7 +20,8 @@ module _ (gate : ℕ) (t0 t1 t2 : Trail) (room : gate + 1 ≤ length t0.now.byte
       let same : SameOutside gate 1 x f = subst (λ (n : ℕ). SameOutside gate n x f) one by in
       (x, subst (IsImage t0.now) (sym is) (image_now t0.now), (is, same))) at_first
 
-  pub behind_sync : (t3 : Trail) (bytes : List ℕ) → length bytes ≡ 1 → (result result' : Result (Unit {0}) DiskFault) → Writes gate bytes result t1 t2 → Syncs result' t2 t3 → Leaves (FromBytes gate t0) t0 t3
+  pub behind_sync : (t3 : Trail) (bytes : List ℕ) → length bytes ≡ 1 → (result result' : Result (Unit {0}) DiskFault)
+      → Writes gate bytes result t1 t2 → Syncs result' t2 t3 → Leaves (FromBytes gate t0) t0 t3
   behind_sync t3 bytes one result result' writes syncs =
       let so_far = behind_write bytes one result writes in
       (sync_more _ t0 t2 t3 result' syncs so_far.1 so_far.0).0

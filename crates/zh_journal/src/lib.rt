@@ -17,5 +17,5 @@ mod record_writer;
 pub use area::Area;
 pub use fault::{AppendFault, AreaFault, OpenFault};
 pub use gate::{OPEN_GATE, open_gate};
-pub use page::{AREA_LENGTH, AREA_PAGES, LONGEST_PAYLOAD, PAGE_LENGTH, pages_of};
+pub use page::{AREA_LENGTH, LONGEST_PAYLOAD, pages_of};
 pub use reader::Reader;

@@ -10,7 +10,7 @@ use Rattle.zh_returns.specs.Step.{after}
 use Rattle.zh_returns.specs.Tally.{Tally, empty}
 use Rattle.zh_records.specs.declared.command.Command.{Command}
 use Rattle.zh_ledger.specs.Ledger.{Ledger}
-use Rattle.zh_ledger.specs.Stands.{IsKept}
+use Rattle.zh_ledger.specs.Stands.{HoldsLedger}
 use Rattle.zh_ledger.specs.Images.{HasSome, ComesToHave}
 use Rattle.zh_ledger.specs.Submissions.{OnDisk, of_ledger, Log, followed_by, Submits, IsLogged}
 use Rattle.zh_ledger.specs.Night.{Keeper, Stretch, after_stop, unacknowledged, StopsWithin, IsCurrent}
@@ -21,7 +21,10 @@ use Rattle.zh_ledger.proofs.JudgedLemmas.{AreJudged, judged-append, judged_run, 
 use Rattle.zh_ledger.proofs.StretchLemmas.{left_by, count_of, IsSure, after_stop_sure, has_after, whole_run}
 
 -- What it is given submits these commands to its ledger, or none; it is answered, or a stop comes within.
-module _ (K : Keeper) (canton : Canton) (kept : List Command) (s : Stretch K) (whole_old : OnDisk K.Holder) (begins : s.holder ≡ Some whole_old.holder) (now : s.now ≡ whole_old.history.trail.now) (xs : List (Command × Outcome)) (log : Log) (whole_new : OnDisk K.Holder) (honest : IsTrue whole_new.history.honest) (run : Submits (of_ledger K.ledger whole_old) xs log (of_ledger K.ledger whole_new)) (sure : IsSure canton kept s) where
+module _ (K : Keeper) (canton : Canton) (kept : List Command) (s : Stretch K) (whole_old : OnDisk K.Holder)
+    (begins : s.holder ≡ Some whole_old.holder) (now : s.now ≡ whole_old.history.trail.now) (xs : List (Command × Outcome)) (log : Log)
+    (whole_new : OnDisk K.Holder) (honest : IsTrue whole_new.history.honest)
+    (run : Submits (of_ledger K.ledger whole_old) xs log (of_ledger K.ledger whole_new)) (sure : IsSure canton kept s) where
   abbrev old : OnDisk Ledger
   old = of_ledger K.ledger whole_old
 
@@ -38,12 +41,14 @@ module _ (K : Keeper) (canton : Canton) (kept : List Command) (s : Stretch K) (w
   logs = submits_logged old xs log new honest run
 
   counts_all : old.holder.store.broken ≡ false → old.holder.tally ≡ after (count_of canton kept) s.log.accepted
-  counts_all whole = current.count ∙ after-append (empty canton) kept (take s.log.acknowledged s.log.accepted) ∙ ap (after (count_of canton kept)) (take_all s.log.acknowledged s.log.accepted (omega (arith, current.all_acknowledged whole)))
+  counts_all whole = current.count ∙ after-append (empty canton) kept (take s.log.acknowledged s.log.accepted)
+      ∙ ap (after (count_of canton kept)) (take_all s.log.acknowledged s.log.accepted (omega (arith, current.all_acknowledged whole)))
 
-  known : old.holder.store.broken ≡ false → (c : List ℕ) → IsImage old.history.trail.now c → IsKept old.holder c
+  known : old.holder.store.broken ≡ false → (c : List ℕ) → IsImage old.history.trail.now c → HoldsLedger old.holder c
   known whole c image = current.images whole c (subst (λ (m : Moment). IsImage m c) (sym now) image)
 
-  has_command : old.holder.store.broken ≡ false → (more : List Command) (least : ℕ) (c : List ℕ) → HasSome old.holder.tally more least c → HasSome (count_of canton kept) (s.log.accepted ++ more) (s.log.acknowledged + least) c
+  has_command : old.holder.store.broken ≡ false → (more : List Command) (least : ℕ) (c : List ℕ) → HasSome old.holder.tally more least c
+      → HasSome (count_of canton kept) (s.log.accepted ++ more) (s.log.acknowledged + least) c
   has_command whole more least c some =
       subst (λ (n : ℕ). HasSome (count_of canton kept) (s.log.accepted ++ more) (n + least) c) (sym (current.all_acknowledged whole))
       (has_after (count_of canton kept) s.log.accepted more least c (subst (λ (t : Tally). HasSome t more least c) (counts_all whole) some))
@@ -132,7 +137,8 @@ module _ (K : Keeper) (canton : Canton) (kept : List Command) (s : Stretch K) (w
           let same : s.log ≡ followed_by s.log (unacknowledged log) = sym (log_none s.log) ∙ ap (λ (l : Log). followed_by s.log (unacknowledged l)) (sym quiet_is.none) in
           subst (λ (l : Log). IsSure {K = K} canton kept (after_stop c l)) same (after_stop_sure canton kept s c s.log sure (sure.sound.each c image) sure.sound.last sure.judged)
       by_broken false is =
-          let from = left_by (ComesToHave old.holder log.accepted 0) old.history.trail new.history.trail c (λ x kept. has_none old.holder.tally log.accepted x (holds_kept old.holder x kept)) logs.each_moment left in
+          let from = left_by (ComesToHave old.holder log.accepted 0) old.history.trail new.history.trail c
+          (λ x kept. has_none old.holder.tally log.accepted x (holds_kept old.holder x kept)) logs.each_moment left in
           after_stop_sure canton kept s c (followed_by s.log (unacknowledged log)) sure
           (has_command is log.accepted 0 c (from.2 (known is from.0 from.1)))
           (omega (arith, current.all_acknowledged is, few, few_logged old xs log new run, length-append s.log.accepted log.accepted))

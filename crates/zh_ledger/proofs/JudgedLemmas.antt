@@ -50,7 +50,8 @@ judged_where true s c outcome may = subst (λ (o : Outcome). AreJudged s.tally (
 judged_where false s c outcome may = judged_verdict (judge s.tally c) s c outcome refl may
 
 -- and the commands after it are judged from there
-judged_then : (old mid : Ledger) (c : Command) (outcome : Outcome) (others : Log) → Becomes old c outcome mid → AreJudged old.tally (logged c outcome).accepted → (mid.store.broken ≡ true → others ≡ nothing) → AreJudged mid.tally others.accepted
+judged_then : (old mid : Ledger) (c : Command) (outcome : Outcome) (others : Log) → Becomes old c outcome mid
+    → AreJudged old.tally (logged c outcome).accepted → (mid.store.broken ≡ true → others ≡ nothing) → AreJudged mid.tally others.accepted
     → AreJudged old.tally (followed_by (logged c outcome) others).accepted
 judged_then old mid c (Stored accepted) others becomes first none rest = (first.0, subst (λ (s : Ledger). AreJudged s.tally others.accepted) becomes rest)
 judged_then old mid c Device others becomes first none rest = subst (λ (l : Log). AreJudged old.tally (c ∷ l.accepted)) (sym (none becomes.broken)) (first.0, tt)

@@ -22,7 +22,7 @@ use Rattle.zh_snapshot.specs.Store.{State, StoreAdds, StoreAddsOrNot, longer}
 use Rattle.zh_snapshot.specs.declared.fault.AppendFault.{AppendFault}
 use Rattle.zh_ledger.specs.Ledger.{Ledger, has_room}
 use Rattle.zh_ledger.specs.Kept.{ledger_of}
-use Rattle.zh_ledger.specs.Stands.{AreAccepted, Replays, StandsFor, Holds, IsKept}
+use Rattle.zh_ledger.specs.Stands.{AreAccepted, Replays, StandsFor, Holds, HoldsLedger}
 use Rattle.zh_ledger.specs.Images.{KeepsOrSteps, Stores, KeepsCommand, SameOutsideSlots}
 use Rattle.zh_ledger.specs.declared.outcome.Outcome.TheVariants.{Stored, Device}
 use Rattle.zh_ledger.proofs.OutsideLemmas.{within_journal}
@@ -33,7 +33,8 @@ pub after_more : (tally : Tally) (cs : List Command) (c : Command) → after tal
 after_more tally [] c = refl
 after_more tally (d ∷ cs) c = after_more (step tally d) cs c
 
-pub accepted_more : (tally : Tally) (cs : List Command) (c : Command) → AreAccepted tally cs → judge (after tally cs) c ≡ Accept → (after tally cs).accepted < 2 ^ 64 - 1 → AreAccepted tally (cs ++ c ∷ [])
+pub accepted_more : (tally : Tally) (cs : List Command) (c : Command) → AreAccepted tally cs → judge (after tally cs) c ≡ Accept
+    → (after tally cs).accepted < 2 ^ 64 - 1 → AreAccepted tally (cs ++ c ∷ [])
 accepted_more tally [] c each accept room = (accept, (room, tt))
 accepted_more tally (d ∷ cs) c each accept room = (each.0, (each.1.0, accepted_more (step tally d) cs c each.1.1 accept room))
 
@@ -44,7 +45,9 @@ speakable_more format cs c each one = grind (arith, common_steps, All-append)
 pub step_canton : (tally : Tally) (command : Command) → judge tally command ≡ Accept → (step tally command).canton ≡ tally.canton
 step_canton tally command accept = ap (λ (v : Verdict). (on_verdict v (changed tally command) tally).canton) accept
 
-pub replays_more : {format : Format} (start tally : Tally) (rs : List (List ℕ)) (c : Command) → Replays format start rs tally → IsSpeakable format c → judge tally c ≡ Accept → tally.accepted < 2 ^ 64 - 1 → Replays format start (rs ++ command_spelling format c ∷ []) (step tally c)
+pub replays_more : {format : Format} (start tally : Tally) (rs : List (List ℕ)) (c : Command) → Replays format start rs tally
+    → IsSpeakable format c → judge tally c ≡ Accept → tally.accepted < 2 ^ 64 - 1
+    → Replays format start (rs ++ command_spelling format c ∷ []) (step tally c)
 replays_more {format} start tally rs c by speakable accept room = record {
   commands = by.commands ++ c ∷ [];
   speakable = speakable_more format by.commands c by.speakable speakable;
@@ -53,7 +56,8 @@ replays_more {format} start tally rs c by speakable accept room = record {
   count = ap (λ (t : Tally). step t c) by.count ∙ sym (after_more start by.commands c);
 }
 
-pub stands_more : {format : Format} (x : Content) (tally : Tally) (c : Command) → StandsFor format x tally → IsSpeakable format c → judge tally c ≡ Accept → tally.accepted < 2 ^ 64 - 1 → StandsFor format (with_record x (command_spelling format c)) (step tally c)
+pub stands_more : {format : Format} (x : Content) (tally : Tally) (c : Command) → StandsFor format x tally → IsSpeakable format c
+    → judge tally c ≡ Accept → tally.accepted < 2 ^ 64 - 1 → StandsFor format (with_record x (command_spelling format c)) (step tally c)
 stands_more x tally c by speakable accept room =
     let same = step_canton tally c accept in
     record {
@@ -65,7 +69,8 @@ stands_more x tally c by speakable accept room =
       replays = replays_more by.start tally x.records c by.replays speakable accept room;
     }
 
-module _ (tally : Tally) (store : State) (c : Command) (speakable : IsSpeakable Two c) (accept : judge tally c ≡ Accept) (number : tally.accepted < 2 ^ 64 - 1) (room : has_room (ledger_of tally store) c ≡ true) where
+module _ (tally : Tally) (store : State) (c : Command) (speakable : IsSpeakable Two c) (accept : judge tally c ≡ Accept)
+    (number : tally.accepted < 2 ^ 64 - 1) (room : has_room (ledger_of tally store) c ≡ true) where
   added : (old new : List ℕ) (x : Content) (j : ℕ) → StandsFor Two x tally → IsClean (with_record x (command_spelling Two c)) (j + pages_of (length (command_spelling Two c))) new
       → Holds (step tally c) new
   added old new x j stands clean = record {
@@ -79,7 +84,12 @@ module _ (tally : Tally) (store : State) (c : Command) (speakable : IsSpeakable 
   stores : (old new : List ℕ) → StoreAdds store (command_spelling Two c) old new → Stores (ledger_of tally store) c old new
   stores old new adds kept =
       let more = adds kept.content kept.end kept.clean kept.fits in
-      subst (λ (l : Ledger). IsKept (record { tally = step tally c; store = longer l.store (length (command_spelling Two c)); format = Two }) new) (sym (ready_already (ledger_of tally store) c room)) (record {
+      subst (λ (l : Ledger). HoldsLedger (record {
+        tally = step tally c;
+        store = longer l.store (length (command_spelling Two c));
+        format =
+            Two;
+      }) new) (sym (ready_already (ledger_of tally store) c room)) (record {
         content = with_record kept.content (command_spelling Two c);
         end = kept.end + pages_of (length (command_spelling Two c));
         clean = more.0;

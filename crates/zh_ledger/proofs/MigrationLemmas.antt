@@ -15,7 +15,7 @@ use Rattle.zh_snapshot.specs.Store.{State, Settles, StoreSwitches, StoreSwitches
 use Rattle.zh_snapshot.specs.declared.fault.SwitchFault.{SwitchFault}
 use Rattle.zh_snapshot.proofs.CallerLemmas.{framed_alike}
 use Rattle.zh_ledger.specs.Kept.{ledger_in, ledger_of}
-use Rattle.zh_ledger.specs.Opened.{Knows}
+use Rattle.zh_ledger.specs.Opened.{HoldsLedgerFramed}
 use Rattle.zh_ledger.specs.Opening.{IsAtRest, MayLeave, Migrates, MigratesFrom}
 use Rattle.zh_ledger.specs.Stands.{Holds}
 use Rattle.zh_ledger.proofs.OpenedLemmas.{one_image}
@@ -24,7 +24,8 @@ use Rattle.zh_ledger.proofs.SwitchLemmas.{knows_switched, stands_anew}
 
 -- a switch from a slot of format One, from a moment at which nothing is pending
 module _ (tally : Tally) (store : State) (limits : IsTally tally) (t u : Trail) where
-  migrates : store.generation ≢ 2 ^ 64 - 1 → IsAtRest (ledger_in One tally store) t.now → (x f : List ℕ) → IsImage t.now x → StoreSwitchesOrNot store (payload_spelling Two tally) x f → MayLeave tally.canton t.now.bytes x f
+  migrates : store.generation ≢ 2 ^ 64 - 1 → IsAtRest (ledger_in One tally store) t.now → (x f : List ℕ) → IsImage t.now x
+      → StoreSwitchesOrNot store (payload_spelling Two tally) x f → MayLeave tally.canton t.now.bytes x f
   migrates room rest x f image by =
       let found = rest.found in
       let here : x ≡ t.now.bytes = one_image t.now x rest.pending image in
@@ -52,7 +53,7 @@ module _ (tally : Tally) (store : State) (limits : IsTally tally) (t u : Trail) 
   migrated rest lands =
       let from = lands.moves u.now.bytes (image_now u.now) in
       let here : from.0 ≡ t.now.bytes = one_image t.now from.0 rest.pending from.1 in
-      let kept = knows_switched tally store limits One from.0 u.now.bytes from.2 (subst (Knows (ledger_in One tally store)) (sym here) rest.found) in
+      let kept = knows_switched tally store limits One from.0 u.now.bytes from.2 (subst (HoldsLedgerFramed (ledger_in One tally store)) (sym here) rest.found) in
       record {
         pending = lands.settled;
         found = record { content = kept.content; end = kept.end; framed = kept.clean.framed; fits = kept.fits; stands = kept.stands };
@@ -71,11 +72,13 @@ module _ (tally : Tally) (store : State) (limits : IsTally tally) (t u : Trail) 
       rests = λ rest. subst (λ (s : State). IsAtRest (ledger_of tally s) u.now) (sym anew) (migrated (in_one rest) by.done);
     }
 
-    pub migrates_not : (store' : State) (fault : SwitchFault) (device : DiskFault) → StoreSwitch store (payload_spelling Two tally) (Err fault) t u → MigratesFrom (ledger_in format tally store) store' (Err device) t u
+    pub migrates_not : (store' : State) (fault : SwitchFault) (device : DiskFault) → StoreSwitch store (payload_spelling Two tally)
+        (Err fault) t u → MigratesFrom (ledger_in format tally store) store' (Err device) t u
     migrates_not store' fault device by = record { moments = moments by.moments; rests = λ rest. tt }
 
 -- where nothing is to be migrated, or no switch is left
-pub unmigrated : (format given : Format) (tally : Tally) (store store' : State) (t u : Trail) → given ≡ format → store' ≡ store → u ≡ t → MigratesFrom (ledger_in format tally store) store' (Ok given) t u
+pub unmigrated : (format given : Format) (tally : Tally) (store store' : State) (t u : Trail) → given ≡ format → store' ≡ store → u ≡ t
+    → MigratesFrom (ledger_in format tally store) store' (Ok given) t u
 unmigrated format given tally store store' t u same known still = record {
   moments = λ rest. leaves_none _ t u still;
   rests = λ rest.
@@ -85,7 +88,8 @@ unmigrated format given tally store store' t u same known still = record {
 }
 
 -- an opening reads, and may then migrate
-pub reads_then : (canton : Canton) (old mid new : Trail) → mid.now ≡ settled old.now.bytes → Leaves (Settles old.now.bytes) old mid → Leaves (MayLeave canton mid.now.bytes) mid new → Leaves (MayLeave canton old.now.bytes) old new
+pub reads_then : (canton : Canton) (old mid new : Trail) → mid.now ≡ settled old.now.bytes → Leaves (Settles old.now.bytes) old mid
+    → Leaves (MayLeave canton mid.now.bytes) mid new → Leaves (MayLeave canton old.now.bytes) old new
 reads_then canton old mid new rests first second =
     let same : mid.now.bytes ≡ old.now.bytes = ap (λ (m : Moment). m.bytes) rests in
     leaves_join (Settles old.now.bytes) (MayLeave canton mid.now.bytes) (MayLeave canton old.now.bytes) old mid new first second
@@ -123,13 +127,15 @@ abbrev pub Alters : Canton → List ℕ → List ℕ → List ℕ → Type 0
 Alters canton bytes old new = (new ≡ old) ⊎ Migrates canton bytes new
 
 pub leaves_altered : (canton : Canton) (old new : Trail) → Leaves (MayLeave canton old.now.bytes) old new → Leaves (Alters canton old.now.bytes) old new
-leaves_altered canton old new leaves = leaves_weaken (MayLeave canton old.now.bytes) (Alters canton old.now.bytes) old new (λ x f image by. ⊎_elim (λ still. inl (still ∙ sym by.0)) (λ moved. inr moved) by.1) leaves
+leaves_altered canton old new leaves = leaves_weaken (MayLeave canton old.now.bytes) (Alters canton old.now.bytes) old new
+    (λ x f image by. ⊎_elim (λ still. inl (still ∙ sym by.0)) (λ moved. inr moved) by.1) leaves
 
 -- what a read gives after an opening is what it gave before, or what a migration made of it
 pub read_now : (canton : Canton) (old new : Trail) → Leaves (MayLeave canton old.now.bytes) old new → Alters canton old.now.bytes old.now.bytes new.now.bytes
 read_now canton old new leaves = by_between leaves.between leaves.run leaves.each
   where
-    by_between : (between : List Moment) → new.now ∷ new.past ≡ between ++ old.now ∷ old.past → AllMove (MayLeave canton old.now.bytes) old.now between → Alters canton old.now.bytes old.now.bytes new.now.bytes
+    by_between : (between : List Moment) → new.now ∷ new.past ≡ between ++ old.now ∷ old.past → AllMove (MayLeave canton old.now.bytes)
+        old.now between → Alters canton old.now.bytes old.now.bytes new.now.bytes
     by_between [] run each = let now : new.now ≡ old.now = cc in inl (ap (λ (m : Moment). m.bytes) now)
     by_between (m ∷ ms) run each =
         let now : new.now ≡ m = cc in

@@ -29,7 +29,8 @@ Serves K = (old : OnDisk K.Holder) (given : K.Given) (answer : K.Answer) (log : 
 
 module _ (K : Keeper) (serves : Serves K) (canton : Canton) where
   -- one event, and what holds after it
-  one_event : (kept : List Command) (s t : Stretch K) (e : Event K) (Then : List Command → Type 0) → Allows canton s e t → IsSure canton kept s → ((more : List Command) → IsSure canton more t → Then more) → Says canton kept s.log e Then
+  one_event : (kept : List Command) (s t : Stretch K) (e : Event K) (Then : List Command → Type 0) → Allows canton s e t
+      → IsSure canton kept s → ((more : List Command) → IsSure canton more t → Then more) → Says canton kept s.log e Then
   one_event kept s t (answered given answer) Then (log, new, by, is) sure go =
       let (xs, few, run) = serves by.old given answer log new by.honest by.done in
       go kept (subst (IsSure canton kept) (sym is) (answered_sure K canton kept s by.old by.holder by.now xs log new by.honest run sure))
@@ -38,8 +39,11 @@ module _ (K : Keeper) (serves : Serves K) (canton : Canton) where
       go kept (subst (IsSure canton kept) (sym is) (left_sure K canton kept s by.old by.holder by.now xs log new by.honest run sure few c left))
   one_event kept s t stopped Then (c, image, is) sure go = go kept (subst (IsSure canton kept) (sym is) (stopped_sure K canton kept s sure c image))
   one_event kept s t (opened holder) Then (old, new, now, opens, begins, is) sure go =
-      let finding = finds K canton kept s sure old new now holder opens in
-      (finding, go (kept ++ take finding.number s.log.accepted) (subst (IsSure canton (kept ++ take finding.number s.log.accepted)) (sym is) (opened_sure K canton kept s sure old new now holder opens)))
+      let finding = finds K canton kept s sure old new now holder opens in (
+        finding,
+        go (kept ++ take finding.number s.log.accepted) (subst (IsSure canton (kept ++ take finding.number s.log.accepted)) (sym is)
+            (opened_sure K canton kept s sure old new now holder opens)),
+      )
   one_event kept s t (refused fault) Then (old, new, now, opens, is) sure go =
       let cause : IsCause canton s.now.bytes fault = subst (λ (m : Moment). IsCause canton m.bytes fault) (sym now) opens.refused in
       (only_faults K canton kept s sure fault cause, go kept (subst (IsSure canton kept) (sym is) (refused_sure K canton kept s sure old new now opens.moments)))

@@ -30,7 +30,8 @@ use Rattle.zh_ledger.specs.Stands.{StandsFor, Replays}
 use Rattle.zh_ledger.proofs.ReplayLemmas.{replays_none}
 
 -- bytes that fill a buffer are all of it
-pub filled : (n size : ℕ) (spelled out before after given : List ℕ) → size ≡ n → length before ≡ n → length out ≡ n → out ≡ spelled ++ drop n before → given ≡ take size (out ++ after) → given ≡ spelled
+pub filled : (n size : ℕ) (spelled out before after given : List ℕ) → size ≡ n → length before ≡ n → length out ≡ n → out ≡ spelled
+    ++ drop n before → given ≡ take size (out ++ after) → given ≡ spelled
 filled n size spelled out before after given long room whole is lent =
     let fits : size ≤ length out = omega arith in
     let all : take size out ≡ out = take_all size out (omega arith) in
@@ -95,7 +96,8 @@ damaged_one canton bytes x j long framed wrong = record {
 }
 
 -- what a store's opening found and settled, and its reader has left
-pub left_there : (old new : Moment) (s : State) (rest : Rest) (x : Content) (j : ℕ) → new ≡ settled old.bytes → IsFramed x j old.bytes → Fits s x j old.bytes → Frames 0 rest.pages rest.page x.records rest.end → AwaitsReplay s rest x new.bytes
+pub left_there : (old new : Moment) (s : State) (rest : Rest) (x : Content) (j : ℕ) → new ≡ settled old.bytes → IsFramed x j old.bytes
+    → Fits s x j old.bytes → Frames 0 rest.pages rest.page x.records rest.end → AwaitsReplay s rest x new.bytes
 left_there old new s rest x j is framed fits left = subst (λ (m : Moment). AwaitsReplay s rest x m.bytes) (sym is) (record { end = j; framed = framed; fits = fits; left = left })
 
 -- what a comparison with the set-up bytes shows
@@ -111,11 +113,13 @@ pub record IsRead (canton : Canton) (x : Content) (payload : List ℕ) : Type 0 
   pub snapshot : payload ≡ x.snapshot
 
 -- so the set-up bytes and the snapshot, of a content whose records are yet to be gone through
-module _ (s : State) (rest : Rest) (canton : Canton) (given : List ℕ) (equal : Bool) (bytes : List ℕ) (spelled : given ≡ setup_spelling canton) (compares : ComparesSetup s.setup_length given bytes (Ok equal)) where
+module _ (s : State) (rest : Rest) (canton : Canton) (given : List ℕ) (equal : Bool) (bytes : List ℕ)
+    (spelled : given ≡ setup_spelling canton) (compares : ComparesSetup s.setup_length given bytes (Ok equal)) where
   pub differs_so : equal ≡ false → (x : Content) → AwaitsReplay s rest x bytes → x.setup ≡ setup_spelling canton → ⊥
   differs_so wrong x left = setup_differs equal x.setup given _ (compares x left.end left.framed left.fits.setup) spelled wrong
 
-  pub read_so : equal ≡ true → (payload : List ℕ) → ((x : Content) (j : ℕ) → IsFramed x j bytes → IsInUse s.slot bytes → payload ≡ x.snapshot) → (x : Content) → AwaitsReplay s rest x bytes → IsRead canton x payload
+  pub read_so : equal ≡ true → (payload : List ℕ) → ((x : Content) (j : ℕ) → IsFramed x j bytes → IsInUse s.slot bytes → payload
+      ≡ x.snapshot) → (x : Content) → AwaitsReplay s rest x bytes → IsRead canton x payload
   read_so right payload lends x left = record {
     own = setup_equal equal x.setup given _ (compares x left.end left.framed left.fits.setup) spelled right;
     snapshot = lends x left.end left.framed left.fits.slot;
@@ -169,7 +173,8 @@ module _ (canton : Canton) (x : Content) (payload : List ℕ) (read : IsRead can
   wrong_records none = record {
     own = read.own;
     nothing = λ f tally same stands.
-        let once : stands.start ≡ start = tally_once f counted.spelled.0 stands.start start stands.limits counted.limits (stands.canton ∙ same ∙ sym counted.its) (stands.snapshot.spelling ∙ sym read.snapshot ∙ sym counted.spelled.1.spelling) in
+        let once : stands.start ≡ start = tally_once f counted.spelled.0 stands.start start stands.limits counted.limits
+        (stands.canton ∙ same ∙ sym counted.its) (stands.snapshot.spelling ∙ sym read.snapshot ∙ sym counted.spelled.1.spelling) in
         let alike : f ≡ format = one_format f counted.spelled.0 stands.start start (stands.snapshot.spelling ∙ sym read.snapshot ∙ sym counted.spelled.1.spelling) ∙ same_format in
         none tally (subst (λ (g : Format). Replays g start x.records tally) alike (subst (λ (t : Tally). Replays f t x.records tally) once stands.replays));
   }

@@ -18,7 +18,7 @@ use Rattle.zh_snapshot.specs.declared.fault.OpenFault.TheVariants as of_store
 use Rattle.zh_ledger.specs.Faults.{fault_of_store, open_fails}
 use Rattle.zh_ledger.specs.Kept.{ledger_in}
 use Rattle.zh_ledger.specs.Ledger.{Ledger}
-use Rattle.zh_ledger.specs.Opened.{AwaitsReplay, Differs, IsDamaged, IsReady, IsWrong, Knows}
+use Rattle.zh_ledger.specs.Opened.{AwaitsReplay, Differs, IsDamaged, IsReady, IsWrong, HoldsLedgerFramed}
 use Rattle.zh_ledger.specs.Opening.{IsAtRest, IsCause, MayLeave, MigratesFrom, Opening, Opens, ReadsCount}
 use Rattle.zh_ledger.specs.declared.fault.OpenFault.{OpenFault}
 use Rattle.zh_ledger.specs.declared.fault.OpenFault.TheVariants as faults
@@ -60,7 +60,8 @@ store_refused canton t u f e is opens = subst (λ (z : OpenFault). Opens canton 
   unchanged = λ other. opens.moments;
 })
 
-count_why : (canton : Canton) (bytes : List ℕ) (fault : OpenFault) → fault ≢ faults.Blank → (fault ≡ faults.SetupDiffers → Differs canton bytes) → (fault ≡ faults.Damaged → IsDamaged canton bytes) → IsCause canton bytes fault
+count_why : (canton : Canton) (bytes : List ℕ) (fault : OpenFault) → fault ≢ faults.Blank
+    → (fault ≡ faults.SetupDiffers → Differs canton bytes) → (fault ≡ faults.Damaged → IsDamaged canton bytes) → IsCause canton bytes fault
 count_why canton bytes faults.Memory blank differs damaged = tt
 count_why canton bytes faults.Device blank differs damaged = tt
 count_why canton bytes faults.Blank blank differs damaged = absurd (blank refl)
@@ -80,7 +81,8 @@ module _ (canton own : Canton) (same : own ≡ canton) (t u : Trail) (s : State)
   alone v still = subst (Leaves (Settles t.now.bytes) t) (sym still) opens.moments
 
   -- it was not read
-  pub count_refused : (tally : Tally) (v : Trail) (fault given : OpenFault) → length t.now.bytes ≡ 1118720 → given ≡ fault → fault ≢ faults.Blank → Asks (ReadsCount s rest own tally) (Err fault) u v → Opens canton (Err given) t v
+  pub count_refused : (tally : Tally) (v : Trail) (fault given : OpenFault) → length t.now.bytes ≡ 1118720 → given ≡ fault
+      → fault ≢ faults.Blank → Asks (ReadsCount s rest own tally) (Err fault) u v → Opens canton (Err given) t v
   count_refused tally v fault given long is blank asks =
       let moments = alone v asks.same in
       let differs : fault ≡ faults.SetupDiffers → Differs canton t.now.bytes = λ here. record {
@@ -100,7 +102,7 @@ module _ (canton own : Canton) (same : own ≡ canton) (t u : Trail) (s : State)
 
   -- it was read, and then migrated where it has to be
   module _ (tally : Tally) (v w : Trail) (format : Format) (kept : tally.canton ≡ own) (asks : Asks (ReadsCount s rest own tally) (Ok format) u v) where
-    knows : Knows (ledger_in format tally s) t.now.bytes
+    knows : HoldsLedgerFramed (ledger_in format tally s) t.now.bytes
     knows = record { content = there.0; end = there.1; framed = there.2; fits = there.3; stands = asks.told.found there.0 awaits }
 
     rests : v.now ≡ settled t.now.bytes
@@ -112,7 +114,8 @@ module _ (canton own : Canton) (same : own ≡ canton) (t u : Trail) (s : State)
     moments : Leaves (MayLeave tally.canton v.now.bytes) v w → Leaves (MayLeave canton t.now.bytes) t w
     moments run = reads_then canton t v w rests (alone v asks.same) (subst (λ (k : Canton). Leaves (MayLeave k v.now.bytes) v w) (kept ∙ same) run)
 
-    pub opened_well : (store' : State) (format' : Format) → IsReady canton (ledger_in format' tally store') → MigratesFrom (ledger_in format tally s) store' (Ok format') v w → Opens canton (Ok (ledger_in format' tally store')) t w
+    pub opened_well : (store' : State) (format' : Format) → IsReady canton (ledger_in format' tally store')
+        → MigratesFrom (ledger_in format tally s) store' (Ok format') v w → Opens canton (Ok (ledger_in format' tally store')) t w
     opened_well store' format' ready migrates =
         let now = migrates.rests at_rest in
         record {
@@ -126,7 +129,8 @@ module _ (canton own : Canton) (same : own ≡ canton) (t u : Trail) (s : State)
           unchanged = tt;
         }
 
-    pub migration_failed : (store' : State) (device : DiskFault) (fault : OpenFault) → fault ≡ faults.Device → MigratesFrom (ledger_in format tally s) store' (Err device) v w → Opens canton (Err fault) t w
+    pub migration_failed : (store' : State) (device : DiskFault) (fault : OpenFault) → fault ≡ faults.Device
+        → MigratesFrom (ledger_in format tally s) store' (Err device) v w → Opens canton (Err fault) t w
     migration_failed store' device fault is migrates = subst (λ (z : OpenFault). Opens canton (Err z) t w) (sym is) (record {
       moments = moments (migrates.moments at_rest);
       opened = tt;

@@ -9,7 +9,7 @@ use Rattle.zh_snapshot.specs.declared.fault.SwitchFault.{SwitchFault}
 use Rattle.zh_ledger.specs.declared.outcome.Outcome.{Outcome}
 use Rattle.zh_ledger.specs.declared.outcome.Outcome.TheVariants.{Device}
 use Rattle.zh_ledger.specs.Ledger.{Ledger, StoredOrDevice, IsFaulted, Becomes, has_room, ready}
-use Rattle.zh_ledger.specs.Stands.{IsKept}
+use Rattle.zh_ledger.specs.Stands.{HoldsLedger}
 use Rattle.zh_ledger.specs.Images.{KeepsOrSteps, Keeps, Stores, LeavesBy, KeepsCommand, MakesRoom}
 use Rattle.zh_ledger.proofs.OutsideLemmas.{outside_then, outside_untouched}
 use Rattle.zh_ledger.proofs.RoomLemmas.{ready_already, stored_ready}
@@ -19,11 +19,12 @@ pub has_made_room : (s : Ledger) (c : Command) (len : ℕ) (t : Trail) → has_r
 has_made_room s c len t room = record {
   moments = leaves_none (Keeps s) t t refl;
   outside = outside_untouched t t refl;
-  done = λ d image. (d, image, λ kept. subst (λ (l : Ledger). IsKept l d) (sym (ready_already s c room)) kept);
+  done = λ d image. (d, image, λ kept. subst (λ (l : Ledger). HoldsLedger l d) (sym (ready_already s c room)) kept);
 }
 
 -- what it becomes
-pub becomes_ready : (s : Ledger) (c : Command) (accepted : ℕ) (outcome : Outcome) (new : Ledger) → IsSpeakable Two c → StoredOrDevice accepted outcome → Becomes (ready s c) c outcome new → Becomes s c outcome new
+pub becomes_ready : (s : Ledger) (c : Command) (accepted : ℕ) (outcome : Outcome) (new : Ledger) → IsSpeakable Two c
+    → StoredOrDevice accepted outcome → Becomes (ready s c) c outcome new → Becomes s c outcome new
 becomes_ready s c accepted outcome new speakable results by = ⊎_elim
     (λ is. subst (λ (o : Outcome). Becomes s c o new) (sym is) (subst (λ (o : Outcome). Becomes (ready s c) c o new) is by ∙ stored_ready s c speakable))
     (λ is.
@@ -48,7 +49,7 @@ module _ (s : Ledger) (c : Command) (speakable : IsSpeakable Two c) (len : ℕ) 
   last_moment moves = λ f image.
       let mid = moves f image in
       let from = first.done mid.0 mid.1 in
-      (from.0, from.1, λ kept. subst (λ (l : Ledger). IsKept l f) (stored_ready s c speakable) (mid.2 (from.2 kept)))
+      (from.0, from.1, λ kept. subst (λ (l : Ledger). HoldsLedger l f) (stored_ready s c speakable) (mid.2 (from.2 kept)))
 
   leaves_ready : (accepted : ℕ) (outcome : Outcome) → StoredOrDevice accepted outcome → LeavesBy (ready s c) c outcome t1 t2 → LeavesBy s c outcome t0 t2
   leaves_ready accepted outcome results leaves = ⊎_elim

@@ -12,7 +12,7 @@ use Rattle.zh_snapshot.specs.Image.{Content}
 use Rattle.zh_snapshot.specs.Store.{Fits}
 use Rattle.zh_snapshot.proofs.CallerLemmas.{framed_alike}
 use Rattle.zh_ledger.specs.Ledger.{Ledger}
-use Rattle.zh_ledger.specs.Stands.{StandsFor, Holds, IsKept}
+use Rattle.zh_ledger.specs.Stands.{StandsFor, Holds, HoldsLedger}
 use Rattle.zh_ledger.specs.Images.{HasSome}
 use Rattle.zh_ledger.specs.Opening.{MayLeave, Migrates, IsCause, Opens}
 use Rattle.zh_ledger.specs.Submissions.{nothing}
@@ -40,7 +40,7 @@ module _ (canton : Canton) (old new : Trail) (ledger : Ledger) (opens : Opens ca
       (λ moved. migrated_holds canton old.now.bytes new.now.bytes tally own holds moved)
       (read_now canton old new opens.moments)
 
-  knows_now : IsKept ledger new.now.bytes
+  knows_now : HoldsLedger ledger new.now.bytes
   knows_now =
       let found = opens.opened.opened.found in
       let alike = framed_alike found.content holds_now.content found.end holds_now.end new.now.bytes found.framed holds_now.clean.framed in
@@ -52,8 +52,8 @@ module _ (canton : Canton) (old new : Trail) (ledger : Ledger) (opens : Opens ca
         stands = subst (λ (x : Content). StandsFor ledger.format x ledger.tally) alike.0 found.stands;
       }
 
-  pub knows_images : (c : List ℕ) → IsImage new.now c → IsKept ledger c
-  knows_images c image = subst (IsKept ledger) (sym (one_image new.now c opens.opened.pending image)) knows_now
+  pub knows_images : (c : List ℕ) → IsImage new.now c → HoldsLedger ledger c
+  knows_images c image = subst (HoldsLedger ledger) (sym (one_image new.now c opens.opened.pending image)) knows_now
 
 -- A ledger is opened, or not.
 module _ (K : Keeper) (canton : Canton) (kept : List Command) (s : Stretch K) (sure : IsSure canton kept s) where
@@ -97,7 +97,7 @@ module _ (K : Keeper) (canton : Canton) (kept : List Command) (s : Stretch K) (s
     abbrev pub finds : Finds canton kept s.log ledger
     finds = record { number = read.number; at_least = read.at_least; within = read.within; count = found_all; once = ap (λ (t : Tally). t.accepted) found_all ∙ number_all }
 
-    knows : (c : List ℕ) → IsImage new.now c → IsKept ledger c
+    knows : (c : List ℕ) → IsImage new.now c → HoldsLedger ledger c
     knows = knows_images canton old new ledger opens counted read_canton held
 
     pub opened_sure : IsSure {K = K} canton (kept ++ take read.number s.log.accepted) (record { now = new.now; holder = Some holder; log = nothing })

@@ -44,7 +44,8 @@ pub record Begins (format : Format) (start : Tally) (r : List ℕ) (rs : List (L
 pub replays_first : {format : Format} (start : Tally) (r : List ℕ) (rs : List (List ℕ)) (tally : Tally) → Replays format start (r ∷ rs) tally → Begins format start r rs tally
 replays_first {format} start r rs tally replays = at replays.commands replays.speakable replays.spelled replays.accepted replays.count
   where
-    at : (commands : List Command) → All (IsSpeakable format) commands → r ∷ rs ≡ map (command_spelling format) commands → AreAccepted start commands → tally ≡ after start commands → Begins format start r rs tally
+    at : (commands : List Command) → All (IsSpeakable format) commands → r ∷ rs ≡ map (command_spelling format) commands
+        → AreAccepted start commands → tally ≡ after start commands → Begins format start r rs tally
     at [] speakable spelled accepted count = absurd (cc)
     at (command ∷ commands) speakable spelled accepted count = record {
       command = command;
@@ -100,7 +101,8 @@ pub remains_all : {format : Format} (pages : List ℕ) (page end : ℕ) (start :
 remains_all {format} pages page end start records framed = record { rest = records; framed = framed; leads = λ tally replays. replays; led = λ tally replays. replays }
 
 -- at the last page nothing is left
-pub remains_nothing : {format : Format} (pages : List ℕ) (page end : ℕ) (start : Tally) (records : List (List ℕ)) (now : Tally) → page ≡ end → Remains format pages page end start records now → Replays format start records now
+pub remains_nothing : {format : Format} (pages : List ℕ) (page end : ℕ) (start : Tally) (records : List (List ℕ)) (now : Tally) → page ≡ end
+    → Remains format pages page end start records now → Replays format start records now
 remains_nothing {format} pages page end start records now last remains = at remains.rest remains.framed remains.leads
   where
     at : (rest : List (List ℕ)) → Frames 0 pages page rest end → ((tally : Tally) → Replays format now rest tally → Replays format start records tally) → Replays format start records now
@@ -115,10 +117,13 @@ pub record IsAhead (format : Format) (pages : List ℕ) (page end : ℕ) (start 
   pub leads : (tally : Tally) → Replays format now (first ∷ others) tally → Replays format start records tally
   pub led : (tally : Tally) → Replays format start records tally → Replays format now (first ∷ others) tally
 
-pub remains_some : {format : Format} (pages : List ℕ) (page end : ℕ) (start : Tally) (records : List (List ℕ)) (now : Tally) → (page ≡ end → ⊥) → Remains format pages page end start records now → IsAhead format pages page end start records now
+pub remains_some : {format : Format} (pages : List ℕ) (page end : ℕ) (start : Tally) (records : List (List ℕ)) (now : Tally)
+    → (page ≡ end → ⊥) → Remains format pages page end start records now → IsAhead format pages page end start records now
 remains_some {format} pages page end start records now before remains = at remains.rest remains.framed remains.leads remains.led
   where
-    at : (rest : List (List ℕ)) → Frames 0 pages page rest end → ((tally : Tally) → Replays format now rest tally → Replays format start records tally) → ((tally : Tally) → Replays format start records tally → Replays format now rest tally) → IsAhead format pages page end start records now
+    at : (rest : List (List ℕ)) → Frames 0 pages page rest end
+        → ((tally : Tally) → Replays format now rest tally → Replays format start records tally)
+        → ((tally : Tally) → Replays format start records tally → Replays format now rest tally) → IsAhead format pages page end start records now
     at [] framed leads led = absurd (before framed)
     at (r ∷ rs) framed leads led = record { first = r; others = rs; framed = framed; leads = leads; led = led }
 

@@ -15,7 +15,7 @@ use Rattle.zh_records.proofs.CallerLemmas.{command_once}
 use Rattle.zh_snapshot.specs.Image.{Content, IsFramed}
 use Rattle.zh_snapshot.proofs.CallerLemmas.{framed_alike}
 use Rattle.zh_ledger.specs.Ledger.{Ledger}
-use Rattle.zh_ledger.specs.Stands.{Replays, StandsFor, Holds, IsKept}
+use Rattle.zh_ledger.specs.Stands.{Replays, StandsFor, Holds, HoldsLedger}
 
 commands_once : (format : Format) (cs ds : List Command) → All (IsSpeakable format) cs → All (IsSpeakable format) ds → map (command_spelling format) cs ≡ map (command_spelling format) ds → cs ≡ ds
 commands_once format [] [] all_c all_d same = refl
@@ -40,13 +40,14 @@ stands_alike f g x t u canton one two =
     let same = commands_once f one.replays.commands others.commands one.replays.speakable others.speakable (sym one.replays.spelled ∙ others.spelled) in
     one.replays.count ∙ (λ i. after (start i) (same i)) ∙ sym others.count
 
-pub one_count : (bytes : List ℕ) (x y : Content) (j k : ℕ) (f g : Format) (t u : Tally) → IsFramed x j bytes → IsFramed y k bytes → StandsFor f x t → StandsFor g y u → t.canton ≡ u.canton → (f ≡ g) × (t ≡ u)
+pub one_count : (bytes : List ℕ) (x y : Content) (j k : ℕ) (f g : Format) (t u : Tally) → IsFramed x j bytes → IsFramed y k bytes
+    → StandsFor f x t → StandsFor g y u → t.canton ≡ u.canton → (f ≡ g) × (t ≡ u)
 one_count bytes x y j k f g t u framed framed' one two canton =
     let here : StandsFor f y t = subst (λ (z : Content). StandsFor f z t) (framed_alike x y j k bytes framed framed').0 one in
     (format_alike f g y t u here two, stands_alike f g y t u canton here two)
 
 -- an image that the ledger knows holds its count
-pub holds_kept : (s : Ledger) (c : List ℕ) → IsKept s c → Holds s.tally c
+pub holds_kept : (s : Ledger) (c : List ℕ) → HoldsLedger s c → Holds s.tally c
 holds_kept s c kept = record { content = kept.content; end = kept.end; format = s.format; clean = kept.clean; stands = kept.stands }
 
 on_verdict_canton : (v : Verdict) (new old : Tally) → new.canton ≡ old.canton → (on_verdict v new old).canton ≡ old.canton

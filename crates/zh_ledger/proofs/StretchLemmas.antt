@@ -9,7 +9,7 @@ use Rattle.zh_returns.specs.Step.{after}
 use Rattle.zh_returns.specs.Tally.{Tally, empty}
 use Rattle.zh_records.specs.declared.command.Command.{Command}
 use Rattle.zh_ledger.specs.Ledger.{Ledger, Becomes}
-use Rattle.zh_ledger.specs.Stands.{Holds, IsKept}
+use Rattle.zh_ledger.specs.Stands.{Holds, HoldsLedger}
 use Rattle.zh_ledger.specs.Images.{LeavesBy, HasSome}
 use Rattle.zh_ledger.specs.Submissions.{OnDisk, Submission, Log, followed_by, logged, Submits}
 use Rattle.zh_ledger.specs.Night.{Keeper, Stretch, after_stop, StopsWithin, IsSound}
@@ -29,7 +29,8 @@ all_after R a (x ∷ xs) ys each = all_after R a xs ys each.1
 pub left_by : (R : List ℕ → List ℕ → Type 0) (old new : Trail) (c : List ℕ) → ((x : List ℕ) → R x x) → Leaves R old new → StopsWithin old new c → (d : List ℕ) × IsImage old.now d × R d c
 left_by R old new c same leaves left =
     let run : left.due.0 ++ (left.begun.0 ++ old.now ∷ old.past) ≡ leaves.between ++ old.now ∷ old.past = ap (λ (l : List Moment). left.due.0 ++ l) (sym left.begun.1) ∙ sym left.due.1 ∙ leaves.run in
-    let parts : left.due.0 ++ left.begun.0 ≡ leaves.between = append_cancel_right (left.due.0 ++ left.begun.0) leaves.between (old.now ∷ old.past) (append_assoc left.due.0 left.begun.0 (old.now ∷ old.past) ∙ run) in
+    let parts : left.due.0 ++ left.begun.0 ≡ leaves.between = append_cancel_right (left.due.0 ++ left.begun.0) leaves.between
+    (old.now ∷ old.past) (append_assoc left.due.0 left.begun.0 (old.now ∷ old.past) ∙ run) in
     let each : AllMove R old.now (left.due.0 ++ left.begun.0) = subst (AllMove R old.now) (sym parts) leaves.each in
     let begun : Leaves R old left.at = record { between = left.begun.0; run = left.begun.1; each = all_after R old.now left.due.0 left.begun.0 each } in
     leaves_now R old left.at same begun c left.image
@@ -49,7 +50,9 @@ pub record IsSure {K : Keeper} (canton : Canton) (kept : List Command) (s : Stre
   pub judged : AreJudged (count_of canton kept) s.log.accepted
 
 -- after a stop
-pub after_stop_sure : {K : Keeper} (canton : Canton) (kept : List Command) (s : Stretch K) (c : List ℕ) (log : Log) → IsSure canton kept s → HasSome (count_of canton kept) log.accepted log.acknowledged c → length log.accepted ≤ log.acknowledged + 1 → AreJudged (count_of canton kept) log.accepted → IsSure {K = K} canton kept (after_stop c log)
+pub after_stop_sure : {K : Keeper} (canton : Canton) (kept : List Command) (s : Stretch K) (c : List ℕ) (log : Log) → IsSure canton kept s
+    → HasSome (count_of canton kept) log.accepted log.acknowledged c → length log.accepted ≤ log.acknowledged + 1
+    → AreJudged (count_of canton kept) log.accepted → IsSure {K = K} canton kept (after_stop c log)
 after_stop_sure canton kept s c log sure has last judged = record {
   sound = record {
     each = λ d image. subst (HasSome (count_of canton kept) log.accepted log.acknowledged) (sym (only_image c d image)) has;
@@ -70,19 +73,20 @@ has_after t cs ds least c some = record {
 }
 
 -- what a ledger knows before, it knows after
-abbrev pub StillKnows : OnDisk Ledger → OnDisk Ledger → Type 0
-StillKnows old new = (c : List ℕ) → IsImage new.history.trail.now c → (d : List ℕ) × IsImage old.history.trail.now d × (IsKept old.holder d → IsKept new.holder c)
+abbrev pub StillHolds : OnDisk Ledger → OnDisk Ledger → Type 0
+StillHolds old new = (c : List ℕ) → IsImage new.history.trail.now c → (d : List ℕ) × IsImage old.history.trail.now d × (HoldsLedger old.holder d → HoldsLedger new.holder c)
 
-same_images : (old new : OnDisk Ledger) → new.holder ≡ old.holder → new.history.trail ≡ old.history.trail → StillKnows old new
-same_images old new ledger trail c image = (c, subst (λ (t : Trail). IsImage t.now c) trail image, λ kept. subst (λ (l : Ledger). IsKept l c) (sym ledger) kept)
+same_images : (old new : OnDisk Ledger) → new.holder ≡ old.holder → new.history.trail ≡ old.history.trail → StillHolds old new
+same_images old new ledger trail c image = (c, subst (λ (t : Trail). IsImage t.now c) trail image, λ kept. subst (λ (l : Ledger). HoldsLedger l c) (sym ledger) kept)
 
 -- after a command a ledger that met no fault knows all images, and has acknowledged what it accepted
-still_whole : (command : Command) (outcome : Outcome) (old new : OnDisk Ledger) → Becomes old.holder command outcome new.holder → LeavesBy old.holder command outcome old.history.trail new.history.trail → new.holder.store.broken ≡ false
-    → ((logged command outcome).acknowledged ≡ length (logged command outcome).accepted) × StillKnows old new
+still_whole : (command : Command) (outcome : Outcome) (old new : OnDisk Ledger) → Becomes old.holder command outcome new.holder
+    → LeavesBy old.holder command outcome old.history.trail new.history.trail → new.holder.store.broken ≡ false
+    → ((logged command outcome).acknowledged ≡ length (logged command outcome).accepted) × StillHolds old new
 still_whole c (Stored accepted) old new ledger leaves whole = (
   refl,
   λ f image.
-      let from = leaves.1 f image in (from.0, from.1, λ kept. subst (λ (l : Ledger). IsKept l f) (sym ledger) (from.2 kept)),
+      let from = leaves.1 f image in (from.0, from.1, λ kept. subst (λ (l : Ledger). HoldsLedger l f) (sym ledger) (from.2 kept)),
 )
 still_whole c Device old new ledger leaves whole =
     let broken : new.holder.store.broken ≡ true = ledger.broken in
@@ -90,8 +94,9 @@ still_whole c Device old new ledger leaves whole =
 still_whole c outcome old new ledger leaves whole = (refl, same_images old new ledger leaves)
 
 -- so after many, where no command was met by a fault
-whole_then : (old : OnDisk Ledger) (x : Command × Outcome) (mid : OnDisk Ledger) (others log : Log) (new : OnDisk Ledger) → Submission old x.0 x.1 mid → IsTrue mid.history.honest → log ≡ followed_by (logged x.0 x.1) others → mid.holder.store.broken ≡ false
-    → (others.acknowledged ≡ length others.accepted) × StillKnows mid new → (log.acknowledged ≡ length log.accepted) × StillKnows old new
+whole_then : (old : OnDisk Ledger) (x : Command × Outcome) (mid : OnDisk Ledger) (others log : Log) (new : OnDisk Ledger)
+    → Submission old x.0 x.1 mid → IsTrue mid.history.honest → log ≡ followed_by (logged x.0 x.1) others → mid.holder.store.broken ≡ false
+    → (others.acknowledged ≡ length others.accepted) × StillHolds mid new → (log.acknowledged ≡ length log.accepted) × StillHolds old new
 whole_then old x mid others log new by honest log_is whole rest =
     let first = still_whole x.0 x.1 old mid by.after (by.call.did honest).leaves whole in (
       subst (λ (l : Log). l.acknowledged ≡ length l.accepted) (sym log_is) (omega (arith, first.0, rest.0, length-append (logged x.0 x.1).accepted others.accepted)),
@@ -102,14 +107,16 @@ whole_then old x mid others log new by honest log_is whole rest =
     )
 
 -- a ledger that met no fault at the end had met none before
-whole_before : (old : OnDisk Ledger) (xs : List (Command × Outcome)) (log : Log) (new : OnDisk Ledger) → IsTrue new.history.honest → Submits old xs log new → new.holder.store.broken ≡ false → old.holder.store.broken ≡ false
+whole_before : (old : OnDisk Ledger) (xs : List (Command × Outcome)) (log : Log) (new : OnDisk Ledger) → IsTrue new.history.honest
+    → Submits old xs log new → new.holder.store.broken ≡ false → old.holder.store.broken ≡ false
 whole_before old xs log new honest run whole = by_broken old.holder.store.broken refl
   where
     by_broken : (broken : Bool) → old.holder.store.broken ≡ broken → old.holder.store.broken ≡ false
     by_broken true is = sym (ap (λ (s : Ledger). s.store.broken) (broken_run old xs log new is honest run).ledger) ∙ whole
     by_broken false is = is
 
-pub whole_run : (old : OnDisk Ledger) (xs : List (Command × Outcome)) (log : Log) (new : OnDisk Ledger) → IsTrue new.history.honest → Submits old xs log new → new.holder.store.broken ≡ false → (log.acknowledged ≡ length log.accepted) × StillKnows old new
+pub whole_run : (old : OnDisk Ledger) (xs : List (Command × Outcome)) (log : Log) (new : OnDisk Ledger) → IsTrue new.history.honest
+    → Submits old xs log new → new.holder.store.broken ≡ false → (log.acknowledged ≡ length log.accepted) × StillHolds old new
 whole_run old [] log new honest (none, same) whole = (
   subst (λ (l : Log). l.acknowledged ≡ length l.accepted) (sym none) refl,
   same_images old new (ap (λ (o : OnDisk Ledger). o.holder) same) (ap (λ (o : OnDisk Ledger). o.history.trail) same),

@@ -44,7 +44,8 @@ with_trail history trail = record history { trail = trail }
 -- the same ledger and moments, of a disk with whatever else is known of it
 same_start : (old mid : OnDisk Ledger) (log : Log) (new : OnDisk Ledger) → mid.holder ≡ old.holder → mid.history.trail ≡ old.history.trail → IsLogged mid log new → IsLogged old log new
 same_start old mid log new ledger trail logs =
-    let moved : IsLogged (on_disk old.holder (with_trail mid.history old.history.trail)) log new = subst (λ (o : OnDisk Ledger). IsLogged o log new) (λ i. on_disk (ledger i) (with_trail mid.history (trail i))) logs in
+    let moved : IsLogged (on_disk old.holder (with_trail mid.history old.history.trail)) log new =
+    subst (λ (o : OnDisk Ledger). IsLogged o log new) (λ i. on_disk (ledger i) (with_trail mid.history (trail i))) logs in
     record { each_moment = moved.each_moment; last_moment = moved.last_moment; last = moved.last; within = moved.within; count = moved.count; outside = moved.outside }
 
 -- commands that change nothing
@@ -59,14 +60,19 @@ none_logged old new ledger trail = record {
 }
 
 -- a command is stored, and then come others
-module _ (old mid new : OnDisk Ledger) (command : Command) (log : Log) (ledger : mid.holder ≡ stored old.holder command) (leaves : Leaves (KeepsOrSteps old.holder command) old.history.trail mid.history.trail) (moves : Moves (Stores old.holder command) old.history.trail.now mid.history.trail.now) (outside : Leaves SameOutsideSlots old.history.trail mid.history.trail) (logs : IsLogged mid log new) where
-  go_on : (least : ℕ) (x f : List ℕ) → IsImage mid.history.trail.now x → ComesToHave mid.holder log.accepted least x f → (d : List ℕ) × IsImage old.history.trail.now d × ComesToHave old.holder (command ∷ log.accepted) (1 + least) d f
+module _ (old mid new : OnDisk Ledger) (command : Command) (log : Log) (ledger : mid.holder ≡ stored old.holder command)
+    (leaves : Leaves (KeepsOrSteps old.holder command) old.history.trail mid.history.trail)
+    (moves : Moves (Stores old.holder command) old.history.trail.now mid.history.trail.now)
+    (outside : Leaves SameOutsideSlots old.history.trail mid.history.trail) (logs : IsLogged mid log new) where
+  go_on : (least : ℕ) (x f : List ℕ) → IsImage mid.history.trail.now x → ComesToHave mid.holder log.accepted least x f → (d : List ℕ)
+      × IsImage old.history.trail.now d × ComesToHave old.holder (command ∷ log.accepted) (1 + least) d f
   go_on least x f image by =
       let from = moves x image in
       let so : ComesToHave (stored old.holder command) log.accepted least x f = subst (λ (s : Ledger). ComesToHave s log.accepted least x f) ledger by in
       (from.0, from.1, λ kept. has_more old.holder command log.accepted least f (so (from.2 kept)))
 
-  at_any : (x f : List ℕ) → IsImage mid.history.trail.now x → ComesToHave mid.holder log.accepted 0 x f → (d : List ℕ) × IsImage old.history.trail.now d × ComesToHave old.holder (command ∷ log.accepted) 0 d f
+  at_any : (x f : List ℕ) → IsImage mid.history.trail.now x → ComesToHave mid.holder log.accepted 0 x f → (d : List ℕ)
+      × IsImage old.history.trail.now d × ComesToHave old.holder (command ∷ log.accepted) 0 d f
   at_any x f image by =
       let from = go_on 0 x f image by in
       (from.0, from.1, λ kept. has_any old.holder.tally (command ∷ log.accepted) 1 f (from.2 kept))
@@ -90,9 +96,12 @@ module _ (old mid new : OnDisk Ledger) (command : Command) (log : Log) (ledger :
   }
 
 -- the device failed at a command, and nothing more is done
-device_logged : (old new : OnDisk Ledger) (command : Command) → new.holder.tally ≡ old.holder.tally → Leaves (KeepsOrSteps old.holder command) old.history.trail new.history.trail → Leaves SameOutsideSlots old.history.trail new.history.trail → IsLogged old (record { accepted = command ∷ []; acknowledged = 0 }) new
+device_logged : (old new : OnDisk Ledger) (command : Command) → new.holder.tally ≡ old.holder.tally
+    → Leaves (KeepsOrSteps old.holder command) old.history.trail new.history.trail → Leaves SameOutsideSlots old.history.trail
+    new.history.trail → IsLogged old (record { accepted = command ∷ []; acknowledged = 0 }) new
 device_logged old new command tally leaves outside = record {
-  each_moment = leaves_weaken (KeepsOrSteps old.holder command) (ComesToHave old.holder (command ∷ []) 0) old.history.trail new.history.trail (λ x f image by. keeps_or_has old.holder command [] x f by) leaves;
+  each_moment = leaves_weaken (KeepsOrSteps old.holder command) (ComesToHave old.holder (command ∷ []) 0) old.history.trail
+      new.history.trail (λ x f image by. keeps_or_has old.holder command [] x f by) leaves;
   last_moment = λ f image.
       let from = leaves_now (KeepsOrSteps old.holder command) old.history.trail new.history.trail (λ c kept. inl (holds_kept old.holder c kept)) leaves f image in
       (from.0, from.1, keeps_or_has old.holder command [] from.0 f from.2);
@@ -109,7 +118,8 @@ pub record IsQuiet (old : OnDisk Ledger) (log : Log) (new : OnDisk Ledger) : Typ
   pub none : log ≡ nothing
 
 -- a ledger that is broken stores nothing
-broken_quiet : (old : OnDisk Ledger) (command : Command) (outcome : Outcome) (new : OnDisk Ledger) → old.holder.store.broken ≡ true → Submission old command outcome new → IsTrue new.history.honest → IsQuiet old (logged command outcome) new
+broken_quiet : (old : OnDisk Ledger) (command : Command) (outcome : Outcome) (new : OnDisk Ledger) → old.holder.store.broken ≡ true
+    → Submission old command outcome new → IsTrue new.history.honest → IsQuiet old (logged command outcome) new
 broken_quiet old command outcome new broken by honest =
     let is : outcome ≡ Broken = subst (λ (b : Bool). MayResultWhere b old.holder command outcome) broken by.results in
     record {
@@ -127,7 +137,8 @@ submits_honest old [] log new (none, same) honest = subst (λ (o : OnDisk Ledger
 submits_honest old (x ∷ xs) log new (mid, others, by, log_is, run) honest = by.call.kept (submits_honest mid xs others new run honest)
 
 -- after a fault of the device no later command changes anything
-pub broken_run : (old : OnDisk Ledger) (xs : List (Command × Outcome)) (log : Log) (new : OnDisk Ledger) → old.holder.store.broken ≡ true → IsTrue new.history.honest → Submits old xs log new → IsQuiet old log new
+pub broken_run : (old : OnDisk Ledger) (xs : List (Command × Outcome)) (log : Log) (new : OnDisk Ledger) → old.holder.store.broken ≡ true
+    → IsTrue new.history.honest → Submits old xs log new → IsQuiet old log new
 broken_run old [] log new broken honest (none, same) =
     record { ledger = ap (λ (o : OnDisk Ledger). o.holder) same; trail = ap (λ (o : OnDisk Ledger). o.history.trail) same; none = none }
 broken_run old (x ∷ xs) log new broken honest (mid, others, by, log_is, run) =
@@ -144,7 +155,8 @@ quiet_logged : (old mid new : OnDisk Ledger) (log : Log) → mid.holder ≡ old.
 quiet_logged old mid new log ledger trail logs = subst (λ (l : Log). IsLogged old l new) (sym (quiet_log log)) (same_start old mid log new ledger trail logs)
 
 -- what a command adds, whatever its outcome
-command_logged : (old mid new : OnDisk Ledger) (log : Log) (command : Command) (outcome : Outcome) → Becomes old.holder command outcome mid.holder → LeavesBy old.holder command outcome old.history.trail mid.history.trail → Leaves SameOutsideSlots old.history.trail mid.history.trail
+command_logged : (old mid new : OnDisk Ledger) (log : Log) (command : Command) (outcome : Outcome) → Becomes old.holder command outcome
+    mid.holder → LeavesBy old.holder command outcome old.history.trail mid.history.trail → Leaves SameOutsideSlots old.history.trail mid.history.trail
     → (mid.holder.store.broken ≡ true → IsQuiet mid log new) → IsLogged mid log new → IsLogged old (followed_by (logged command outcome) log) new
 command_logged old mid new log command (Stored accepted) ledger leaves outside then logs = stored_logged old mid new command log ledger leaves.0 leaves.1 outside logs
 command_logged old mid new log command Device ledger leaves outside then logs =
@@ -156,7 +168,8 @@ command_logged old mid new log command Device ledger leaves outside then logs =
 command_logged old mid new log command outcome ledger leaves outside then logs = quiet_logged old mid new log ledger leaves logs
 
 -- the log of a command that is followed by others
-pub log_first : (old : OnDisk Ledger) (command : Command) (outcome : Outcome) (mid : OnDisk Ledger) (by : Submission old command outcome mid) (log others : Log) → log ≡ followed_by by.log others → log ≡ followed_by (logged command outcome) others
+pub log_first : (old : OnDisk Ledger) (command : Command) (outcome : Outcome) (mid : OnDisk Ledger)
+    (by : Submission old command outcome mid) (log others : Log) → log ≡ followed_by by.log others → log ≡ followed_by (logged command outcome) others
 log_first old command outcome mid by log others is = is ∙ ap (λ (l : Log). followed_by l others) by.logs
 
 pub submits_logged : (old : OnDisk Ledger) (xs : List (Command × Outcome)) (log : Log) (new : OnDisk Ledger) → IsTrue new.history.honest → Submits old xs log new → IsLogged old log new
@@ -179,7 +192,8 @@ one_submitted old command outcome new by = (new, nothing, by, sym (log_none by.l
 pub none_submitted : (old : OnDisk Ledger) → Submits old [] nothing old
 none_submitted old = (refl, refl)
 
-pub submission_logged : (old : OnDisk Ledger) (command : Command) (outcome : Outcome) (new : OnDisk Ledger) (by : Submission old command outcome new) → IsTrue new.history.honest → IsLogged old by.log new
+pub submission_logged : (old : OnDisk Ledger) (command : Command) (outcome : Outcome) (new : OnDisk Ledger)
+    (by : Submission old command outcome new) → IsTrue new.history.honest → IsLogged old by.log new
 submission_logged old command outcome new by honest = submits_logged old ((command, outcome) ∷ []) by.log new honest (one_submitted old command outcome new by)
 
 -- a command that the ledger does not store changes nothing

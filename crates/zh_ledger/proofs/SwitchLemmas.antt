@@ -17,8 +17,8 @@ use Rattle.zh_snapshot.specs.Store.{State, StoreSwitches, StoreSwitchesOrNot, sw
 use Rattle.zh_snapshot.specs.declared.fault.SwitchFault.{SwitchFault}
 use Rattle.zh_ledger.specs.Ledger.{Ledger, has_room}
 use Rattle.zh_ledger.specs.Kept.{ledger_in, ledger_of}
-use Rattle.zh_ledger.specs.Opened.{Knows}
-use Rattle.zh_ledger.specs.Stands.{StandsFor, IsKept}
+use Rattle.zh_ledger.specs.Opened.{HoldsLedgerFramed}
+use Rattle.zh_ledger.specs.Stands.{StandsFor, HoldsLedger}
 use Rattle.zh_ledger.specs.Images.{Keeps, Readies, MakesRoom, SameOutsideSlots}
 use Rattle.zh_ledger.proofs.OutsideLemmas.{within_slot}
 use Rattle.zh_ledger.proofs.ReplayLemmas.{replays_none}
@@ -59,7 +59,8 @@ module _ (tally : Tally) (store : State) (limits : IsTally tally) where
   keeps_count t u run = leaves_weaken _ _ t u (λ d e image by. still_holds d e by) run
 
   -- after it the ledger knows the new one, which is clean, whatever the format was
-  pub knows_switched : (format : Format) (old new : List ℕ) → StoreSwitches store (payload_spelling Two tally) old new → Knows (ledger_in format tally store) old → IsKept (ledger_of tally (switched store)) new
+  pub knows_switched : (format : Format) (old new : List ℕ) → StoreSwitches store (payload_spelling Two tally) old new
+      → HoldsLedgerFramed (ledger_in format tally store) old → HoldsLedger (ledger_of tally (switched store)) new
   knows_switched format old new by found =
       let anew = by found.content found.end found.framed found.fits in
       record {
@@ -71,12 +72,13 @@ module _ (tally : Tally) (store : State) (limits : IsTally tally) where
       }
 
   -- so it is made ready for a command for which it lacked room
-  made_ready : (c : Command) → has_room (ledger_of tally store) c ≡ false → (old new : Moment) → Moves (StoreSwitches store (payload_spelling Two tally)) old new → Moves (Readies (ledger_of tally store) c) old new
+  made_ready : (c : Command) → has_room (ledger_of tally store) c ≡ false → (old new : Moment)
+      → Moves (StoreSwitches store (payload_spelling Two tally)) old new → Moves (Readies (ledger_of tally store) c) old new
   made_ready c none old new moves = λ d image.
       let from = moves d image in (
         from.0,
         from.1,
-        λ kept. subst (λ (l : Ledger). IsKept l d) (sym (ready_switched (ledger_of tally store) c none))
+        λ kept. subst (λ (l : Ledger). HoldsLedger l d) (sym (ready_switched (ledger_of tally store) c none))
             (knows_switched Two from.0 d from.2 (record { content = kept.content; end = kept.end; framed = kept.clean.framed; fits = kept.fits; stands = kept.stands })),
       )
 
@@ -84,7 +86,8 @@ module _ (tally : Tally) (store : State) (limits : IsTally tally) where
   around : (result : Result (Unit {0}) SwitchFault) (t u : Trail) → StoreSwitch store (payload_spelling Two tally) result t u → Leaves SameOutsideSlots t u
   around result t u by = leaves_weaken _ _ t u (λ x f image to. within_slot (other store.slot) x f to.around) by.moments
 
-  pub makes_room : (c : Command) (len : ℕ) (done : Unit {0}) (t u : Trail) → has_room (ledger_of tally store) c ≡ false → StoreSwitch store (payload_spelling Two tally) (Ok done) t u → MakesRoom (ledger_of tally store) c (Ok len) t u
+  pub makes_room : (c : Command) (len : ℕ) (done : Unit {0}) (t u : Trail) → has_room (ledger_of tally store) c ≡ false
+      → StoreSwitch store (payload_spelling Two tally) (Ok done) t u → MakesRoom (ledger_of tally store) c (Ok len) t u
   makes_room c len done t u none by =
       record { moments = keeps_count t u by.moments; outside = around (Ok done) t u by; done = made_ready c none t.now u.now by.done.moves }
 

@@ -9,23 +9,23 @@ use Rattle.zh_records.specs.declared.command.Command.{Command}
 use Rattle.zh_ledger.specs.declared.outcome.Outcome.{Outcome}
 use Rattle.zh_ledger.specs.declared.outcome.Outcome.TheVariants.{Stored, Device}
 use Rattle.zh_ledger.specs.Ledger.{Ledger, ready, stored}
-use Rattle.zh_ledger.specs.Stands.{Holds, IsKept}
+use Rattle.zh_ledger.specs.Stands.{Holds, HoldsLedger}
 
 -- an image that the ledger knows comes to hold the count before, or the stepped one
 abbrev pub KeepsOrSteps : Ledger → Command → List ℕ → List ℕ → Type 0
-KeepsOrSteps s command old new = IsKept s old → Holds s.tally new ⊎ Holds (step s.tally command) new
+KeepsOrSteps s command old new = HoldsLedger s old → Holds s.tally new ⊎ Holds (step s.tally command) new
 
 -- it becomes the one that the ledger knows once the command is stored
 abbrev pub Stores : Ledger → Command → List ℕ → List ℕ → Type 0
-Stores s command old new = IsKept s old → IsKept (stored s command) new
+Stores s command old new = HoldsLedger s old → HoldsLedger (stored s command) new
 
 -- an image that the ledger knows still holds its count
 abbrev pub Keeps : Ledger → List ℕ → List ℕ → Type 0
-Keeps s old new = IsKept s old → Holds s.tally new
+Keeps s old new = HoldsLedger s old → Holds s.tally new
 
 -- it becomes the one that the ledger knows once it is ready for the command
 abbrev pub Readies : Ledger → Command → List ℕ → List ℕ → Type 0
-Readies s command old new = IsKept s old → IsKept (ready s command) new
+Readies s command old new = HoldsLedger s old → HoldsLedger (ready s command) new
 
 -- At each moment the command is kept whole or not at all; after `Stored` it is kept; after every other outcome but
 -- `Device` no call of the disk wrote or synced.
@@ -60,4 +60,4 @@ pub record HasSome (tally : Tally) (commands : List Command) (least : ℕ) (c : 
 
 -- an image that the ledger knows comes to have some of these commands, at least so many of them
 abbrev pub ComesToHave : Ledger → List Command → ℕ → List ℕ → List ℕ → Type 0
-ComesToHave s commands least old new = IsKept s old → HasSome s.tally commands least new
+ComesToHave s commands least old new = HoldsLedger s old → HasSome s.tally commands least new

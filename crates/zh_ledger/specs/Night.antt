@@ -7,7 +7,7 @@ use Rattle.zh_returns.specs.Tally.{empty}
 use Rattle.zh_returns.specs.Step.{after}
 use Rattle.zh_records.specs.declared.command.Command.{Command}
 use Rattle.zh_ledger.specs.Ledger.{Ledger}
-use Rattle.zh_ledger.specs.Stands.{IsKept}
+use Rattle.zh_ledger.specs.Stands.{HoldsLedger}
 use Rattle.zh_ledger.specs.Images.{HasSome}
 use Rattle.zh_ledger.specs.Opened.{IsNew}
 use Rattle.zh_ledger.specs.Opening.{Opens}
@@ -102,7 +102,7 @@ IsNight canton s (e ∷ es) = Allows canton s e.0 e.1 × IsNight canton e.1 es
 pub record IsCurrent (canton : Canton) (kept : List Command) (now : Moment) (log : Log) (ledger : Ledger) : Type 0 where
   pub count : ledger.tally ≡ after (empty canton) (kept ++ take log.acknowledged log.accepted)
   pub all_acknowledged : ledger.store.broken ≡ false → log.acknowledged ≡ length log.accepted
-  pub images : ledger.store.broken ≡ false → (c : List ℕ) → IsImage now c → IsKept ledger c
+  pub images : ledger.store.broken ≡ false → (c : List ℕ) → IsImage now c → HoldsLedger ledger c
 
 -- Between two events, where the stretches before kept these commands: each image stands for the count with them and the
 -- first of those accepted since, in order, among them all that were acknowledged, which are all but one at most.

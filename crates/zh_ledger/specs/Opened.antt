@@ -23,7 +23,7 @@ pub record IsReady (canton : Canton) (s : Ledger) : Type 0 where
   pub last : s.format ≡ One → s.store.generation ≡ 2 ^ 64 - 1
 
 -- these bytes of a disk are framed, with a content that the ledger's store knows and that stands for its count
-pub record Knows (s : Ledger) (bytes : List ℕ) : Type 0 where
+pub record HoldsLedgerFramed (s : Ledger) (bytes : List ℕ) : Type 0 where
   pub content : Content
   pub end : ℕ
   pub framed : IsFramed content end bytes
@@ -33,7 +33,7 @@ pub record Knows (s : Ledger) (bytes : List ℕ) : Type 0 where
 -- a ledger of this set-up that holds what these bytes stand for
 pub record IsOpened (canton : Canton) (bytes : List ℕ) (s : Ledger) : Type 0 where
   pub ready : IsReady canton s
-  pub found : Knows s bytes
+  pub found : HoldsLedgerFramed s bytes
 
 -- the disk gate is open, header, slot and records are right, and the set-up bytes are those of another set-up
 pub record Differs (canton : Canton) (bytes : List ℕ) : Type 0 where

@@ -21,8 +21,8 @@ use Rattle.zh_snapshot.specs.declared.fault.FormatFault.{FormatFault}
 use Rattle.zh_ledger.specs.Faults.{open_fails}
 use Rattle.zh_ledger.specs.Kept.{ledger_in}
 use Rattle.zh_ledger.specs.Ledger.{Ledger}
-use Rattle.zh_ledger.specs.Opened.{IsNew, IsReady, Knows, IsOpened, Differs, IsDamaged, AwaitsReplay, IsWrong}
-use Rattle.zh_ledger.specs.Stands.{Stands, StandsFor}
+use Rattle.zh_ledger.specs.Opened.{IsNew, IsReady, HoldsLedgerFramed, IsOpened, Differs, IsDamaged, AwaitsReplay, IsWrong}
+use Rattle.zh_ledger.specs.Stands.{HoldsFramed, StandsFor}
 use Rattle.zh_ledger.specs.declared.fault.OpenFault.{OpenFault}
 use Rattle.zh_ledger.specs.declared.fault.OpenFault.TheVariants as faults
 
@@ -61,14 +61,14 @@ IsCause canton bytes fault = Unit {0}
 
 -- the ledger holds what these bytes stood for; now nothing is pending, and it is one that the bytes on the disk open
 pub record IsOpenedFrom (canton : Canton) (bytes : List ℕ) (now : Moment) (ledger : Ledger) : Type 0 where
-  pub stood : Stands ledger.tally bytes
+  pub stood : HoldsFramed ledger.tally bytes
   pub pending : now.pending ≡ []
   pub opened : IsOpened canton now.bytes ledger
 
 -- at this moment nothing is pending, and the bytes are those of this ledger
 pub record IsAtRest (ledger : Ledger) (now : Moment) : Type 0 where
   pub pending : now.pending ≡ []
-  pub found : Knows ledger now.bytes
+  pub found : HoldsLedgerFramed ledger now.bytes
 
 -- What is read of a set-up's count in these bytes, which a store and its reader found: the count, and its format.
 pub record ReadsCount (s : State) (rest : Rest) (canton : Canton) (tally : Tally) (bytes : List ℕ)

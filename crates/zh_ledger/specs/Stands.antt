@@ -39,7 +39,7 @@ pub record StandsFor (format : Format) (x : Content) (tally : Tally) : Type 0 wh
   pub replays : Replays format start x.records tally
 
 -- these bytes are framed, with a content that stands for this count
-pub record Stands (tally : Tally) (bytes : List ℕ) : Type 0 where
+pub record HoldsFramed (tally : Tally) (bytes : List ℕ) : Type 0 where
   pub content : Content
   pub end : ℕ
   pub format : Format
@@ -55,7 +55,7 @@ pub record Holds (tally : Tally) (c : List ℕ) : Type 0 where
   pub stands : StandsFor format content tally
 
 -- a clean image that is the one that the ledger knows, and stands for the ledger's count
-pub record IsKept (s : Ledger) (c : List ℕ) : Type 0 where
+pub record HoldsLedger (s : Ledger) (c : List ℕ) : Type 0 where
   pub content : Content
   pub end : ℕ
   pub clean : IsClean content end c

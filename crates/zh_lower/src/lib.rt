@@ -10,7 +10,7 @@ pub use laws::one_answer;
 pub use lower::Lower;
 pub use outcome::find;
 pub use second::second_search;
-pub use zh_matrices::{Matrix, is_strict, is_weak};
+pub use zh_matrices::{Matrix, is_strict};
 
 mod extremes;
 mod fault;

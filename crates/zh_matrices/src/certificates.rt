@@ -4,7 +4,7 @@ ghost use Rattle.zh_matrices.specs.Asked.{asked};
 ghost use Rattle.zh_matrices.specs.Divisors.{AreWithin, AreWithinLimits, millionths};
 ghost use Rattle.zh_matrices.specs.Question.{cell, question};
 ghost use Rattle.zh_matrices.specs.RoundingOf.{RoundsBy};
-ghost use Rattle.zh_matrices.specs.SeatMatrix.{EachRounds, Follows, IsStrict, IsWeak};
+ghost use Rattle.zh_matrices.specs.SeatMatrix.{EachRounds, Follows, IsStrict};
 
 use crate::matrix::Matrix;
 use crate::question::Question;
@@ -104,35 +104,6 @@ pub fn is_strict(
     let question = matrix.question(row_totals, column_totals);
     follows(
         Rounding::Strict,
-        &question,
-        row_divisors,
-        column_divisors,
-        seats,
-    )
-}
-
-/// Whether the seats, as for `is_strict`, have the totals, and follow from the divisors where each quotient
-/// on a half may be rounded up or down.
-pub fn is_weak(
-    matrix: &Matrix,
-    row_totals: &[u32],
-    column_totals: &[u32],
-    seats: &[u32],
-    row_divisors: &[u64],
-    column_divisors: &[u64],
-) -> bool
-    requires row_totals { length row_totals.now ≡ matrix.now.rows }
-    requires column_totals { length column_totals.now ≡ matrix.now.columns }
-    requires each_cell { length seats.now ≡ matrix.now.rows * matrix.now.columns }
-    requires few_seats { All (λ s. s ≤ 400) seats.now }
-    requires row_divisors { AreWithin matrix.now.rows (10 ^ 18) row_divisors.now }
-    requires column_divisors { AreWithin matrix.now.columns (10 ^ 12) column_divisors.now }
-    ensures { IsTrue result ↔ IsWeak (question matrix.now row_totals.now column_totals.now)
-        (millionths row_divisors.now column_divisors.now) seats.now }
-{
-    let question = matrix.question(row_totals, column_totals);
-    follows(
-        Rounding::Weak,
         &question,
         row_divisors,
         column_divisors,

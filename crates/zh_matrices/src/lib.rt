@@ -2,7 +2,7 @@
 //! divisors (GPR section 104). It needs no search: who has the seats and the divisors can test them.
 #![tactic(auto)]
 
-pub use certificates::{follows, is_strict, is_weak};
+pub use certificates::{follows, is_strict};
 pub use matrix::Matrix;
 pub use question::Question;
 pub use rounding::Rounding;

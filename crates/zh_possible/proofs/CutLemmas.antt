@@ -1,5 +1,6 @@
 -- Where no more seats can be placed, the rows without a way have too few seats; where all are placed, they fit.
-use Rattle.std.proofs.Common.{◌≡◌, ℕ, zero, suc, ◌+◌, ◌*◌, ◌<◌, ◌≤◌, Bool, true, false, cond, ltb, Option, Some, None, IsSome, is_none, List, length, get_or, slice_index, refl, sym, ◌∙◌, inl, inr, arith}
+use Rattle.std.proofs.Common.{◌≡◌, ℕ, zero, suc, ◌+◌, ◌*◌, ◌<◌, ◌≤◌, Bool, true, false, cond, ltb, Option, Some, None, IsSome, is_none}
+use Rattle.std.proofs.Common.{List, length, get_or, slice_index, refl, sym, ◌∙◌, inl, inr, arith}
 use Rattle.std.proofs.lemmas.Bool.{cases_eq, cases_lt, ltb-true}
 use Rattle.std.proofs.Math.Nat.{le_of_eq}
 use Rattle.zh_divisors.specs.Sums.{sum_to}

@@ -1,9 +1,14 @@
 -- The walk along the ways from a row that lacks a seat.
-use Rattle.std.proofs.Common.{◌≡◌, ◌≢◌, ℕ, ◌<◌, Option, Some, IsSome, List, refl, ap, ◌∙◌, arith}
+use Rattle.std.proofs.Common.{◌≡◌, ◌≢◌, ℕ, ◌<◌, Option, None, Some, IsSome, List, refl, ap, ◌∙◌, arith}
 use Rattle.zh_matrices.specs.Question.{Question, cell}
-use Rattle.zh_possible.specs.Ways.{ArePlaced, AreWays, CanGive, CanTake, ColumnLacks, HasWayBelow, IsPassed, IsWay, RowLacks, column_seats, placed, rank_of, way_at}
+use Rattle.zh_possible.specs.Ways.{ArePlaced, AreWays, CanGive, CanTake, ColumnLacks, HasWayBelow, IsPassed, IsWay, RowLacks, column_seats, placed, way_at}
 use Rattle.zh_possible.specs.declared.ways.Source.TheVariants.{Giver, Spare}
 use Rattle.zh_possible.specs.declared.ways.Way.{Way}
+
+-- the rank of a row with a way
+abbrev pub rank_of : Option Way → ℕ
+rank_of None = 0
+rank_of (Some way) = way.rank
 
 -- seats were passed on to a row: the columns have what they had, and so have the rows of lower rank
 pub record IsOnWay (q : Question) (before seats : List ℕ) (ways : List (Option Way)) (row : ℕ) : Type 0 where

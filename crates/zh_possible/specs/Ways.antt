@@ -110,11 +110,6 @@ pub record CanTake (q : Question) (seats : List ℕ) (ways : List (Option Way)) 
   pub has_way : IsSome (way_at ways d)
   pub lacks : RowLacks q seats d
 
--- the rank of a row with a way
-abbrev pub rank_of : Option Way → ℕ
-rank_of None = 0
-rank_of (Some way) = way.rank
-
 -- one row gave a seat in a column to another: the columns have as many seats as before, and the other rows are as they were
 pub record IsPassed (q : Question) (before after : List ℕ) (giver taker : ℕ) : Type 0 where
   pub placed : placed q after ≡ placed q before

@@ -32,7 +32,8 @@ block_at f width wide (x ∷ xs) (suc i) d within =
     ∙ block_at f width wide xs i d (omega arith)
 
 -- a place in a block
-pub in_block : {X A : Type 0} (f : X → List A) (width : ℕ) → HasWidth f width → (xs : List X) (i j : ℕ) (d : X) (e : A) → i < length xs → j < width → get_or (flat_map f xs) (width * i + j) e ≡ get_or (f (get_or xs i d)) j e
+pub in_block : {X A : Type 0} (f : X → List A) (width : ℕ) → HasWidth f width → (xs : List X) (i j : ℕ) (d : X) (e : A) → i < length xs
+    → j < width → get_or (flat_map f xs) (width * i + j) e ≡ get_or (f (get_or xs i d)) j e
 in_block f width wide xs i j d e within small =
     sym (get_or-drop (width * i) (flat_map f xs) j e) ∙ sym (get_or-take width (drop (width * i) (flat_map f xs)) j e small)
     ∙ ap (λ block. get_or block j e) (block_at f width wide xs i d within)

@@ -14,7 +14,7 @@ use crate::rows::Rows;
 use byteorder::{BigEndian, ByteOrder};
 
 /// The most bytes of a command: those of a batch of 1,000 rows.
-pub const COMMAND_LENGTH: usize = 11_004;
+pub(crate) const COMMAND_LENGTH: usize = 11_004;
 
 /// The bytes of a kind and a desk.
 pub(crate) const HEAD_LENGTH: usize = 2;

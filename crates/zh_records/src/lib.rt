@@ -16,7 +16,7 @@ mod rows;
 pub use batch_writer::BatchWriter;
 pub use command::Command;
 pub use decoder::decode_command;
-pub use encoder::{COMMAND_LENGTH, encode_command};
+pub use encoder::encode_command;
 pub use format::{Format, LAST_DESK};
 pub use laws::{one_command, speakable_fits};
 pub use row::Row;

@@ -27,7 +27,13 @@ municipality_fits : (tally : Tally) (municipality : ℕ) → IsTally tally → h
 municipality_fits tally municipality limits there = omega (arith, municipality_within tally.canton municipality there, limits.canton.municipalities.1)
 
 list_fits : (tally : Tally) (municipality list : ℕ) (content : Option ℕ) → IsTally tally → Passes tally municipality list content → list < 2 ^ 8
-list_fits tally municipality list content limits p = omega (arith, list_within tally.canton (constituency_of tally.canton municipality) list (placed tally.canton municipality list p.place).1, limits.canton.groups.1)
+list_fits tally municipality list content limits p =
+    omega (
+      arith,
+      list_within tally.canton (constituency_of tally.canton municipality) list
+          (placed tally.canton municipality list p.place).1,
+      limits.canton.groups.1,
+    )
 
 row_fits : (tally : Tally) (row : Row) → IsTally tally → is_refusal (judge_row tally row) ≡ false → FitsRow row
 row_fits tally row limits unrefused =
@@ -55,7 +61,9 @@ fits tally (commands.Withdraw desk municipality list number) limits named accept
 fits tally (commands.Close municipality) limits named accepted =
     municipality_fits tally municipality limits (there_if (has_municipality tally.canton municipality) (cond (set.contains tally.closed municipality) Same Accept) accepted)
 fits tally (commands.Reopen municipality) limits named accepted =
-    municipality_fits tally municipality limits (there_if (has_municipality tally.canton municipality) (cond (set.contains tally.closed municipality) Accept (Refused (reasons.NotClosed municipality))) accepted)
+    municipality_fits tally municipality limits
+    (there_if (has_municipality tally.canton municipality)
+    (cond (set.contains tally.closed municipality) Accept (Refused (reasons.NotClosed municipality))) accepted)
 fits tally (commands.Batch desk rows) limits named accepted = (named, rows_fit tally rows (record { municipality = 0; list = 0; number = 0; votes = 0 }) limits accepted)
 
 -- the numbers of a command have a desk up to the last

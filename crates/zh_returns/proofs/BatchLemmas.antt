@@ -48,7 +48,8 @@ other_rows desk p entries (row ∷ rows) key fresh =
     put_or_not desk (p row) entries row (filter p rows) key parts.0 (λ other. other_rows desk p other rows key parts.1)
 
 -- the key of a row holds what it held before the batch, since the rows before it have others
-pub held_still : (desk : ℕ) (tally : Tally) (rows : List Row) (i : ℕ) (row : Row) → IsBatch rows → slice_get rows i ≡ Some row → held (upto desk tally rows i) row.municipality row.list ≡ held tally row.municipality row.list
+pub held_still : (desk : ℕ) (tally : Tally) (rows : List Row) (i : ℕ) (row : Row) → IsBatch rows → slice_get rows i ≡ Some row
+    → held (upto desk tally rows i) row.municipality row.list ≡ held tally row.municipality row.list
 held_still desk tally rows i row batch is =
     let within = slice_get_within rows i row is in
     let key : get_or (map row_key rows) i (row_key row) ≡ row_key row = get_or-map row_key rows i row (row_key row) within ∙ ap row_key (get_or_from_slice_get rows i row row is) in
@@ -65,12 +66,14 @@ judged_still desk tally rows i row batch is =
     cond (too_many (Some row.votes)) (Refused reasons.Votes) (cond (set.contains tally.closed row.municipality) (Refused reasons.Closed) (against entry row.number (Some row.votes))))) (
     held_still desk tally rows i row batch is)
 
-accepted_before : (desk : ℕ) (before now : Tally) (rows : List Row) (i : ℕ) (row : Row) (accepted : Bool) → IsBatch rows → slice_get rows i ≡ Some row → now ≡ upto desk before rows i → accepted ≡ is_accept (judge_row now row) → is_accept (judge_row before row) ≡ accepted
+accepted_before : (desk : ℕ) (before now : Tally) (rows : List Row) (i : ℕ) (row : Row) (accepted : Bool) → IsBatch rows → slice_get rows i
+    ≡ Some row → now ≡ upto desk before rows i → accepted ≡ is_accept (judge_row now row) → is_accept (judge_row before row) ≡ accepted
 accepted_before desk before now rows i row accepted batch is so_far judged =
     ap is_accept (sym (judged_still desk before rows i row batch is) ∙ ap (λ (t : Tally). judge_row t row) (sym so_far)) ∙ sym judged
 
 -- one row more that is accepted is one entry more
-more_rows : (tally : Tally) (rows : List Row) (i : ℕ) (row : Row) → slice_get rows i ≡ Some row → accepted_rows tally (take (i + 1) rows) ≡ accepted_rows tally (take i rows) ++ cond (is_accept (judge_row tally row)) (row ∷ []) []
+more_rows : (tally : Tally) (rows : List Row) (i : ℕ) (row : Row) → slice_get rows i ≡ Some row → accepted_rows tally (take (i + 1) rows)
+    ≡ accepted_rows tally (take i rows) ++ cond (is_accept (judge_row tally row)) (row ∷ []) []
 more_rows tally rows i row is =
     ap (accepted_rows tally) (rows_more rows i row is)
     ∙ filter-append (λ r. is_accept (judge_row tally r)) (take i rows) (row ∷ [])
@@ -82,19 +85,24 @@ with_more desk tally rows more i row is more_is =
     ap (with_rows desk tally.entries) (more_rows tally rows i row is ∙ ap (λ m. accepted_rows tally (take i rows) ++ m) more_is)
     ∙ fold-append (λ entries (r : Row). map_of.insert entries (row_key r) (entry_of desk r)) tally.entries (accepted_rows tally (take i rows)) more)
 
-pub next_row : (desk : ℕ) (tally : Tally) (rows : List Row) (i : ℕ) (row : Row) → slice_get rows i ≡ Some row → is_accept (judge_row tally row) ≡ true → upto desk tally rows (i + 1) ≡ with_row desk (upto desk tally rows i) row
+pub next_row : (desk : ℕ) (tally : Tally) (rows : List Row) (i : ℕ) (row : Row) → slice_get rows i ≡ Some row
+    → is_accept (judge_row tally row) ≡ true → upto desk tally rows (i + 1) ≡ with_row desk (upto desk tally rows i) row
 next_row desk tally rows i row is accepted = with_more desk tally rows (row ∷ []) i row is (ap (λ b. cond b (row ∷ []) []) accepted)
 
 -- one that is not accepted changes nothing
-pub passed_row : (desk : ℕ) (tally : Tally) (rows : List Row) (i : ℕ) (row : Row) → slice_get rows i ≡ Some row → is_accept (judge_row tally row) ≡ false → upto desk tally rows (i + 1) ≡ upto desk tally rows i
+pub passed_row : (desk : ℕ) (tally : Tally) (rows : List Row) (i : ℕ) (row : Row) → slice_get rows i ≡ Some row
+    → is_accept (judge_row tally row) ≡ false → upto desk tally rows (i + 1) ≡ upto desk tally rows i
 passed_row desk tally rows i row is passed = with_more desk tally rows [] i row is (ap (λ b. cond b (row ∷ []) []) passed)
 
 -- so a count that has the rows before this one has this one too after it is put, if it is accepted
-pub row_put : (desk : ℕ) (before now after : Tally) (rows : List Row) (i : ℕ) (row : Row) (accepted : Bool) → IsBatch rows → slice_get rows i ≡ Some row → now ≡ upto desk before rows i → accepted ≡ is_accept (judge_row now row) → accepted ≡ true → after ≡ with_row desk now row → after ≡ upto desk before rows (i + 1)
+pub row_put : (desk : ℕ) (before now after : Tally) (rows : List Row) (i : ℕ) (row : Row) (accepted : Bool) → IsBatch rows
+    → slice_get rows i ≡ Some row → now ≡ upto desk before rows i → accepted ≡ is_accept (judge_row now row) → accepted ≡ true → after
+    ≡ with_row desk now row → after ≡ upto desk before rows (i + 1)
 row_put desk before now after rows i row accepted batch is so_far judged accepts put =
     put ∙ ap (λ (t : Tally). with_row desk t row) so_far ∙ sym (next_row desk before rows i row is (accepted_before desk before now rows i row accepted batch is so_far judged ∙ accepts))
 
 -- and else as it is
-pub row_passed : (desk : ℕ) (before now : Tally) (rows : List Row) (i : ℕ) (row : Row) (accepted : Bool) → IsBatch rows → slice_get rows i ≡ Some row → now ≡ upto desk before rows i → accepted ≡ is_accept (judge_row now row) → accepted ≡ false → now ≡ upto desk before rows (i + 1)
+pub row_passed : (desk : ℕ) (before now : Tally) (rows : List Row) (i : ℕ) (row : Row) (accepted : Bool) → IsBatch rows → slice_get rows i
+    ≡ Some row → now ≡ upto desk before rows i → accepted ≡ is_accept (judge_row now row) → accepted ≡ false → now ≡ upto desk before rows (i + 1)
 row_passed desk before now rows i row accepted batch is so_far judged passes =
     so_far ∙ sym (passed_row desk before rows i row is (accepted_before desk before now rows i row accepted batch is so_far judged ∙ passes))

@@ -36,7 +36,8 @@ held_more format canton table i held within here before k small = elim (cases_lt
 ]
 
 -- a table whose bytes at one place are those of no entry there has other bytes
-pub place_refused : (format : Format) (canton : Canton) (bytes : List ℕ) (other : List (Option Entry)) (i : ℕ) → i < length other → IsTable format canton other → flat_map entry_spelling other ≡ bytes →
+pub place_refused : (format : Format) (canton : Canton) (bytes : List ℕ) (other : List (Option Entry)) (i : ℕ) → i < length other
+    → IsTable format canton other → flat_map entry_spelling other ≡ bytes →
     ((held : Option Entry) → IfSome held (IsHeldAt format canton (key_of i)) → entry_spelling held ≡ take (16 * i + 16 - 16 * i) (drop (16 * i) bytes) → ⊥) → ⊥
 place_refused format canton bytes other i within limits spelled refused =
     let width : 16 ≡ 16 * i + 16 - 16 * i = omega arith in

@@ -43,12 +43,15 @@ get-entries_of table place =
     ∙ subst (λ at. map.find key_cmp (key_of at) (entries_from 0 table) ≡ get_or table place None) (omega arith) (find_place 0 place table)
 
 -- the same under a key of a list up to 32
-pub get_key : (table : List (Option Entry)) (municipality list : ℕ) → 1 ≤ municipality → 1 ≤ list → list ≤ 32 → map.get (entries_of table) (municipality, list) ≡ get_or table (place_of municipality list) None
+pub get_key : (table : List (Option Entry)) (municipality list : ℕ) → 1 ≤ municipality → 1 ≤ list → list ≤ 32
+    → map.get (entries_of table) (municipality, list) ≡ get_or table (place_of municipality list) None
 get_key table municipality list from_one list_from_one within =
     ap (map.get (entries_of table)) (sym (key_of-place_of municipality list from_one list_from_one within)) ∙ get-entries_of table (place_of municipality list)
 
 -- what was read at the place of a key is what the table holds under the key
-pub read_key : (table : List (Option Entry)) (place municipality list : ℕ) (read : Option Entry) → 1 ≤ municipality → 1 ≤ list → list ≤ 32 → place ≡ place_of municipality list → place < length table → read ≡ get_or table place read → read ≡ map.get (entries_of table) (municipality, list)
+pub read_key : (table : List (Option Entry)) (place municipality list : ℕ) (read : Option Entry) → 1 ≤ municipality → 1 ≤ list → list ≤ 32
+    → place ≡ place_of municipality list → place < length table → read ≡ get_or table place read → read
+    ≡ map.get (entries_of table) (municipality, list)
 read_key table place municipality list read from_one list_from_one within place_is in_table read_is =
     get_or_read table place read in_table read_is None ∙ ap (λ at. get_or table at None) place_is
     ∙ sym (get_key table municipality list from_one list_from_one within)
@@ -112,7 +115,9 @@ entries_of-set table place entry within =
     )
 
 -- the same at the place of a key
-pub entries_of-put : (table : List (Option Entry)) (place municipality list : ℕ) (entry : Entry) → 1 ≤ municipality → 1 ≤ list → list ≤ 32 → place ≡ place_of municipality list → place < length table → entries_of (set table place (Some entry)) ≡ map.insert (entries_of table) (municipality, list) entry
+pub entries_of-put : (table : List (Option Entry)) (place municipality list : ℕ) (entry : Entry) → 1 ≤ municipality → 1 ≤ list → list ≤ 32
+    → place ≡ place_of municipality list → place < length table → entries_of (set table place (Some entry)) ≡ map.insert (entries_of table)
+    (municipality, list) entry
 entries_of-put table place municipality list entry from_one list_from_one within place_is in_table =
     entries_of-set table place entry in_table
     ∙ ap (λ key. map.insert (entries_of table) key entry) (ap key_of place_is ∙ key_of-place_of municipality list from_one list_from_one within)

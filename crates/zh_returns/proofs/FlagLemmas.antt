@@ -51,7 +51,8 @@ contains-closed_of flags municipality from_one =
     ∙ subst (λ m. list_any (eq_by_cmp nat_cmp m) (flagged_from 1 flags) ≡ get_or flags (municipality - 1) false) (omega arith) (flagged_at 1 (municipality - 1) flags)
 
 -- what was read at the flag of a municipality is whether it is closed
-pub read_flag : (flags : List Bool) (municipality : ℕ) (read : Bool) → 1 ≤ municipality → municipality ≤ length flags → read ≡ get_or flags (municipality - 1) read → read ≡ set_of.contains (closed_of flags) municipality
+pub read_flag : (flags : List Bool) (municipality : ℕ) (read : Bool) → 1 ≤ municipality → municipality ≤ length flags → read
+    ≡ get_or flags (municipality - 1) read → read ≡ set_of.contains (closed_of flags) municipality
 read_flag flags municipality read from_one within read_is =
     get_or_read flags (municipality - 1) read (omega arith) read_is false ∙ sym (contains-closed_of flags municipality from_one)
 
@@ -79,20 +80,23 @@ at_flag P flags zero none some = subst (P 0) (sym (none_closed flags)) none
 at_flag P flags (suc m) none some = let from_one : 1 ≤ suc m = omega arith in subst (P (suc m)) (sym (contains-closed_of flags (suc m) from_one)) (some from_one)
 
 -- to set the flag of a municipality is to put it into the set
-pub closed_of-set : (flags : List Bool) (municipality : ℕ) → 1 ≤ municipality → municipality ≤ length flags → closed_of (set flags (municipality - 1) true) ≡ set_of.insert (closed_of flags) municipality
+pub closed_of-set : (flags : List Bool) (municipality : ℕ) → 1 ≤ municipality → municipality ≤ length flags
+    → closed_of (set flags (municipality - 1) true) ≡ set_of.insert (closed_of flags) municipality
 closed_of-set flags municipality from_one within =
     let new = set flags (municipality - 1) true in
     let inside : municipality - 1 < length flags = omega arith in
     set_of.same_set nat_cmp_total exact_unsigned (closed_of new) (set_of.insert (closed_of flags) municipality) (λ m.
     at_flag (λ n b. b ≡ set_of.contains (set_of.insert (closed_of flags) municipality) n) new m
     (
-    sym (set_of.contains-insert nat_cmp_total (closed_of flags) municipality 0 ∙ ap (λ b. b || set_of.contains (closed_of flags) 0) (other_number 0 municipality (λ is. omega arith)) ∙ none_closed flags)
+    sym (set_of.contains-insert nat_cmp_total (closed_of flags) municipality 0 ∙ ap (λ b. b || set_of.contains (closed_of flags) 0)
+    (other_number 0 municipality (λ is. omega arith)) ∙ none_closed flags)
     )
     (λ some.
     elim (cases_eq m municipality) [
       | inl same ↦
           ap (λ n. get_or new (n - 1) false) same ∙ get_or-set_same flags (municipality - 1) true false inside
-          ∙ sym (set_of.contains-insert nat_cmp_total (closed_of flags) municipality m ∙ or_left (eq_by_cmp nat_cmp m municipality) (set_of.contains (closed_of flags) m) (ap (λ n. eq_by_cmp nat_cmp n municipality) same ∙ same_number municipality))
+          ∙ sym (set_of.contains-insert nat_cmp_total (closed_of flags) municipality m ∙ or_left (eq_by_cmp nat_cmp m municipality)
+          (set_of.contains (closed_of flags) m) (ap (λ n. eq_by_cmp nat_cmp n municipality) same ∙ same_number municipality))
       | inr other ↦
           get_or-set_other flags (municipality - 1) (m - 1) true false (λ is. other (omega arith))
           ∙ sym (contains-closed_of flags m some)
@@ -102,7 +106,8 @@ closed_of-set flags municipality from_one within =
     )
 
 -- to clear it is to take it out
-pub closed_of-clear : (flags : List Bool) (municipality : ℕ) → 1 ≤ municipality → municipality ≤ length flags → closed_of (set flags (municipality - 1) false) ≡ set_of.remove (closed_of flags) municipality
+pub closed_of-clear : (flags : List Bool) (municipality : ℕ) → 1 ≤ municipality → municipality ≤ length flags
+    → closed_of (set flags (municipality - 1) false) ≡ set_of.remove (closed_of flags) municipality
 closed_of-clear flags municipality from_one within =
     let new = set flags (municipality - 1) false in
     let inside : municipality - 1 < length flags = omega arith in
@@ -115,7 +120,8 @@ closed_of-clear flags municipality from_one within =
     elim (cases_eq m municipality) [
       | inl same ↦
           ap (λ n. get_or new (n - 1) false) same ∙ get_or-set_same flags (municipality - 1) false false inside
-          ∙ sym (set_of.contains-remove nat_cmp_total (closed_of flags) municipality m ∙ and_left (not (eq_by_cmp nat_cmp m municipality)) (set_of.contains (closed_of flags) m) (ap not (ap (λ n. eq_by_cmp nat_cmp n municipality) same ∙ same_number municipality)))
+          ∙ sym (set_of.contains-remove nat_cmp_total (closed_of flags) municipality m ∙ and_left (not (eq_by_cmp nat_cmp m municipality))
+          (set_of.contains (closed_of flags) m) (ap not (ap (λ n. eq_by_cmp nat_cmp n municipality) same ∙ same_number municipality)))
       | inr other ↦
           get_or-set_other flags (municipality - 1) (m - 1) false false (λ is. other (omega arith))
           ∙ sym (contains-closed_of flags m some)

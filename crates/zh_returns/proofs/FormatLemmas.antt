@@ -7,7 +7,8 @@ use Rattle.zh_returns.specs.Payload.{format_byte, zeros}
 use Rattle.zh_returns.proofs.ZeroLemmas.{zeros_from_all}
 
 -- a format's byte with zeros after it
-format_whole : (format : Format) (bytes : List ℕ) → length bytes ≡ 175 → list_all (λ byte. byte == 0) (drop 1 bytes) ≡ true → format_byte format ≡ get_or bytes 0 0 → (format_byte format ∷ zeros 174) ≡ bytes
+format_whole : (format : Format) (bytes : List ℕ) → length bytes ≡ 175 → list_all (λ byte. byte == 0) (drop 1 bytes) ≡ true
+    → format_byte format ≡ get_or bytes 0 0 → (format_byte format ∷ zeros 174) ≡ bytes
 format_whole format [] len zero byte = absurd (omega arith)
 format_whole format (first ∷ rest) len zero byte =
     let whole : length rest ≡ 174 = omega arith in

@@ -26,17 +26,20 @@ use Rattle.zh_returns.proofs.BatchLemmas.{other_rows}
 abbrev put_if : ℕ → Bool → map_of.FinMap key_cmp Entry → Row → map_of.FinMap key_cmp Entry
 put_if desk accepted entries row = cond accepted (map_of.insert entries (row_key row) (entry_of desk row)) entries
 
-first_put : (desk : ℕ) (accepted : Bool) (entries : map_of.FinMap key_cmp Entry) (row : Row) (rows : List Row) → with_rows desk entries (cond accepted (row ∷ rows) rows) ≡ with_rows desk (put_if desk accepted entries row) rows
+first_put : (desk : ℕ) (accepted : Bool) (entries : map_of.FinMap key_cmp Entry) (row : Row) (rows : List Row)
+    → with_rows desk entries (cond accepted (row ∷ rows) rows) ≡ with_rows desk (put_if desk accepted entries row) rows
 first_put desk true entries row rows = refl
 first_put desk false entries row rows = refl
 
-here_put : (desk : ℕ) (accepted : Bool) (entries : map_of.FinMap key_cmp Entry) (row : Row) → map_of.get (put_if desk accepted entries row) (row_key row) ≡ cond accepted (Some (entry_of desk row)) (map_of.get entries (row_key row))
+here_put : (desk : ℕ) (accepted : Bool) (entries : map_of.FinMap key_cmp Entry) (row : Row) → map_of.get (put_if desk accepted entries row)
+    (row_key row) ≡ cond accepted (Some (entry_of desk row)) (map_of.get entries (row_key row))
 here_put desk true entries row =
     map_of.get-insert keys_total entries (row_key row) (entry_of desk row) (row_key row)
     ∙ ap (λ b. cond b (Some (entry_of desk row)) (map_of.get entries (row_key row))) (same_key (row_key row))
 here_put desk false entries row = refl
 
-there_put : (desk : ℕ) (accepted : Bool) (entries : map_of.FinMap key_cmp Entry) (row : Row) (key : ℕ × ℕ) → eq_by_cmp key_cmp key (row_key row) ≡ false → map_of.get (put_if desk accepted entries row) key ≡ map_of.get entries key
+there_put : (desk : ℕ) (accepted : Bool) (entries : map_of.FinMap key_cmp Entry) (row : Row) (key : ℕ × ℕ)
+    → eq_by_cmp key_cmp key (row_key row) ≡ false → map_of.get (put_if desk accepted entries row) key ≡ map_of.get entries key
 there_put desk true entries row key other =
     map_of.get-insert keys_total entries (row_key row) (entry_of desk row) key
     ∙ ap (λ b. cond b (Some (entry_of desk row)) (map_of.get entries key)) other
@@ -47,7 +50,8 @@ none_alike : (key : ℕ × ℕ) (keys : List (ℕ × ℕ)) → AllByRecursion (�
 none_alike key [] all = refl
 none_alike key (other ∷ keys) all = ap (λ b. b || list_any (eq_by_cmp key_cmp key) keys) all.0 ∙ none_alike key keys all.1
 
-one_differs : (key : ℕ × ℕ) (rows : List Row) (i : ℕ) (row : Row) → AllByRecursion (λ other. eq_by_cmp key_cmp key other ≡ false) (map row_key rows) → slice_get rows i ≡ Some row → eq_by_cmp key_cmp key (row_key row) ≡ false
+one_differs : (key : ℕ × ℕ) (rows : List Row) (i : ℕ) (row : Row) → AllByRecursion (λ other. eq_by_cmp key_cmp key other ≡ false)
+    (map row_key rows) → slice_get rows i ≡ Some row → eq_by_cmp key_cmp key (row_key row) ≡ false
 one_differs key [] i row all is = absurd (cc)
 one_differs key (other ∷ rows) zero row all is = ap (λ r. eq_by_cmp key_cmp key (row_key r)) (sym (same_Some other row is)) ∙ all.0
 one_differs key (other ∷ rows) (suc i) row all is = one_differs key rows i row all.1 is
@@ -60,14 +64,16 @@ rows_put desk p entries (first ∷ rows) zero row distinct is =
     let same = sym (same_Some first row is) in
     ap (λ r. map_of.get (with_rows desk entries (filter p (first ∷ rows))) (row_key r)) same
     ∙ ap (λ m. map_of.get m (row_key first)) (first_put desk (p first) entries first (filter p rows))
-    ∙ other_rows desk p (put_if desk (p first) entries first) rows (row_key first) (none_alike (row_key first) (map row_key rows) (IsDistinct-head (eq_by_cmp key_cmp) (row_key first) (map row_key rows) distinct))
+    ∙ other_rows desk p (put_if desk (p first) entries first) rows (row_key first)
+    (none_alike (row_key first) (map row_key rows) (IsDistinct-head (eq_by_cmp key_cmp) (row_key first) (map row_key rows) distinct))
     ∙ here_put desk (p first) entries first
     ∙ sym (ap (λ r. cond (p r) (Some (entry_of desk r)) (map_of.get entries (row_key r))) same)
 rows_put desk p entries (first ∷ rows) (suc i) row distinct is =
     ap (λ m. map_of.get m (row_key row)) (first_put desk (p first) entries first (filter p rows))
     ∙ rows_put desk p (put_if desk (p first) entries first) rows i row (IsDistinct-tail (eq_by_cmp key_cmp) (row_key first) (map row_key rows) distinct) is
     ∙ ap (cond (p row) (Some (entry_of desk row))) (
-    there_put desk (p first) entries first (row_key row) (keys_alike.symm (row_key row) (row_key first) ∙ one_differs (row_key first) rows i row (IsDistinct-head (eq_by_cmp key_cmp) (row_key first) (map row_key rows) distinct) is))
+    there_put desk (p first) entries first (row_key row) (keys_alike.symm (row_key row) (row_key first) ∙ one_differs (row_key first) rows i
+    row (IsDistinct-head (eq_by_cmp key_cmp) (row_key first) (map row_key rows) distinct) is))
 
 -- a row of a batch is held after it as the row is judged
 judged_held : (tally : Tally) (desk : ℕ) (rows : List Row) (i : ℕ) (row : Row) (verdict : Verdict) → IsBatch rows → slice_get rows i ≡ Some row → judge_row tally row ≡ verdict →
@@ -88,7 +94,8 @@ same_held tally desk rows i row batch is judged = judged_held tally desk rows i 
 abbrev HasContent : Row → Option Entry → Type 0
 HasContent row found = IsSomeAnd found (λ entry. (entry.number ≡ row.number) × (entry.votes ≡ Some row.votes))
 
-by_verdict : (tally : Tally) (desk : ℕ) (rows : List Row) (i : ℕ) (row : Row) (verdict : Verdict) → IsBatch rows → slice_get rows i ≡ Some row → judge_row tally row ≡ verdict → is_refusal verdict ≡ false →
+by_verdict : (tally : Tally) (desk : ℕ) (rows : List Row) (i : ℕ) (row : Row) (verdict : Verdict) → IsBatch rows → slice_get rows i
+    ≡ Some row → judge_row tally row ≡ verdict → is_refusal verdict ≡ false →
     HasContent row (held (changed tally (commands.Batch desk rows)) row.municipality row.list)
 by_verdict tally desk rows i row Accept batch is judged fine = subst (HasContent row) (sym (accepted_held tally desk rows i row batch is judged)) (refl, refl)
 by_verdict tally desk rows i row Same batch is judged fine =
@@ -102,5 +109,6 @@ pub rows_held : (tally : Tally) (desk : ℕ) (rows : List Row) (i : ℕ) (row : 
 rows_held tally desk rows i row batch accepted is = by_verdict tally desk rows i row (judge_row tally row) batch is refl (row_unrefused tally rows i row accepted is)
 
 -- a key that no row has holds what it held
-pub others_held : (tally : Tally) (desk : ℕ) (rows : List Row) (municipality list : ℕ) → has_key rows (municipality, list) ≡ false → held (changed tally (commands.Batch desk rows)) municipality list ≡ held tally municipality list
+pub others_held : (tally : Tally) (desk : ℕ) (rows : List Row) (municipality list : ℕ) → has_key rows (municipality, list) ≡ false
+    → held (changed tally (commands.Batch desk rows)) municipality list ≡ held tally municipality list
 others_held tally desk rows municipality list fresh = other_rows desk (λ r. is_accept (judge_row tally r)) tally.entries rows (municipality, list) fresh

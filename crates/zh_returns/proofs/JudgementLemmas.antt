@@ -26,7 +26,8 @@ pub record Passes (tally : Tally) (municipality list : ℕ) (content : Option �
   pub enough : too_many content ≡ false
 
 -- the tests of a content, in their order
-tested : (place : Option Misplaced) (many closed : Bool) (last : Verdict) → is_refusal (unless_misplaced place (cond many (Refused reasons.Votes) (cond closed (Refused reasons.Closed) last))) ≡ false →
+tested : (place : Option Misplaced) (many closed : Bool) (last : Verdict)
+    → is_refusal (unless_misplaced place (cond many (Refused reasons.Votes) (cond closed (Refused reasons.Closed) last))) ≡ false →
     (place ≡ None) × (many ≡ false)
 tested (Some misplaced) many closed last passes = absurd (true≢false passes)
 tested None true closed last passes = absurd (true≢false passes)
@@ -44,7 +45,8 @@ row_kept tally row number is =
     record { place = p.place; number = number; votes = ltb-false 1000000000 row.votes p.enough }
 
 -- what passes is the verdict after the tests
-reached : (place : Option Misplaced) (many closed : Bool) (last verdict : Verdict) → is_refusal verdict ≡ false → unless_misplaced place (cond many (Refused reasons.Votes) (cond closed (Refused reasons.Closed) last)) ≡ verdict → last ≡ verdict
+reached : (place : Option Misplaced) (many closed : Bool) (last verdict : Verdict) → is_refusal verdict ≡ false
+    → unless_misplaced place (cond many (Refused reasons.Votes) (cond closed (Refused reasons.Closed) last)) ≡ verdict → last ≡ verdict
 reached (Some misplaced) many closed last verdict fine is = absurd (true≢false (ap is_refusal is ∙ fine))
 reached None true closed last verdict fine is = absurd (true≢false (ap is_refusal is ∙ fine))
 reached None false true last verdict fine is = absurd (true≢false (ap is_refusal is ∙ fine))
@@ -72,7 +74,8 @@ same_votes : (votes : ℕ) (content : Option ℕ) → same_content (Some votes) 
 same_votes votes None is = absurd (true≢false (sym is))
 same_votes votes (Some held) is = ap Some (sym (eqb-true votes held is))
 
-same_tests : (lower equal same next : Bool) → cond lower (Refused reasons.Stale) (cond equal (cond same Same (Refused reasons.Conflict)) (cond next Accept (Refused reasons.Gap))) ≡ Same → (equal ≡ true) × (same ≡ true)
+same_tests : (lower equal same next : Bool) → cond lower (Refused reasons.Stale)
+    (cond equal (cond same Same (Refused reasons.Conflict)) (cond next Accept (Refused reasons.Gap))) ≡ Same → (equal ≡ true) × (same ≡ true)
 same_tests true equal same next is = absurd (cc)
 same_tests false true true next is = (refl, refl)
 same_tests false true false next is = absurd (cc)
@@ -93,7 +96,8 @@ against_same (Some entry) number votes is =
 pub row_held : (tally : Tally) (row : Row) → judge_row tally row ≡ Same → IsHeld (held tally row.municipality row.list) row.number row.votes
 row_held tally row is =
     against_same (held tally row.municipality row.list) row.number row.votes (
-    reached (misplaced tally.canton row.municipality row.list) (too_many (Some row.votes)) (set.contains tally.closed row.municipality) (against (held tally row.municipality row.list) row.number (Some row.votes)) Same refl is
+    reached (misplaced tally.canton row.municipality row.list) (too_many (Some row.votes)) (set.contains tally.closed row.municipality)
+    (against (held tally row.municipality row.list) row.number (Some row.votes)) Same refl is
     )
 
 -- no row of an accepted batch is refused

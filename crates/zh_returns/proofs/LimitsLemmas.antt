@@ -39,7 +39,8 @@ each_with P entries at entry new key old =
     ] refl
     )
 
-pub IsTally-insert : (tally : Tally) (municipality list : ℕ) (entry : Entry) → IsTally tally → has_municipality tally.canton municipality ≡ true → stands tally.canton (constituency_of tally.canton municipality) list ≡ true → IsEntry entry →
+pub IsTally-insert : (tally : Tally) (municipality list : ℕ) (entry : Entry) → IsTally tally → has_municipality tally.canton municipality
+    ≡ true → stands tally.canton (constituency_of tally.canton municipality) list ≡ true → IsEntry entry →
     IsTally (record tally { entries = map.insert tally.entries (municipality, list) entry })
 IsTally-insert tally municipality list entry limits there stands_there new = record {
   canton = limits.canton;

@@ -1,5 +1,6 @@
 -- The bytes of a count, part by part.
-use Rattle.std.proofs.Common.{◌≡◌, ◌<◌, ◌≤◌, ◌+◌, ◌-◌, ◌*◌, ◌^◌, ◌∙◌, ℕ, Bool, true, false, not, List, ◌∷◌, ◌++◌, length, get_or, take, drop, map, Option, None, sym, ap, arith, rules, tests, inl, inr, length-append, append_assoc}
+use Rattle.std.proofs.Common.{◌≡◌, ◌<◌, ◌≤◌, ◌+◌, ◌-◌, ◌*◌, ◌^◌, ◌∙◌, ℕ, Bool, true, false, not, List, ◌∷◌, ◌++◌, length, get_or, take}
+use Rattle.std.proofs.Common.{drop, map, Option, None, sym, ap, arith, rules, tests, inl, inr, length-append, append_assoc}
 use Rattle.std.specs.Int.{w64, to_be_bytes}
 use Rattle.std.specs.List.{flat_map, list_all}
 use Rattle.std.specs.FinSet as set_of
@@ -29,7 +30,8 @@ four_parts a b c d rest =
     sym (append_assoc a (b ++ (c ++ d)) rest ∙ ap (λ (t : List ℕ). a ++ t) (append_assoc b (c ++ d) rest ∙ ap (λ (t : List ℕ). b ++ t) (append_assoc c d rest)))
 
 -- four parts that are those of a count are its bytes
-pub parts_are : (format : Format) (tally : Tally) (a b c d rest after : List ℕ) → a ≡ to_be_bytes w64 tally.accepted → b ≡ map (closed_byte tally) (numbers 0 64) → c ≡ (format_byte format ∷ zeros 174) →
+pub parts_are : (format : Format) (tally : Tally) (a b c d rest after : List ℕ) → a ≡ to_be_bytes w64 tally.accepted → b
+    ≡ map (closed_byte tally) (numbers 0 64) → c ≡ (format_byte format ∷ zeros 174) →
     d ≡ flat_map entry_spelling (table_of tally 512) → rest ≡ after → a ++ (b ++ (c ++ (d ++ rest))) ≡ payload_spelling format tally ++ after
 parts_are format tally a b c d rest after ea eb ec ed er =
     four_parts a b c d rest
@@ -94,8 +96,12 @@ pub tables_within : (format : Format) (canton : Canton) (table : List (Option En
 tables_within format canton table flags accepted limits held none small = record {
   canton = limits;
   entries = λ m l. each_key (λ _. IsEntry) table (λ i. if_weaker (IsHeldAt format canton (key_of i)) IsEntry (get_or table i None) (λ entry is. entry_within format entry is.limits) (held i)) (m, l);
-  lists = λ m l. each_key (λ key _. stands canton (constituency_of canton key.0) key.1 ≡ true) table (λ i. if_weaker (IsHeldAt format canton (key_of i)) (λ _. stands canton (constituency_of canton (key_of i).0) (key_of i).1 ≡ true) (get_or table i None) (λ entry is. (placed canton (key_of i).0 (key_of i).1 is.place).1) (held i)) (m, l);
-  municipalities = λ m l. each_key (λ key _. has_municipality canton key.0 ≡ true) table (λ i. if_weaker (IsHeldAt format canton (key_of i)) (λ _. has_municipality canton (key_of i).0 ≡ true) (get_or table i None) (λ entry is. (placed canton (key_of i).0 (key_of i).1 is.place).0) (held i)) (m, l);
+  lists = λ m l. each_key (λ key _. stands canton (constituency_of canton key.0) key.1 ≡ true) table
+      (λ i. if_weaker (IsHeldAt format canton (key_of i)) (λ _. stands canton (constituency_of canton (key_of i).0) (key_of i).1 ≡ true)
+      (get_or table i None) (λ entry is. (placed canton (key_of i).0 (key_of i).1 is.place).1) (held i)) (m, l);
+  municipalities = λ m l. each_key (λ key _. has_municipality canton key.0 ≡ true) table
+      (λ i. if_weaker (IsHeldAt format canton (key_of i)) (λ _. has_municipality canton (key_of i).0 ≡ true) (get_or table i None)
+      (λ entry is. (placed canton (key_of i).0 (key_of i).1 is.place).0) (held i)) (m, l);
   closed = λ m is. closed_there m is;
   accepted = small;
 }
@@ -116,6 +122,9 @@ tables_within format canton table flags accepted limits held none small = record
         ]
 
 -- and their desks are ones that the format can say
-pub tables_said : (format : Format) (canton : Canton) (table : List (Option Entry)) (flags : List Bool) (accepted : ℕ) → IsTable format canton table → HasDesksOf format (tally_from canton table flags accepted)
+pub tables_said : (format : Format) (canton : Canton) (table : List (Option Entry)) (flags : List Bool) (accepted : ℕ)
+    → IsTable format canton table → HasDesksOf format (tally_from canton table flags accepted)
 tables_said format canton table flags accepted held m l =
-    each_key (λ _ entry. entry.desk ≤ last_desk format) table (λ i. if_weaker (IsHeldAt format canton (key_of i)) (λ entry. entry.desk ≤ last_desk format) (get_or table i None) (λ entry is. is.limits.desk) (held i)) (m, l)
+    each_key (λ _ entry. entry.desk ≤ last_desk format) table
+    (λ i. if_weaker (IsHeldAt format canton (key_of i)) (λ entry. entry.desk ≤ last_desk format) (get_or table i None)
+    (λ entry is. is.limits.desk) (held i)) (m, l)

@@ -53,16 +53,20 @@ table_is tally table n entries whole =
     )
 
 -- what holds of each place holds of each key
-each_found : (P : ℕ × ℕ → Entry → Type 0) (place : ℕ) (table : List (Option Entry)) (key : ℕ × ℕ) → ((i : ℕ) → IfSome (get_or table i None) (P (key_of (place + i)))) → IfSome (map_of.find key_cmp key (entries_from place table)) (P key)
+each_found : (P : ℕ × ℕ → Entry → Type 0) (place : ℕ) (table : List (Option Entry)) (key : ℕ × ℕ)
+    → ((i : ℕ) → IfSome (get_or table i None) (P (key_of (place + i)))) → IfSome (map_of.find key_cmp key (entries_from place table)) (P key)
 each_found P place [] key each = tt
 each_found P place (None ∷ table) key each =
     each_found P (place + 1) table key (λ i. let next : place + suc i ≡ place + 1 + i = omega arith in subst (λ (at : ℕ). IfSome (get_or table i None) (P (key_of at))) next (each (suc i)))
 each_found P place (Some entry ∷ table) key each =
-    elim (eq_by_cmp key_cmp key (key_of place)) as (λ same. eq_by_cmp key_cmp key (key_of place) ≡ same → IfSome (cond same (Some entry) (map_of.find key_cmp key (entries_from (place + 1) table))) (P key)) [
+    elim (eq_by_cmp key_cmp key (key_of place)) as (λ same. eq_by_cmp key_cmp key (key_of place) ≡ same
+    → IfSome (cond same (Some entry) (map_of.find key_cmp key (entries_from (place + 1) table))) (P key)) [
       | true ↦ λ is.
           let here : P (key_of (place + 0)) entry = each 0 in
           subst (λ k. P k entry) (ap key_of (omega arith) ∙ sym (keys_equal key (key_of place) is)) here
-      | false ↦ λ is. each_found P (place + 1) table key (λ i. let next : place + suc i ≡ place + 1 + i = omega arith in subst (λ (at : ℕ). IfSome (get_or table i None) (P (key_of at))) next (each (suc i)))
+      | false ↦ λ is. each_found P (place + 1) table key
+          (λ i. let next : place + suc i ≡ place + 1 + i = omega arith in subst (λ (at : ℕ). IfSome (get_or table i None) (P (key_of at)))
+          next (each (suc i)))
     ] refl
 
 pub each_key : (P : ℕ × ℕ → Entry → Type 0) (table : List (Option Entry)) → ((i : ℕ) → IfSome (get_or table i None) (P (key_of i))) → (key : ℕ × ℕ) → IfSome (map_of.get (entries_of table) key) (P key)
@@ -84,7 +88,12 @@ if_held : (format : Format) (tally : Tally) (key : ℕ × ℕ) (h : Option Entry
     IfSome h (λ _. stands tally.canton (constituency_of tally.canton key.0) key.1 ≡ true) →
     IfSome h (λ _. has_municipality tally.canton key.0 ≡ true) → IfSome h (IsHeldAt format tally.canton key)
 if_held format tally key None limits desk list municipality = tt
-if_held format tally key (Some entry) limits desk list municipality = record { limits = record { desk = desk; number = limits.number; votes = limits.votes }; place = not_misplaced tally.canton key.0 key.1 municipality list }
+if_held format tally key (Some entry) limits desk list municipality =
+    record {
+      limits = record { desk = desk; number = limits.number; votes = limits.votes };
+      place = not_misplaced tally.canton key.0 key.1
+          municipality list;
+    }
 
 -- the table of a count within its limits is within its limits
 pub table_within : (format : Format) (tally : Tally) (n : ℕ) → IsTally tally → HasDesksOf format tally → IsTable format tally.canton (table_of tally n)

@@ -20,7 +20,4 @@ pub use follower::Follower;
 pub use laws::{accepted_fits, accepted_is_speakable, batch_is_held, one_payload};
 pub use payload::{PAYLOAD_LENGTH, payload_format};
 pub use verdict::{Reason, Verdict};
-pub use zh_records::{
-    BatchWriter, COMMAND_LENGTH, Command, Format, LAST_DESK, MOST_ROWS, Row, Rows, decode_command,
-    encode_command, one_command, speakable_fits,
-};
+pub use zh_records::{Command, Format, Row, decode_command, encode_command};

@@ -13,7 +13,7 @@ use Rattle.zh_divisors.specs.Rounding.{Rounds}
 use Rattle.zh_divisors.proofs.CallerLemmas.{half_up-at_least, half_up-at_most, term-le-sum_to}
 use Rattle.zh_matrices.specs.Divisors.{Divisors}
 use Rattle.zh_search.specs.Outcomes.{HasHalf, HasNone, IsFirstHalf, IsProper}
-use Rattle.zh_search.specs.Places.{IsFirstHalfPlace, is_half_at, no_quotient, product_at, quotient_at, quotients, rounded, rounded_at}
+use Rattle.zh_search.specs.Places.{is_half_at, no_quotient, product_at, quotient_at, quotients, rounded, rounded_at}
 use Rattle.zh_matrices.specs.Question.{Question, cell}
 use Rattle.zh_matrices.specs.SeatMatrix.{IsStrict}
 use Rattle.zh_search.specs.declared.quotient.Quotient.{Quotient}
@@ -68,7 +68,12 @@ quotient-is q x xs k is within =
 pub length-quotients : (q : Question) (x : Divisors) (xs : List Quotient) → xs ≡ quotients q x → length xs ≡ q.rows * q.columns
 length-quotients q x xs is = ap length is ∙ length-map-range_with_len (quotient_at q x) 0 (q.rows * q.columns)
 
--- the first of them on a half
+-- the first place on a half
+pub record IsFirstHalfPlace (q : Question) (x : Divisors) (place : ℕ) : Type 0 where
+  pub within : place < q.rows * q.columns
+  pub half : IsTrue (is_half_at q x place)
+  pub before : (k : ℕ) → k < place → ¬ IsTrue (is_half_at q x k)
+
 pub IsFirstHalfPlace-of : (q : Question) (x : Divisors) (xs : List Quotient) (k : ℕ) → xs ≡ quotients q x →
     position (λ quotient. quotient.is_half) xs ≡ Some k → IsFirstHalfPlace q x k
 IsFirstHalfPlace-of q x xs k is found =

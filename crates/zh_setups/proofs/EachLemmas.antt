@@ -1,5 +1,6 @@
 -- Reading values one after the other, as a loop does.
-use Rattle.std.proofs.Common.{◌≡◌, ◌==◌, ℕ, zero, suc, add-zero, add-one, ◌+◌, ◌<◌, List, [], ◌∷◌, ◌++◌, length, get_or, drop, map, Option, Some, None, Result, Ok, Err, option_map, refl, sym, ap, ◌∙◌, append_assoc, arith}
+use Rattle.std.proofs.Common.{◌≡◌, ◌==◌, ℕ, zero, suc, add-zero, add-one, ◌+◌, ◌<◌, List, [], ◌∷◌, ◌++◌, length, get_or, drop, map, Option}
+use Rattle.std.proofs.Common.{Some, None, Result, Ok, Err, option_map, refl, sym, ap, ◌∙◌, append_assoc, arith}
 use Rattle.std.proofs.lemmas.List.{drop_more}
 use Rattle.std.specs.List.{list_any, range_with_len}
 use Rattle.toml.specs.View.{view}
@@ -46,16 +47,20 @@ regroup front x None = refl
 regroup front x (Some xs) = ap (λ ys. Some ys) (simp append_assoc)
 
 -- the value at place i, and those after it
-turn : {X : Type 0} (f : Data → Option X) (vs : List Value) (i : ℕ) (v : Value) → i < length vs → v ≡ get_or vs i v → each f (map view (drop i vs)) ≡ (f (view v) >>= λ x. each f (map view (drop (i + 1) vs)) >>= λ xs. Some (x ∷ xs))
+turn : {X : Type 0} (f : Data → Option X) (vs : List Value) (i : ℕ) (v : Value) → i < length vs → v ≡ get_or vs i v
+    → each f (map view (drop i vs)) ≡ (f (view v) >>= λ x. each f (map view (drop (i + 1) vs)) >>= λ xs. Some (x ∷ xs))
 turn f vs i v within v_is = rw (drop_more vs i v within, ← v_is) refl
 
-pub goes_on : {X : Type 0} (f : Data → Option X) (front : List X) (vs : List Value) (i : ℕ) (v : Value) (x : X) (total : Option (List X)) → i < length vs → v ≡ get_or vs i v → within_range (f (view v)) ≡ Ok x
+pub goes_on : {X : Type 0} (f : Data → Option X) (front : List X) (vs : List Value) (i : ℕ) (v : Value) (x : X) (total : Option (List X))
+    → i < length vs → v ≡ get_or vs i v → within_range (f (view v)) ≡ Ok x
     → joined front (each f (map view (drop i vs))) ≡ total → joined (front ++ x ∷ []) (each f (map view (drop (i + 1) vs))) ≡ total
 goes_on f front vs i v x total within v_is read so_far =
-    let one : joined front (each f (map view (drop i vs))) ≡ joined (front ++ x ∷ []) (each f (map view (drop (i + 1) vs))) = rw (turn f vs i v within v_is, said_ok (f (view v)) x read) (regroup front x (each f (map view (drop (i + 1) vs)))) in
+    let one : joined front (each f (map view (drop i vs))) ≡ joined (front ++ x ∷ []) (each f (map view (drop (i + 1) vs))) =
+    rw (turn f vs i v within v_is, said_ok (f (view v)) x read) (regroup front x (each f (map view (drop (i + 1) vs)))) in
     sym one ∙ so_far
 
-pub ends : {X : Type 0} (f : Data → Option X) (front : List X) (vs : List Value) (i : ℕ) (v : Value) (fault : SetupFault) (total : Option (List X)) → i < length vs → v ≡ get_or vs i v → Fails fault (within_range (f (view v)))
+pub ends : {X : Type 0} (f : Data → Option X) (front : List X) (vs : List Value) (i : ℕ) (v : Value) (fault : SetupFault)
+    (total : Option (List X)) → i < length vs → v ≡ get_or vs i v → Fails fault (within_range (f (view v)))
     → joined front (each f (map view (drop i vs))) ≡ total → Fails fault (within_range total)
 ends f front vs i v fault total within v_is read so_far =
     fails_through fault (f (view v)) total (λ nothing. sym so_far ∙ rw (turn f vs i v within v_is, nothing) refl) read

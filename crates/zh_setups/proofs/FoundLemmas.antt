@@ -15,7 +15,8 @@ use Rattle.zh_setups.specs.declared.place.FaultPlace.TheVariants as places
 use Rattle.zh_setups.specs.declared.place.Key.{Key}
 use Rattle.zh_setups.specs.declared.place.Kind.{Kind}
 
-next_key : (b : Bool) (key : Key) (rest : List (Key × Bool)) → (b && list_all (λ check. check.1) rest) ≡ false → (list_all (λ check. check.1) rest ≡ false → is_some (first_failing rest) ≡ true) → is_some (cond b (first_failing rest) (Some key)) ≡ true
+next_key : (b : Bool) (key : Key) (rest : List (Key × Bool)) → (b && list_all (λ check. check.1) rest) ≡ false
+    → (list_all (λ check. check.1) rest ≡ false → is_some (first_failing rest) ≡ true) → is_some (cond b (first_failing rest) (Some key)) ≡ true
 next_key true key rest h more = more h
 next_key false key rest h more = refl
 
@@ -33,7 +34,8 @@ table_later None kind number rest h = h
 table_later (Some key) kind number rest h = refl
 
 -- among tables of which one fails
-pub table_found : (key : Data → Option Key) (passes : Data → Bool) → ((value : Data) → passes value ≡ false → is_some (key value) ≡ true) → (kind : Kind) (number : ℕ) (values : List Data) → list_all passes values ≡ false
+pub table_found : (key : Data → Option Key) (passes : Data → Bool) → ((value : Data) → passes value ≡ false → is_some (key value) ≡ true)
+    → (kind : Kind) (number : ℕ) (values : List Data) → list_all passes values ≡ false
     → is_some (first_table key kind number values) ≡ true
 table_found key passes says kind number [] h = absurd cc
 table_found key passes says kind number (value ∷ values) h = elim (cases_Bool (passes value)) [

@@ -50,8 +50,10 @@ no_quorum_key document version knows =
     no_member document_keys (codes "canton_quorum") document (subst (λ (keys : List (List ℕ)). knows_keys keys document ≡ true) keys knows) refl
 
 -- the first key that is not one of these, where a table begins with such a key, and where it does not
-pub other_here : (keys : List (List ℕ)) (key : List ℕ) (d : Data) (others : Members) (known : Bool) → known ≡ list_any (λ k. bytes_eq k key) keys → known ≡ false → Some key ≡ first_other keys (member key d others)
+pub other_here : (keys : List (List ℕ)) (key : List ℕ) (d : Data) (others : Members) (known : Bool) → known ≡ list_any (λ k. bytes_eq k key)
+    keys → known ≡ false → Some key ≡ first_other keys (member key d others)
 other_here keys key d others known is other = rw (sym is, other) refl
 
-pub other_later : (keys : List (List ℕ)) (key : List ℕ) (d : Data) (others : Members) (known : Bool) → known ≡ list_any (λ k. bytes_eq k key) keys → known ≡ true → first_other keys others ≡ first_other keys (member key d others)
+pub other_later : (keys : List (List ℕ)) (key : List ℕ) (d : Data) (others : Members) (known : Bool) → known
+    ≡ list_any (λ k. bytes_eq k key) keys → known ≡ true → first_other keys others ≡ first_other keys (member key d others)
 other_later keys key d others known is one = rw (sym is, one) refl

@@ -67,7 +67,8 @@ key_in fault kind document value = first_failing (table_checks fault kind (const
 
 -- one of the tables of a kind fails a test, and what fails it has a key with this fault
 pub in_tables : (fault : SetupFault) (kind : Kind) (key : List ℕ) (document : Members) (passes : Data → Bool)
-    → ((value : Data) → passes value ≡ false → list_all (λ check. check.1) (table_checks fault kind (constituencies_in document) value) ≡ false) → list_all passes (looked_into fault key document) ≡ false
+    → ((value : Data) → passes value ≡ false → list_all (λ check. check.1) (table_checks fault kind (constituencies_in document) value)
+    ≡ false) → list_all passes (looked_into fault key document) ≡ false
     → is_some (first_of fault kind key document) ≡ true
 in_tables fault kind key document passes says h =
     in_second (namesake_of fault kind (looked_into fault key document)) (first_table (key_in fault kind document) kind 1 (looked_into fault key document))
@@ -99,9 +100,13 @@ unknown_placed document h =
     one_fails (HasPlace faults.Unknown document) (knows_keys (known_keys document) document) (list_all (knows_keys_of (own_keys kinds.Constituency)) (tables_at (codes "constituency") document))
     (list_all (knows_keys_of (own_keys kinds.Municipality)) (tables_at (codes "municipality") document)) (list_all (knows_keys_of (own_keys kinds.Group)) (tables_at (codes "group") document))
     (λ e. at_top faults.Unknown document (alone (knows_keys (known_keys document) document) e))
-    (λ e. in_constituencies faults.Unknown document (in_tables faults.Unknown kinds.Constituency (codes "constituency") document (knows_keys_of (own_keys kinds.Constituency)) (λ value. alone (knows_keys_of (own_keys kinds.Constituency) value)) e))
-    (λ e. in_municipalities faults.Unknown document (in_tables faults.Unknown kinds.Municipality (codes "municipality") document (knows_keys_of (own_keys kinds.Municipality)) (λ value. alone (knows_keys_of (own_keys kinds.Municipality) value)) e))
-    (λ e. in_groups faults.Unknown document (in_tables faults.Unknown kinds.Group (codes "group") document (knows_keys_of (own_keys kinds.Group)) (λ value. alone (knows_keys_of (own_keys kinds.Group) value)) e)) h
+    (λ e. in_constituencies faults.Unknown document (in_tables faults.Unknown kinds.Constituency (codes "constituency") document
+    (knows_keys_of (own_keys kinds.Constituency)) (λ value. alone (knows_keys_of (own_keys kinds.Constituency) value)) e))
+    (λ e. in_municipalities faults.Unknown document (in_tables faults.Unknown kinds.Municipality (codes "municipality") document
+    (knows_keys_of (own_keys kinds.Municipality)) (λ value. alone (knows_keys_of (own_keys kinds.Municipality) value)) e))
+    (λ e. in_groups faults.Unknown document
+    (in_tables faults.Unknown kinds.Group (codes "group") document (knows_keys_of (own_keys kinds.Group))
+    (λ value. alone (knows_keys_of (own_keys kinds.Group) value)) e)) h
 
 -- ---- what stands twice
 
@@ -115,7 +120,8 @@ one_holds P false false false false of_a of_b of_c of_d h = absurd cc
 -- two tables of one kind have one name
 in_names : (kind : Kind) (key : List ℕ) (document : Members) → repeats same_name (tables_at key document) ≡ true → is_some (first_of faults.Double kind key document) ≡ true
 in_names kind key document h =
-    in_first (namesake_of faults.Double kind (tables_at key document)) (first_table (key_in faults.Double kind document) kind 1 (tables_at key document)) (namesake_found kind (tables_at key document) h)
+    in_first (namesake_of faults.Double kind (tables_at key document))
+    (first_table (key_in faults.Double kind document) kind 1 (tables_at key document)) (namesake_found kind (tables_at key document) h)
 
 pub double_placed : (document : Members) → has_double document ≡ true → HasPlace faults.Double document
 double_placed document h =
@@ -124,11 +130,15 @@ double_placed document h =
     (λ e. in_constituencies faults.Double document (in_names kinds.Constituency (codes "constituency") document e))
     (λ e. in_municipalities faults.Double document (in_names kinds.Municipality (codes "municipality") document e))
     (λ e. in_groups faults.Double document (in_names kinds.Group (codes "group") document e))
-    (λ e. in_groups faults.Double document (in_tables faults.Double kinds.Group (codes "group") document (λ value. not (repeats same_number (stands_in value))) (λ value. alone (not (repeats same_number (stands_in value)))) (any_fails (λ value. repeats same_number (stands_in value)) (tables_at (codes "group") document) e))) h
+    (λ e. in_groups faults.Double document
+    (in_tables faults.Double kinds.Group (codes "group") document (λ value. not (repeats same_number (stands_in value)))
+    (λ value. alone (not (repeats same_number (stands_in value))))
+    (any_fails (λ value. repeats same_number (stands_in value)) (tables_at (codes "group") document) e))) h
 
 -- ---- each fault
 
-pub by_check : (P : SetupFault → Type 0) (misses other double : Bool) (wanted : Option Canton) (fault : SetupFault) → (misses ≡ true → P faults.Missing) → (other ≡ true → P faults.Unknown) → (wanted ≡ None → P faults.Range)
+pub by_check : (P : SetupFault → Type 0) (misses other double : Bool) (wanted : Option Canton) (fault : SetupFault)
+    → (misses ≡ true → P faults.Missing) → (other ≡ true → P faults.Unknown) → (wanted ≡ None → P faults.Range)
     → (double ≡ true → P faults.Double) → cond misses (Err faults.Missing) (cond other (Err faults.Unknown) (undoubled double wanted)) ≡ Err fault → P fault
 by_check P true other double wanted fault of_missing of_unknown of_range of_double e = subst P (same_fault {X = Canton} faults.Missing fault e) (of_missing refl)
 by_check P false true double wanted fault of_missing of_unknown of_range of_double e = subst P (same_fault {X = Canton} faults.Unknown fault e) (of_unknown refl)

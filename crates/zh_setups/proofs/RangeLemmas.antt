@@ -43,7 +43,8 @@ none_made : {A B : Type 0} (o : Option A) (make : A → B) → is_some (o >>= λ
 none_made None make h = refl
 none_made (Some x) make h = absurd cc
 
-three : (n : ℕ) (name : Option (List ℕ)) (stands : Option (List Data)) (make : List ℕ → List ℕ → Group) → is_some (name >>= λ x. stands >>= λ values. each (number_within 1 n) values >>= λ numbers. Some (make x numbers)) ≡ false
+three : (n : ℕ) (name : Option (List ℕ)) (stands : Option (List Data)) (make : List ℕ → List ℕ → Group)
+    → is_some (name >>= λ x. stands >>= λ values. each (number_within 1 n) values >>= λ numbers. Some (make x numbers)) ≡ false
     → (is_some name && (option_map_or (are_within n) stands false && true)) ≡ false
 three n None stands make h = refl
 three n (Some x) None make h = refl
@@ -84,7 +85,9 @@ fails_at : (document : Members) (place : ℕ) → place < 6 → (get_or (top_che
 fails_at document place within h = at_top faults.Range document (list_all_at (λ check. check.1) (top_checks faults.Range document) place (keys.Name, true) within h)
 
 -- the constituencies that were read are as many as there are
-as_many : (document : Members) (constituencies : List Constituency) → (values_at (codes "constituency") 32 document >>= each constituency_from) ≡ Some constituencies → length constituencies ≡ constituencies_in document
+as_many : (document : Members) (constituencies : List Constituency)
+    → (values_at (codes "constituency") 32 document >>= each constituency_from) ≡ Some constituencies → length constituencies
+    ≡ constituencies_in document
 as_many document constituencies e =
     let a = bind_some (values_at (codes "constituency") 32 document) (each constituency_from) constituencies e in
     let few = (values_at-some (codes "constituency") 32 document a.0 a.1).1 in
@@ -97,16 +100,21 @@ constituencies_fail document e =
     (λ none. fails_at document 2 (omega arith) (ap is_some none)) (λ values found none.
     in_constituencies faults.Range document (values_fail kinds.Constituency (codes "constituency") 32 document constituency_from values (constituency_fails (constituencies_in document)) found none)) e
 
-municipalities_fail : (document : Members) (n : ℕ) → n ≡ constituencies_in document → (values_at (codes "municipality") 512 document >>= each (municipality_from n)) ≡ None → HasPlace faults.Range document
+municipalities_fail : (document : Members) (n : ℕ) → n ≡ constituencies_in document
+    → (values_at (codes "municipality") 512 document >>= each (municipality_from n)) ≡ None → HasPlace faults.Range document
 municipalities_fail document n many e =
-    let here : (values_at (codes "municipality") 512 document >>= each (municipality_from (constituencies_in document))) ≡ None = subst (λ (k : ℕ). (values_at (codes "municipality") 512 document >>= each (municipality_from k)) ≡ None) many e in
+    let here : (values_at (codes "municipality") 512 document >>= each (municipality_from (constituencies_in document))) ≡ None =
+    subst (λ (k : ℕ). (values_at (codes "municipality") 512 document >>= each (municipality_from k)) ≡ None) many e in
     bind_none (HasPlace faults.Range document) (values_at (codes "municipality") 512 document) (each (municipality_from (constituencies_in document)))
     (λ none. fails_at document 3 (omega arith) (ap is_some none)) (λ values found none.
-    in_municipalities faults.Range document (values_fail kinds.Municipality (codes "municipality") 512 document (municipality_from (constituencies_in document)) values (municipality_fails (constituencies_in document)) found none)) here
+    in_municipalities faults.Range document
+    (values_fail kinds.Municipality (codes "municipality") 512 document (municipality_from (constituencies_in document)) values
+    (municipality_fails (constituencies_in document)) found none)) here
 
 groups_fail : (document : Members) (n : ℕ) → n ≡ constituencies_in document → (values_at (codes "group") 32 document >>= each (group_from n)) ≡ None → HasPlace faults.Range document
 groups_fail document n many e =
-    let here : (values_at (codes "group") 32 document >>= each (group_from (constituencies_in document))) ≡ None = subst (λ (k : ℕ). (values_at (codes "group") 32 document >>= each (group_from k)) ≡ None) many e in
+    let here : (values_at (codes "group") 32 document >>= each (group_from (constituencies_in document))) ≡ None =
+    subst (λ (k : ℕ). (values_at (codes "group") 32 document >>= each (group_from k)) ≡ None) many e in
     bind_none (HasPlace faults.Range document) (values_at (codes "group") 32 document) (each (group_from (constituencies_in document)))
     (λ none. fails_at document 4 (omega arith) (ap is_some none)) (λ values found none.
     in_groups faults.Range document (values_fail kinds.Group (codes "group") 32 document (group_from (constituencies_in document)) values (group_fails (constituencies_in document)) found none)) here

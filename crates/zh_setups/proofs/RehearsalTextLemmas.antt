@@ -15,14 +15,16 @@ use Rattle.zh_setups.proofs.SetupTextLemmas.{reading_of-table}
 abbrev numbers : Data
 numbers = array (item (integer (pos 1)) (item (integer (pos 2)) (item (integer (pos 3)) no_items)))
 
-abbrev constituency_table : Data → Data → Data
-constituency_table name persons = table (member (codes "name") name (member (codes "persons") persons no_members))
+abbrev constituency_table : List ℕ → ℕ → Data
+constituency_table name persons =
+    table (member (codes "name") (string name) (member (codes "persons") (integer (pos persons)) no_members))
 
-abbrev municipality_table : Data → Data → Data
-municipality_table name constituency = table (member (codes "constituency") constituency (member (codes "name") name no_members))
+abbrev municipality_table : List ℕ → ℕ → Data
+municipality_table name constituency =
+    table (member (codes "constituency") (integer (pos constituency)) (member (codes "name") (string name) no_members))
 
-abbrev group_table : Data → Data
-group_table name = table (member (codes "name") name (member (codes "stands") numbers no_members))
+abbrev group_table : List ℕ → Data
+group_table name = table (member (codes "name") (string name) (member (codes "stands") numbers no_members))
 
 abbrev three : Data → Data → Data → Data
 three a b c = array (item a (item b (item c no_items)))
@@ -30,10 +32,12 @@ three a b c = array (item a (item b (item c no_items)))
 -- the table of the text
 abbrev pub rehearsal_table : Members
 rehearsal_table =
-    member (codes "constituency") (three (constituency_table (string (codes "Nord")) (integer (pos 5000))) (constituency_table (string (codes "Mitte")) (integer (pos 3000))) (constituency_table (string (codes "West")) (integer (pos 2000))))
-    (member (codes "group") (three (group_table (string (codes "A"))) (group_table (string (codes "B"))) (group_table (string (codes "C"))))
+    member (codes "constituency")
+    (three (constituency_table (codes "Nord") 5000) (constituency_table (codes "Mitte") 3000) (constituency_table (codes "West") 2000))
+    (member (codes "group") (three (group_table (codes "A")) (group_table (codes "B")) (group_table (codes "C")))
     (member (codes "house") (integer (pos 10))
-    (member (codes "municipality") (three (municipality_table (string (codes "N")) (integer (pos 1))) (municipality_table (string (codes "M")) (integer (pos 2))) (municipality_table (string (codes "W")) (integer (pos 3))))
+    (member (codes "municipality")
+    (three (municipality_table (codes "N") 1) (municipality_table (codes "M") 2) (municipality_table (codes "W") 3))
     (member (codes "version") (integer (pos 1)) no_members))))
 
 abbrev pub rehearsal_text : List ℕ
@@ -44,7 +48,17 @@ unfolding toml_on_literals
 parsed = refl
 
 pub checks : checked rehearsal_table ≡ Ok rehearsal
-checks = rw (ascii (codes "Nord") refl, ascii (codes "Mitte") refl, ascii (codes "West") refl, ascii (codes "N") refl, ascii (codes "M") refl, ascii (codes "W") refl, ascii (codes "A") refl, ascii (codes "B") refl, ascii (codes "C") refl) refl
+checks = rw (
+  ascii (codes "Nord") refl,
+  ascii (codes "Mitte") refl,
+  ascii (codes "West") refl,
+  ascii (codes "N") refl,
+  ascii (codes "M") refl,
+  ascii (codes "W") refl,
+  ascii (codes "A") refl,
+  ascii (codes "B") refl,
+  ascii (codes "C") refl,
+) refl
 
 abbrev gives : Canton → Result Canton SetupFault
 gives x = Ok x

@@ -6,8 +6,10 @@ use Rattle.std.proofs.lemmas.Bool.{or_parts}
 use Rattle.toml.specs.Data.{Data, Members, get_member}
 use Rattle.zh_districts.specs.Canton.{Canton, Constituency, Municipality, Group, AreNames, IsCanton}
 use Rattle.zh_setups.specs.Keys.{tables_at}
-use Rattle.zh_setups.specs.Document.{◌>>=◌, number_within, each, values_at, constituency_from, municipality_from, group_from, quorum_of, setup_of, same_name, same_number, stands_in, repeats, has_double}
-use Rattle.zh_setups.proofs.ValueLemmas.{bind_some, number_within-bounds, HasName, length-each, each-all, each-named, are_names, values_at-some, constituency_from-some, municipality_from-some, group_from-some}
+use Rattle.zh_setups.specs.Document.{◌>>=◌, number_within, each, values_at, constituency_from, municipality_from, group_from, quorum_of}
+use Rattle.zh_setups.specs.Document.{setup_of, same_name, same_number, stands_in, repeats, has_double}
+use Rattle.zh_setups.proofs.ValueLemmas.{bind_some, some_is, number_within-bounds, HasName, length-each, each-all, each-named, are_names}
+use Rattle.zh_setups.proofs.ValueLemmas.{values_at-some, constituency_from-some, municipality_from-some, group_from-some}
 
 -- the parts of one kind, read at their key
 pub record ArePartsOf {X : Type 0} (key : List ℕ) (most : ℕ) (name : X → List ℕ) (P : X → Type 0) (document : Members) (xs : List X) : Type 0 where
@@ -16,7 +18,8 @@ pub record ArePartsOf {X : Type 0} (key : List ℕ) (most : ℕ) (name : X → L
   pub all : All P xs
   pub names : repeats same_name (tables_at key document) ≡ false → AreNames (map name xs)
 
-parts_of : {X : Type 0} (key : List ℕ) (most : ℕ) (name : X → List ℕ) (P : X → Type 0) (f : Data → Option X) → ((d : Data) (x : X) → f d ≡ Some x → HasName d (name x)) → ((d : Data) (x : X) → f d ≡ Some x → P x)
+parts_of : {X : Type 0} (key : List ℕ) (most : ℕ) (name : X → List ℕ) (P : X → Type 0) (f : Data → Option X)
+    → ((d : Data) (x : X) → f d ≡ Some x → HasName d (name x)) → ((d : Data) (x : X) → f d ≡ Some x → P x)
     → (document : Members) (xs : List X) → (values_at key most document >>= each f) ≡ Some xs → ArePartsOf key most name P document xs
 parts_of key most name P f named says document xs e =
     let a = bind_some (values_at key most document) (each f) xs e in
@@ -39,17 +42,21 @@ lies_within n x = (1 ≤ x.constituency) × (x.constituency ≤ n)
 abbrev stands_within : ℕ → Group → Type 0
 stands_within n x = (length x.stands ≡ n) × Contains x.stands true
 
-pub constituencies_read : (document : Members) (xs : List Constituency) → (values_at (codes "constituency") 32 document >>= each constituency_from) ≡ Some xs → ArePartsOf (codes "constituency") 32 (λ x. x.name) persons_within document xs
-constituencies_read = parts_of (codes "constituency") 32 (λ x. x.name) persons_within constituency_from (λ d x e. (constituency_from-some d x e).0) (λ d x e. let h = constituency_from-some d x e in (h.1, h.2))
+pub constituencies_read : (document : Members) (xs : List Constituency)
+    → (values_at (codes "constituency") 32 document >>= each constituency_from) ≡ Some xs → ArePartsOf (codes "constituency") 32
+    (λ x. x.name) persons_within document xs
+constituencies_read = parts_of (codes "constituency") 32 (λ x. x.name) persons_within constituency_from
+    (λ d x e. (constituency_from-some d x e).0) (λ d x e. let h = constituency_from-some d x e in (h.1, h.2))
 
-municipalities_read : (n : ℕ) (document : Members) (xs : List Municipality) → (values_at (codes "municipality") 512 document >>= each (municipality_from n)) ≡ Some xs → ArePartsOf (codes "municipality") 512 (λ x. x.name) (lies_within n) document xs
-municipalities_read n = parts_of (codes "municipality") 512 (λ x. x.name) (lies_within n) (municipality_from n) (λ d x e. (municipality_from-some n d x e).0) (λ d x e. let h = municipality_from-some n d x e in (h.1, h.2))
+municipalities_read : (n : ℕ) (document : Members) (xs : List Municipality)
+    → (values_at (codes "municipality") 512 document >>= each (municipality_from n)) ≡ Some xs → ArePartsOf (codes "municipality") 512
+    (λ x. x.name) (lies_within n) document xs
+municipalities_read n = parts_of (codes "municipality") 512 (λ x. x.name) (lies_within n) (municipality_from n)
+    (λ d x e. (municipality_from-some n d x e).0) (λ d x e. let h = municipality_from-some n d x e in (h.1, h.2))
 
-groups_read : (n : ℕ) (document : Members) (xs : List Group) → (values_at (codes "group") 32 document >>= each (group_from n)) ≡ Some xs → ArePartsOf (codes "group") 32 (λ x. x.name) (stands_within n) document xs
+groups_read : (n : ℕ) (document : Members) (xs : List Group) → (values_at (codes "group") 32 document >>= each (group_from n)) ≡ Some xs
+    → ArePartsOf (codes "group") 32 (λ x. x.name) (stands_within n) document xs
 groups_read n = parts_of (codes "group") 32 (λ x. x.name) (stands_within n) (group_from n) (λ d x e. (group_from-some n d x e).0) (λ d x e. let h = group_from-some n d x e in (h.1, h.2))
-
-some_is : {A : Type 0} (x y : A) → Some x ≡ Some y → x ≡ y
-some_is x y e = cc
 
 -- a canton-wide quorum that was read is within its limits
 quorum_of-bounds : (found : Option Data) (quorum : Option ℕ) → quorum_of found ≡ Some quorum → IfSome quorum (λ q. (1 ≤ q) × (q ≤ 49))
@@ -103,11 +110,14 @@ IsCanton-from_document document canton e single =
     made_of h cs ms gs q = record { house = h; constituencies = cs; municipalities = ms; groups = gs; canton_quorum = q }
 
 -- where the municipalities, or the groups, say nothing, there is no set-up
-pub no_municipalities : (document : Members) (v h n : ℕ) (cs : List Constituency) → (get_member (codes "version") document >>= number_within 1 2) ≡ Some v → (get_member (codes "house") document >>= number_within 1 400) ≡ Some h
-    → (values_at (codes "constituency") 32 document >>= each constituency_from) ≡ Some cs → length cs ≡ n → (values_at (codes "municipality") 512 document >>= each (municipality_from n)) ≡ None → setup_of document ≡ None
+pub no_municipalities : (document : Members) (v h n : ℕ) (cs : List Constituency)
+    → (get_member (codes "version") document >>= number_within 1 2) ≡ Some v → (get_member (codes "house") document >>= number_within 1 400) ≡ Some h
+    → (values_at (codes "constituency") 32 document >>= each constituency_from) ≡ Some cs → length cs ≡ n
+    → (values_at (codes "municipality") 512 document >>= each (municipality_from n)) ≡ None → setup_of document ≡ None
 no_municipalities document v h n cs e f g len none = rw (e, f, g, len, none) refl
 
-pub no_groups : (document : Members) (v h n : ℕ) (cs : List Constituency) (ms : List Municipality) → (get_member (codes "version") document >>= number_within 1 2) ≡ Some v → (get_member (codes "house") document >>= number_within 1 400) ≡ Some h
+pub no_groups : (document : Members) (v h n : ℕ) (cs : List Constituency) (ms : List Municipality)
+    → (get_member (codes "version") document >>= number_within 1 2) ≡ Some v → (get_member (codes "house") document >>= number_within 1 400) ≡ Some h
     → (values_at (codes "constituency") 32 document >>= each constituency_from) ≡ Some cs → length cs ≡ n → (values_at (codes "municipality") 512 document >>= each (municipality_from n)) ≡ Some ms
     → (values_at (codes "group") 32 document >>= each (group_from n)) ≡ None → setup_of document ≡ None
 no_groups document v h n cs ms e f g len m none = rw (e, f, g, len, m, none) refl
@@ -120,7 +130,8 @@ pub no_quorum : (document : Members) (v h n : ℕ) (cs : List Constituency) (ms 
 no_quorum document v h n cs ms gs e f g len m k none = rw (e, f, g, len, m, k, none) refl
 
 -- the set-up of its parts
-pub setup_read : (document : Members) (v h n : ℕ) (cs : List Constituency) (ms : List Municipality) (gs : List Group) (q : Option ℕ) → (get_member (codes "version") document >>= number_within 1 2) ≡ Some v
+pub setup_read : (document : Members) (v h n : ℕ) (cs : List Constituency) (ms : List Municipality) (gs : List Group) (q : Option ℕ)
+    → (get_member (codes "version") document >>= number_within 1 2) ≡ Some v
     → (get_member (codes "house") document >>= number_within 1 400) ≡ Some h → (values_at (codes "constituency") 32 document >>= each constituency_from) ≡ Some cs → length cs ≡ n
     → (values_at (codes "municipality") 512 document >>= each (municipality_from n)) ≡ Some ms → (values_at (codes "group") 32 document >>= each (group_from n)) ≡ Some gs
     → quorum_of (get_member (codes "canton_quorum") document) ≡ Some q

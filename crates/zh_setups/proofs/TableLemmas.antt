@@ -1,5 +1,6 @@
 -- The table of a set-up text holds the set-up, part by part.
-use Rattle.std.proofs.Common.{◌≡◌, ℕ, ◌≤◌, Bool, true, false, cond, ◌&&◌, nat_le, List, length, map, Option, Some, None, option_map, option_and_then, Result, Ok, Err, pos, negsuc, codes, refl, sym, ap, subst, ◌∙◌, inl, inr, arith}
+use Rattle.std.proofs.Common.{◌≡◌, ℕ, ◌≤◌, Bool, true, false, cond, ◌&&◌, nat_le, List, length, map, Option, Some, None, option_map}
+use Rattle.std.proofs.Common.{option_and_then, Result, Ok, Err, pos, negsuc, codes, refl, sym, ap, subst, ◌∙◌, inl, inr, arith}
 use Rattle.std.specs.Prelude.{◌⊎◌, IfOk}
 use Rattle.std.specs.List.{AllZip}
 use Rattle.std.proofs.lemmas.Bool.{cases_lt}
@@ -12,10 +13,8 @@ use Rattle.zh_setups.specs.SetupText.{ConstituencyOf, MunicipalityOf, GroupOf, H
 use Rattle.zh_setups.specs.declared.fault.SetupFault.{SetupFault}
 use Rattle.zh_setups.specs.declared.fault.SetupFault.TheVariants.{Missing, Unknown}
 use Rattle.zh_setups.proofs.KeyLemmas.{knows_top, no_quorum_key}
-use Rattle.zh_setups.proofs.ValueLemmas.{bind_some, guard_some, number_within-bounds, HasName, each-holds, each-named, values_at-some, constituency_from-some, municipality_from-some, group_from-some}
-
-some_is : {A : Type 0} (x y : A) → Some x ≡ Some y → x ≡ y
-some_is x y e = cc
+use Rattle.zh_setups.proofs.ValueLemmas.{bind_some, some_is, guard_some, number_within-bounds, HasName, each-holds, each-named}
+use Rattle.zh_setups.proofs.ValueLemmas.{values_at-some, constituency_from-some, municipality_from-some, group_from-some}
 
 number_within-is : (low high : ℕ) (d : Data) (n : ℕ) → number_within low high d ≡ Some n → d ≡ integer (pos n)
 number_within-is low high (integer (pos m)) n e = ap (λ (k : ℕ). integer (pos k)) (guard_some (nat_le low m && nat_le m high) m n e).1
@@ -80,15 +79,18 @@ values_found (Some d) ds e = values_of-is d ds e
 
 group_from-holds : (n : ℕ) (d : Data) (x : Group) → group_from n d ≡ Some x → GroupOf n d x
 group_from-holds n d x e =
-    let a = bind_some (get (codes "name") d >>= name_of) (λ name. (get (codes "stands") d >>= values_of) >>= λ values. each (number_within 1 n) values >>= λ numbers. Some (record { name = name; stands = stands_of n numbers })) x e in
+    let a = bind_some (get (codes "name") d >>= name_of) (λ name. (get (codes "stands") d >>= values_of) >>= λ values.
+    each (number_within 1 n) values >>= λ numbers. Some (record { name = name; stands = stands_of n numbers })) x e in
     let b = bind_some (get (codes "stands") d >>= values_of) (λ values. each (number_within 1 n) values >>= λ numbers. Some (record { name = a.0; stands = stands_of n numbers })) x a.2 in
     let c = bind_some (each (number_within 1 n) b.0) (λ numbers. Some (record { name = a.0; stands = stands_of n numbers })) x b.2 in
     let made : Group = record { name = a.0; stands = stands_of n c.0 } in
-    let listed : option_map list_of (option_and_then as_array (get (codes "stands") d)) ≡ Some (map (λ k. integer (pos k)) c.0) = values_found (get (codes "stands") d) b.0 b.1 ∙ ap (λ (ds : List Data). Some ds) (each_number 1 n b.0 c.0 c.1) in
+    let listed : option_map list_of (option_and_then as_array (get (codes "stands") d)) ≡ Some (map (λ k. integer (pos k)) c.0) =
+    values_found (get (codes "stands") d) b.0 b.1 ∙ ap (λ (ds : List Data). Some ds) (each_number 1 n b.0 c.0 c.1) in
     subst (λ (y : Group). GroupOf n d y) (some_is made x c.2) (name_found (get (codes "name") d) a.0 a.1, (c.0, listed, refl))
 
 -- the tables of the parts of one kind
-zipped : {X : Type 0} (key : List ℕ) (most : ℕ) (name : X → List ℕ) (R : Data → X → Type 0) (f : Data → Option X) → ((d : Data) (x : X) → f d ≡ Some x → HasName d (name x)) → ((d : Data) (x : X) → f d ≡ Some x → R d x)
+zipped : {X : Type 0} (key : List ℕ) (most : ℕ) (name : X → List ℕ) (R : Data → X → Type 0) (f : Data → Option X)
+    → ((d : Data) (x : X) → f d ≡ Some x → HasName d (name x)) → ((d : Data) (x : X) → f d ≡ Some x → R d x)
     → (document : Members) (xs : List X) → (values_at key most document >>= each f) ≡ Some xs → AllZip R (tables_at key document) xs
 zipped key most name R f named holds document xs e =
     let a = bind_some (values_at key most document) (each f) xs e in
@@ -105,7 +107,8 @@ quorum_found (Some value) quorum e =
     ap (λ (d : Data). Some d) (number_within-is 1 49 value n.0 n.1) ∙ ap (option_map (λ q. integer (pos q))) (some_is (Some n.0) quorum n.2)
 
 -- version 1 has no canton-wide quorum
-no_quorum_in_version_1 : (document : Members) (quorum : Option ℕ) → HasVersion document 1 → knows_keys (known_keys document) document ≡ true → quorum_of (get_member (codes "canton_quorum") document) ≡ Some quorum → quorum ≡ None
+no_quorum_in_version_1 : (document : Members) (quorum : Option ℕ) → HasVersion document 1 → knows_keys (known_keys document) document ≡ true
+    → quorum_of (get_member (codes "canton_quorum") document) ≡ Some quorum → quorum ≡ None
 no_quorum_in_version_1 document quorum version knows e =
     sym (some_is None quorum (sym (ap quorum_of (no_quorum_key document version knows)) ∙ e))
 
@@ -152,7 +155,8 @@ SetupOf-from_document document canton other e =
     made_of h cs ms gs q = record { house = h; constituencies = cs; municipalities = ms; groups = gs; canton_quorum = q }
 
 -- what passes each check is the set-up
-passes : (misses other double : Bool) (wanted : Option Canton) (canton : Canton) → cond misses (Err Missing) (cond other (Err Unknown) (undoubled double wanted)) ≡ Ok canton → (other ≡ false) × (wanted ≡ Some canton)
+passes : (misses other double : Bool) (wanted : Option Canton) (canton : Canton)
+    → cond misses (Err Missing) (cond other (Err Unknown) (undoubled double wanted)) ≡ Ok canton → (other ≡ false) × (wanted ≡ Some canton)
 passes true other double wanted canton e = absurd cc
 passes false true double wanted canton e = absurd cc
 passes false false double None canton e = absurd cc

@@ -1,5 +1,6 @@
 -- What is known of the values of a document that say something.
-use Rattle.std.proofs.Common.{◌≡◌, ◌≢◌, ℕ, ◌-◌, ◌<◌, ◌≤◌, Bool, true, false, cond, ◌&&◌, ◌==◌, eqb, nat_le, List, [], ◌∷◌, length, get_or, map, All, Option, Some, None, pos, negsuc, IsTrue, codes, refl, sym, ap, subst, ◌∙◌, arith, eq-eqb}
+use Rattle.std.proofs.Common.{◌≡◌, ◌≢◌, ℕ, ◌-◌, ◌<◌, ◌≤◌, Bool, true, false, cond, ◌&&◌, ◌==◌, eqb, nat_le, List, [], ◌∷◌, length, get_or}
+use Rattle.std.proofs.Common.{map, All, Option, Some, None, pos, negsuc, IsTrue, codes, refl, sym, ap, subst, ◌∙◌, arith, eq-eqb}
 use Rattle.std.specs.Prelude.{AllPairs, Contains}
 use Rattle.std.specs.List.{list_all, list_any, AllByRecursion}
 use Rattle.std.proofs.lemmas.Bool.{and_parts, or_parts, leb-true, false≢true}
@@ -21,7 +22,7 @@ pub guard_some : {A : Type 0} (b : Bool) (x y : A) → cond b (Some x) None ≡ 
 guard_some true x y e = (refl, cc)
 guard_some false x y e = absurd cc
 
-some_is : {A : Type 0} (x y : A) → Some x ≡ Some y → x ≡ y
+pub some_is : {A : Type 0} (x y : A) → Some x ≡ Some y → x ≡ y
 some_is x y e = cc
 
 -- ---- numbers and names
@@ -99,7 +100,8 @@ pub record Named {X : Type 0} (name : X → List ℕ) (ds : List Data) (xs : Lis
   pub names : map name xs ≡ map name_in ds
   pub kind : list_all is_table ds ≡ true
 
-pub each-named : {X : Type 0} (name : X → List ℕ) (f : Data → Option X) → ((d : Data) (x : X) → f d ≡ Some x → HasName d (name x)) → (ds : List Data) (xs : List X) → each f ds ≡ Some xs → Named name ds xs
+pub each-named : {X : Type 0} (name : X → List ℕ) (f : Data → Option X) → ((d : Data) (x : X) → f d ≡ Some x → HasName d (name x))
+    → (ds : List Data) (xs : List X) → each f ds ≡ Some xs → Named name ds xs
 each-named name f says ds xs e =
     each-holds (λ d x. HasName d (name x)) f says (λ ds xs. Named name ds xs) (record { rule = tt; names = refl; kind = refl })
     (λ d x ds xs h named. record { rule = (h.rule, named.rule); names = rw (h.within, named.names) refl; kind = rw (h.kind, named.kind) refl }) ds xs e
@@ -167,13 +169,15 @@ stands_somewhere n [] some all = absurd (omega arith)
 stands_somewhere n (m ∷ numbers) some all =
     let bounds = all 0 0 (omega arith) in
     let k : m - 1 < n = omega (arith, bounds.0, bounds.1) in
-    let at : get_or (stands_of n (m ∷ numbers)) (m - 1) true ≡ list_any (λ i. i == m) (m ∷ numbers) = get_or-map-range_with_len (λ d. list_any (λ i. i == d) (m ∷ numbers)) 1 n (m - 1) m true k (omega (arith, bounds.0)) in
+    let at : get_or (stands_of n (m ∷ numbers)) (m - 1) true ≡ list_any (λ i. i == m) (m ∷ numbers) = get_or-map-range_with_len
+    (λ d. list_any (λ i. i == d) (m ∷ numbers)) 1 n (m - 1) m true k (omega (arith, bounds.0)) in
     let here : eqb m m ≡ true = eq-eqb m m refl in
     (m - 1, omega (arith, length-map-range_with_len (λ d. list_any (λ i. i == d) (m ∷ numbers)) 1 n), at ∙ rw here refl)
 
 pub group_from-some : (n : ℕ) (d : Data) (x : Group) → group_from n d ≡ Some x → HasName d x.name × (length x.stands ≡ n) × Contains x.stands true
 group_from-some n d x e =
-    let a = bind_some (get (codes "name") d >>= name_of) (λ name. (get (codes "stands") d >>= values_of) >>= λ values. each (number_within 1 n) values >>= λ numbers. Some (record { name = name; stands = stands_of n numbers })) x e in
+    let a = bind_some (get (codes "name") d >>= name_of) (λ name. (get (codes "stands") d >>= values_of) >>= λ values.
+    each (number_within 1 n) values >>= λ numbers. Some (record { name = name; stands = stands_of n numbers })) x e in
     let b = bind_some (get (codes "stands") d >>= values_of) (λ values. each (number_within 1 n) values >>= λ numbers. Some (record { name = a.0; stands = stands_of n numbers })) x a.2 in
     let c = bind_some (each (number_within 1 n) b.0) (λ numbers. Some (record { name = a.0; stands = stands_of n numbers })) x b.2 in
     let v = bind_some (get (codes "stands") d) values_of b.0 b.1 in

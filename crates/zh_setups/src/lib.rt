@@ -16,6 +16,5 @@ mod text;
 
 pub use example::rehearsal;
 pub use fault::{SetupFault, SetupRefusal};
-pub use place::{FaultPlace, Key, Kind, OtherKey};
-pub use position::Position;
+pub use place::{FaultPlace, Key};
 pub use text::read_setup;

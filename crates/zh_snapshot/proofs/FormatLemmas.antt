@@ -19,7 +19,8 @@ use Rattle.zh_snapshot.specs.Parts.{HasParts, IsEmptied}
 use Rattle.zh_snapshot.proofs.RangeLemmas.{same_trans, same_wider, slice_kept, slice_part, placed}
 
 -- a write after the disk gate
-pub after_gate : (t u : Trail) (at : ℕ) (bytes : List ℕ) (result : Result (Unit {0}) DiskFault) → length t.now.bytes ≡ 1118720 → 1 ≤ at → at + length bytes ≤ 1118720 → Writes at bytes result t u → Leaves (SameOutside 1 1118719) t u
+pub after_gate : (t u : Trail) (at : ℕ) (bytes : List ℕ) (result : Result (Unit {0}) DiskFault) → length t.now.bytes ≡ 1118720 → 1 ≤ at
+    → at + length bytes ≤ 1118720 → Writes at bytes result t u → Leaves (SameOutside 1 1118719) t u
 after_gate t u at bytes result long low fits writes =
     leaves_weaken _ _ t u (λ x f image by. same_wider at (length bytes) 1 1118719 low (omega arith) x f by) (write_leaves t u at bytes result (omega arith) writes)
 
@@ -27,7 +28,8 @@ pub one_more : (a b c : Trail) → Leaves (SameOutside 1 1118719) a b → Leaves
 one_more a b c = leaves_more (SameOutside 1 1118719) a b c (same_refl 1 1118719) (same_trans 1 1118719)
 
 -- the same as a change, at a place and of bytes that were named otherwise
-pub after_gate_is : (t u : Trail) (at at' : ℕ) (bytes bytes' : List ℕ) (result : Result (Unit {0}) DiskFault) → length t.now.bytes ≡ 1118720 → at ≡ at' → bytes ≡ bytes' → 1 ≤ at' → at' + length bytes' ≤ 1118720
+pub after_gate_is : (t u : Trail) (at at' : ℕ) (bytes bytes' : List ℕ) (result : Result (Unit {0}) DiskFault) → length t.now.bytes ≡ 1118720
+    → at ≡ at' → bytes ≡ bytes' → 1 ≤ at' → at' + length bytes' ≤ 1118720
     → Writes at bytes result t u → Changes (SameOutside 1 1118719) (λ old new. new.bytes ≡ splice at' bytes' old.bytes) result t u
 after_gate_is t u at at' bytes bytes' result long place same low fits writes =
     let here = subst (λ (n : ℕ). Writes n bytes' result t u) place (subst (λ (l : List ℕ). Writes at l result t u) same writes) in
@@ -49,7 +51,8 @@ cleared_is t u at result place clears =
     record { moments = leaves_weaken _ _ t u (λ x f image by. same_wider (journal_at First) 262144 1 1118719 (omega arith) (omega arith) x f by) here.moments; done = here.done }
 
 pub parts : (setup first b0 b1 b2 b3 b4 : List ℕ) → length b0 ≡ 1118720 → length setup ≤ 65536 → length first ≡ 262391
-    → b1 ≡ splice 1 (header_bytes (length setup)) b0 → b2 ≡ splice 4096 setup b1 → b3 ≡ splice (slot_at First) (165 ∷ to_be_bytes w64 1) b2 → b4 ≡ splice (snapshot_at First) first b3 → HasParts setup first b4
+    → b1 ≡ splice 1 (header_bytes (length setup)) b0 → b2 ≡ splice 4096 setup b1 → b3 ≡ splice (slot_at First) (165 ∷ to_be_bytes w64 1) b2
+    → b4 ≡ splice (snapshot_at First) first b3 → HasParts setup first b4
 parts setup first b0 b1 b2 b3 b4 long most wide one two three four =
     let fourteen : length (header_bytes (length setup)) ≡ 14 = refl in
     let w1 = placed 1 (header_bytes (length setup)) b0 b1 (omega arith) one in
@@ -82,15 +85,18 @@ emptied b0 b1 b2 long cleared is =
     let w = placed (slot_at Second) (0 ∷ 0 ∷ 0 ∷ 0 ∷ 0 ∷ 0 ∷ 0 ∷ 0 ∷ 0 ∷ []) b1 b2 (omega arith) is in
     let s2 = w.0.size in
     record {
-      around = same_trans (journal_at First) 262153 b0 b1 b2 (same_wider (journal_at First) 262144 (journal_at First) 262153 (omega arith) (omega arith) b0 b1 cleared.around) (same_wider (slot_at Second) 9 (journal_at First) 262153 (omega arith) (omega arith) b1 b2 w.0);
+      around = same_trans (journal_at First) 262153 b0 b1 b2 (same_wider (journal_at First) 262144 (journal_at First) 262153 (omega arith)
+          (omega arith) b0 b1 cleared.around) (same_wider (slot_at Second) 9 (journal_at First) 262153 (omega arith) (omega arith) b1 b2 w.0);
       area = holds_same (journal_at First) b1 b2 0 [] (sym w.0.size) (omega arith) (λ k from low. sym (w.0.same k (inl (omega arith)))) cleared.area;
       journal = λ k from low. w.0.same k (inl low) ∙ cleared.zero k from low;
       other = λ k from low.
           let place : slot_at Second + (k - slot_at Second) ≡ k = omega arith in
-          sym (ap (slice_index b2) place) ∙ sym (slice_at b2 (slot_at Second) (snapshot_at Second) (k - slot_at Second) (omega arith)) ∙ ap (λ (l : List ℕ). slice_index l (k - slot_at Second)) w.1 ∙ nine_zeros (k - slot_at Second);
+          sym (ap (slice_index b2) place) ∙ sym (slice_at b2 (slot_at Second) (snapshot_at Second) (k - slot_at Second) (omega arith))
+          ∙ ap (λ (l : List ℕ). slice_index l (k - slot_at Second)) w.1 ∙ nine_zeros (k - slot_at Second);
     }
 
-module _ (setup first b1 b2 : List ℕ) (long : length b1 ≡ 1118720) (most : length setup ≤ 65536) (has : HasParts setup first b1) (empty : IsEmptied b1 b2) (c : List ℕ) (by : SameOutside 0 1 b2 c) where
+module _ (setup first b1 b2 : List ℕ) (long : length b1 ≡ 1118720) (most : length setup ≤ 65536) (has : HasParts setup first b1)
+    (empty : IsEmptied b1 b2) (c : List ℕ) (by : SameOutside 0 1 b2 c) where
   long2 : length b2 ≡ 1118720
   long2 = empty.around.size ∙ long
 
@@ -125,7 +131,9 @@ module _ (setup first b1 b2 : List ℕ) (long : length b1 ≡ 1118720) (most : l
           newer = λ is. absurd (omega (arith, is, other_c (slot_at Second) (omega arith) (omega arith)));
         };
         holds = record {
-          generation = ap (from_be_bytes w64) (sym (slice_part c (slice_range c (slot_at First) (snapshot_at First)) (slot_at First) 9 1 9 refl (omega (arith, long_c)) (omega arith) (omega arith)) ∙ ap (λ (l : List ℕ). slice_range l 1 9) head_c);
+          generation = ap (from_be_bytes w64)
+              (sym (slice_part c (slice_range c (slot_at First) (snapshot_at First)) (slot_at First) 9 1 9 refl (omega (arith, long_c))
+              (omega arith) (omega arith)) ∙ ap (λ (l : List ℕ). slice_range l 1 9) head_c);
           snapshot = kept (snapshot_at First) (journal_at First) (omega arith) (omega arith) (omega arith) ∙ has.snapshot;
           records = (refl, (omega arith, λ inside. area_c.closed 0 (omega arith) inside));
         };
@@ -149,7 +157,8 @@ stays_blank t u closed run = leaves_weaken _ _ t u
     let settled : IsSettled t.now.pending 0 = subst (λ (p : List (ℕ × ℕ)). IsSettled p 0) (sym closed.0) tt in
     λ is. closed.1 (sym (image.same 0 settled) ∙ sym (by.same 0 (inl (omega arith))) ∙ is)) run
 
-pub opens : (setup first b1 : List ℕ) (t u : Trail) → length b1 ≡ 1118720 → length setup ≤ 65536 → HasParts setup first b1 → IsEmptied b1 t.now.bytes → Leaves (FromBytes 0 t) t u → Leaves (λ d c. BlankOrFormatted setup first c) t u
+pub opens : (setup first b1 : List ℕ) (t u : Trail) → length b1 ≡ 1118720 → length setup ≤ 65536 → HasParts setup first b1
+    → IsEmptied b1 t.now.bytes → Leaves (FromBytes 0 t) t u → Leaves (λ d c. BlankOrFormatted setup first c) t u
 opens setup first b1 t u long most has empty run = leaves_weaken _ _ t u
     (λ x f image by. opening setup first b1 t.now.bytes long most has empty f (subst (λ (l : List ℕ). SameOutside 0 1 l f) by.0 by.1)) run
 

@@ -100,7 +100,8 @@ module _ (p : Place) (r : List ℕ) (s : State) (t u : Trail) (is : p ≡ s.area
 
   at_moments : Leaves (AddsOrNot p.base p.end r) t u → Leaves (StoreAddsOrNot s r) t u
   at_moments run =
-      leaves_weaken _ _ t u (λ d c image by. area_adds_or_not s r d c (image.size ∙ long) (subst (λ (n : ℕ). AddsOrNot n s.area.end r d c) here (subst (λ (n : ℕ). AddsOrNot p.base n r d c) end by))) run
+      leaves_weaken _ _ t u (λ d c image by. area_adds_or_not s r d c (image.size ∙ long)
+      (subst (λ (n : ℕ). AddsOrNot n s.area.end r d c) here (subst (λ (n : ℕ). AddsOrNot p.base n r d c) end by))) run
 
   at_ok : Moves (Adds p.base p.end r) t.now u.now → Moves (StoreAdds s r) t.now u.now
   at_ok moves = λ c image.

@@ -85,7 +85,8 @@ module _ (slot : Slot) (is_open : Bool) (generation : ℕ) (payload : List ℕ) 
           let only = only_image t3.now (splice (slot_at slot) (165 ∷ []) b) c is image in
           let here : SameOutside (slot_at slot) 1 b c = subst (λ (l : List ℕ). SameOutside (slot_at slot) 1 t2.now.bytes l) (sym only) (splice_same (slot_at slot) (165 ∷ []) t2.now.bytes room) in
           let zero : slot_at slot - slot_at slot ≡ 0 = omega arith in
-          let opened : slice_index c (slot_at slot) ≡ 165 = ap (λ (l : List ℕ). slice_index l (slot_at slot)) only ∙ splice_in (slot_at slot) (165 ∷ []) b (slot_at slot) room (omega arith) (omega arith) ∙ ap (slice_index (165 ∷ [])) zero in
+          let opened : slice_index c (slot_at slot) ≡ 165 = ap (λ (l : List ℕ). slice_index l (slot_at slot)) only
+          ∙ splice_in (slot_at slot) (165 ∷ []) b (slot_at slot) room (omega arith) (omega arith) ∙ ap (slice_index (165 ∷ [])) zero in
           let from = origin b (image_now t2.now) in (
             from.0,
             from.1,

@@ -121,7 +121,8 @@ module _ (s : State) (payload d c : List ℕ) (long : length d ≡ 1118720) (by 
   case x j framed fits stays = elim (cases_eq (slice_index c (slot_at (other s.slot))) 165) [
     | inl is_open ↦ ⊎_elim
         (λ old. inl (stays (λ is. omega (arith, old.1, fits.slot.newer old.0))))
-        (λ new. inr (becomes s.slot d c long by.around fits.slot payload is_open (subst (λ (g : ℕ). HasNew (other s.slot) (g + 1) payload c) (sym (generation_fits s x j d fits framed)) new) x j framed))
+        (λ new. inr (becomes s.slot d c long by.around fits.slot payload is_open
+        (subst (λ (g : ℕ). HasNew (other s.slot) (g + 1) payload c) (sym (generation_fits s x j d fits framed)) new) x j framed))
         (by.gate fits.other_slot is_open)
     | inr shut ↦ inl (stays (λ is. absurd (shut is)))
   ]

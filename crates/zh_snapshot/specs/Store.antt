@@ -31,10 +31,6 @@ pub record Fits (s : State) (x : Content) (j : ℕ) (c : List ℕ) : Type 0 wher
 abbrev pub longer : State → ℕ → State
 longer s len = record s { area = grown s.area len }
 
--- after a fault of the device in a call that writes
-abbrev pub broken_since : State → State
-broken_since s = record s { broken = true }
-
 -- with a new snapshot in the other slot
 abbrev pub switched : State → State
 switched s = record s {

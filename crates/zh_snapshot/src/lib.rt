@@ -16,5 +16,5 @@ mod zeros;
 
 pub use fault::{AppendFault, FormatFault, OpenFault, StoreFault, SwitchFault};
 pub use laws::one_content;
-pub use layout::{SETUP_LIMIT, SNAPSHOT_LENGTH};
+pub use layout::SNAPSHOT_LENGTH;
 pub use store::Store;

@@ -3,7 +3,7 @@
 #![tactic(auto)]
 
 pub use bounds::Bounds;
-pub use cycle::{Cycle, Transfer};
+pub use cycle::Cycle;
 pub use gaps::{Gap, close_gap};
 pub use prices::LogTable;
 pub use sweeps::{Potentials, Swept, sweep};

@@ -58,7 +58,9 @@ no_entries (e ∷ es) none = absurd (omega arith)
 
 none_counted : (canton : Canton) (d g : ℕ) → counted (empty canton) d g ≡ 0
 none_counted canton d g =
-    ap (passing (lies_in canton d g)) (no_entries (map_of.entries (map_of.empty {X = Entry} {R = key_cmp})) (sym (map_of.len-entries (map_of.empty {X = Entry} {R = key_cmp})) ∙ map_of.len-empty key_cmp Entry))
+    ap (passing (lies_in canton d g))
+    (no_entries (map_of.entries (map_of.empty {X = Entry} {R = key_cmp}))
+    (sym (map_of.len-entries (map_of.empty {X = Entry} {R = key_cmp})) ∙ map_of.len-empty key_cmp Entry))
 
 pub no_constituency_votes : (canton : Canton) (d : ℕ) → 1 ≤ d → d ≤ length canton.constituencies → constituency_votes (totals_of (empty canton)) d ≡ 0
 no_constituency_votes canton d from_one within =

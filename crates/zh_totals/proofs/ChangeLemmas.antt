@@ -43,7 +43,8 @@ pub record IsFollowed (tally : Tally) (totals : VoteTotals) (m l : ℕ) (entry :
   pub can : IsChange totals change
   pub after : noted totals change ≡ totals_of (with_entry tally m l entry)
 
-pub followed : (tally : Tally) (totals : VoteTotals) (m l : ℕ) (entry : Entry) (change : Change) → IsTally tally → misplaced tally.canton m l ≡ None → IsEntry entry → totals ≡ totals_of tally → change ≡ change_to tally m l (votes_of entry) →
+pub followed : (tally : Tally) (totals : VoteTotals) (m l : ℕ) (entry : Entry) (change : Change) → IsTally tally
+    → misplaced tally.canton m l ≡ None → IsEntry entry → totals ≡ totals_of tally → change ≡ change_to tally m l (votes_of entry) →
     IsFollowed tally totals m l entry change
 followed tally totals m l entry change limits place entry_limits so_far is =
     let there = placed tally.canton m l place in
@@ -68,7 +69,9 @@ next_noted tally m l entry limits is =
     let there : has_municipality tally.canton m ≡ true = subst (λ h. IfSome h (λ _. has_municipality tally.canton m ≡ true)) is (limits.municipalities m l) in
     let standing : stands tally.canton (constituency_of tally.canton m) l ≡ true = subst (λ h. IfSome h (λ _. stands tally.canton (constituency_of tally.canton m) l ≡ true)) is (limits.lists m l) in
     let entry_limits : IsEntry entry = subst (λ h. IfSome h IsEntry) is (limits.entries m l) in
-    let change : change_to part m l (votes_of entry) ≡ first_change tally m l (votes_of entry) = ap (λ (n : ℕ). record { constituency = constituency_of tally.canton m; list = l; before = n; after = votes_of entry }) (none_held_yet tally m l) in
+    let change : change_to part m l (votes_of entry) ≡ first_change tally m l (votes_of entry) =
+    ap (λ (n : ℕ). record { constituency = constituency_of tally.canton m; list = l; before = n; after = votes_of entry })
+    (none_held_yet tally m l) in
     record {
       can = subst (IsChange (totals_of part)) change (votes_can part m l (votes_of entry) part_limits there standing (few entry.votes entry_limits.votes));
       after = ap (noted (totals_of part)) (sym change) ∙ sym (entry_noted part m l entry part_limits there standing) ∙ ap totals_of (sym (next_held tally m l entry is));

@@ -35,7 +35,8 @@ use Rattle.zh_totals.proofs.RestrictingLemmas.{same_tally}
 use Rattle.zh_totals.proofs.ChangeLemmas.{entry_noted}
 
 -- a key with what it holds put over it is as it was
-get_put : (tally : Tally) (m l : ℕ) (entry : Entry) (key : ℕ × ℕ) (here : Bool) → held tally m l ≡ Some entry → eq_by_cmp key_cmp key (m, l) ≡ here → cond here (Some entry) (map_of.get tally.entries key) ≡ map_of.get tally.entries key
+get_put : (tally : Tally) (m l : ℕ) (entry : Entry) (key : ℕ × ℕ) (here : Bool) → held tally m l ≡ Some entry → eq_by_cmp key_cmp key (m, l)
+    ≡ here → cond here (Some entry) (map_of.get tally.entries key) ≡ map_of.get tally.entries key
 get_put tally m l entry key true is same = sym (ap (map_of.get tally.entries) (keys_equal key (m, l) same) ∙ is)
 get_put tally m l entry key false is other = refl
 
@@ -46,9 +47,15 @@ held_put tally m l entry is =
     ∙ get_put tally m l entry key (eq_by_cmp key_cmp key (m, l)) is refl)
 
 -- a row changes against the rows before it what it changes against the count before the batch
-row_change_still : (desk : ℕ) (tally : Tally) (rows : List Row) (i : ℕ) (row : Row) → IsBatch rows → slice_get rows i ≡ Some row → change_to (upto desk tally rows i) row.municipality row.list row.votes ≡ row_change tally row
+row_change_still : (desk : ℕ) (tally : Tally) (rows : List Row) (i : ℕ) (row : Row) → IsBatch rows → slice_get rows i ≡ Some row
+    → change_to (upto desk tally rows i) row.municipality row.list row.votes ≡ row_change tally row
 row_change_still desk tally rows i row batch is =
-    ap (λ h. record { constituency = constituency_of tally.canton row.municipality; list = row.list; before = option_map_or votes_of h 0; after = row.votes }) (held_still desk tally rows i row batch is)
+    ap (λ h. record {
+      constituency = constituency_of tally.canton row.municipality;
+      list = row.list;
+      before = option_map_or votes_of h 0;
+      after = row.votes;
+    }) (held_still desk tally rows i row batch is)
 
 -- an entry of a row that may stand, put over what is held, leaves the count within its limits
 with_row_limits : (desk : ℕ) (tally : Tally) (row : Row) → desk ≤ last_desk Two → IsTally tally → IsSpeakableRow row → MayStand tally.canton row → IsTally (with_row desk tally row)
@@ -57,11 +64,15 @@ with_row_limits desk tally row named limits speakable may =
     IsTally-insert tally row.municipality row.list (entry_of desk row) limits there.0 there.1 (record { desk = named; number = speakable.number; votes = may.votes })
 
 -- rows that a count accepts leave it within its limits
-more_limits : (desk : ℕ) (tally : Tally) (rows : List Row) (i : ℕ) (row : Row) (accepted : Bool) → is_accept (judge_row tally row) ≡ accepted → slice_get rows i ≡ Some row → desk ≤ last_desk Two → IsSpeakableRow row → MayStand tally.canton row → IsTally (upto desk tally rows i) → IsTally (upto desk tally rows (i + 1))
-more_limits desk tally rows i row true judged is named speakable may before = subst IsTally (sym (next_row desk tally rows i row is judged)) (with_row_limits desk (upto desk tally rows i) row named before speakable may)
+more_limits : (desk : ℕ) (tally : Tally) (rows : List Row) (i : ℕ) (row : Row) (accepted : Bool) → is_accept (judge_row tally row)
+    ≡ accepted → slice_get rows i ≡ Some row → desk ≤ last_desk Two → IsSpeakableRow row → MayStand tally.canton row
+    → IsTally (upto desk tally rows i) → IsTally (upto desk tally rows (i + 1))
+more_limits desk tally rows i row true judged is named speakable may before = subst IsTally (sym (next_row desk tally rows i row is judged))
+    (with_row_limits desk (upto desk tally rows i) row named before speakable may)
 more_limits desk tally rows i row false judged is named speakable may before = subst IsTally (sym (passed_row desk tally rows i row is judged)) before
 
-IsTally-upto : (desk : ℕ) (tally : Tally) (rows : List Row) (i : ℕ) → desk ≤ last_desk Two → IsTally tally → IsBatch rows → of_all (map (judge_row tally) rows) ≡ Accept → i ≤ length rows → IsTally (upto desk tally rows i)
+IsTally-upto : (desk : ℕ) (tally : Tally) (rows : List Row) (i : ℕ) → desk ≤ last_desk Two → IsTally tally → IsBatch rows
+    → of_all (map (judge_row tally) rows) ≡ Accept → i ≤ length rows → IsTally (upto desk tally rows i)
 IsTally-upto desk tally rows zero named limits batch accepted within = limits
 IsTally-upto desk tally rows (suc i) named limits batch accepted within =
     let next : suc i ≡ i + 1 = omega arith in
@@ -70,12 +81,14 @@ IsTally-upto desk tally rows (suc i) named limits batch accepted within =
           let row = found.0 in
           let speakable : IsSpeakableRow row = subst IsSpeakableRow found.3 (All-get_or IsSpeakableRow rows i row found.1 batch.are_rows.speakable) in
           subst IsTally (sym (ap (upto desk tally rows) next)) (
-          more_limits desk tally rows i row (is_accept (judge_row tally row)) refl found.2 named speakable (rows_kept tally rows i row batch accepted found.2) (IsTally-upto desk tally rows i named limits batch accepted (omega arith)))
+          more_limits desk tally rows i row (is_accept (judge_row tally row)) refl found.2 named speakable
+          (rows_kept tally rows i row batch accepted found.2) (IsTally-upto desk tally rows i named limits batch accepted (omega arith)))
       | inr past ↦ absurd (omega arith)
     ]
 
 -- a row that is held already changes no total
-held_noted : (tally : Tally) (row : Row) → IsTally tally → MayStand tally.canton row → IsHeld (held tally row.municipality row.list) row.number row.votes → totals_of tally ≡ noted (totals_of tally) (row_change tally row)
+held_noted : (tally : Tally) (row : Row) → IsTally tally → MayStand tally.canton row → IsHeld (held tally row.municipality row.list)
+    row.number row.votes → totals_of tally ≡ noted (totals_of tally) (row_change tally row)
 held_noted tally row limits may same =
     let there = placed tally.canton row.municipality row.list may.place in
     ap totals_of (sym (held_put tally row.municipality row.list same.entry same.is))
@@ -83,7 +96,8 @@ held_noted tally row limits may same =
     ∙ ap (λ content. noted (totals_of tally) (change_to tally row.municipality row.list (unwrap_or content 0))) same.votes_are
 
 -- the totals with one row more of a batch are those before it with its change noted
-row_judged : (desk : ℕ) (tally : Tally) (rows : List Row) (i : ℕ) (row : Row) (verdict : Verdict) → IsTally (upto desk tally rows i) → IsBatch rows → slice_get rows i ≡ Some row → MayStand tally.canton row → judge_row tally row ≡ verdict → is_refusal verdict ≡ false →
+row_judged : (desk : ℕ) (tally : Tally) (rows : List Row) (i : ℕ) (row : Row) (verdict : Verdict) → IsTally (upto desk tally rows i)
+    → IsBatch rows → slice_get rows i ≡ Some row → MayStand tally.canton row → judge_row tally row ≡ verdict → is_refusal verdict ≡ false →
     totals_of (upto desk tally rows (i + 1)) ≡ noted (totals_of (upto desk tally rows i)) (row_change (upto desk tally rows i) row)
 row_judged desk tally rows i row Accept limits batch is may judged fine =
     let there = placed tally.canton row.municipality row.list may.place in
@@ -95,10 +109,13 @@ row_judged desk tally rows i row Same limits batch is may judged fine =
     subst (λ entry. IsHeld entry row.number row.votes) (sym (held_still desk tally rows i row batch is)) (row_held tally row judged))
 row_judged desk tally rows i row (Refused reason) limits batch is may judged fine = absurd (true≢false fine)
 
-pub row_noted : (desk : ℕ) (tally : Tally) (rows : List Row) (i : ℕ) (row : Row) → desk ≤ last_desk Two → IsTally tally → IsBatch rows → of_all (map (judge_row tally) rows) ≡ Accept → slice_get rows i ≡ Some row → totals_of (upto desk tally rows (i + 1)) ≡ noted (totals_of (upto desk tally rows i)) (row_change tally row)
+pub row_noted : (desk : ℕ) (tally : Tally) (rows : List Row) (i : ℕ) (row : Row) → desk ≤ last_desk Two → IsTally tally → IsBatch rows
+    → of_all (map (judge_row tally) rows) ≡ Accept → slice_get rows i ≡ Some row → totals_of (upto desk tally rows (i + 1))
+    ≡ noted (totals_of (upto desk tally rows i)) (row_change tally row)
 row_noted desk tally rows i row named limits batch accepted is =
     let within = slice_get_within rows i row is in
-    row_judged desk tally rows i row (judge_row tally row) (IsTally-upto desk tally rows i named limits batch accepted (omega arith)) batch is (rows_kept tally rows i row batch accepted is) refl (row_unrefused tally rows i row accepted is)
+    row_judged desk tally rows i row (judge_row tally row) (IsTally-upto desk tally rows i named limits batch accepted (omega arith))
+    batch is (rows_kept tally rows i row batch accepted is) refl (row_unrefused tally rows i row accepted is)
     ∙ ap (noted (totals_of (upto desk tally rows i))) (row_change_still desk tally rows i row batch is)
 
 rows_noted : (desk : ℕ) (tally : Tally) (rows : List Row) (i : ℕ) → desk ≤ last_desk Two → IsTally tally → IsBatch rows → of_all (map (judge_row tally) rows) ≡ Accept → i ≤ length rows →
@@ -113,22 +130,28 @@ rows_noted desk tally rows (suc i) named limits batch accepted within =
           ∙ row_noted desk tally rows i row named limits batch accepted found.2
           ∙ ap (λ (t : VoteTotals). noted t (row_change tally row)) (rows_noted desk tally rows i named limits batch accepted (omega arith))
           ∙ sym (fold-append noted (totals_of tally) (map (row_change tally) (take i rows)) (row_change tally row ∷ []))
-          ∙ ap (all_noted (totals_of tally)) (sym (map-append (row_change tally) (take i rows) (row ∷ [])) ∙ ap (map (row_change tally)) (sym (rows_more rows i row found.2)) ∙ ap (λ n. map (row_change tally) (take n rows)) (sym next))
+          ∙ ap (all_noted (totals_of tally)) (sym (map-append (row_change tally) (take i rows) (row ∷ []))
+          ∙ ap (map (row_change tally)) (sym (rows_more rows i row found.2)) ∙ ap (λ n. map (row_change tally) (take n rows)) (sym next))
       | inr past ↦ absurd (omega arith)
     ]
 
-pub return_noted : (desk : ℕ) (tally : Tally) (row : Row) → IsTally tally → judge_row tally row ≡ Accept → totals_of (changed tally (commands.Return desk row)) ≡ noted (totals_of tally) (row_change tally row)
+pub return_noted : (desk : ℕ) (tally : Tally) (row : Row) → IsTally tally → judge_row tally row ≡ Accept
+    → totals_of (changed tally (commands.Return desk row)) ≡ noted (totals_of tally) (row_change tally row)
 return_noted desk tally row limits accepted =
     let p = passes tally row.municipality row.list row.number (Some row.votes) (ap is_refusal accepted) in
     entry_noted tally row.municipality row.list (entry_of desk row) limits (placed tally.canton row.municipality row.list p.place).0 (placed tally.canton row.municipality row.list p.place).1
 
-pub withdrawal_noted : (desk : ℕ) (tally : Tally) (municipality list number : ℕ) → IsTally tally → judge_content tally municipality list number None ≡ Accept → totals_of (changed tally (commands.Withdraw desk municipality list number)) ≡ noted (totals_of tally) (change_to tally municipality list 0)
+pub withdrawal_noted : (desk : ℕ) (tally : Tally) (municipality list number : ℕ) → IsTally tally → judge_content tally municipality list
+    number None ≡ Accept → totals_of (changed tally (commands.Withdraw desk municipality list number))
+    ≡ noted (totals_of tally) (change_to tally municipality list 0)
 withdrawal_noted desk tally municipality list number limits accepted =
     let p = passes tally municipality list number None (ap is_refusal accepted) in
-    entry_noted tally municipality list (record { desk = desk; number = number; votes = None }) limits (placed tally.canton municipality list p.place).0 (placed tally.canton municipality list p.place).1
+    entry_noted tally municipality list (record { desk = desk; number = number; votes = None }) limits
+    (placed tally.canton municipality list p.place).0 (placed tally.canton municipality list p.place).1
 
 -- after an accepted command the totals are those before it with each of its changes noted
-pub command_noted : (tally : Tally) (command : Command) → IsTally tally → HasNumbers command → judge tally command ≡ Accept → totals_of (changed tally command) ≡ all_noted (totals_of tally) (changes_of tally command)
+pub command_noted : (tally : Tally) (command : Command) → IsTally tally → HasNumbers command → judge tally command ≡ Accept
+    → totals_of (changed tally command) ≡ all_noted (totals_of tally) (changes_of tally command)
 command_noted tally (commands.Return desk row) limits numbers accepted = return_noted desk tally row limits accepted
 command_noted tally (commands.Withdraw desk municipality list number) limits numbers accepted = withdrawal_noted desk tally municipality list number limits accepted
 command_noted tally (commands.Close municipality) limits numbers accepted = refl

@@ -56,7 +56,8 @@ passing_put p k v (e ∷ es) sorted =
     let parts = and_parts (below_all key_cmp e.0 es) (is_sorted key_cmp es) sorted in
     let old = passing_first p e es in
     elim (key_cmp k e.0) as (λ o. key_cmp k e.0 ≡ o →
-    passing p (by_order o ((k, v) ∷ e ∷ es) ((e.0, v) ∷ es) (e ∷ put key_cmp k v es)) + cond (p k) (votes_found (cond (is_eq o) (Some e.1) (find key_cmp k es))) 0 ≡ passing p (e ∷ es) + cond (p k) (votes_of v) 0) [
+    passing p (by_order o ((k, v) ∷ e ∷ es) ((e.0, v) ∷ es) (e ∷ put key_cmp k v es)) + cond (p k)
+    (votes_found (cond (is_eq o) (Some e.1) (find key_cmp k es))) 0 ≡ passing p (e ∷ es) + cond (p k) (votes_of v) 0) [
       | Less ↦ λ o.
           let none : find key_cmp k es ≡ None = find_before k es (before_all k e.0 es o parts.0) in
           let nothing : cond (p k) (votes_found (find key_cmp k es)) 0 ≡ 0 = ap (λ found. cond (p k) (votes_found found) 0) none ∙ no_votes (p k) in

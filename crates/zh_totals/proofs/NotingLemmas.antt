@@ -1,5 +1,6 @@
 -- The totals of a count with one entry more.
-use Rattle.std.proofs.Common.{◌≡◌, ◌∙◌, ℕ, ◌+◌, ◌-◌, ◌*◌, ◌≤◌, ◌<◌, ◌==◌, Bool, true, false, cond, T, length, get_or, set, sym, ap, subst, refl, arith, inl, inr, length-set, get_or-set_same, get_or-set_other}
+use Rattle.std.proofs.Common.{◌≡◌, ◌∙◌, ℕ, ◌+◌, ◌-◌, ◌*◌, ◌≤◌, ◌<◌, ◌==◌, Bool, true, false, cond, T, length, get_or, set, sym, ap, subst}
+use Rattle.std.proofs.Common.{refl, arith, inl, inr, length-set, get_or-set_same, get_or-set_other}
 use Rattle.std.specs.FinMap as map_of
 use Rattle.std.specs.FinMap.Entries.{put, find, is_sorted}
 use Rattle.std.proofs.lemmas.Bool.{cases_eq, and_from, and_parts, eq-eqb, eqb-true, false_from_ne_true}
@@ -28,7 +29,8 @@ counted_insert : (tally : Tally) (m l : ℕ) (entry : Entry) (d g : ℕ) →
 counted_insert tally m l entry d g =
     let p : ℕ × ℕ → Bool = lies_in tally.canton d g in
     let es = map_of.entries tally.entries in
-    let new : passing p (map_of.entries (map_of.insert tally.entries (m, l) entry)) ≡ passing p (put key_cmp (m, l) entry es) = ap (passing p) (map_of.entries-insert keys_total tally.entries (m, l) entry) in
+    let new : passing p (map_of.entries (map_of.insert tally.entries (m, l) entry)) ≡ passing p (put key_cmp (m, l) entry es) =
+    ap (passing p) (map_of.entries-insert keys_total tally.entries (m, l) entry) in
     let old : votes_held tally m l ≡ votes_found (find key_cmp (m, l) es) = ap votes_found (map_of.get-entries tally.entries (m, l)) in
     ap (λ n. n + cond (p (m, l)) (votes_held tally m l) 0) new
     ∙ ap (λ n. passing p (put key_cmp (m, l) entry es) + cond (p (m, l)) n 0) old
@@ -50,7 +52,8 @@ counted_there : (tally : Tally) (m l : ℕ) (entry : Entry) (d : ℕ) → consti
     counted (with_entry tally m l entry) d l ≡ counted tally d l - votes_held tally m l + votes_of entry
 counted_there tally m l entry d is =
     let sum : counted (with_entry tally m l entry) d l + votes_held tally m l ≡ counted tally d l + votes_of entry =
-    subst (λ b. counted (with_entry tally m l entry) d l + cond b (votes_held tally m l) 0 ≡ counted tally d l + cond b (votes_of entry) 0) (lies_there tally.canton d l m l is refl) (counted_insert tally m l entry d l) in
+    subst (λ b. counted (with_entry tally m l entry) d l + cond b (votes_held tally m l) 0 ≡ counted tally d l + cond b (votes_of entry) 0)
+    (lies_there tally.canton d l m l is refl) (counted_insert tally m l entry d l) in
     let within : votes_held tally m l ≤ counted tally d l = subst (λ n. votes_held tally m l ≤ counted tally n l) is (held_counted tally m l) in
     omega arith
 

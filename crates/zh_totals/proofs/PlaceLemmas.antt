@@ -1,5 +1,6 @@
 -- The places of a table that is kept row by row.
-use Rattle.std.proofs.Common.{◌≡◌, ℕ, suc, ◌+◌, ◌*◌, ◌/◌, ◌%◌, ◌<◌, ◌≤◌, ◌∙◌, List, length, get_or, map, sym, ap, inl, inr, arith, div-add-mod', mod-lt, div-lt_iff_lt-mul, mul_comm, mul-le-mul_right, suc-mul}
+use Rattle.std.proofs.Common.{◌≡◌, ℕ, suc, ◌+◌, ◌*◌, ◌/◌, ◌%◌, ◌<◌, ◌≤◌, ◌∙◌, List, length, get_or, map, sym, ap, inl, inr, arith}
+use Rattle.std.proofs.Common.{div-add-mod', mod-lt, div-lt_iff_lt-mul, mul_comm, mul-le-mul_right, suc-mul}
 use Rattle.std.proofs.lemmas.Bool.{cases_lt}
 use Rattle.std.proofs.lemmas.List.{ext_get_or, length-map, get_or-map}
 use Rattle.std.specs.Prelude.{flat_map}

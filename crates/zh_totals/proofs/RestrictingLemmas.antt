@@ -28,7 +28,8 @@ pub record IsHeld (tally : Tally) (key : ℕ × ℕ) : Type 0 where
 is_held : (tally : Tally) (key : ℕ × ℕ) (entry : Entry) → IsTally tally → map_of.get tally.entries key ≡ Some entry → IsHeld tally key
 is_held tally key entry limits is =
     let there : has_municipality tally.canton key.0 ≡ true = subst (λ h. IfSome h (λ _. has_municipality tally.canton key.0 ≡ true)) is (limits.municipalities key.0 key.1) in
-    let standing : stands tally.canton (constituency_of tally.canton key.0) key.1 ≡ true = subst (λ h. IfSome h (λ _. stands tally.canton (constituency_of tally.canton key.0) key.1 ≡ true)) is (limits.lists key.0 key.1) in
+    let standing : stands tally.canton (constituency_of tally.canton key.0) key.1 ≡ true =
+    subst (λ h. IfSome h (λ _. stands tally.canton (constituency_of tally.canton key.0) key.1 ≡ true)) is (limits.lists key.0 key.1) in
     record { municipality = municipality_within tally.canton key.0 there; list = list_within tally.canton (constituency_of tally.canton key.0) key.1 standing }
 
 nothing : (a : Bool) → ◌≡◌ {A = Option Entry} (cond a None None) None
@@ -41,7 +42,8 @@ agree a b None same = nothing a ∙ sym (nothing b)
 agree a b (Some entry) same = ap (λ (t : Bool). cond t (Some entry) None) (same entry refl)
 
 -- equal entries make equal counts
-pub same_tally : (tally : Tally) (a b : map_of.FinMap key_cmp Entry) → ((key : ℕ × ℕ) → map_of.get a key ≡ map_of.get b key) → ◌≡◌ {A = Tally} (record tally { entries = a }) (record tally { entries = b })
+pub same_tally : (tally : Tally) (a b : map_of.FinMap key_cmp Entry) → ((key : ℕ × ℕ) → map_of.get a key ≡ map_of.get b key)
+    → ◌≡◌ {A = Tally} (record tally { entries = a }) (record tally { entries = b })
 same_tally tally a b same = ap (λ entries. record tally { entries = entries }) (map_of.same_map keys_total exact_keys a b same)
 
 -- two restrictions that agree on the keys that are held are one
@@ -78,7 +80,9 @@ pub after_last : (tally : Tally) → IsTally tally → held_before tally (length
 after_last tally limits =
     same_tally tally (held_before tally (length tally.canton.municipalities + 1) 1).entries tally.entries (λ key.
     get_before tally (length tally.canton.municipalities + 1) 1 key
-    ∙ agree (is_before (length tally.canton.municipalities + 1) 1 key) true (map_of.get tally.entries key) (λ entry is. let held = is_held tally key entry limits is in all_before_last (length tally.canton.municipalities) key.0 key.1 held.municipality.1))
+    ∙ agree (is_before (length tally.canton.municipalities + 1) 1 key) true (map_of.get tally.entries key)
+    (λ entry is. let held = is_held tally key entry limits is in all_before_last (length tally.canton.municipalities) key.0 key.1
+    held.municipality.1))
 
 -- the next list takes its own key in
 one_more : (m l a b : ℕ) → is_before m (l + 1) (a, b) ≡ ((a == m && b == l) || is_before m l (a, b))

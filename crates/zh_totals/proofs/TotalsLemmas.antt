@@ -48,7 +48,8 @@ noted_here totals change can =
     get_or-set_same totals.votes place (sum_after totals change) 0 (omega arith)
 
 -- another place
-noted_there : (totals : VoteTotals) (change : Change) (d g : ℕ) → place_in totals.canton d g ≢ place_in totals.canton change.constituency change.list → votes_in (noted totals change) d g ≡ votes_in totals d g
+noted_there : (totals : VoteTotals) (change : Change) (d g : ℕ) → place_in totals.canton d g ≢ place_in totals.canton change.constituency
+    change.list → votes_in (noted totals change) d g ≡ votes_in totals d g
 noted_there totals change d g other = get_or-set_other totals.votes (place_in totals.canton change.constituency change.list) (place_in totals.canton d g) (sum_after totals change) 0 other
 
 -- the votes of the change's constituency
@@ -59,11 +60,14 @@ noted_constituency totals change can =
     let number : change.list - 1 + 1 ≡ change.list = omega arith in
     let old : votes_in totals d (change.list - 1 + 1) ≡ votes_in totals d change.list = ap (votes_in totals d) number in
     let new : votes_in (noted totals change) d (change.list - 1 + 1) ≡ sum_after totals change = ap (votes_in (noted totals change) d) number ∙ noted_here totals change can in
-    let sums = sum_to_changed (length totals.canton.groups) (change.list - 1) (λ i. votes_in totals d (i + 1)) (λ i. votes_in (noted totals change) d (i + 1)) (omega arith) (λ i lt other. sym (noted_there totals change d (i + 1) (λ same. other (omega arith)))) in
+    let sums = sum_to_changed (length totals.canton.groups) (change.list - 1) (λ i. votes_in totals d (i + 1))
+    (λ i. votes_in (noted totals change) d (i + 1)) (omega arith)
+    (λ i lt other. sym (noted_there totals change d (i + 1) (λ same. other (omega arith)))) in
     omega arith
 
 -- those of another constituency
-pub noted_elsewhere : (totals : VoteTotals) (change : Change) (d : ℕ) → CanNote totals change → 1 ≤ d → d ≢ change.constituency → constituency_votes (noted totals change) d ≡ constituency_votes totals d
+pub noted_elsewhere : (totals : VoteTotals) (change : Change) (d : ℕ) → CanNote totals change → 1 ≤ d → d ≢ change.constituency
+    → constituency_votes (noted totals change) d ≡ constituency_votes totals d
 noted_elsewhere totals change d can from_one other =
     sum_to-ext (length totals.canton.groups) (λ i. votes_in (noted totals change) d (i + 1)) (λ i. votes_in totals d (i + 1)) (λ i lt.
     noted_there totals change d (i + 1) (λ same.
@@ -75,9 +79,12 @@ pub noted_all : (totals : VoteTotals) (change : Change) → CanNote totals chang
 noted_all totals change can =
     let number : change.constituency - 1 + 1 ≡ change.constituency = omega arith in
     let old : constituency_votes totals (change.constituency - 1 + 1) ≡ constituency_votes totals change.constituency = ap (constituency_votes totals) number in
-    let new : constituency_votes (noted totals change) (change.constituency - 1 + 1) ≡ constituency_votes (noted totals change) change.constituency = ap (constituency_votes (noted totals change)) number in
+    let new : constituency_votes (noted totals change) (change.constituency - 1 + 1) ≡ constituency_votes (noted totals change)
+    change.constituency = ap (constituency_votes (noted totals change)) number in
     let here = noted_constituency totals change can in
-    let sums = sum_to_changed (length totals.canton.constituencies) (change.constituency - 1) (λ i. constituency_votes totals (i + 1)) (λ i. constituency_votes (noted totals change) (i + 1)) (omega arith) (λ i lt other. sym (noted_elsewhere totals change (i + 1) can (omega arith) (omega arith))) in
+    let sums = sum_to_changed (length totals.canton.constituencies) (change.constituency - 1) (λ i. constituency_votes totals (i + 1))
+    (λ i. constituency_votes (noted totals change) (i + 1)) (omega arith)
+    (λ i lt other. sym (noted_elsewhere totals change (i + 1) can (omega arith) (omega arith))) in
     omega arith
 
 -- totals within their limits are so after a change that they can take
@@ -89,7 +96,8 @@ AreTotals-noted totals change are is = record {
 }
 
 -- the votes that are kept of a constituency
-pub constituency_at : (totals : VoteTotals) (sums : List ℕ) (d : ℕ) → AreConstituencies totals sums → 1 ≤ d → d ≤ length totals.canton.constituencies → slice_index sums (d - 1) ≡ constituency_votes totals d
+pub constituency_at : (totals : VoteTotals) (sums : List ℕ) (d : ℕ) → AreConstituencies totals sums → 1 ≤ d
+    → d ≤ length totals.canton.constituencies → slice_index sums (d - 1) ≡ constituency_votes totals d
 constituency_at totals sums d are from_one there =
     let number : d - 1 + 1 ≡ d = omega arith in
     are.votes (d - 1) (omega arith) ∙ ap (constituency_votes totals) number

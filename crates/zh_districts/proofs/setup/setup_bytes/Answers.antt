@@ -27,7 +27,9 @@ the_bytes c =
     let municipalities = rw c.deref-2.ensures.value at c.in_ok-put_municipalities.ensures in
     let groups = rw c.deref-3.ensures.value at c.in_ok-put_groups.ensures in
     let quorum = c.in_ok-put_quorum.ensures in
-    spelled c.setup.inside c.args.setup.now c.extend_from_slice.new.self.items c.put_constituencies.new.out.items c.put_municipalities.new.out.items c.put_groups.new.out.items c.put_quorum.new.out.items c.setup.view_is house constituencies municipalities groups quorum
+    spelled c.setup.inside c.args.setup.now c.extend_from_slice.new.self.items c.put_constituencies.new.out.items
+    c.put_municipalities.new.out.items c.put_groups.new.out.items c.put_quorum.new.out.items c.setup.view_is house constituencies
+    municipalities groups quorum
 
 pub returns-clause-spelling : goal.returns-clause-spelling
 returns-clause-spelling c = the_bytes c

@@ -21,4 +21,6 @@ returns-clause-opens g c =
     let long : c.in_ok-length.length ≡ disk_length = omega (arith, c.if-length-ne-DISK_LENGTH.false) in
     known_started file.is_clean file.faults file.seen c.args.path.now (λ d. (stored_history d).trail.now.bytes) c.in_ok-length.length
     (at c.args.folder.now) (at c.length_at.new.folder) (at c.lock.new.folder) c.in_ok-length.ensures.measures c.in_ok-locked.locked.file c.hand_over.result
-    long (file_locked c.args.path.now (λ l. l.file) file.seen (at c.length_at.new.folder) (at c.lock.new.folder) c.in_ok-locked.locked c.in_ok-locked.ensures.locks) (ok_bytes (λ d. (stored_history d).trail) (file.seen c.in_ok-locked.locked.file) c.hand_over.result c.hand_over.ensures.begins) c.hand_over.ensures.fault
+    long (file_locked c.args.path.now (λ l. l.file) file.seen (at c.length_at.new.folder) (at c.lock.new.folder) c.in_ok-locked.locked
+    c.in_ok-locked.ensures.locks) (ok_bytes (λ d. (stored_history d).trail) (file.seen c.in_ok-locked.locked.file) c.hand_over.result
+    c.hand_over.ensures.begins) c.hand_over.ensures.fault

@@ -6,6 +6,7 @@ use Rattle.zh_journal.proofs.record_writer.write_page.Goals as goal
 pub returns : goal.returns
 returns g c = record {
   call = told
-      (λ h by. subst (λ (l : List ℕ). Writes (c.args.at + 256 * c.args.i + 1) l c.write_at.result (g.D.Disk.history c.args.disk.now).trail (g.D.Disk.history c.write_at.new.self).trail) c.page_of-page.ensures by)
+      (λ h by. subst (λ (l : List ℕ). Writes (c.args.at + 256 * c.args.i + 1) l c.write_at.result (g.D.Disk.history c.args.disk.now).trail
+      (g.D.Disk.history c.write_at.new.self).trail) c.page_of-page.ensures by)
       c.write_at.ensures.call;
 }

@@ -31,14 +31,16 @@ returns-clause-written g c = in_front _ _ _ _ c.encode_command.ensures.spelling 
 pub returns-then-pages_of-pages_left-clause-call : goal.returns-then-pages_of-pages_left-clause-call
 returns-then-pages_of-pages_left-clause-call g c =
     let x = c.args.command.now in
-    let enough : pages_for x ≤ pages_left c.args.store.now.area = omega (arith, c.if-pages_of-pages_left.true, c.pages_left.ensures, c.pages_of.ensures, ap pages_of c.encode_command-len.ensures.length) in
+    let enough : pages_for x ≤ pages_left c.args.store.now.area =
+    omega (arith, c.if-pages_of-pages_left.true, c.pages_left.ensures, c.pages_of.ensures, ap pages_of c.encode_command-len.ensures.length) in
     no_call refl (λ h. has_made_room (ledger_of c.args.count.now c.args.store.now) x _ _ (le-leb (pages_for x) (pages_left c.args.store.now.area) enough))
 
 pub returns-clause-call : goal.returns-clause-call
 returns-clause-call g c =
     let s = ledger_of c.args.count.now c.args.store.now in
     let x = c.args.command.now in
-    let few : pages_left c.args.store.now.area < pages_for x = omega (arith, c.if-pages_of-pages_left.false, c.pages_left.ensures, c.pages_of.ensures, ap pages_of c.encode_command-len.ensures.length) in
+    let few : pages_left c.args.store.now.area < pages_for x =
+    omega (arith, c.if-pages_of-pages_left.false, c.pages_left.ensures, c.pages_of.ensures, ap pages_of c.encode_command-len.ensures.length) in
     let none : has_room s x ≡ false = lt-leb (pages_for x) (pages_left c.args.store.now.area) few in
     handed refl (λ h by. makes_room c.args.count.now c.args.store.now c.switch.ensures.limits x _ _ _ _ none by) c.in_ok-switch.ensures.call
 

@@ -10,7 +10,8 @@ returns-in_err-setup_equals-clause-call g c =
 pub returns-then-not-branch-clause-call : goal.returns-then-not-branch-clause-call
 returns-then-not-branch-clause-call g c =
     handed refl
-    (λ h by. asks_so (λ compares. count_differs (differs_so c.args.store.now c.args.reader.now c.args.count.now.canton c.args.setup.now c.in_ok-setup_equals.field-0 _ c.requires.setup compares c.if-not-branch.true)) by)
+    (λ h by. asks_so (λ compares. count_differs (differs_so c.args.store.now c.args.reader.now c.args.count.now.canton c.args.setup.now
+    c.in_ok-setup_equals.field-0 _ c.requires.setup compares c.if-not-branch.true)) by)
     c.in_ok-setup_equals.ensures.call
 
 pub returns-in_err-payload-clause-call : goal.returns-in_err-payload-clause-call

@@ -9,7 +9,9 @@ returns-then-not-replay_record-clause-refused c = λ is records framed.
     let pages = c.args.reader.now.pages in
     let reader = c.loop-payload.reader in
     let kept = c.loop-payload.invariant in
-    let next = remains_next pages reader.pages reader.page c.next.new.self.page c.args.reader.now.end reader.end c.args.count.now records c.loop-payload.count c.next.result c.in-Some.payload kept.pages kept.end c.in-Some.is c.next.ensures.none c.next.ensures.first (kept.remains records framed) in
+    let next = remains_next pages reader.pages reader.page c.next.new.self.page c.args.reader.now.end reader.end c.args.count.now records
+    c.loop-payload.count c.next.result c.in-Some.payload kept.pages kept.end c.in-Some.is c.next.ensures.none c.next.ensures.first
+    (kept.remains records framed) in
     remains_stuck pages reader.page c.args.reader.now.end c.args.count.now records c.loop-payload.count next.0
     (λ command from. c.if-not-replay_record.ensures.refused refl command from.speakable (from.spelled ∙ sym next.1) from.accepted from.room)
 
@@ -22,7 +24,9 @@ loop-payload-preserved c = record {
       let pages = c.args.reader.now.pages in
       let reader = c.loop-payload.reader in
       let kept = c.loop-payload.invariant in
-      let next = remains_next pages reader.pages reader.page c.next.new.self.page c.args.reader.now.end reader.end c.args.count.now records c.loop-payload.count c.next.result c.in-Some.payload kept.pages kept.end c.in-Some.is c.next.ensures.none c.next.ensures.first (kept.remains records framed) in
+      let next = remains_next pages reader.pages reader.page c.next.new.self.page c.args.reader.now.end reader.end c.args.count.now records
+      c.loop-payload.count c.next.result c.in-Some.payload kept.pages kept.end c.in-Some.is c.next.ensures.none c.next.ensures.first
+      (kept.remains records framed) in
       remains_less pages reader.page c.args.reader.now.end c.args.count.now records c.loop-payload.count next.0 c.next.new.self.page c.replay_record.new.count next.2
       (subst (λ (r : List ℕ). Replays c.args.format c.loop-payload.count (r ∷ []) c.replay_record.new.count) next.1 (c.if-not-replay_record.ensures.replayed refl));
 }

@@ -8,7 +8,8 @@ invariant-loop-payload l = record {
   pages : l.reader.pages ≡ l.initial.reader.pages;
   end : l.reader.end ≡ l.initial.reader.end;
   canton : l.count.canton ≡ l.initial.count.canton;
-  remains : (records : List (List ℕ)) → Frames 0 l.initial.reader.pages l.initial.reader.page records l.initial.reader.end → Remains l.format l.initial.reader.pages l.reader.page l.initial.reader.end l.initial.count records l.count;
+  remains : (records : List (List ℕ)) → Frames 0 l.initial.reader.pages l.initial.reader.page records l.initial.reader.end
+      → Remains l.format l.initial.reader.pages l.reader.page l.initial.reader.end l.initial.count records l.count;
 }
 
 abbrev pub decreases-loop-payload : goal.decreases-loop-payload

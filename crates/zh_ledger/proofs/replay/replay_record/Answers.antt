@@ -13,7 +13,8 @@ pub returns-clause-replayed : goal.returns-clause-replayed
 returns-clause-replayed c = λ is.
     let judged : judge c.args.count.now c.in-Some.command ≡ Accept = search rules in
     let room : c.args.count.now.accepted < 2 ^ 64 - 1 = omega (arith, ap (λ (t : Tally). t.accepted) c.count-now.ensures) in
-    let next : IsNext c.args.format c.args.count.now c.args.payload.now c.in-Some.command = record { speakable = c.in-Some.ensures.read.0; spelled = c.in-Some.ensures.read.1; accepted = judged; room = room } in
+    let next : IsNext c.args.format c.args.count.now c.args.payload.now c.in-Some.command =
+    record { speakable = c.in-Some.ensures.read.0; spelled = c.in-Some.ensures.read.1; accepted = judged; room = room } in
     subst (λ (tally : Tally). Replays c.args.format c.args.count.now (c.args.payload.now ∷ []) tally) (sym c.apply.ensures)
     (replays_one c.args.count.now c.args.payload.now c.in-Some.command next)
 

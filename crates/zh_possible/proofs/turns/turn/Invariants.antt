@@ -1,6 +1,6 @@
 use Rattle.zh_matrices.specs.Asked.{asked}
-use Rattle.zh_possible.specs.Ways.{rank_of, way_at}
-use Rattle.zh_possible.proofs.PathLemmas.{IsOnWay}
+use Rattle.zh_possible.specs.Ways.{way_at}
+use Rattle.zh_possible.proofs.PathLemmas.{IsOnWay, rank_of}
 use Rattle.zh_possible.proofs.turns.turn.Given as goal
 
 abbrev pub invariant-loop-row : goal.invariant-loop-row

@@ -7,7 +7,8 @@ use Rattle.zh_records.proofs.row_bytes.write_row.Goals as goal
 fields_written : (out : List ℕ) (m l n v : ℕ) (first second third : List ℕ) → length out ≡ 11 →
     first ≡ bytes_high_first 2 m ++ drop 2 out →
     second ≡ bytes_high_first 4 n ++ drop 4 (take (length (set first 2 l) - 3) (drop 3 (set first 2 l))) →
-    third ≡ bytes_high_first 4 v ++ drop 4 (take (length (put_mid 3 (length (set first 2 l) - 3) (set first 2 l) second) - 7) (drop 7 (put_mid 3 (length (set first 2 l) - 3) (set first 2 l) second))) →
+    third ≡ bytes_high_first 4 v ++ drop 4 (take (length (put_mid 3 (length (set first 2 l) - 3) (set first 2 l) second) - 7)
+    (drop 7 (put_mid 3 (length (set first 2 l) - 3) (set first 2 l) second))) →
     put_mid 7 (length (put_mid 3 (length (set first 2 l) - 3) (set first 2 l) second) - 7) (put_mid 3 (length (set first 2 l) - 3) (set first 2 l) second) third
     ≡ bytes_high_first 2 m ++ (l ∷ (bytes_high_first 4 n ++ bytes_high_first 4 v))
 fields_written (a ∷ b ∷ c ∷ d ∷ e ∷ f ∷ g ∷ h ∷ i ∷ j ∷ k ∷ []) m l n v first second third room e1 e2 e3 = rw (e3, e2, e1) refl

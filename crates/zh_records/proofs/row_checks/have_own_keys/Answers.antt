@@ -35,7 +35,8 @@ loop-i-init c = record {
 }
 
 -- one row more
-more : (bytes : List ℕ) (i : ℕ) (row : Row) → i < length bytes / 11 → get_or (rows_in bytes) i row ≡ row → map row_key (take (i + 1) (rows_in bytes)) ≡ map row_key (take i (rows_in bytes)) ++ (row_key row ∷ [])
+more : (bytes : List ℕ) (i : ℕ) (row : Row) → i < length bytes / 11 → get_or (rows_in bytes) i row ≡ row
+    → map row_key (take (i + 1) (rows_in bytes)) ≡ map row_key (take i (rows_in bytes)) ++ (row_key row ∷ [])
 more bytes i row within here =
     let count = length-rows_from (length bytes / 11) bytes in
     map_more row_key (rows_in bytes) i row (omega arith) ∙ ap (λ (r : Row). map row_key (take i (rows_in bytes)) ++ (row_key r ∷ [])) here

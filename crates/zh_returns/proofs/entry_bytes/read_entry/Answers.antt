@@ -9,7 +9,8 @@ use Rattle.zh_records.proofs.CallerLemmas.{four_read, first_fit}
 use Rattle.zh_returns.proofs.ZeroLemmas.{two_zeros, four_zeros}
 use Rattle.zh_returns.proofs.entry_bytes.read_entry.Goals as goal
 
-sixteen : (bytes : List ℕ) → length bytes ≡ 16 → get_or bytes 0 0 ∷ get_or bytes 1 0 ∷ (take 2 (drop 2 bytes) ++ (take 4 (take 4 (drop 4 bytes)) ++ (take 4 (take 4 (drop 8 bytes)) ++ take 4 (drop 12 bytes)))) ≡ bytes
+sixteen : (bytes : List ℕ) → length bytes ≡ 16 → get_or bytes 0 0 ∷ get_or bytes 1 0 ∷
+    (take 2 (drop 2 bytes) ++ (take 4 (take 4 (drop 4 bytes)) ++ (take 4 (take 4 (drop 8 bytes)) ++ take 4 (drop 12 bytes)))) ≡ bytes
 sixteen (a ∷ b ∷ c ∷ d ∷ e ∷ f ∷ g ∷ h ∷ i ∷ j ∷ k ∷ l ∷ m ∷ n ∷ o ∷ p ∷ []) whole = refl
 sixteen _ whole = absurd (omega arith)
 
@@ -38,7 +39,9 @@ pub returns-in-1 : goal.returns-in-1
 returns-in-1 c = record {
   read = (
     record { desk = omega (arith, c.last_desk.ensures); number = (omega arith, omega arith); votes = omega arith },
-    fields_read c.args.bytes.now 1 (get_or c.args.bytes.now 1 0) c.read_u32-number.result c.read_u32-votes.result c.requires (λ i. omega (arith, c.type_inv.bytes i)) (sym c.in-1.is) refl (sym c.is_zero.ensures ∙ c.if-not-is_zero.false) (sym c.is_zero-else-not-is_zero.ensures ∙ c.if-not-is_zero-2.false) c.read_u32-number.ensures c.read_u32-votes.ensures,
+    fields_read c.args.bytes.now 1 (get_or c.args.bytes.now 1 0) c.read_u32-number.result c.read_u32-votes.result c.requires
+        (λ i. omega (arith, c.type_inv.bytes i)) (sym c.in-1.is) refl (sym c.is_zero.ensures ∙ c.if-not-is_zero.false)
+        (sym c.is_zero-else-not-is_zero.ensures ∙ c.if-not-is_zero-2.false) c.read_u32-number.ensures c.read_u32-votes.ensures,
   );
   refused = tt;
 }
@@ -47,7 +50,10 @@ pub returns-in-2 : goal.returns-in-2
 returns-in-2 c = record {
   read = (
     record { desk = omega (arith, c.last_desk.ensures); number = (omega arith, omega arith); votes = tt },
-    fields_read c.args.bytes.now 2 (get_or c.args.bytes.now 1 0) c.read_u32-number.result 0 c.requires (λ i. omega (arith, c.type_inv.bytes i)) (sym c.in-2.is) refl (sym c.is_zero.ensures ∙ c.if-not-is_zero.false) (sym c.is_zero-else-not-is_zero.ensures ∙ c.if-not-is_zero-2.false) c.read_u32-number.ensures (sym c.if-votes-eq0-2.true ∙ c.read_u32-votes.ensures),
+    fields_read c.args.bytes.now 2 (get_or c.args.bytes.now 1 0) c.read_u32-number.result 0 c.requires
+        (λ i. omega (arith, c.type_inv.bytes i)) (sym c.in-2.is) refl (sym c.is_zero.ensures ∙ c.if-not-is_zero.false)
+        (sym c.is_zero-else-not-is_zero.ensures ∙ c.if-not-is_zero-2.false) c.read_u32-number.ensures
+        (sym c.if-votes-eq0-2.true ∙ c.read_u32-votes.ensures),
   );
   refused = tt;
 }

@@ -33,7 +33,8 @@ returns-then-not-none_set-clause-refused c = λ format tally canton limits paylo
           let flags = c.read_flags.new.flags in
           let closed : c.split_at-2.result.0.now ≡ map (closed_byte tally) (numbers 0 64) = c.split_at-2.ensures.front ∙ ap (take 64) first ∙ p.closed in
           let whole : length flags ≡ 8 * 64 = c.read_flags.ensures.length ∙ c.requires.closed in
-          let last : length tally.canton.municipalities ≡ c.municipalities-municipalities.result = ap (λ (s : Canton). length s.municipalities) canton ∙ sym c.municipalities-municipalities.ensures.count in
+          let last : length tally.canton.municipalities ≡ c.municipalities-municipalities.result =
+          ap (λ (s : Canton). length s.municipalities) canton ∙ sym c.municipalities-municipalities.ensures.count in
           let none = none_above tally flags 64 limits whole (λ place within.
           c.read_flags.ensures.flags place (omega (arith, c.read_flags.ensures.length)) ∙ ap (λ (b : List ℕ). bit_of (slice_index b (place / 8)) (place % 8)) closed
           ) in
@@ -47,7 +48,8 @@ returns-then-not-none_set-clause-refused c = λ format tally canton limits paylo
           ) in
           w.read_entries.ensures.refused w.if-not-read_entries.true (table_of tally 512)
           (length-table_of tally 512 ∙ sym c.requires.entries)
-          (subst (λ f. IsTable f c.args.setup.now (table_of tally 512)) (sym one_format) (subst (λ s. IsTable format s (table_of tally 512)) canton (table_within format tally 512 limits payload.desks)))
+          (subst (λ f. IsTable f c.args.setup.now (table_of tally 512)) (sym one_format)
+          (subst (λ s. IsTable format s (table_of tally 512)) canton (table_within format tally 512 limits payload.desks)))
           (sym p.entries ∙ sym (c.split_at-3.ensures.back ∙ ap (drop 175) (c.split_at-2.ensures.back ∙ ap (drop 64) first)))
     ]
 
@@ -58,7 +60,8 @@ returns-clause-limits c =
     let none : list_all not (drop (length canton.municipalities) flags) ≡ true =
     ap (λ (n : ℕ). list_all not (drop n flags)) (sym c.municipalities-municipalities.ensures.count) ∙ ap (list_all not) (sym (take_rest flags c.municipalities-municipalities.result))
     ∙ sym c.none_set.ensures ∙ c.if-not-none_set.false in
-    tables_within c.in-Some.format canton c.read_entries.new.table flags c.read_u64.result c.municipalities-municipalities.ensures.limits (c.read_entries.ensures.read c.if-not-read_entries.false).1 none (omega (arith, c.read_u64.type_inv))
+    tables_within c.in-Some.format canton c.read_entries.new.table flags c.read_u64.result c.municipalities-municipalities.ensures.limits
+    (c.read_entries.ensures.read c.if-not-read_entries.false).1 none (omega (arith, c.read_u64.type_inv))
 
 pub returns-clause-read : goal.returns-clause-read
 returns-clause-read c =
@@ -78,7 +81,9 @@ returns-clause-read c =
     subst (λ (b : List ℕ). (i : ℕ) → get_or b i 0 < 256) (sym flag_bytes_are) (first_fit 64 (drop 8 bytes) (λ i. omega (arith, get_or-drop 8 bytes i 0, fit (8 + i)))) in
     let flag_count : length flag_bytes ≡ 64 = c.split_at-2.ensures.front_len in
     let whole : length flags ≡ 8 * length flag_bytes = c.read_flags.ensures.length ∙ c.requires.closed ∙ ap (λ (n : ℕ). 8 * n) (sym flag_count) in
-    let flags_are = packed flags flag_bytes tally refl whole (unpacked flags flag_bytes whole flag_bytes_fit (λ place within. c.read_flags.ensures.flags place (omega (arith, c.read_flags.ensures.length)))) in
+    let flags_are = packed flags flag_bytes tally refl whole
+    (unpacked flags flag_bytes whole flag_bytes_fit
+    (λ place within. c.read_flags.ensures.flags place (omega (arith, c.read_flags.ensures.length)))) in
     let says_are : c.split_at-3.result.0.now ≡ take 175 (drop 64 (drop 8 bytes)) = c.split_at-3.ensures.front ∙ ap (take 175) (c.split_at-2.ensures.back ∙ ap (drop 64) c.split_at.ensures.back) in
     let entries = c.read_entries.ensures.read c.if-not-read_entries.false in (
       format,

@@ -14,6 +14,7 @@ loop-place-preserved c =
     let within : at < length c.loop-place.table = omega arith in
     let width : 16 * at + 16 - 16 * at ≡ 16 = omega arith in
     record {
-      spelled = blocks_more entry_spelling 16 c.args.bytes.now c.loop-place.table at c.in-Some.held within c.loop-place.invariant.spelled (c.in-Some.ensures.read.1 ∙ ap (λ (n : ℕ). take n (drop (16 * at) c.args.bytes.now)) width);
+      spelled = blocks_more entry_spelling 16 c.args.bytes.now c.loop-place.table at c.in-Some.held within c.loop-place.invariant.spelled
+          (c.in-Some.ensures.read.1 ∙ ap (λ (n : ℕ). take n (drop (16 * at) c.args.bytes.now)) width);
       held = held_more c.args.format c.args.setup.now c.loop-place.table at c.in-Some.held within c.in-Some.ensures.read.0 c.loop-place.invariant.held;
     }

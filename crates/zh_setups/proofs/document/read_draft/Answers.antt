@@ -14,7 +14,8 @@ pub overflow_cast-count : goal.overflow_cast-count
 overflow_cast-count c =
     let document = table_view c.args.document.now in
     let items = c.in_ok-constituencies.constituencies.items in
-    let read = constituencies_read document (map constituency items) (said_ok (values_at (codes "constituency") 32 document >>= each constituency_from) (map constituency items) c.in_ok-constituencies.ensures) in
+    let read = constituencies_read document (map constituency items)
+    (said_ok (values_at (codes "constituency") 32 document >>= each constituency_from) (map constituency items) c.in_ok-constituencies.ensures) in
     omega (arith, read.few, length-map items constituency, c.len-count.ensures, c.in_ok-constituencies.constituencies.ok.0)
 
 pub returns-in_err-_version : goal.returns-in_err-_version
@@ -36,7 +37,8 @@ returns-in_err-constituencies c =
     let p = err_from_is_err_and c.from_residual-in_err-constituencies.result c.from_residual-in_err-constituencies.ensures.1 in
     let v = said_ok (get_member (codes "version") document >>= number_within 1 2) c.in_ok-_version._version c.in_ok-_version.ensures in
     let h = said_ok (get_member (codes "house") document >>= number_within 1 400) c.in_ok-house.house c.in_ok-house.ensures in
-    rw (p.1, p.2) (fails_through c.in_err-constituencies.field-0.0 (values_at (codes "constituency") 32 document >>= each constituency_from) (setup_of document) (λ none. rw (v, h, none) refl) c.in_err-constituencies.ensures)
+    rw (p.1, p.2) (fails_through c.in_err-constituencies.field-0.0 (values_at (codes "constituency") 32 document >>= each constituency_from)
+    (setup_of document) (λ none. rw (v, h, none) refl) c.in_err-constituencies.ensures)
 
 pub returns-in_err-municipalities : goal.returns-in_err-municipalities
 returns-in_err-municipalities c =
@@ -48,7 +50,9 @@ returns-in_err-municipalities c =
     let h = said_ok (get_member (codes "house") document >>= number_within 1 400) c.in_ok-house.house c.in_ok-house.ensures in
     let cs = said_ok (values_at (codes "constituency") 32 document >>= each constituency_from) (map constituency items) c.in_ok-constituencies.ensures in
     let len : length (map constituency items) ≡ n = omega (arith, length-map items constituency, c.len-count.ensures, c.in_ok-constituencies.constituencies.ok.0) in
-    rw (p.1, p.2) (fails_through c.in_err-municipalities.field-0.0 (values_at (codes "municipality") 512 document >>= each (municipality_from n)) (setup_of document) (no_municipalities document _ _ n _ v h cs len) c.in_err-municipalities.ensures)
+    rw (p.1, p.2) (fails_through c.in_err-municipalities.field-0.0
+    (values_at (codes "municipality") 512 document >>= each (municipality_from n)) (setup_of document)
+    (no_municipalities document _ _ n _ v h cs len) c.in_err-municipalities.ensures)
 
 pub returns-in_err-groups : goal.returns-in_err-groups
 returns-in_err-groups c =
@@ -61,7 +65,8 @@ returns-in_err-groups c =
     let cs = said_ok (values_at (codes "constituency") 32 document >>= each constituency_from) (map constituency items) c.in_ok-constituencies.ensures in
     let len : length (map constituency items) ≡ n = omega (arith, length-map items constituency, c.len-count.ensures, c.in_ok-constituencies.constituencies.ok.0) in
     let ms = said_ok (values_at (codes "municipality") 512 document >>= each (municipality_from n)) (map municipality c.in_ok-municipalities.municipalities.items) c.in_ok-municipalities.ensures in
-    rw (p.1, p.2) (fails_through c.in_err-groups.field-0.0 (values_at (codes "group") 32 document >>= each (group_from n)) (setup_of document) (no_groups document _ _ n _ _ v h cs len ms) c.in_err-groups.ensures)
+    rw (p.1, p.2) (fails_through c.in_err-groups.field-0.0 (values_at (codes "group") 32 document >>= each (group_from n))
+    (setup_of document) (no_groups document _ _ n _ _ v h cs len ms) c.in_err-groups.ensures)
 
 pub returns-in_err-canton_quorum : goal.returns-in_err-canton_quorum
 returns-in_err-canton_quorum c =
@@ -75,7 +80,8 @@ returns-in_err-canton_quorum c =
     let len : length (map constituency items) ≡ n = omega (arith, length-map items constituency, c.len-count.ensures, c.in_ok-constituencies.constituencies.ok.0) in
     let ms = said_ok (values_at (codes "municipality") 512 document >>= each (municipality_from n)) (map municipality c.in_ok-municipalities.municipalities.items) c.in_ok-municipalities.ensures in
     let gs = said_ok (values_at (codes "group") 32 document >>= each (group_from n)) (map group c.in_ok-groups.groups.items) c.in_ok-groups.ensures in
-    rw (p.1, p.2) (fails_through c.in_err-canton_quorum.field-0.0 (quorum_of (get_member (codes "canton_quorum") document)) (setup_of document) (no_quorum document _ _ n _ _ _ v h cs len ms gs) c.in_err-canton_quorum.ensures)
+    rw (p.1, p.2) (fails_through c.in_err-canton_quorum.field-0.0 (quorum_of (get_member (codes "canton_quorum") document))
+    (setup_of document) (no_quorum document _ _ n _ _ _ v h cs len ms gs) c.in_err-canton_quorum.ensures)
 
 pub returns : goal.returns
 returns c =

@@ -10,12 +10,15 @@ use Rattle.zh_setups.proofs.document_parts.each_group.Goals as goal
 pub returns-in_err-part : goal.returns-in_err-part
 returns-in_err-part c =
     let p = err_from_is_err_and c.from_residual.result c.from_residual.ensures.1 in
-    rw (p.1, p.2) (ends (group_from c.args.constituencies) (map group c.loop-value.parts.items) c.args.values.now c.loop-value.value-index c.value-item.result _ _ c.loop-value-test.true c.value-item.is c.in_err-part.ensures c.loop-value.invariant)
+    rw (p.1, p.2) (ends (group_from c.args.constituencies) (map group c.loop-value.parts.items) c.args.values.now c.loop-value.value-index
+    c.value-item.result _ _ c.loop-value-test.true c.value-item.is c.in_err-part.ensures c.loop-value.invariant)
 
 pub loop-value-preserved : goal.loop-value-preserved
 loop-value-preserved c =
-    let grown : map group c.push.new.self.items ≡ map group c.loop-value.parts.items ++ group c.in_ok-part.part ∷ [] = ap (map group) c.in_ok-push.ensures.items ∙ map-append group c.loop-value.parts.items (c.in_ok-part.part ∷ []) in
-    rw grown (goes_on (group_from c.args.constituencies) (map group c.loop-value.parts.items) c.args.values.now c.loop-value.value-index c.value-item.result (group c.in_ok-part.part) _ c.loop-value-test.true c.value-item.is c.in_ok-part.ensures c.loop-value.invariant)
+    let grown : map group c.push.new.self.items ≡ map group c.loop-value.parts.items ++ group c.in_ok-part.part ∷ [] =
+    ap (map group) c.in_ok-push.ensures.items ∙ map-append group c.loop-value.parts.items (c.in_ok-part.part ∷ []) in
+    rw grown (goes_on (group_from c.args.constituencies) (map group c.loop-value.parts.items) c.args.values.now c.loop-value.value-index
+    c.value-item.result (group c.in_ok-part.part) _ c.loop-value-test.true c.value-item.is c.in_ok-part.ensures c.loop-value.invariant)
 
 pub returns : goal.returns
 returns c = grind (arith, common_steps)

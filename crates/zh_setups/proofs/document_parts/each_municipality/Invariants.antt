@@ -6,4 +6,6 @@ use Rattle.zh_setups.proofs.EachLemmas.{joined}
 use Rattle.zh_setups.proofs.document_parts.each_municipality.Given as goal
 
 abbrev pub invariant-loop-value : goal.invariant-loop-value
-invariant-loop-value l = joined (map municipality l.parts.items) (each (municipality_from l.constituencies) (map view (drop l.value-index l.values))) ≡ each (municipality_from l.constituencies) (map view l.values)
+invariant-loop-value l = joined (map municipality l.parts.items)
+    (each (municipality_from l.constituencies) (map view (drop l.value-index l.values))) ≡ each (municipality_from l.constituencies)
+    (map view l.values)

@@ -22,7 +22,8 @@ any_none : (f : List ℕ → Bool) → ((q : List ℕ) → f q ≡ false) → (r
 any_none f none [] = refl
 any_none f none (d ∷ rest) = ap (λ b. b || list_any (λ x. f (name_in x)) rest) (none (name_in d)) ∙ any_none f none rest
 
-any_more : (f g : List ℕ → Bool) (v : Data) → ((q : List ℕ) → g q ≡ (bytes_eq (name_in v) q || f q)) → (rest : List Data) → (list_any (λ d. f (name_in d)) rest || list_any (same_name v) rest) ≡ list_any (λ d. g (name_in d)) rest
+any_more : (f g : List ℕ → Bool) (v : Data) → ((q : List ℕ) → g q ≡ (bytes_eq (name_in v) q || f q)) → (rest : List Data)
+    → (list_any (λ d. f (name_in d)) rest || list_any (same_name v) rest) ≡ list_any (λ d. g (name_in d)) rest
 any_more f g v more [] = refl
 any_more f g v more (d ∷ rest) =
     or_swap (f (name_in d)) (list_any (λ x. f (name_in x)) rest) (same_name v d) (list_any (same_name v) rest)
@@ -63,7 +64,9 @@ seen names q = contains_by (λ k. slice_cmp nat_cmp q k.now) names
 
 pub loop-value-init : goal.loop-value-init
 unfolding seen
-loop-value-init c = ap (λ b. b || repeats same_name (map view c.args.values.now)) (any_none (seen c.new-names.result) (λ q. ap (list_any (λ k. is_eq (slice_cmp nat_cmp q k.now))) c.new-names.ensures.empty) (map view c.args.values.now))
+loop-value-init c = ap (λ b. b || repeats same_name (map view c.args.values.now))
+    (any_none (seen c.new-names.result) (λ q. ap (list_any (λ k. is_eq (slice_cmp nat_cmp q k.now))) c.new-names.ensures.empty)
+    (map view c.args.values.now))
 
 pub loop-value-preserved : goal.loop-value-preserved
 unfolding seen

@@ -10,7 +10,8 @@ lies_within : (c : goal.After-index) → (1 ≤ c.index.result.now.constituency)
 lies_within c =
     let items = c.self.inside.municipalities.items in
     let within : c.args.municipality - 1 < length items = omega (arith, length-map items municipality, ap (λ (v : canton.Canton). length v.municipalities) c.self.view_is) in
-    let lies = image_at (λ x. (1 ≤ x.constituency) × (x.constituency ≤ length (map constituency c.self.inside.constituencies.items))) municipality items _ c.index.result.now c.self.invariant.within within c.index.ensures in
+    let lies = image_at (λ x. (1 ≤ x.constituency) × (x.constituency ≤ length (map constituency c.self.inside.constituencies.items)))
+    municipality items _ c.index.result.now c.self.invariant.within within c.index.ensures in
     (lies.0, omega (arith, lies.1, ap (λ (v : canton.Canton). length v.constituencies) c.self.view_is))
 
 pub returns-clause-from_one : goal.returns-clause-from_one

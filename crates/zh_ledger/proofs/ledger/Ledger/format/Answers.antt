@@ -30,7 +30,8 @@ first_is g c =
     let size : first.len ≡ 262391 = omega (arith, first.ok.0, c.in_ok-first.ensures) in
     let room : length c.deref_mut.result.now ≡ 262391 = omega (arith, c.deref_mut.ensures.len, size) in
     let whole : length c.encode-2.new.out ≡ 262391 = omega (arith, c.encode-2.auto.out, room) in
-    filled 262391 first.len (payload_spelling Two c.in_ok-new.field-0) c.encode-2.new.out c.deref_mut.result.now _ c.deref-2.result.now size room whole c.encode-2.ensures.spelling c.deref-2.ensures.value
+    filled 262391 first.len (payload_spelling Two c.in_ok-new.field-0) c.encode-2.new.out c.deref_mut.result.now _ c.deref-2.result.now size
+    room whole c.encode-2.ensures.spelling c.deref-2.ensures.value
     ∙ ap (payload_spelling Two) c.in_ok-new.ensures
 
 pub returns-clause-call : goal.returns-clause-call

@@ -19,7 +19,8 @@ slice_bounds-write_row-end c =
 abbrev pushed_of : List Row → ℕ → Pushed
 pushed_of rows room = record { rows = rows; room = room }
 
-after_write : (c : goal.After-self-2-1) → IsPushed c.self.inside.bytes.now c.self.inside.count c.args.row (put_mid (11 * c.self.inside.count) (11 * c.self.inside.count + 11 - 11 * c.self.inside.count) c.self.inside.bytes.now c.write_row.new.out)
+after_write : (c : goal.After-self-2-1) → IsPushed c.self.inside.bytes.now c.self.inside.count c.args.row
+    (put_mid (11 * c.self.inside.count) (11 * c.self.inside.count + 11 - 11 * c.self.inside.count) c.self.inside.bytes.now c.write_row.new.out)
 after_write c =
     let n = c.self.inside.count in
     let bytes = c.self.inside.bytes.now in

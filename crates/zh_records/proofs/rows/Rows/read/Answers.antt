@@ -10,7 +10,11 @@ use Rattle.zh_records.specs.Rows.{row_key, row_spelling, IsSpeakableRow, IsBatch
 use Rattle.zh_records.specs.Keys.{key_cmp}
 use Rattle.zh_records.proofs.RowBytesLemmas.{length-rows_from, rows_spelled, rows_are}
 use Rattle.zh_records.proofs.rows.Rows.read.Goals as goal
-use Rattle.zh_records.proofs.rows.Rows.read.Goals.{then-bytes-count-via-then-bytes-count, then-bytes-count-via-else-bytes-count+then-count-eq0, then-bytes-count-via-else-bytes-count+else-count-eq0+then-count-gt-MOST_ROWS, then-not-are_numbered-via-then-not-are_numbered, then-not-are_numbered-via-else-not-are_numbered+then-not-have_own_keys}
+use Rattle.zh_records.proofs.rows.Rows.read.Goals.{then-bytes-count-via-then-bytes-count}
+use Rattle.zh_records.proofs.rows.Rows.read.Goals.{then-bytes-count-via-else-bytes-count+then-count-eq0}
+use Rattle.zh_records.proofs.rows.Rows.read.Goals.{then-bytes-count-via-else-bytes-count+else-count-eq0+then-count-gt-MOST_ROWS}
+use Rattle.zh_records.proofs.rows.Rows.read.Goals.{then-not-are_numbered-via-then-not-are_numbered}
+use Rattle.zh_records.proofs.rows.Rows.read.Goals.{then-not-are_numbered-via-else-not-are_numbered+then-not-have_own_keys}
 
 -- the bytes are those of no number of rows from 1 to 1,000
 pub returns-then-bytes-count : goal.returns-then-bytes-count
@@ -32,7 +36,8 @@ returns-then-not-are_numbered c = record {
   refused = λ rows batch spelled.
       let r = rows_are rows c.args.bytes.now batch.are_rows.speakable spelled in
       let speakable : All IsSpeakableRow (rows_in c.args.bytes.now) = subst (All IsSpeakableRow) (sym r.same) batch.are_rows.speakable in
-      let keys : IsDistinct (eq_by_cmp key_cmp) (map row_key (rows_in c.args.bytes.now)) = subst (λ (rs : List Row). IsDistinct (eq_by_cmp key_cmp) (map row_key rs)) (sym r.same) batch.are_rows.keys in
+      let keys : IsDistinct (eq_by_cmp key_cmp) (map row_key (rows_in c.args.bytes.now)) =
+      subst (λ (rs : List Row). IsDistinct (eq_by_cmp key_cmp) (map row_key rs)) (sym r.same) batch.are_rows.keys in
       elim c.then-not-are_numbered.branch [
         | then-not-are_numbered-via-then-not-are_numbered w ↦ both_ways c.are_numbered.result w.if-not-are_numbered.true (c.are_numbered.ensures.1 speakable)
         | then-not-are_numbered-via-else-not-are_numbered+then-not-have_own_keys w ↦ both_ways w.have_own_keys.result w.if-not-have_own_keys.true (w.have_own_keys.ensures.1 keys)

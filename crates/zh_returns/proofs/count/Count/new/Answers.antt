@@ -8,7 +8,14 @@ use Rattle.zh_returns.proofs.LimitsLemmas.{IsTally-empty}
 use Rattle.zh_returns.proofs.count.Count.new.Goals as goal
 
 -- tables without an entry and without a flag stand for the empty count
-stands_for : (c : goal.In_ok-unset) → ◌≡◌ {A = Tally} (record { canton = c.args.setup.now; entries = entries_of c.in_ok-absent.field-0.items; closed = closed_of c.in_ok-unset.field-0.items; accepted = 0 }) (empty c.args.setup.now)
+stands_for : (c : goal.In_ok-unset)
+    → ◌≡◌ {A = Tally} (record {
+      canton = c.args.setup.now;
+      entries = entries_of c.in_ok-absent.field-0.items;
+      closed =
+          closed_of c.in_ok-unset.field-0.items;
+      accepted = 0;
+    }) (empty c.args.setup.now)
 stands_for c =
     let entries = entries_of-absent c.in_ok-absent.field-0.items c.in_ok-absent.ensures.absent in
     let closed = closed_of-unset c.in_ok-unset.field-0.items c.in_ok-unset.ensures.unset in

@@ -15,8 +15,10 @@ put_row-requires-clause-stand g c =
 
 pub loop-i-preserved : goal.loop-i-preserved
 loop-i-preserved g c =
-    let still : (follower other : g.row.F.Denot) (count last : Tally) → follower ≡ other → count ≡ last → g.F.Follower.follows other last.canton last.entries → g.F.Follower.follows follower count.canton count.entries =
-    λ follower other count last same equal follows. subst (λ f. g.F.Follower.follows f count.canton count.entries) (sym same) (subst (λ (t : Tally). g.F.Follower.follows other t.canton t.entries) (sym equal) follows) in
+    let still : (follower other : g.row.F.Denot) (count last : Tally) → follower ≡ other → count ≡ last
+    → g.F.Follower.follows other last.canton last.entries → g.F.Follower.follows follower count.canton count.entries =
+    λ follower other count last same equal follows. subst (λ f. g.F.Follower.follows f count.canton count.entries) (sym same)
+    (subst (λ (t : Tally). g.F.Follower.follows other t.canton t.entries) (sym equal) follows) in
     let before = c.args.self.now in
     let now = c.loop-i.self in
     let rows = c.args.rows.now in
@@ -24,7 +26,8 @@ loop-i-preserved g c =
     let batch = c.len-i-end.ensures.batch in
     elim c.if-accepts.branch [
       | then-accepts w ↦ record {
-        put = w.self-is ∙ row_put c.args.desk before now w.put_row.new.self rows c.loop-i.i row c.accepts.result batch c.get-row.ensures c.loop-i.invariant.put c.accepts.ensures w.if-accepts.true w.put_row.ensures.put;
+        put = w.self-is ∙ row_put c.args.desk before now w.put_row.new.self rows c.loop-i.i row c.accepts.result batch c.get-row.ensures
+            c.loop-i.invariant.put c.accepts.ensures w.if-accepts.true w.put_row.ensures.put;
         follows = still c.if-accepts.follower w.put_row.new.follower c.if-accepts.self w.put_row.new.self w.follower-is w.self-is w.put_row.ensures.follows;
       }
       | else-accepts w ↦ record {

@@ -8,13 +8,15 @@ use Rattle.zh_snapshot.proofs.store.Store.append.Goals as goal
 pub returns-in-Ok-clause-call : goal.returns-in-Ok-clause-call
 returns-in-Ok-clause-call g c =
     handed refl
-    (λ h by. store_appends _ c.args.payload.now c.args.self.now _ _ (ap (λ (s : State). s.area) c.self.view_is) (c.self.invariant.1 ∙ ap (λ (s : State). journal_at s.slot) c.self.view_is) (g.met.D.Disk.size c.args.disk.now h) by)
+    (λ h by. store_appends _ c.args.payload.now c.args.self.now _ _ (ap (λ (s : State). s.area) c.self.view_is)
+    (c.self.invariant.1 ∙ ap (λ (s : State). journal_at s.slot) c.self.view_is) (g.met.D.Disk.size c.args.disk.now h) by)
     c.in-Ok.ensures.call
 
 pub returns-in-Err-Device-clause-call : goal.returns-in-Err-Device-clause-call
 returns-in-Err-Device-clause-call g c =
     handed (rw c.in-Err-Device.field-0-is refl)
-    (λ h by. store_fails _ c.args.payload.now c.args.self.now _ _ (ap (λ (s : State). s.area) c.self.view_is) (c.self.invariant.1 ∙ ap (λ (s : State). journal_at s.slot) c.self.view_is) (g.met.D.Disk.size c.args.disk.now h) _ _ by)
+    (λ h by. store_fails _ c.args.payload.now c.args.self.now _ _ (ap (λ (s : State). s.area) c.self.view_is)
+    (c.self.invariant.1 ∙ ap (λ (s : State). journal_at s.slot) c.self.view_is) (g.met.D.Disk.size c.args.disk.now h) _ _ by)
     c.in-Err-Device.ensures.call
 
 pub returns-in-Err-Full-clause-broken : goal.returns-in-Err-Full-clause-broken

@@ -18,7 +18,8 @@ pub invariant_of-result : goal.invariant_of-result
 invariant_of-result c =
     let canton = c.args.setup.now in
     let limits = c.constituencies-constituencies.ensures.limits in
-    let kept : c.in_ok-no_votes-2.field-0.items ≡ replicate (length canton.constituencies) 0 = c.in_ok-no_votes-2.ensures ∙ ap (λ (n : ℕ). replicate n 0) c.constituencies-constituencies.ensures.count in
+    let kept : c.in_ok-no_votes-2.field-0.items ≡ replicate (length canton.constituencies) 0 = c.in_ok-no_votes-2.ensures
+    ∙ ap (λ (n : ℕ). replicate n 0) c.constituencies-constituencies.ensures.count in
     record {
       totals = subst (λ (votes : List ℕ). AreTotals (record { canton = canton; votes = votes })) (sym (votes_are c)) (AreTotals-of (empty canton) (IsTally-empty canton limits));
       constituencies =

@@ -46,8 +46,12 @@ invariant_of-self c =
     let votes_are = c.replace.ensures ∙ ap (λ (votes : List ℕ). set votes place (slice_index votes place - change.before + change.after)) c.deref_mut.ensures.value in
     let sums_are = c.replace-2.ensures ∙ ap (λ (sums : List ℕ). set sums at (slice_index sums at - change.before + change.after)) c.deref_mut-2.ensures.value in
     let fields = fields_noted totals c.self.inside.constituencies.items change place votes sums c.self.invariant.totals c.self.invariant.constituencies is place_is votes_are sums_are in
-    let new_votes = with_items_is c.self.inside.votes votes (ap length votes_are ∙ length-set totals.votes place (slice_index totals.votes place - change.before + change.after) ∙ sym c.self.inside.votes.ok.0) in
-    let new_sums = with_items_is c.self.inside.constituencies sums (ap length sums_are ∙ length-set c.self.inside.constituencies.items at (slice_index c.self.inside.constituencies.items at - change.before + change.after) ∙ sym c.self.inside.constituencies.ok.0) in
+    let new_votes = with_items_is c.self.inside.votes votes
+    (ap length votes_are ∙ length-set totals.votes place (slice_index totals.votes place - change.before + change.after)
+    ∙ sym c.self.inside.votes.ok.0) in
+    let new_sums = with_items_is c.self.inside.constituencies sums
+    (ap length sums_are ∙ length-set c.self.inside.constituencies.items at
+    (slice_index c.self.inside.constituencies.items at - change.before + change.after) ∙ sym c.self.inside.constituencies.ok.0) in
     record {
       totals = subst (λ (n : List ℕ). AreTotals (record totals { votes = n })) (sym new_votes) fields.totals_are;
       constituencies =
