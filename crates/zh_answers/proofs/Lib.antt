@@ -1,2 +1,4 @@
 mod AnswerLemmas
 mod BrokenLemmas
+mod WithoutCommandLemmas
+pub mod CallerLemmas

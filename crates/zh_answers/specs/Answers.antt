@@ -14,10 +14,14 @@ use Rattle.zh_desks.specs.Batches.{rows_of, with_batch}
 use Rattle.zh_desks.specs.declared.desk.Desk.{Desk}
 use Rattle.zh_desks.specs.RowFaults.{unfit, fault_in}
 use Rattle.zh_desks.specs.declared.fault.RowFault.{RowFault}
-use Rattle.zh_commands.specs.Commands.{own_command}
+use Rattle.zh_commands.specs.Commands.{desk_command}
 use Rattle.zh_commands.specs.declared.lines.Line.{Line}
 use Rattle.zh_commands.specs.declared.lines.Request.{Request}
 use Rattle.zh_commands.specs.declared.lines.Request.TheVariants as requests
+use Rattle.zh_commands.specs.declared.lines.BatchStep.{BatchStep}
+use Rattle.zh_commands.specs.declared.lines.BatchStep.TheVariants as steps
+use Rattle.zh_commands.specs.declared.lines.DeskQuery.{DeskQuery}
+use Rattle.zh_commands.specs.declared.lines.DeskQuery.TheVariants as queries
 use Rattle.zh_commands.specs.declared.replies.Reply.{Reply}
 use Rattle.zh_commands.specs.declared.replies.Reply.TheVariants.{Stored, Same, Held, Dropped, Refused}
 use Rattle.zh_commands.specs.declared.replies.Reply.TheVariants.{Nothing, Shows, ShowsWithdrawn, LastDesk}
@@ -81,22 +85,26 @@ abbrev pub answer_to_commit : Option (List Row) → Reply
 answer_to_commit None = Refused refusals.NoBatch
 answer_to_commit (Some rows) = Same
 
--- the replies that a line of this desk may get that gives no command, by the count and the batches
-abbrev pub MayReplyTo : Tally → desks.Held → Desk → Request → Reply → Type 0
-MayReplyTo tally batches desk requests.Open reply = reply ≡ answer_to_open (rows_of batches desk)
-MayReplyTo tally batches desk (requests.Row row) reply = MayAnswerRow tally (rows_of batches desk) row reply
-MayReplyTo tally batches desk requests.Commit reply = reply ≡ answer_to_commit (rows_of batches desk)
-MayReplyTo tally batches desk requests.Drop reply = reply ≡ answer_to_drop (rows_of batches desk)
-MayReplyTo tally batches desk (requests.Show municipality list) reply = reply ≡ answer_to_show tally municipality list
-MayReplyTo tally batches desk (requests.Last municipality list) reply = reply ≡ answer_to_last tally municipality list
-MayReplyTo tally batches desk request reply = ⊥
+-- the replies to a step of a desk that has this batch
+abbrev pub MayReplyToStep : Tally → Option (List Row) → BatchStep → Reply → Type 0
+MayReplyToStep tally rows steps.Open reply = reply ≡ answer_to_open rows
+MayReplyToStep tally rows (steps.Row row) reply = MayAnswerRow tally rows row reply
+MayReplyToStep tally rows steps.Drop reply = reply ≡ answer_to_drop rows
 
--- the same of all answers: a sheet is given for a line of sheets alone
+-- the answers to a query
+abbrev pub MayAnswerQuery : Tally → DeskQuery → Answer → Type 0
+MayAnswerQuery tally (queries.Show municipality list) answer = answer ≡ answers.Reply (answer_to_show tally municipality list)
+MayAnswerQuery tally (queries.Last municipality list) answer = answer ≡ answers.Reply (answer_to_last tally municipality list)
+MayAnswerQuery tally queries.Sheet answer = MayGive tally false answer
+MayAnswerQuery tally queries.Final answer = MayAnswerFinal tally answer
+
+-- the answers that a line of this desk may get that gives no command, by the count and the batches
 abbrev pub MayAnswerTo : Tally → desks.Held → Desk → Request → Answer → Type 0
-MayAnswerTo tally batches desk requests.Sheet answer = MayGive tally false answer
-MayAnswerTo tally batches desk requests.Final answer = MayAnswerFinal tally answer
-MayAnswerTo tally batches desk request (answers.Reply reply) = MayReplyTo tally batches desk request reply
-MayAnswerTo tally batches desk request (answers.Sheet sheet is_final) = ⊥
+MayAnswerTo tally batches desk (requests.Command command) answer = ⊥
+MayAnswerTo tally batches desk requests.Commit answer = answer ≡ answers.Reply (answer_to_commit (rows_of batches desk))
+MayAnswerTo tally batches desk (requests.Batch step) answer =
+    (reply : Reply) × MayReplyToStep tally (rows_of batches desk) step reply × (answer ≡ answers.Reply reply)
+MayAnswerTo tally batches desk (requests.Query query) answer = MayAnswerQuery tally query answer
 
 -- the command that a commit of a desk gives
 abbrev pub batch_of : ℕ → Option (List Row) → Option Command
@@ -106,16 +114,17 @@ batch_of desk (Some (row ∷ rows)) = Some (commands.Batch desk (row ∷ rows))
 
 -- the command that a line of a desk that holds these rows gives
 abbrev pub command_of : Desk → Option (List Row) → Request → Option Command
+command_of desk rows (requests.Command command) = Some (desk_command desk command)
 command_of desk rows requests.Commit = batch_of desk.number rows
-command_of desk rows request = own_command desk request
+command_of desk rows request = None
 
 -- the batch of a desk after a line of it that was answered so
 abbrev pub batch_after : Option (List Row) → Request → Reply → Option (List Row)
-batch_after rows requests.Open (Held count) = Some []
-batch_after (Some rows) (requests.Row row) (Held count) = Some (rows ++ row ∷ [])
+batch_after rows (requests.Batch steps.Open) (Held count) = Some []
+batch_after (Some rows) (requests.Batch (steps.Row row)) (Held count) = Some (rows ++ row ∷ [])
+batch_after rows (requests.Batch steps.Drop) (Dropped count) = None
 batch_after rows requests.Commit (Stored accepted) = None
 batch_after rows requests.Commit Same = None
-batch_after rows requests.Drop (Dropped count) = None
 batch_after rows request reply = rows
 
 -- the batches after a line that was answered so: only that of its desk can be another

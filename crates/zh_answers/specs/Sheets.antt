@@ -18,14 +18,7 @@ use Rattle.zh_answers.specs.declared.answer.Answer.TheVariants as answers
 -- the name under which a sheet is refused
 abbrev pub sheet_refusal : SheetFault → Refusal
 sheet_refusal faults.Memory = refusals.Memory
-sheet_refusal faults.TiedSeats = refusals.TiedSeats
-sheet_refusal (faults.NoSeat constituency) = refusals.NoSeat constituency
-sheet_refusal faults.NoGroup = refusals.NoGroup
-sheet_refusal faults.NoVoters = refusals.NoVoters
-sheet_refusal faults.TiedUpper = refusals.TiedUpper
-sheet_refusal (faults.NoVotes constituency) = refusals.NoVotes constituency
-sheet_refusal (faults.TiedLower constituency group) = refusals.TiedLower constituency group
-sheet_refusal faults.Exhausted = refusals.Exhausted
+sheet_refusal (faults.Refused refusal) = refusals.Sheet refusal
 
 -- the answer with this sheet, or with why there is none
 abbrev pub answer_with : Bool → Result Distribution SheetFault → Answer

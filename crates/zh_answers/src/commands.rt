@@ -4,7 +4,7 @@ ghost use Rattle.std.specs.Prelude.{◌≡◌, ◌≤◌, false, length};
 ghost use Rattle.zh_records.specs.Rows.{rows_length};
 ghost use Rattle.zh_records.specs.declared.command.Command.TheVariants as commands;
 ghost use Rattle.zh_records.specs.Spelling.{HasNumbers};
-ghost use Rattle.zh_answers.specs.Answers.{batch_of, batch_after, command_of, held_after};
+ghost use Rattle.zh_answers.specs.Answers.{answer_to_commit, batch_of, batch_after, command_of, held_after};
 ghost use Rattle.zh_answers.specs.declared.answer.Answer.TheVariants as answers;
 ghost use Rattle.zh_commands.specs.Lines.{IsRequest};
 ghost use Rattle.zh_desks.specs.Batches.{rows_of, with_batch};
@@ -13,10 +13,11 @@ ghost use Rattle.zh_answers.specs.Requests.{Acts, MayAnswerWhere, ReportsOutcome
 ghost use Rattle.zh_commands.specs.declared.lines.Request.TheVariants as requests;
 
 use crate::answer::Answer;
+use crate::batch_steps::{drop_batch, hold, open_batch};
 use crate::outcomes::reply_to;
-use crate::without_command::answer_without_command;
+use crate::queries::answer_query;
 use std::alloc::Global;
-use zh_commands::{Line, Refusal, Reply, Request};
+use zh_commands::{BatchStep, Line, Refusal, Reply, Request};
 use zh_desks::{Batch, Desk, Desks};
 use zh_disk::Disk;
 use zh_ledger::Ledger;
@@ -52,8 +53,8 @@ pub fn submit_batch<D: Disk>(
     submit(ledger, disk, &Command::Batch { desk, rows })
 }
 
-/// Answers what a desk asks for: a command is submitted, and every other line answered from memory. In `rows` there is
-/// room for the bytes of a batch.
+/// Answers what a desk asks for: a command is submitted, and every other line answered from memory. After a fault of the
+/// device all is `reopen-disk`. In `rows` there is room for the bytes of a batch.
 pub fn answer_to<'s, D: Disk>(
     alloc: Global,
     ledger: &mut Ledger<'s>,
@@ -70,17 +71,20 @@ pub fn answer_to<'s, D: Disk>(
     ensures held { desks.new ≡ held_after desks.old line result }
     ensures untouched { answer_may_write result ≡ false → disk.new ≡ disk.old }
 {
-    // Whether the disk failed before is asked once: by the ledger where a command is submitted, and else here or in `commit`.
-    if let Some(command) = line.command() {
-        return Answer::Reply(submit(ledger, disk, &command));
-    }
-    if let Request::Commit = line.request {
-        return Answer::Reply(commit(ledger, desks, rows, disk, line.desk));
-    }
     if ledger.is_broken() {
         return Answer::Reply(Reply::Refused(Refusal::ReopenDisk));
     }
-    answer_without_command(alloc, ledger.count(), ledger.totals(), desks, line)
+    let desk = line.desk;
+    match line.request {
+        Request::Command(command) => Answer::Reply(submit(ledger, disk, &command.of_desk(desk))),
+        Request::Commit => Answer::Reply(commit(ledger, desks, rows, disk, desk)),
+        Request::Batch(BatchStep::Open) => Answer::Reply(open_batch(alloc, desks, desk)),
+        Request::Batch(BatchStep::Row(row)) => {
+            Answer::Reply(hold(ledger.count(), desks, desk, row))
+        }
+        Request::Batch(BatchStep::Drop) => Answer::Reply(drop_batch(desks, desk)),
+        Request::Query(query) => answer_query(alloc, ledger.count(), ledger.totals(), query),
+    }
 }
 
 /// Submits a desk's batch as one command. It ends where it is stored, or held already.
@@ -93,14 +97,13 @@ fn commit<D: Disk>(
 ) -> Reply
     requires room { rows_length ≤ length rows.old }
     ensures acts { (log : Log) × Acts (on_disk ledger.old (D.history disk.old)) (batch_of desk.number (rows_of desks.old desk))
-        (MayAnswerWhere ledger.old.store.broken ledger.old.tally desks.old (record { desk = desk; request = requests.Commit }))
-        (answers.Reply result) log (on_disk ledger.new (D.history disk.new)) }
+        (λ answer. answer ≡ answers.Reply (answer_to_commit (rows_of desks.old desk))) (answers.Reply result) log
+        (on_disk ledger.new (D.history disk.new)) }
     ensures held { desks.new ≡ with_batch desks.old desk (batch_after (rows_of desks.old desk) requests.Commit result) }
     ensures untouched { answer_may_write (answers.Reply result) ≡ false → disk.new ≡ disk.old }
 {
     let reply = match desks.batch(desk) {
         Some(batch) if batch.len() > 0 => submit_batch(ledger, disk, desk.number, batch, rows),
-        _ if ledger.is_broken() => Reply::Refused(Refusal::ReopenDisk),
         Some(_) => Reply::Same,
         None => Reply::Refused(Refusal::NoBatch),
     };

@@ -2,10 +2,11 @@
 #![tactic(auto)]
 
 mod answer;
+mod batch_steps;
 mod commands;
 mod outcomes;
+mod queries;
 mod sheets;
-mod without_command;
 
 pub use answer::Answer;
 pub use commands::{answer_to, submit_batch};

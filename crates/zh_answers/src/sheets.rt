@@ -17,14 +17,7 @@ pub fn sheet_refusal(fault: SheetFault) -> Refusal
 {
     match fault {
         SheetFault::Memory => Refusal::Memory,
-        SheetFault::TiedSeats => Refusal::TiedSeats,
-        SheetFault::NoSeat(constituency) => Refusal::NoSeat(constituency),
-        SheetFault::NoGroup => Refusal::NoGroup,
-        SheetFault::NoVoters => Refusal::NoVoters,
-        SheetFault::TiedUpper => Refusal::TiedUpper,
-        SheetFault::NoVotes(constituency) => Refusal::NoVotes(constituency),
-        SheetFault::TiedLower(constituency, group) => Refusal::TiedLower(constituency, group),
-        SheetFault::Exhausted => Refusal::Exhausted,
+        SheetFault::Refused(refusal) => Refusal::Sheet(refusal),
     }
 }
 

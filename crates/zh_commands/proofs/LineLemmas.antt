@@ -3,7 +3,10 @@ use Rattle.std.proofs.Common.{◌≡◌, ℕ, ◌≤◌, ◌+◌, ◌*◌, List,
 use Rattle.std.specs.Coded.{le_prop}
 use Rattle.std.proofs.lemmas.Fmt.{decimal_injective, decimal_digit, length-decimal-le}
 use Rattle.zh_commands.specs.declared.lines.Request.{Request}
-use Rattle.zh_commands.specs.declared.lines.Request.TheVariants as requests
+use Rattle.zh_commands.specs.declared.lines.Request.TheVariants.{Command, Batch, Query}
+use Rattle.zh_commands.specs.declared.lines.DeskCommand.TheVariants as commands
+use Rattle.zh_commands.specs.declared.lines.BatchStep.TheVariants as steps
+use Rattle.zh_commands.specs.declared.lines.DeskQuery.TheVariants as queries
 use Rattle.zh_commands.specs.declared.lines.Line.{Line}
 use Rattle.zh_commands.specs.declared.lines.LineFault.{LineFault}
 use Rattle.zh_commands.specs.declared.lines.LineFault.TheVariants as faults
@@ -34,7 +37,9 @@ numerals-short (n ∷ ns) all =
     omega (arith, digits, numerals-short ns all.1, length-append (decimal n) (numerals ns))
 
 length-form_of : (request : Request) → (length (form_of request).word ≤ 10) × (length (form_of request).numbers ≤ 4)
-length-form_of requests.Open = (omega arith, omega arith)
+length-form_of (Command (commands.Close m)) = (omega arith, omega arith)
+length-form_of (Batch steps.Open) = (omega arith, omega arith)
+length-form_of (Query queries.Sheet) = (omega arith, omega arith)
 length-form_of request = (omega arith, omega arith)
 
 length-request_text : (request : Request) → IsRequest request → length (request_text request) ≤ 54

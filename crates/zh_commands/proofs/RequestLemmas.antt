@@ -1,11 +1,14 @@
 -- Requests are distinguished by their words.
-use Rattle.std.proofs.Common.{◌≡◌, ◌≢◌, ℕ, true, List, [], ◌∷◌, ◌++◌, get_or, drop, decimal, sym, ap, ◌∙◌, refl, subst, arith, Option, Some, None}
+use Rattle.std.proofs.Common.{◌≡◌, ◌≢◌, ℕ, true, List, [], ◌∷◌, ◌++◌, get_or, drop, codes, decimal, sym, ap, ◌∙◌, refl, subst, arith, Option, Some, None}
 use Rattle.std.specs.Option.{MatchOption}
 use Rattle.std.specs.Str.{bytes_eq, IsUtf8}
 use Rattle.std.proofs.lemmas.Fmt.{decimal_injective}
 use Rattle.zh_records.specs.declared.row.Row.{Row}
 use Rattle.zh_commands.specs.declared.lines.Request.{Request}
-use Rattle.zh_commands.specs.declared.lines.Request.TheVariants as requests
+use Rattle.zh_commands.specs.declared.lines.Request.TheVariants.{Command, Batch, Query}
+use Rattle.zh_commands.specs.declared.lines.DeskCommand.TheVariants as commands
+use Rattle.zh_commands.specs.declared.lines.BatchStep.TheVariants as steps
+use Rattle.zh_commands.specs.declared.lines.DeskQuery.TheVariants as queries
 use Rattle.zh_commands.specs.Words.{first_word, numerals, AreNumerals}
 use Rattle.zh_commands.specs.Forms.{form_of}
 use Rattle.zh_commands.specs.Lines.{IsRequest}
@@ -36,7 +39,9 @@ record IsWorded (request : Request) : Type 0 where
 
 worded : (request : Request) → IsWorded request
 unfolding lib.Utf8.encode
-worded requests.Open = record { one_word = refl; text = ((form_of requests.Open).word, (refl, refl)); itself = refl }
+worded (Command (commands.Close m)) = record { one_word = refl; text = (codes "close", (refl, refl)); itself = refl }
+worded (Batch steps.Open) = record { one_word = refl; text = (codes "open", (refl, refl)); itself = refl }
+worded (Query queries.Sheet) = record { one_word = refl; text = (codes "sheet", (refl, refl)); itself = refl }
 worded request = record { one_word = refl; text = ((form_of request).word, (refl, refl)); itself = refl }
 
 -- the row of these numbers
@@ -50,9 +55,28 @@ record IsLike (a b : Request) : Type 0 where
 
 -- two words are compared byte by byte
 alike : (a b : Request) → bytes_eq (form_of a).word (form_of b).word ≡ true → IsLike a b
-alike requests.Open = elim [ requests.Open ↦ λ same. record { alone = λ e. e; one = λ e. refl } | _ ↦ λ same. absurd (cc) ]
+alike (Command (commands.Close m)) = elim [
+  | Command (commands.Close n) ↦ λ same. record { alone = λ e. cc; one = λ e. cc }
+  | Batch steps.Open ↦ λ same. absurd (cc)
+  | Query queries.Sheet ↦ λ same. absurd (cc)
+  | _ ↦ λ same. absurd (cc)
+]
+alike (Batch steps.Open) = elim [
+  | Command (commands.Close n) ↦ λ same. absurd (cc)
+  | Batch steps.Open ↦ λ same. record { alone = λ e. e; one = λ e. refl }
+  | Query queries.Sheet ↦ λ same. absurd (cc)
+  | _ ↦ λ same. absurd (cc)
+]
+alike (Query queries.Sheet) = elim [
+  | Command (commands.Close n) ↦ λ same. absurd (cc)
+  | Batch steps.Open ↦ λ same. absurd (cc)
+  | Query queries.Sheet ↦ λ same. record { alone = λ e. e; one = λ e. refl }
+  | _ ↦ λ same. absurd (cc)
+]
 alike a = elim [
-  | requests.Open ↦ λ same. absurd (cc)
+  | Command (commands.Close n) ↦ λ same. absurd (cc)
+  | Batch steps.Open ↦ λ same. absurd (cc)
+  | Query queries.Sheet ↦ λ same. absurd (cc)
   | _ ↦ λ same. record { alone = λ e. cc; one = λ e. let rows = ap row_from e in cc }
 ]
 

@@ -2,7 +2,10 @@
 use Rattle.std.specs.Prelude.{ℕ, List, [], ◌∷◌, codes, Option, Some, None}
 use Rattle.zh_records.specs.declared.row.Row.{Row}
 use Rattle.zh_commands.specs.declared.lines.Request.{Request}
-use Rattle.zh_commands.specs.declared.lines.Request.TheVariants as requests
+use Rattle.zh_commands.specs.declared.lines.Request.TheVariants.{Command, Commit, Batch, Query}
+use Rattle.zh_commands.specs.declared.lines.DeskCommand.TheVariants as commands
+use Rattle.zh_commands.specs.declared.lines.BatchStep.TheVariants as steps
+use Rattle.zh_commands.specs.declared.lines.DeskQuery.TheVariants as queries
 
 -- a word and the numbers after it, of which one may be a replacement number
 pub record Form : Type 0 where
@@ -16,16 +19,16 @@ row_numbers row = row.municipality ∷ row.list ∷ row.number ∷ row.votes ∷
 
 -- a row a request
 abbrev pub form_of : Request → Form
-form_of (requests.Return row) = record { word = codes "return"; numbers = row_numbers row; replacement = Some row.number }
-form_of (requests.Withdraw municipality list number) =
+form_of (Command (commands.Return row)) = record { word = codes "return"; numbers = row_numbers row; replacement = Some row.number }
+form_of (Command (commands.Withdraw municipality list number)) =
     record { word = codes "withdraw"; numbers = municipality ∷ list ∷ number ∷ []; replacement = Some number }
-form_of (requests.Close municipality) = record { word = codes "close"; numbers = municipality ∷ []; replacement = None }
-form_of (requests.Reopen municipality) = record { word = codes "reopen"; numbers = municipality ∷ []; replacement = None }
-form_of requests.Open = record { word = codes "open"; numbers = []; replacement = None }
-form_of (requests.Row row) = record { word = codes "row"; numbers = row_numbers row; replacement = Some row.number }
-form_of requests.Commit = record { word = codes "commit"; numbers = []; replacement = None }
-form_of requests.Drop = record { word = codes "drop"; numbers = []; replacement = None }
-form_of (requests.Show municipality list) = record { word = codes "show"; numbers = municipality ∷ list ∷ []; replacement = None }
-form_of (requests.Last municipality list) = record { word = codes "last"; numbers = municipality ∷ list ∷ []; replacement = None }
-form_of requests.Sheet = record { word = codes "sheet"; numbers = []; replacement = None }
-form_of requests.Final = record { word = codes "final"; numbers = []; replacement = None }
+form_of (Command (commands.Close municipality)) = record { word = codes "close"; numbers = municipality ∷ []; replacement = None }
+form_of (Command (commands.Reopen municipality)) = record { word = codes "reopen"; numbers = municipality ∷ []; replacement = None }
+form_of Commit = record { word = codes "commit"; numbers = []; replacement = None }
+form_of (Batch steps.Open) = record { word = codes "open"; numbers = []; replacement = None }
+form_of (Batch (steps.Row row)) = record { word = codes "row"; numbers = row_numbers row; replacement = Some row.number }
+form_of (Batch steps.Drop) = record { word = codes "drop"; numbers = []; replacement = None }
+form_of (Query (queries.Show municipality list)) = record { word = codes "show"; numbers = municipality ∷ list ∷ []; replacement = None }
+form_of (Query (queries.Last municipality list)) = record { word = codes "last"; numbers = municipality ∷ list ∷ []; replacement = None }
+form_of (Query queries.Sheet) = record { word = codes "sheet"; numbers = []; replacement = None }
+form_of (Query queries.Final) = record { word = codes "final"; numbers = []; replacement = None }

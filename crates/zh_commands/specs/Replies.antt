@@ -3,6 +3,7 @@ use Rattle.std.specs.Prelude.{ℕ, ◌^◌, ◌<◌, List, [], ◌∷◌, ◌++�
 use Rattle.zh_returns.specs.declared.verdict.Reason.{Reason}
 use Rattle.zh_returns.specs.declared.verdict.Reason.TheVariants as reasons
 use Rattle.zh_desks.specs.declared.fault.RowFault.TheVariants as row_faults
+use Rattle.zh_sheet.specs.Refusals.{IsSheetRefusal, refusal_name}
 use Rattle.zh_commands.specs.declared.replies.Reply.{Reply}
 use Rattle.zh_commands.specs.declared.replies.Reply.TheVariants.{Stored, Same, Held, Dropped, Nothing}
 use Rattle.zh_commands.specs.declared.replies.Reply.TheVariants.{Shows, ShowsWithdrawn, LastDesk, Refused}
@@ -34,22 +35,7 @@ name refusals.ReopenDisk = codes "reopen-disk"
 name refusals.Spent = codes "spent"
 name refusals.BatchOpen = codes "batchopen"
 name refusals.Csv = codes "csv"
-name refusals.TiedSeats = codes "tied seats"
-name (refusals.NoSeat constituency) = codes "noseat " ++ decimal constituency
-name refusals.NoGroup = codes "nogroup"
-name refusals.NoVoters = codes "novoters"
-name refusals.TiedUpper = codes "tied upper"
-name (refusals.NoVotes constituency) = codes "novotes " ++ decimal constituency
-name (refusals.TiedLower constituency group) = codes "tied lower " ++ decimal constituency ++ 32 ∷ decimal group
-name refusals.Exhausted = codes "exhausted"
-
--- the numbers at the end of a refusal's name, if any
-abbrev pub name_numbers : Refusal → List ℕ
-name_numbers (refusals.Judged (reasons.NotClosed municipality)) = decimal municipality
-name_numbers (refusals.NoSeat constituency) = decimal constituency
-name_numbers (refusals.NoVotes constituency) = decimal constituency
-name_numbers (refusals.TiedLower constituency group) = decimal constituency ++ 32 ∷ decimal group
-name_numbers refusal = []
+name (refusals.Sheet refusal) = refusal_name refusal
 
 -- what a reply says after the desk
 abbrev pub answer : Reply → List ℕ
@@ -70,9 +56,7 @@ reply_text desk reply = decimal desk ++ 32 ∷ answer reply ++ 10 ∷ []
 -- the numbers of a refusal and of a reply fit their types
 abbrev pub IsRefusal : Refusal → Type 0
 IsRefusal (refusals.Judged (reasons.NotClosed municipality)) = municipality < 2 ^ 32
-IsRefusal (refusals.NoSeat constituency) = constituency < 2 ^ 32
-IsRefusal (refusals.NoVotes constituency) = constituency < 2 ^ 32
-IsRefusal (refusals.TiedLower constituency group) = (constituency < 2 ^ 32) × (group < 2 ^ 32)
+IsRefusal (refusals.Sheet refusal) = IsSheetRefusal refusal
 IsRefusal refusal = Unit {0}
 
 abbrev pub IsReply : Reply → Type 0

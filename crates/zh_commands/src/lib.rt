@@ -12,12 +12,13 @@ mod text;
 mod words;
 
 pub use laws::{one_desk, one_reading, one_reply, one_spelling};
-pub use lines::{Line, LineFault, Request};
+pub use lines::{BatchStep, DeskCommand, DeskQuery, Line, LineFault, Request};
 pub use output::{WriteFault, put};
 pub use parser::{desk_of, parse_line};
 pub use replies::{Refusal, Reply};
-pub use reply_writer::write_reply;
+pub use reply_writer::{write_answer, write_reply};
 pub use shown::{Sign, sign_at};
 pub use words::numeral;
 pub use zh_desks::{Desk, RowFault};
 pub use zh_returns::Reason;
+pub use zh_sheet::SheetRefusal;

@@ -1,6 +1,6 @@
-ghost use Rattle.std.specs.Prelude.{◌≡◌, IfSome};
+ghost use Rattle.std.specs.Prelude.{◌≡◌};
 ghost use Rattle.zh_records.specs.Spelling.{HasNumbers};
-ghost use Rattle.zh_commands.specs.Commands.{own_command};
+ghost use Rattle.zh_commands.specs.Commands.{desk_command};
 ghost use Rattle.zh_commands.specs.Lines.{IsRequest};
 
 use thiserror::Error;
@@ -16,9 +16,22 @@ pub struct Line {
     pub request: Request,
 }
 
-/// The forms of a line after its desk.
+/// What a desk asks for.
 #[derive(Clone, Copy)]
 pub enum Request {
+    /// A command, which the line gives by itself.
+    Command(DeskCommand),
+    /// `commit`: the desk's batch becomes one command.
+    Commit,
+    /// A step of the desk's batch.
+    Batch(BatchStep),
+    /// A question about the count.
+    Query(DeskQuery),
+}
+
+/// The commands that a line gives by itself.
+#[derive(Clone, Copy)]
+pub enum DeskCommand {
     /// `return M L N V`: the votes of a list in a municipality, under a replacement number from 1.
     Return(Row),
     /// `withdraw M L N`: a list is withdrawn in a municipality, under a replacement number from 1.
@@ -35,53 +48,53 @@ pub enum Request {
     Reopen {
         municipality: u32,
     },
+}
+
+/// What a desk does with its batch, of which no command comes.
+#[derive(Clone, Copy)]
+pub enum BatchStep {
     /// `open`: a batch of the desk begins.
     Open,
     /// `row M L N V`: a return for the desk's batch.
     Row(Row),
-    /// `commit`: the desk's batch becomes one command.
-    Commit,
     /// `drop`: the desk's batch is given up.
     Drop,
+}
+
+/// What a desk asks about the count, which changes nothing.
+#[derive(Clone, Copy)]
+pub enum DeskQuery {
     /// `show M L`: what is held for a list in a municipality.
-    Show {
-        municipality: u32,
-        list: u32,
-    },
+    Show { municipality: u32, list: u32 },
     /// `last M L`: the desk that set what is held for a list in a municipality.
-    Last {
-        municipality: u32,
-        list: u32,
-    },
+    Last { municipality: u32, list: u32 },
     /// `sheet`: the seats by what is held.
     Sheet,
     /// `final`: the same, where every municipality is closed.
     Final,
 }
 
-impl Line {
-    /// The command that a line gives by itself, with its desk. The command of a `commit` has the rows that its desk holds,
-    /// and is not given here.
-    pub fn command(self) -> Option<Command<'static>>
-        ensures command { result ≡ own_command self.desk self.request }
-        ensures numbers { IsRequest self.request → IfSome result HasNumbers }
+impl DeskCommand {
+    /// The command, as this desk gives it.
+    pub fn of_desk(self, desk: Desk) -> Command<'static>
+        ensures command { result ≡ desk_command desk self }
+        ensures numbers { IsRequest (Request.Command self) → HasNumbers result }
     {
-        let desk = self.desk.number;
-        match self.request {
-            Request::Return(row) => Some(Command::Return { desk, row }),
-            Request::Withdraw {
+        let desk = desk.number;
+        match self {
+            DeskCommand::Return(row) => Command::Return { desk, row },
+            DeskCommand::Withdraw {
                 municipality,
                 list,
                 number,
-            } => Some(Command::Withdraw {
+            } => Command::Withdraw {
                 desk,
                 municipality,
                 list,
                 number,
-            }),
-            Request::Close { municipality } => Some(Command::Close { municipality }),
-            Request::Reopen { municipality } => Some(Command::Reopen { municipality }),
-            _ => None,
+            },
+            DeskCommand::Close { municipality } => Command::Close { municipality },
+            DeskCommand::Reopen { municipality } => Command::Reopen { municipality },
         }
     }
 }

@@ -3,7 +3,7 @@ ghost use Rattle.zh_commands.specs.Words.{numerals};
 ghost use Rattle.zh_commands.specs.Forms.{form_of};
 ghost use Rattle.zh_commands.specs.Lines.{IsRow, IsRequest, ParsesAs, desk_of, row_text};
 
-use crate::lines::{Line, LineFault, Request};
+use crate::lines::{BatchStep, DeskCommand, DeskQuery, Line, LineFault, Request};
 use crate::words::{after_space, numbers, numeral, split_word};
 use std::str;
 use zh_desks::Desk;
@@ -60,11 +60,11 @@ fn lone_request(word: &str) -> Option<Request>
         (λ request. IsRequest request × ((form_of request).numbers ≡ []) × (word.now ≡ (form_of request).word)) }
 {
     match word {
-        "open" => Some(Request::Open),
+        "open" => Some(Request::Batch(BatchStep::Open)),
         "commit" => Some(Request::Commit),
-        "drop" => Some(Request::Drop),
-        "sheet" => Some(Request::Sheet),
-        "final" => Some(Request::Final),
+        "drop" => Some(Request::Batch(BatchStep::Drop)),
+        "sheet" => Some(Request::Query(DeskQuery::Sheet)),
+        "final" => Some(Request::Query(DeskQuery::Final)),
         _ => None,
     }
 }
@@ -78,29 +78,29 @@ fn numbered_request(word: &str, text: &[u8]) -> Option<Request>
         × (text.now ≡ numerals (form_of request).numbers)) }
 {
     match word {
-        "return" => Some(Request::Return(row_of(text)?)),
+        "return" => Some(Request::Command(DeskCommand::Return(row_of(text)?))),
         "withdraw" => {
             let (municipality, list, number) = withdrawal_of(text)?;
-            Some(Request::Withdraw {
+            Some(Request::Command(DeskCommand::Withdraw {
                 municipality,
                 list,
                 number,
-            })
+            }))
         }
-        "close" => Some(Request::Close {
+        "close" => Some(Request::Command(DeskCommand::Close {
             municipality: municipality_of(text)?,
-        }),
-        "reopen" => Some(Request::Reopen {
+        })),
+        "reopen" => Some(Request::Command(DeskCommand::Reopen {
             municipality: municipality_of(text)?,
-        }),
-        "row" => Some(Request::Row(row_of(text)?)),
+        })),
+        "row" => Some(Request::Batch(BatchStep::Row(row_of(text)?))),
         "show" => {
             let [municipality, list] = numbers::<2>(text)?;
-            Some(Request::Show { municipality, list })
+            Some(Request::Query(DeskQuery::Show { municipality, list }))
         }
         "last" => {
             let [municipality, list] = numbers::<2>(text)?;
-            Some(Request::Last { municipality, list })
+            Some(Request::Query(DeskQuery::Last { municipality, list }))
         }
         _ => None,
     }
@@ -125,8 +125,8 @@ fn municipality_of(text: &[u8]) -> Option<u32>
 // The municipality, the list and the replacement number of three numerals, each after a space.
 fn withdrawal_of(text: &[u8]) -> Option<(u32, u32, u32)>
     ensures { MatchOption result
-        ((m l n : ℕ) → IsRequest (Request.Withdraw m l n) → text.now ≢ numerals (m ∷ l ∷ n ∷ []))
-        (λ found. IsRequest (Request.Withdraw found.0 found.1 found.2)
+        ((m l n : ℕ) → IsRequest (Request.Command (DeskCommand.Withdraw m l n)) → text.now ≢ numerals (m ∷ l ∷ n ∷ []))
+        (λ found. IsRequest (Request.Command (DeskCommand.Withdraw found.0 found.1 found.2))
         × (text.now ≡ numerals (found.0 ∷ found.1 ∷ found.2 ∷ []))) }
 {
     let [municipality, list, number] = numbers::<3>(text)?;

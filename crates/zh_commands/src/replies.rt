@@ -1,5 +1,6 @@
 use zh_desks::RowFault;
 use zh_returns::Reason;
+use zh_sheet::SheetRefusal;
 
 /// The reply to a line of a desk.
 #[derive(Clone, Copy, Debug, PartialEq, Eq)]
@@ -49,20 +50,6 @@ pub enum Refusal {
     BatchOpen,
     /// The text that was to be loaded has not the form of docs/FORMATS.md.
     Csv,
-    /// The seats of the constituencies are tied.
-    TiedSeats,
-    /// This constituency has no seat.
-    NoSeat(u32),
-    /// No group takes part.
-    NoGroup,
-    /// Every group that takes part has the voter sum 0.
-    NoVoters,
-    /// The seats of the groups are tied.
-    TiedUpper,
-    /// The groups with seats have no votes in this constituency.
-    NoVotes(u32),
-    /// The seats of the lists are tied: the constituency and the group of the first quotient on a half.
-    TiedLower(u32, u32),
-    /// The search for divisors ended without any.
-    Exhausted,
+    /// There is no sheet.
+    Sheet(SheetRefusal),
 }

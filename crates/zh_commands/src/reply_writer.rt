@@ -1,10 +1,12 @@
-ghost use Rattle.std.specs.Prelude.{◌≡◌, ◌≤◌, ◌++◌, length, take};
-ghost use Rattle.zh_commands.specs.Replies.{name, name_numbers, reason_name, answer, reply_text};
+ghost use Rattle.std.specs.Prelude.{◌≡◌, ◌≤◌, [], ◌∷◌, ◌++◌, length, take};
+ghost use Rattle.zh_commands.specs.Replies.{name, reason_name, answer, reply_text};
+ghost use Rattle.zh_sheet.specs.Names.{ArePartsOf};
 
 use crate::replies::{Refusal, Reply};
 use crate::text::Text;
 use zh_desks::RowFault;
 use zh_returns::Reason;
+use zh_sheet::Name;
 
 /// Writes a reply at the front of `out`, as `docs/FORMATS.md`, "Replies", has it, and gives the number of its bytes.
 ///
@@ -16,9 +18,27 @@ pub fn write_reply(desk: u8, reply: &Reply, out: &mut [u8; 64]) -> usize
     let mut text = Text::new();
     text.push_number(u64::from(desk));
     text.push(b" ");
-    push_answer(&mut text, reply);
-    text.push(b"\n");
+    push_line(&mut text, reply);
     text.copy_to(out)
+}
+
+/// Writes the same without the desk: what the reply says, and the end of the line.
+pub fn write_answer(reply: &Reply, out: &mut [u8; 64]) -> usize
+    ensures text { take result out.new ≡ answer reply.now ++ 10 ∷ [] }
+    ensures short { result ≤ 64 }
+{
+    let mut text = Text::new();
+    push_line(&mut text, reply);
+    text.copy_to(out)
+}
+
+// What the reply says after the desk, and the end of the line.
+fn push_line(text: &mut Text, reply: &Reply)
+    requires { length text.old ≤ 4 }
+    ensures { text.new ≡ text.old ++ answer reply.now ++ 10 ∷ [] }
+{
+    push_answer(text, reply);
+    text.push(b"\n");
 }
 
 // What the reply says after the desk.
@@ -58,63 +78,53 @@ fn push_name(text: &mut Text, refusal: &Refusal)
     ensures name { text.new ≡ text.old ++ name refusal.now }
     ensures short { length text.new ≤ 63 }
 {
-    let words = words_of(refusal);
-    match refusal {
-        Refusal::Judged(Reason::NotClosed(number))
-        | Refusal::NoSeat(number)
-        | Refusal::NoVotes(number) => {
-            text.push_numbered(words, *number);
+    match name_of(refusal) {
+        Name::Words(words) => text.push(words.as_bytes()),
+        Name::Number(words, number) => {
+            text.push(words.as_bytes());
+            text.push_numbered(b" ", number);
         }
-        Refusal::TiedLower(constituency, group) => {
-            text.push_numbered(words, *constituency);
-            text.push_numbered(b" ", *group);
+        Name::Pair(words, one, other) => {
+            text.push(words.as_bytes());
+            text.push_numbered(b" ", one);
+            text.push_numbered(b" ", other);
         }
-        _ => text.push(words),
     }
 }
 
-// The words of a refusal's name, which end with a space where a number follows.
-fn words_of(refusal: &Refusal) -> &'static [u8]
-    ensures words { name refusal.now ≡ result.now ++ name_numbers refusal.now }
-    ensures short { length result.now ≤ 12 }
+// The name of the refusal in its parts.
+fn name_of(refusal: &Refusal) -> Name
+    ensures { ArePartsOf (name refusal.now) result }
 {
     match refusal {
-        Refusal::Syntax => b"syntax",
-        Refusal::Desk => b"desk",
-        Refusal::Judged(reason) => words_of_reason(reason),
-        Refusal::Row(RowFault::Twice) => b"twice",
-        Refusal::Row(RowFault::BatchFull) => b"batchfull",
-        Refusal::NoBatch => b"nobatch",
-        Refusal::Memory => b"memory",
-        Refusal::Device => b"device",
-        Refusal::ReopenDisk => b"reopen-disk",
-        Refusal::Spent => b"spent",
-        Refusal::BatchOpen => b"batchopen",
-        Refusal::Csv => b"csv",
-        Refusal::TiedSeats => b"tied seats",
-        Refusal::NoSeat(_) => b"noseat ",
-        Refusal::NoGroup => b"nogroup",
-        Refusal::NoVoters => b"novoters",
-        Refusal::TiedUpper => b"tied upper",
-        Refusal::NoVotes(_) => b"novotes ",
-        Refusal::TiedLower(..) => b"tied lower ",
-        Refusal::Exhausted => b"exhausted",
+        Refusal::Syntax => Name::Words("syntax"),
+        Refusal::Desk => Name::Words("desk"),
+        Refusal::Judged(reason) => name_of_reason(reason),
+        Refusal::Row(RowFault::Twice) => Name::Words("twice"),
+        Refusal::Row(RowFault::BatchFull) => Name::Words("batchfull"),
+        Refusal::NoBatch => Name::Words("nobatch"),
+        Refusal::Memory => Name::Words("memory"),
+        Refusal::Device => Name::Words("device"),
+        Refusal::ReopenDisk => Name::Words("reopen-disk"),
+        Refusal::Spent => Name::Words("spent"),
+        Refusal::BatchOpen => Name::Words("batchopen"),
+        Refusal::Csv => Name::Words("csv"),
+        Refusal::Sheet(refusal) => refusal.name(),
     }
 }
 
-// The words of the name of a judgement's reason, likewise.
-fn words_of_reason(reason: &Reason) -> &'static [u8]
-    ensures words { reason_name reason.now ≡ result.now ++ name_numbers (Refusal.Judged reason.now) }
-    ensures short { length result.now ≤ 12 }
+// The name of a judgement's reason, likewise.
+fn name_of_reason(reason: &Reason) -> Name
+    ensures { ArePartsOf (reason_name reason.now) result }
 {
     match reason {
-        Reason::Municipality => b"municipality",
-        Reason::List => b"list",
-        Reason::Votes => b"votes",
-        Reason::Closed => b"closed",
-        Reason::Stale => b"stale",
-        Reason::Gap => b"gap",
-        Reason::Conflict => b"conflict",
-        Reason::NotClosed(_) => b"notclosed ",
+        Reason::Municipality => Name::Words("municipality"),
+        Reason::List => Name::Words("list"),
+        Reason::Votes => Name::Words("votes"),
+        Reason::Closed => Name::Words("closed"),
+        Reason::Stale => Name::Words("stale"),
+        Reason::Gap => Name::Words("gap"),
+        Reason::Conflict => Name::Words("conflict"),
+        Reason::NotClosed(number) => Name::Number("notclosed", *number),
     }
 }

@@ -8,7 +8,7 @@ use Rattle.zh_answers.specs.declared.answer.Answer.{Answer}
 use Rattle.zh_office.specs.Text.{HasNoEnd, unfinished, truncated, ended_lines, last_line}
 use Rattle.zh_office.specs.Filmed.{FilmsAll, FilmsFront, FilmsSteps, FilmsFrontSteps, TakesBlock, WritesAnswer}
 use Rattle.zh_office.specs.Order.{Step}
-use Rattle.zh_office.specs.Served.{Session, AnswersAll, BreaksOff, step_of, steps_in}
+use Rattle.zh_office.specs.Served.{Session, AnswersAll, step_of, steps_in}
 use Rattle.zh_commands.specs.declared.output.WriteFault.{WriteFault}
 use Rattle.zh_office.proofs.TextLemmas.{ended_none, ended_first, unfinished_all, unfinished_first, HasNoEnd-append}
 use Rattle.zh_office.proofs.FilmLemmas.{FilmsSteps-append, FilmsSteps-none, FilmsFrontSteps-after}
@@ -50,7 +50,8 @@ AnswersAll-append old now new lines more a b = record {
 }
 
 -- a line is answered, and its answer written
-abbrev pub AnswersAll-one : (old new : Session) (line : List ℕ) (answer : Answer) → Turn old.office line answer new.office → Appends old.written new.written (text_after line answer new.office) → AnswersAll (line ∷ []) old new
+abbrev pub AnswersAll-one : (old new : Session) (line : List ℕ) (answer : Answer) → Turn old.office line answer new.office
+    → Appends old.written new.written (text_after line answer new.office) → AnswersAll (line ∷ []) old new
 AnswersAll-one old new line answer turn written =
     record { out = text_after line answer new.office; log = turn.log; written = written; run = Runs-one old.office new.office line answer turn }
 

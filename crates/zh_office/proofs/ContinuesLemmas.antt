@@ -79,15 +79,19 @@ answers_continue lines old new all = run_continues old.office lines all.out all.
 breaks_continue : (lines : List (List ℕ)) (old new : Session) → BreaksOff lines old new → Continues (its_ledger old.office) (its_ledger new.office)
 breaks_continue lines old new breaks =
     let last = turn_submitted breaks.mid breaks.last breaks.answer new.office breaks.turn in
-    both_continue (its_ledger old.office) (its_ledger breaks.mid) (its_ledger new.office) (run_continues old.office breaks.answered breaks.out breaks.log breaks.mid breaks.run) (submits_continue (its_ledger breaks.mid) last.0 breaks.turn.log (its_ledger new.office) last.2)
+    both_continue (its_ledger old.office) (its_ledger breaks.mid) (its_ledger new.office)
+    (run_continues old.office breaks.answered breaks.out breaks.log breaks.mid breaks.run)
+    (submits_continue (its_ledger breaks.mid) last.0 breaks.turn.log (its_ledger new.office) last.2)
 
 -- and those that follow what was answered
-pub answers_on : (before lines : List (List ℕ)) (old mid seen new : Session) → seen.office ≡ mid.office → AnswersAll before old mid → AnswersAll lines seen new → Continues (its_ledger old.office) (its_ledger new.office)
+pub answers_on : (before lines : List (List ℕ)) (old mid seen new : Session) → seen.office ≡ mid.office → AnswersAll before old mid
+    → AnswersAll lines seen new → Continues (its_ledger old.office) (its_ledger new.office)
 answers_on before lines old mid seen new same first second =
     both_continue (its_ledger old.office) (its_ledger mid.office) (its_ledger new.office) (answers_continue before old mid first)
     (subst (λ (o : OnDisk Office). Continues (its_ledger o) (its_ledger new.office)) same (answers_continue lines seen new second))
 
-pub breaks_on : (before lines : List (List ℕ)) (old mid seen new : Session) → seen.office ≡ mid.office → AnswersAll before old mid → BreaksOff lines seen new → Continues (its_ledger old.office) (its_ledger new.office)
+pub breaks_on : (before lines : List (List ℕ)) (old mid seen new : Session) → seen.office ≡ mid.office → AnswersAll before old mid
+    → BreaksOff lines seen new → Continues (its_ledger old.office) (its_ledger new.office)
 breaks_on before lines old mid seen new same first second =
     both_continue (its_ledger old.office) (its_ledger mid.office) (its_ledger new.office) (answers_continue before old mid first)
     (subst (λ (o : OnDisk Office). Continues (its_ledger o) (its_ledger new.office)) same (breaks_continue lines seen new second))

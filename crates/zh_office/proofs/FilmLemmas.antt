@@ -1,9 +1,9 @@
 -- A film that is in order, frame by frame.
-use Rattle.std.proofs.Common.{◌≡◌, ◌≢◌, ◌≤◌, inl, inr, ℕ, List, [], ◌∷◌, ◌++◌, map, take, drop, length, refl, sym, ap, ◌∙◌, subst, arith, append_assoc, append-nil, take-append-drop, Option, Some, Result, Ok, Err}
+use Rattle.std.proofs.Common.{◌≡◌, ◌≢◌, inl, inr, ℕ, List, [], ◌∷◌, ◌++◌, map, take, drop, refl, sym, ap, ◌∙◌, subst, arith}
+use Rattle.std.proofs.Common.{append_assoc, append-nil, take-append-drop, Option, Some, Result, Err}
 use Rattle.std.specs.Prelude.{◌↔◌, IsErrOf}
 use Rattle.std.specs.Io.KnownBytes.{Appends, Consumes}
-use Rattle.zh_disk.specs.Disk.{Trail}
-use Rattle.zh_film.specs.Frames.{FailsLast, Frame, InOrder, NoneFailed, now_at}
+use Rattle.zh_film.specs.Frames.{FailsLast, Frame, InOrder, NoneFailed}
 use Rattle.zh_film.specs.declared.kind.FrameKind.{FrameKind}
 use Rattle.zh_film.specs.declared.kind.FrameKind.TheVariants.{Asks, Between, Failed}
 use Rattle.zh_office.specs.Filmed.{IsOn, FilmsSteps, FilmsFrontSteps}
@@ -131,7 +131,8 @@ module _ (first : Frame) (done : List Step) (old mid new : Session) (x : Step) (
         disk = disk' ∙ after_it;
       }
 
-  pub broken : mid.film ≡ frame_at mid ∷ old.film → new.film ≡ mid.film → (front : ℕ) → Appends mid.written new.written (take front x.text) → IsInOrder (done ++ x ∷ []) first new.film (frame_at new) × NoneFailed new.film
+  pub broken : mid.film ≡ frame_at mid ∷ old.film → new.film ≡ mid.film → (front : ℕ) → Appends mid.written new.written (take front x.text)
+      → IsInOrder (done ++ x ∷ []) first new.film (frame_at new) × NoneFailed new.film
   broken noted same front written =
       let all : new.film ≡ frame_at mid ∷ old.film = same ∙ noted in (
         record {

@@ -1,12 +1,12 @@
 -- The steps of a run, and of runs that follow each other.
-use Rattle.std.proofs.Common.{◌≡◌, List, [], ◌∷◌, ◌++◌, map, flat_map, refl, sym, ap, ◌∙◌, subst, Option, Some, ℕ}
+use Rattle.std.proofs.Common.{◌≡◌, List, [], ◌∷◌, ◌++◌, map, refl, ap, ◌∙◌, subst, Option, Some, ℕ}
 use Rattle.std.proofs.Math.Path.{path_j, subst_refl}
 use Rattle.std.proofs.lemmas.Grind.{flat_map-append}
 use Rattle.zh_disk.specs.Disk.{Trail}
-use Rattle.zh_ledger.specs.Submissions.{OnDisk, Log, nothing, followed_by}
+use Rattle.zh_ledger.specs.Submissions.{OnDisk, Log, followed_by}
 use Rattle.zh_office.specs.Office.{Office}
 use Rattle.zh_office.specs.Order.{Step, disk_after, texts}
-use Rattle.zh_office.specs.Runs.{Runs, Turn}
+use Rattle.zh_office.specs.Runs.{Runs}
 use Rattle.zh_office.specs.Served.{step_of, steps_of}
 use Rattle.zh_office.proofs.RunLemmas.{Runs-append, Runs-of}
 

@@ -1,5 +1,6 @@
 -- How a text that comes in pieces splits into lines.
-use Rattle.std.proofs.Common.{◌≡◌, ℕ, zero, suc, ◌==◌, ◌+◌, ◌-◌, ◌<◌, if◌then◌else◌, Bool, true, false, ◌||◌, List, [], ◌∷◌, ◌++◌, take, length, refl, sym, ap, ◌∙◌, subst, arith, append_assoc, lit≤, min, drop, add-one, length-drop, drop-cons}
+use Rattle.std.proofs.Common.{◌≡◌, ℕ, zero, suc, ◌==◌, ◌+◌, ◌-◌, ◌<◌, if◌then◌else◌, Bool, true, false, ◌||◌, List, [], ◌∷◌, ◌++◌, take}
+use Rattle.std.proofs.Common.{length, refl, sym, ap, ◌∙◌, subst, arith, append_assoc, lit≤, min, drop, add-one, length-drop, drop-cons}
 use Rattle.std.specs.List.{list_any}
 use Rattle.std.specs.Prelude.{slice_index_or}
 use Rattle.std.proofs.lemmas.List.Folds.{list_any_none}
@@ -180,5 +181,6 @@ parted text end end_in is none =
           let below : k < end = omega (arith, front) in
           none k below (subst (λ b. (b == 10) ≡ true) (get_or-take end text k 0 below) lf)),
       sym (take-append-drop end text) ∙ ap (λ xs. take end text ++ xs)
-          (drop-cons text end 0 end_in ∙ ap (λ b. b ∷ drop (suc end) text) (eqb-true (slice_index_or text end 0) 10 is) ∙ ap (λ n. 10 ∷ drop n text) (sym (add-one end)) ∙ ap (λ xs. 10 ∷ xs) (sym behind)),
+          (drop-cons text end 0 end_in ∙ ap (λ b. b ∷ drop (suc end) text) (eqb-true (slice_index_or text end 0) 10 is)
+          ∙ ap (λ n. 10 ∷ drop n text) (sym (add-one end)) ∙ ap (λ xs. 10 ∷ xs) (sym behind)),
     )

@@ -94,7 +94,8 @@ runs_steady old (line ∷ lines) out log new run whole same less =
     let steady = turn_steady old line run.answer mid run.turn whole (not_risen old.history.failures mid.history.failures here small) in
     both_steady old.holder.ledger mid.holder.ledger new.holder.ledger steady (runs_steady mid lines run.rest run.others new run.follows steady.whole there less)
 
-runs_calm : (old : OnDisk Office) (lines : List (List ℕ)) (out : List ℕ) (log : Log) (new : OnDisk Office) (run : Runs old lines out log new) → MeetsNoFault old new → AreUndisturbed old lines out log new run
+runs_calm : (old : OnDisk Office) (lines : List (List ℕ)) (out : List ℕ) (log : Log) (new : OnDisk Office)
+    (run : Runs old lines out log new) → MeetsNoFault old new → AreUndisturbed old lines out log new run
 runs_calm old [] out log new run meets = tt
 runs_calm old (line ∷ lines) out log new run meets =
     let mid = run.mid in
@@ -112,7 +113,15 @@ runs_calm old (line ∷ lines) out log new run meets =
       accepted = below _ _ _ others.accepted meets.accepted;
       generation = below _ _ _ others.generation meets.generation;
     } in
-    let at_last : MeetsNoFault mid new = record { whole = steady.whole; format = steady.format ∙ meets.format; failures = there; counted = meets.counted; accepted = meets.accepted; generation = meets.generation } in
+    let at_last : MeetsNoFault mid new = record {
+      whole = steady.whole;
+      format = steady.format ∙ meets.format;
+      failures = there;
+      counted =
+          meets.counted;
+      accepted = meets.accepted;
+      generation = meets.generation;
+    } in
     ((one_line old line run.answer mid run.turn at_first).0, runs_calm mid lines run.rest run.others new run.follows at_last)
 
 pub each_line : (old : OnDisk Office) (lines : List (List ℕ)) (out : List ℕ) (log : Log) (new : OnDisk Office) (run : Runs old lines out log new) → MeetsNoFault old new

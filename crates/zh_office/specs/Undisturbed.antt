@@ -4,6 +4,8 @@ use Rattle.zh_commands.specs.declared.lines.Line.{Line}
 use Rattle.zh_commands.specs.declared.lines.LineFault.{LineFault}
 use Rattle.zh_commands.specs.declared.lines.Request.{Request}
 use Rattle.zh_commands.specs.declared.lines.Request.TheVariants as requests
+use Rattle.zh_commands.specs.declared.lines.BatchStep.TheVariants as steps
+use Rattle.zh_commands.specs.declared.lines.DeskQuery.TheVariants as queries
 use Rattle.zh_commands.specs.declared.replies.Reply.TheVariants.{Refused}
 use Rattle.zh_commands.specs.declared.replies.Refusal.TheVariants as refusals
 use Rattle.zh_records.specs.declared.format.Format.TheVariants.{Two}
@@ -27,9 +29,9 @@ is_memory answer = false
 
 -- the lines that may be answered so: `row`, `sheet` and `final`
 abbrev pub RequestTakesMemory : Request → Type 0
-RequestTakesMemory (requests.Row row) = Unit {0}
-RequestTakesMemory requests.Sheet = Unit {0}
-RequestTakesMemory requests.Final = Unit {0}
+RequestTakesMemory (requests.Batch (steps.Row row)) = Unit {0}
+RequestTakesMemory (requests.Query queries.Sheet) = Unit {0}
+RequestTakesMemory (requests.Query queries.Final) = Unit {0}
 RequestTakesMemory request = ⊥
 
 abbrev pub TakesMemory : Result Line LineFault → Type 0

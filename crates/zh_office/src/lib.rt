@@ -13,6 +13,5 @@ pub use laws::{law_nights, stretches, undisturbed};
 pub use load::load_refusal;
 pub use office::Office;
 pub use service::ServeFault;
-pub use zh_answers::Answer;
 pub use zh_csv::NotedReader;
 pub use zh_ledger::{FormatFault, OpenFault};

@@ -4,6 +4,7 @@ use Rattle.zh_districts.specs.Canton.{Canton}
 use Rattle.zh_returns.specs.Tally.{Tally}
 use Rattle.zh_totals.specs.Totals.{VoteTotals}
 use Rattle.zh_sheet.specs.Reasons.{IsReason}
+use Rattle.zh_sheet.specs.declared.refusal.SheetRefusal.TheVariants as sheets
 use Rattle.zh_commands.specs.declared.replies.Reply.TheVariants as replies
 use Rattle.zh_commands.specs.declared.replies.Refusal.TheVariants as refusals
 use Rattle.zh_answers.specs.Sheets.{MayAnswerFinal, MayGive}
@@ -18,7 +19,7 @@ use Rattle.zh_results.specs.declared.outcome.NoSeats.TheVariants.{Refused, Exhau
 -- why there are no seats, and what there is instead, as the line of a sheet is answered
 abbrev pub refusal_answer : NoSeats → Answer
 refusal_answer (Refused refusal) = answers.Reply (replies.Refused refusal)
-refusal_answer (Exhausted reason) = answers.Reply (replies.Refused refusals.Exhausted)
+refusal_answer (Exhausted reason) = answers.Reply (replies.Refused (refusals.Sheet sheets.Exhausted))
 refusal_answer Wrong = answers.Reply replies.Nothing
 
 abbrev pub answer_of : Result MarkedSheet NoSeats → Answer
@@ -33,7 +34,7 @@ MayAnswerAs tally true answer = MayAnswerFinal tally answer
 -- an exhausted search has a reason, and it is this one
 abbrev pub IsReasonFor : VoteTotals → NoSeats → Type 0
 IsReasonFor totals (Exhausted reason) = IsReason totals reason
-IsReasonFor totals (Refused refusals.Exhausted) = ⊥
+IsReasonFor totals (Refused (refusals.Sheet sheets.Exhausted)) = ⊥
 IsReasonFor totals why = Unit {0}
 
 -- the bytes are a right sheet of this set-up in no way; or memory was refused

@@ -6,6 +6,7 @@ use Rattle.zh_matrices.specs.Question.{cell}
 use Rattle.zh_sheet.specs.ListSeats.{SeatsOfLists}
 use Rattle.zh_sheet.specs.declared.reason.ExhaustedReason.{ExhaustedReason}
 use Rattle.zh_sheet.specs.declared.reason.ExhaustedReason.TheVariants.{Beyond, Impossible, Missed, NearlyTied}
+use Rattle.zh_sheet.specs.declared.refusal.SheetRefusal.TheVariants as sheets
 use Rattle.zh_commands.specs.Replies.{answer}
 use Rattle.zh_commands.specs.declared.replies.Reply.TheVariants as replies
 use Rattle.zh_commands.specs.declared.replies.Refusal.{Refusal}
@@ -47,5 +48,5 @@ reason_text canton (Missed x) = codes "missed" ++ only_seats_text x
 
 abbrev pub refusal_text : Canton → NoSeats → List ℕ
 refusal_text canton (Refused refusal) = refusal_line refusal
-refusal_text canton (Exhausted reason) = refusal_line refusals.Exhausted ++ reason_text canton reason ++ 10 ∷ []
+refusal_text canton (Exhausted reason) = refusal_line (refusals.Sheet sheets.Exhausted) ++ reason_text canton reason ++ 10 ∷ []
 refusal_text canton Wrong = codes "zhcount: sheet wrong\n"

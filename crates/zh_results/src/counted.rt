@@ -13,7 +13,7 @@ use zh_answers::{first_open, sheet_refusal};
 use zh_commands::Refusal;
 use zh_returns::{Count, Reason};
 use zh_seats::{Mark, Source};
-use zh_sheet::{SheetFault, explain, make};
+use zh_sheet::{SheetFault, SheetRefusal, explain, make};
 use zh_totals::Totals;
 
 /// Why there is no sheet of these totals, whose making ended so.
@@ -23,7 +23,7 @@ fn why_none(alloc: Global, totals: &Totals<'_>, fault: SheetFault) -> NoSeats
     ensures reason { IsReasonFor totals.now result }
 {
     match fault {
-        SheetFault::Exhausted => match explain(alloc, totals) {
+        SheetFault::Refused(SheetRefusal::Exhausted) => match explain(alloc, totals) {
             Ok(reason) => NoSeats::Exhausted(reason),
             Err(_) => NoSeats::Refused(Refusal::Memory),
         },

@@ -11,7 +11,7 @@ use std::alloc::{AllocError, Global};
 use zh_commands::{Refusal, Reply, write_reply};
 use zh_districts::Setup;
 use zh_possible::MarkedRows;
-use zh_sheet::{ExhaustedReason, ListSeats};
+use zh_sheet::{ExhaustedReason, ListSeats, SheetRefusal};
 
 /// Puts these bytes at the end.
 fn push_bytes(out: &mut Vec<u8>, bytes: &[u8]) -> Result<(), AllocError>
@@ -154,7 +154,7 @@ pub fn refusal_text(alloc: Global, setup: &Setup, why: &NoSeats) -> Result<Vec<u
     match why {
         NoSeats::Refused(refusal) => push_refusal(&mut out, *refusal)?,
         NoSeats::Exhausted(reason) => {
-            push_refusal(&mut out, Refusal::Exhausted)?;
+            push_refusal(&mut out, Refusal::Sheet(SheetRefusal::Exhausted))?;
             push_reason(&mut out, setup, reason)?;
             out.push(b'\n')?;
         }

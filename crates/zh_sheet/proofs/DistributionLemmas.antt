@@ -20,9 +20,10 @@ use Rattle.zh_upper.specs.VoterNumbers.{AreVoterSums, voter_sum}
 use Rattle.zh_upper.specs.declared.fault.UpperFault.{UpperFault}
 use Rattle.zh_upper.specs.declared.fault.UpperFault.TheVariants as upper_faults
 use Rattle.zh_sheet.specs.Distribution.{HaveSeats, Targets, lower_question, seated_groups}
-use Rattle.zh_sheet.specs.Refusals.{HaveNoVoters, IsAnswer, NoneOf, NoneTakesPart}
-use Rattle.zh_sheet.specs.Stages.{HasColumn, StandAbove, group_at, of_lower, of_seats, of_upper}
-use Rattle.zh_sheet.specs.declared.fault.SheetFault.TheVariants as faults
+use Rattle.zh_sheet.specs.Refusals.{HaveNoVoters, IsAnswer, IsBeforeLists, IsCaseOf, IsFirstCase, NoneOf, NoneTakesPart}
+use Rattle.zh_sheet.specs.Stages.{HasColumn, StandAbove, of_lower, of_seats, of_upper}
+use Rattle.zh_sheet.specs.declared.refusal.SheetRefusal.{SheetRefusal}
+use Rattle.zh_sheet.specs.declared.refusal.SheetRefusal.TheVariants as refusals
 use Rattle.zh_sheet.proofs.AskedLemmas.{All-participants, participant_at}
 use Rattle.zh_sheet.proofs.RefusalLemmas.{given_answer, memory_answer, none_1, none_2, none_3, none_4, none_5, none_6, none_yet, refused_answer}
 use Rattle.zh_sheet.proofs.TargetLemmas.{none_without, not_tied, not_tied_above, same_question, same_seats}
@@ -34,10 +35,10 @@ pub seats_refused : {Sheet : Type 0} (t : VoteTotals) (e : SeatFault) →
     IsAnswer {Sheet = Sheet} t (Err (of_seats e))
 seats_refused t seat_faults.Memory tied none = memory_answer t
 seats_refused t seat_faults.Tied tied none =
-    refused_answer t faults.TiedSeats (omega arith) (record { holds = tied refl; first = none_yet t }) (λ d g e. absurd (cc))
+    refused_answer t refusals.TiedSeats (record { holds = tied refl; first = none_yet t }) (λ d g e. absurd (cc))
 seats_refused t (seat_faults.NoSeat d) tied none =
     let found = none d refl in
-    refused_answer t (faults.NoSeat d) (omega arith)
+    refused_answer t (refusals.NoSeat d)
     (record { holds = record { seats = found.0; in_proportion = found.1; first = found.2 }; first = none_1 t (not_tied t found.0 found.1) })
     (λ d g e. absurd (cc))
 
@@ -104,6 +105,14 @@ none_of_voters t seats taking voters is some more =
     none_4 t (none_of_groups t seats taking voters is some)
     (λ none. some (λ there. more (record { some_takes_part = there; without_voters = none-no_voters t seats taking voters is none })))
 
+-- a group takes part, and those that do have no voters
+pub no_voters_first : (t : VoteTotals) (seats : List ℕ) → HaveSeats t seats → ¬ NoneTakesPart t → HaveNoVoters t → IsFirstCase t refusals.NoVoters
+no_voters_first t seats have some none = record { holds = none; first = none_3 t (none_of_seats t seats have) some }
+
+-- a group takes part, and one that does has voters: no case before those of the lists holds
+pub none_before_lists : (t : VoteTotals) (a : Targets t) → ¬ NoneTakesPart t → ¬ HaveNoVoters t → (refusal : SheetRefusal) → IsBeforeLists refusal → ¬ IsCaseOf t refusal
+none_before_lists t a some voters = none_5 t (none_4 t (none_3 t (none_of_seats t a.seats a.constituencies) some) voters) (not_tied_above t a)
+
 -- another answer than this fault and memory
 not_reported : {Seats : Type 0} (result : Result Seats UpperFault) (fault : UpperFault) (reason : Type 0) → IsReportedWhere result fault reason →
     ¬ IsErrOf result fault → ¬ IsErrOf result upper_faults.Memory → ¬ reason
@@ -117,18 +126,18 @@ pub upper_refused : {Sheet : Type 0} (t : VoteTotals) (seats : List ℕ) (taking
     IsAnswer {Sheet = Sheet} t (Err (of_upper e))
 upper_refused t seats taking voters is upper_faults.Memory no_group no_voters tied = memory_answer t
 upper_refused t seats taking voters is upper_faults.NoGroup no_group no_voters tied =
-    refused_answer t faults.NoGroup (omega arith)
+    refused_answer t refusals.NoGroup
     (record { holds = no_group-none t seats taking voters is (no_group.only refl); first = none_of_seats t seats is.constituencies })
     (λ d g e. absurd (cc))
 upper_refused t seats taking voters is upper_faults.NoVoters no_group no_voters tied =
     let some = not_reported {Seats = Apportionment} (Err upper_faults.NoVoters) upper_faults.NoGroup (HasNoGroup taking) no_group (λ e. cc) (λ e. cc) in
-    refused_answer t faults.NoVoters (omega arith)
+    refused_answer t refusals.NoVoters
     (record { holds = no_voters-none t seats taking voters is (no_voters.only refl); first = none_of_groups t seats taking voters is some })
     (λ d g e. absurd (cc))
 upper_refused t seats taking voters is upper_faults.Tied no_group no_voters tied =
     let some = not_reported {Seats = Apportionment} (Err upper_faults.Tied) upper_faults.NoGroup (HasNoGroup taking) no_group (λ e. cc) (λ e. cc) in
     let more = not_reported {Seats = Apportionment} (Err upper_faults.Tied) upper_faults.NoVoters (HasNoVoters voters taking) no_voters (λ e. cc) (λ e. cc) in
-    refused_answer t faults.TiedUpper (omega arith)
+    refused_answer t refusals.TiedUpper
     (record {
       holds = record { seats = seats; constituencies = is.constituencies; taking = taking; participation = is.participation; voters = voters; sums = is.sums; tied = (tied.only refl).tied };
       first = none_of_voters t seats taking voters is some more;
@@ -168,7 +177,7 @@ pub lower_refused : {Sheet : Type 0} (t : VoteTotals) (a : Targets t) → NoneOf
     LowerOutcome (lower_question t a.seats a.upper) (Err e) → IsAnswer {Sheet = Sheet} t (Err (of_lower e (seated_groups a.upper)))
 lower_refused t a before lower_faults.Memory found = memory_answer t
 lower_refused t a before (lower_faults.NoVotes d) found =
-    refused_answer t (faults.NoVotes d) (omega arith)
+    refused_answer t (refusals.NoVotes d)
     (record { holds = record { targets = a; first = found.fault }; first = none_5 t before (not_tied_above t a) })
     (λ d g e. absurd (cc))
 lower_refused t a before (lower_faults.Tied d column) found =
@@ -176,7 +185,7 @@ lower_refused t a before (lower_faults.Tied d column) found =
     let first = tied.tied.first in
     let ways = tied.tied.ways in
     let rows = none_of_rows t a before (λ c first. elim (found.no_votes c first) [ inl e ↦ absurd (cc) | inr e ↦ absurd (cc) ]) in
-    refused_answer t (faults.TiedLower d (group_at (seated_groups a.upper) column)) (omega arith)
+    refused_answer t (refusals.TiedLower d (get_or (seated_groups a.upper) (column - 1) 0))
     (record {
       holds = record { targets = a; column = column; column_from_one = first.column_from_1; column_there = first.column; of_group = refl; tied = tied };
       first = rows;
@@ -186,7 +195,7 @@ lower_refused t a before (lower_faults.Tied d column) found =
     (subst (λ q. IsStrict q divisors seats) (same_question t a b) strict))
 lower_refused t a before lower_faults.Exhausted found =
     let rows = none_of_rows t a before (λ c first. elim (found.no_votes c first) [ inl e ↦ absurd (cc) | inr e ↦ absurd (cc) ]) in
-    refused_answer t faults.Exhausted (omega arith)
+    refused_answer t refusals.Exhausted
     (record { holds = record { targets = a; none = found.fault.none_before; none_given = found.fault.none_given }; first = rows })
     (λ d g e. absurd (cc))
 

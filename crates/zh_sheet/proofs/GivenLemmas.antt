@@ -16,17 +16,18 @@ use Rattle.zh_totals.specs.Hidden.{NoneHidden}
 use Rattle.zh_totals.specs.Totals.{VoteTotals}
 use Rattle.zh_sheet.specs.Distribution.{Distribution, IsDistribution, Targets, lower_question, question_of, seated_groups}
 use Rattle.zh_sheet.specs.Given.{DoFit, DoFollow, HaveSameSeats, IsGiven, IsPublished}
-use Rattle.zh_sheet.specs.Refusals.{HaveNoVoters, IsAnswer, NoneOf, NoneTakesPart, place_in_order}
+use Rattle.zh_sheet.specs.Refusals.{HaveNoVoters, IfRefused, IsAnswer, IsBeforeLists, IsCaseOf, IsFirstCase, NoneTakesPart}
 use Rattle.zh_sheet.specs.Stages.{StandAbove}
 use Rattle.zh_sheet.specs.declared.fault.SheetFault.{SheetFault}
-use Rattle.zh_sheet.specs.declared.fault.SheetFault.TheVariants as faults
+use Rattle.zh_sheet.specs.declared.fault.SheetFault.TheVariants.{Memory, Refused}
+use Rattle.zh_sheet.specs.declared.refusal.SheetRefusal.{SheetRefusal}
+use Rattle.zh_sheet.specs.declared.refusal.SheetRefusal.TheVariants as refusals
 use Rattle.zh_sheet.proofs.AskedLemmas.{seated_takes, some_seated}
-use Rattle.zh_sheet.proofs.DistributionLemmas.{none_of_seats}
+use Rattle.zh_sheet.proofs.DistributionLemmas.{no_voters_first, none_before_lists}
 use Rattle.zh_sheet.proofs.OneSheetLemmas.{AreSameAbove, same_above, same_asked, same_parts}
-use Rattle.zh_sheet.proofs.RefusalLemmas.{none_3, none_4, none_5}
 use Rattle.zh_sheet.proofs.SeatedLemmas.{IsSeated, seated_are}
 use Rattle.zh_sheet.proofs.SheetLemmas.{targets}
-use Rattle.zh_sheet.proofs.TargetLemmas.{not_tied_above, same_question}
+use Rattle.zh_sheet.proofs.TargetLemmas.{same_question}
 
 -- a group with seats takes part
 some_takes : (t : VoteTotals) (a : Targets t) → IsCanton t.canton → ¬ NoneTakesPart t
@@ -39,19 +40,12 @@ some_takes t a canton none =
     ((a.participation.each g is.from_one there).0 (seated_takes t a (g - 1) (omega (arith, is.from_one, is.there)) is.seated))
 
 -- no refusal before the lists holds
-none_early : (x : Distribution) → IsPublished x → NoneOf 5 x.totals
-none_early x is =
+not_refused : (totals : VoteTotals) (refusal : SheetRefusal) → IsFirstCase totals refusal → IsBeforeLists refusal →
+    (x : Distribution) → IsPublished x → ¬ (x.totals ≡ totals)
+not_refused totals refusal first early x is same =
     let a : Targets x.totals = targets x is.distribution in
-    none_5 x.totals
-    (none_4 x.totals (none_3 x.totals (none_of_seats x.totals a.seats a.constituencies) (some_takes x.totals a is.distribution.totals.canton)) is.voters)
-    (not_tied_above x.totals a)
-
--- so only memory is refused
-not_refused : (totals : VoteTotals) (fault : SheetFault) → IsAnswer {Sheet = Distribution} totals (Err fault) → place_in_order fault ≤ 5 →
-    1 ≤ place_in_order fault → (x : Distribution) → IsPublished x → ¬ (x.totals ≡ totals)
-not_refused totals fault answer early late x is same =
-    let none : NoneOf 5 totals = subst (λ t. NoneOf 5 t) same (none_early x is) in
-    none fault late early (answer.refused fault refl).holds
+    none_before_lists x.totals a (some_takes x.totals a is.distribution.totals.canton) is.voters refusal early
+    (subst (λ t. IsCaseOf t refusal) (sym same) first.holds)
 
 -- a distribution asks the question that the seats above leave
 asked_above : (totals : VoteTotals) (a : Targets totals) (x : Distribution) → IsDistribution x → x.totals ≡ totals →
@@ -95,24 +89,14 @@ none_shown totals lists hidden = record {
   every = λ x is same lower. absurd (hidden (subst (λ t. NoneHidden t) same is.votes));
 }
 
-late_refusal : (fault : SheetFault) → fault ≢ faults.Memory → 1 ≤ place_in_order fault
-late_refusal faults.Memory other = absurd (other refl)
-late_refusal faults.TiedSeats other = omega arith
-late_refusal (faults.NoSeat d) other = omega arith
-late_refusal faults.NoGroup other = omega arith
-late_refusal faults.NoVoters other = omega arith
-late_refusal faults.TiedUpper other = omega arith
-late_refusal (faults.NoVotes d) other = omega arith
-late_refusal (faults.TiedLower d g) other = omega arith
-late_refusal faults.Exhausted other = omega arith
-
 pub none_above : (totals : VoteTotals) (lists : SeatMatrix) (fault : SheetFault) → IsAnswer {Sheet = Distribution} totals (Err fault) →
-    place_in_order fault ≤ 5 → fault ≢ faults.Memory → IsGiven totals lists None
-none_above totals lists fault answer early other = record {
+    IfRefused fault IsBeforeLists → fault ≢ Memory → IsGiven totals lists None
+none_above totals lists Memory answer early other = absurd (other refl)
+none_above totals lists (Refused refusal) answer early other = record {
   votes = tt;
   seats = tt;
   meets = tt;
-  every = λ x is same lower. absurd (not_refused totals fault answer early (late_refusal fault other) x is same);
+  every = λ x is same lower. absurd (not_refused totals refusal answer.refused early x is same);
 }
 
 -- the distribution of the seats above and the lists
@@ -144,15 +128,15 @@ meets_with totals seats taking voters upper lists limits above follow in_million
 }
 
 -- it is the only one
-pub one_given : (totals : VoteTotals) (lists : SeatMatrix) (x : Distribution) → IsDistribution x → NoneHidden totals → NoneOf 4 totals →
+pub one_given : (totals : VoteTotals) (lists : SeatMatrix) (x : Distribution) → IsDistribution x → NoneHidden totals → ¬ HaveNoVoters totals →
     x.totals ≡ totals → x.lower ≡ lists → IsGiven totals lists (Some x)
-one_given totals lists x is hidden none same lower = record {
+one_given totals lists x is hidden voters same lower = record {
   votes = same;
   seats = lower;
   meets = record {
     distribution = is;
     votes = subst (λ t. NoneHidden t) (sym same) hidden;
-    voters = subst (λ t. ¬ HaveNoVoters t) (sym same) (none faults.NoVoters (omega arith) (omega arith));
+    voters = subst (λ t. ¬ HaveNoVoters t) (sym same) voters;
   };
   every = λ y Y votes seats.
       let totals_same : y.totals ≡ x.totals = votes ∙ sym same in
@@ -185,10 +169,11 @@ made_open totals x made hidden =
     let same : x.totals ≡ totals = made.sheet.votes in
     let is : IsDistribution x = made.sheet.meets in
     let a : Targets x.totals = targets x is in
-    let before : NoneOf 3 totals
-    = subst (λ t. NoneOf 3 t) same (none_3 x.totals (none_of_seats x.totals a.seats a.constituencies) (some_takes x.totals a is.totals.canton)) in
+    let some : ¬ NoneTakesPart x.totals = some_takes x.totals a is.totals.canton in
+    let first : HaveNoVoters totals → IsFirstCase totals refusals.NoVoters
+    = subst (λ t. HaveNoVoters t → IsFirstCase t refusals.NoVoters) same (no_voters_first x.totals a.seats a.constituencies some) in
     let voters : ¬ HaveNoVoters totals
-    = λ none. elim (made.refused.exactly faults.NoVoters (omega arith) (omega arith) (record { holds = none; first = before })) [
+    = λ none. elim (made.refused.exactly refusals.NoVoters (omega arith) (first none)) [
       | inl refused ↦ absurd (cc)
       | inr refused ↦ absurd (cc)
     ] in

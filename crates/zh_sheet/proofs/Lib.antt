@@ -3,6 +3,7 @@ mod AskedLemmas
 mod BalanceLemmas
 mod DistributionLemmas
 mod GivenLemmas
+mod NameLemmas
 mod OneSheetLemmas
 mod ReasonLemmas
 mod RefusalLemmas

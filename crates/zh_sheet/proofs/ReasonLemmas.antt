@@ -1,6 +1,5 @@
 -- Why an exhausted search found no seats, in the numbers of the set-up.
-use Rattle.std.proofs.Common.{◌≡◌, ℕ, ◌≤◌, Bool, List, Err, Ok, inl, inr, refl, sym, subst, arith}
-use Rattle.std.proofs.lemmas.Bool.{cases_lt}
+use Rattle.std.proofs.Common.{◌≡◌, ℕ, Bool, List, Err, Ok, refl, sym, subst, arith}
 use Rattle.zh_matrices.specs.NearlyTied.{IsClear}
 use Rattle.zh_matrices.specs.Question.{Question}
 use Rattle.zh_matrices.specs.SeatMatrix.{IsWeak}
@@ -13,45 +12,37 @@ use Rattle.zh_totals.specs.Totals.{VoteTotals}
 use Rattle.zh_sheet.specs.Distribution.{Distribution, Targets, seated_groups}
 use Rattle.zh_sheet.specs.ListSeats.{SeatsOfLists}
 use Rattle.zh_sheet.specs.Reasons.{AreOnlySeats, AreSeatsAmong, AreShowable, IsExplained, IsReason, IsReasonAmong, IsTieAmong, NoneMissed, asked_below}
-use Rattle.zh_sheet.specs.Refusals.{IsAnswer, IsFirstCase, place_in_order}
+use Rattle.zh_sheet.specs.Refusals.{IfRefused, IsAnswer, IsBeforeLists, IsFirstCase}
 use Rattle.zh_sheet.specs.declared.fault.SheetFault.{SheetFault}
-use Rattle.zh_sheet.specs.declared.fault.SheetFault.TheVariants as faults
+use Rattle.zh_sheet.specs.declared.fault.SheetFault.TheVariants.{Memory, Refused}
 use Rattle.zh_sheet.specs.declared.reason.ExhaustedReason.{ExhaustedReason}
 use Rattle.zh_sheet.specs.declared.reason.ExhaustedReason.TheVariants as reasons
+use Rattle.zh_sheet.specs.declared.refusal.SheetRefusal.TheVariants as refusals
 use Rattle.zh_sheet.proofs.RefusalLemmas.{memory_answer}
 use Rattle.zh_sheet.proofs.TargetLemmas.{same_question}
 
--- only memory has no place
-placeless : (fault : SheetFault) → place_in_order fault ≡ 0 → fault ≡ faults.Memory
-placeless faults.Memory none = refl
-placeless _ none = absurd (omega (arith, none))
-
 -- where the search is exhausted, no case before it holds
-memory_alone : (t : VoteTotals) (fault : SheetFault) → IsFirstCase t fault → place_in_order fault ≤ 5 → IsFirstCase t faults.Exhausted →
-    fault ≡ faults.Memory
-memory_alone t fault first above exhausted =
-    elim (cases_lt 0 (place_in_order fault)) [
-      | inl some ↦ absurd (exhausted.first fault (omega (arith, some)) (omega (arith, above)) first.holds)
-      | inr none ↦ placeless fault (omega (arith, none))
-    ]
+memory_alone : (t : VoteTotals) (fault : SheetFault) → IfRefused fault (IsFirstCase t) → IfRefused fault IsBeforeLists →
+    IsFirstCase t refusals.Exhausted → fault ≡ Memory
+memory_alone t Memory first early exhausted = refl
+memory_alone t (Refused refusal) first early exhausted = absurd (exhausted.first refusal (omega (arith, early)) first.holds)
 
 -- a refusal above
-pub refused_above : (t : VoteTotals) (fault : SheetFault) → IsAnswer {Sheet = Distribution} t (Err fault) → place_in_order fault ≤ 5 →
-    IsExplained t (Err fault)
-refused_above t fault is above =
-    let first : IsFirstCase t fault = is.refused fault refl in
-    record {
-      reason = tt;
-      refused = record { first = first; above = above };
-      exhausted = memory_alone t fault first above;
-      none_missed = λ exhausted. tt;
-    }
+pub refused_above : (t : VoteTotals) (fault : SheetFault) → IsAnswer {Sheet = Distribution} t (Err fault) →
+    IfRefused fault IsBeforeLists → IsExplained t (Err fault)
+refused_above t fault is early = record {
+  reason = tt;
+  refused = is.refused;
+  early = early;
+  exhausted = memory_alone t fault is.refused early;
+  none_missed = λ exhausted. tt;
+}
 
-pub no_memory : (t : VoteTotals) → IsExplained t (Err faults.Memory)
-no_memory t = refused_above t faults.Memory (memory_answer t) (omega arith)
+pub no_memory : (t : VoteTotals) → IsExplained t (Err Memory)
+no_memory t = refused_above t Memory (memory_answer t) tt
 
 -- where the search is exhausted, no divisors in millionths give seats as a decision does
-none_missed : (t : VoteTotals) (reason : ExhaustedReason) → IsReason t reason → IsFirstCase t faults.Exhausted → NoneMissed reason
+none_missed : (t : VoteTotals) (reason : ExhaustedReason) → IsReason t reason → IsFirstCase t refusals.Exhausted → NoneMissed reason
 none_missed t (reasons.Impossible rows) is exhausted = tt
 none_missed t (reasons.NearlyTied d g) is exhausted = tt
 none_missed t (reasons.Beyond x) is exhausted = tt
@@ -64,6 +55,7 @@ pub explained : (t : VoteTotals) (reason : ExhaustedReason) → IsReason t reaso
 explained t reason is = record {
   reason = is;
   refused = tt;
+  early = tt;
   exhausted = λ exhausted. tt;
   none_missed = none_missed t reason is;
 }

@@ -3,6 +3,7 @@ pub mod Given
 pub mod Inside
 pub mod ListSeats
 pub mod Made
+pub mod Names
 pub mod Readings
 pub mod Reasons
 pub mod Refusals

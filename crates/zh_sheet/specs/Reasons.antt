@@ -1,5 +1,5 @@
 -- Why the search for the seats of the lists found none, in the numbers of the set-up.
-use Rattle.std.specs.Prelude.{◌≡◌, ℕ, ◌-◌, ◌≤◌, Bool, List, Result, IfOk, IfErr, slice_index}
+use Rattle.std.specs.Prelude.{◌≡◌, ℕ, ◌-◌, Bool, List, Result, IfOk, IfErr, slice_index}
 use Rattle.zh_matrices.specs.Divisors.{Divisors}
 use Rattle.zh_matrices.specs.NearlyTied.{IsClear, IsNearlyTied}
 use Rattle.zh_matrices.specs.Question.{Question}
@@ -9,9 +9,10 @@ use Rattle.zh_decided.specs.Boxes.{GiveWithin, NoneInRange}
 use Rattle.zh_totals.specs.Totals.{VoteTotals}
 use Rattle.zh_sheet.specs.Distribution.{Targets, lower_question, seated_groups}
 use Rattle.zh_sheet.specs.ListSeats.{SeatsOfLists}
-use Rattle.zh_sheet.specs.Refusals.{IsFirstCase, place_in_order}
+use Rattle.zh_sheet.specs.Refusals.{IfRefused, IsBeforeLists, IsFirstCase}
 use Rattle.zh_sheet.specs.declared.fault.SheetFault.{SheetFault}
-use Rattle.zh_sheet.specs.declared.fault.SheetFault.TheVariants as faults
+use Rattle.zh_sheet.specs.declared.fault.SheetFault.TheVariants.{Memory}
+use Rattle.zh_sheet.specs.declared.refusal.SheetRefusal.TheVariants as refusals
 use Rattle.zh_sheet.specs.declared.reason.ExhaustedReason.{ExhaustedReason}
 use Rattle.zh_sheet.specs.declared.reason.ExhaustedReason.TheVariants.{Beyond, Impossible, Missed, NearlyTied}
 
@@ -83,11 +84,6 @@ IsReason totals (NearlyTied d g) = AreNearlyTiedBelow totals d g
 IsReason totals (Beyond x) = AreBeyondSheets totals x
 IsReason totals (Missed x) = AreMissed totals x
 
--- memory is refused, or one of the cases before the seats of the lists holds, and none before it
-pub record IsRefusedAbove (totals : VoteTotals) (fault : SheetFault) : Type 0 where
-  pub first : IsFirstCase totals fault
-  pub above : place_in_order fault ≤ 5
-
 -- not that a sheet could show the seats
 abbrev pub NoneMissed : ExhaustedReason → Type 0
 NoneMissed (Impossible rows) = Unit {0}
@@ -99,6 +95,7 @@ NoneMissed (Missed x) = ⊥
 -- memory is refused, and never that seats were missed
 pub record IsExplained (totals : VoteTotals) (result : Result ExhaustedReason SheetFault) : Type 0 where
   pub reason : IfOk result (IsReason totals)
-  pub refused : IfErr result (IsRefusedAbove totals)
-  pub exhausted : IsFirstCase totals faults.Exhausted → IfErr result (λ fault. fault ≡ faults.Memory)
-  pub none_missed : IsFirstCase totals faults.Exhausted → IfOk result NoneMissed
+  pub refused : IfErr result (λ fault. IfRefused fault (IsFirstCase totals))
+  pub early : IfErr result (λ fault. IfRefused fault IsBeforeLists)
+  pub exhausted : IsFirstCase totals refusals.Exhausted → IfErr result (λ fault. fault ≡ Memory)
+  pub none_missed : IsFirstCase totals refusals.Exhausted → IfOk result NoneMissed

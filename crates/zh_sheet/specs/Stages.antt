@@ -14,22 +14,23 @@ use Rattle.zh_upper.specs.VoterNumbers.{AreVoterSums}
 use Rattle.zh_upper.specs.declared.fault.UpperFault.{UpperFault}
 use Rattle.zh_upper.specs.declared.fault.UpperFault.TheVariants as upper_faults
 use Rattle.zh_sheet.specs.Distribution.{Distribution, HaveSeats}
-use Rattle.zh_sheet.specs.Refusals.{IsAnswer, NoneOf, place_in_order}
+use Rattle.zh_sheet.specs.Refusals.{IfRefused, IsAnswer, IsBeforeLists, NoneOf}
 use Rattle.zh_sheet.specs.declared.above.Above.{Above}
 use Rattle.zh_sheet.specs.declared.fault.SheetFault.{SheetFault}
-use Rattle.zh_sheet.specs.declared.fault.SheetFault.TheVariants as faults
+use Rattle.zh_sheet.specs.declared.fault.SheetFault.TheVariants.{Memory, Refused}
+use Rattle.zh_sheet.specs.declared.refusal.SheetRefusal.TheVariants as refusals
 
 -- the refusals of a sheet for those of the parts below
 abbrev pub of_seats : SeatFault → SheetFault
-of_seats seat_faults.Memory = faults.Memory
-of_seats seat_faults.Tied = faults.TiedSeats
-of_seats (seat_faults.NoSeat d) = faults.NoSeat d
+of_seats seat_faults.Memory = Memory
+of_seats seat_faults.Tied = Refused refusals.TiedSeats
+of_seats (seat_faults.NoSeat d) = Refused (refusals.NoSeat d)
 
 abbrev pub of_upper : UpperFault → SheetFault
-of_upper upper_faults.Memory = faults.Memory
-of_upper upper_faults.NoGroup = faults.NoGroup
-of_upper upper_faults.NoVoters = faults.NoVoters
-of_upper upper_faults.Tied = faults.TiedUpper
+of_upper upper_faults.Memory = Memory
+of_upper upper_faults.NoGroup = Refused refusals.NoGroup
+of_upper upper_faults.NoVoters = Refused refusals.NoVoters
+of_upper upper_faults.Tied = Refused refusals.TiedUpper
 
 -- the seats of the constituencies and of the groups, and what they follow from; no case before a tie of the groups holds
 pub record StandAbove (totals : VoteTotals) (seats : Apportionment) (taking : List Bool) (voters : List ℕ)
@@ -46,7 +47,7 @@ pub record StandAbove (totals : VoteTotals) (seats : Apportionment) (taking : Li
 pub record IsAboveLists (totals : VoteTotals) (result : Result Above SheetFault) : Type 0 where
   pub given : IfOk result (λ above. StandAbove totals above.seats above.taking.items above.voters.items above.upper)
   pub refused : IfErr result (λ fault. IsAnswer {Sheet = Distribution} totals (Err fault))
-  pub early : IfErr result (λ fault. place_in_order fault ≤ 5)
+  pub early : IfErr result (λ fault. IfRefused fault IsBeforeLists)
 
 -- what a lower apportionment may be asked: 1 to 32 lines, each with a total of 1 to 400 seats, and votes in each column
 pub record CanBeAsked (q : Question) : Type 0 where
@@ -58,15 +59,12 @@ pub record CanBeAsked (q : Question) : Type 0 where
   pub column_totals : AreSeatTotals q.columns q.column_totals
   pub votes : EachColumnHasVotes q
 
--- the group of a column, from 1, among the seated groups
-abbrev pub group_at : List ℕ → ℕ → ℕ
-group_at seated column = slice_index seated (column - 1)
-
+-- and those of the lists, where the columns, from 1, are the seated groups
 abbrev pub of_lower : LowerFault → List ℕ → SheetFault
-of_lower lower_faults.Memory seated = faults.Memory
-of_lower (lower_faults.NoVotes d) seated = faults.NoVotes d
-of_lower (lower_faults.Tied d column) seated = faults.TiedLower d (group_at seated column)
-of_lower lower_faults.Exhausted seated = faults.Exhausted
+of_lower lower_faults.Memory seated = Memory
+of_lower (lower_faults.NoVotes d) seated = Refused (refusals.NoVotes d)
+of_lower (lower_faults.Tied d column) seated = Refused (refusals.TiedLower d (slice_index seated (column - 1)))
+of_lower lower_faults.Exhausted seated = Refused refusals.Exhausted
 
 -- a tie stands in one of the columns
 abbrev pub HasColumn : LowerFault → List ℕ → Type 0

@@ -5,6 +5,7 @@ ghost use Rattle.zh_sheet.specs.Stages.{HasColumn, StandAbove, of_lower};
 use crate::above::{Above, seats_above};
 use crate::fault::SheetFault;
 use crate::lower::seats_of_lists;
+use crate::refusal::SheetRefusal;
 use crate::seated::seated_groups;
 use crate::sheet::Sheet;
 use std::alloc::Global;
@@ -20,11 +21,14 @@ fn fault_of(fault: LowerFault, seated: &[u32]) -> SheetFault
 {
     match fault {
         LowerFault::Memory => SheetFault::Memory,
-        LowerFault::NoVotes(constituency) => SheetFault::NoVotes(constituency),
-        LowerFault::Tied(constituency, column) => {
-            SheetFault::TiedLower(constituency, seated[(column - 1) as usize])
+        LowerFault::NoVotes(constituency) => {
+            SheetFault::Refused(SheetRefusal::NoVotes(constituency))
         }
-        LowerFault::Exhausted => SheetFault::Exhausted,
+        LowerFault::Tied(constituency, column) => {
+            let group = seated[(column - 1) as usize];
+            SheetFault::Refused(SheetRefusal::TiedLower(constituency, group))
+        }
+        LowerFault::Exhausted => SheetFault::Refused(SheetRefusal::Exhausted),
     }
 }
 
@@ -57,7 +61,7 @@ fn with_lists<'s>(
     })
 }
 
-/// The sheet of these totals, or why there is none: the first case that holds decides, in the order of `SheetFault`.
+/// The sheet of these totals, or why there is none: the first case that holds decides, in the order of `SheetRefusal`.
 ///
 /// No other seats follow from any divisors, of any scale, and the divisors are those of the first state of the search
 /// (docs/DEFINITIONS.md) that gives seats, or where none does those in the middle of what gives them: the same votes have

@@ -9,7 +9,9 @@ mod given_lists;
 mod laws;
 mod list_seats;
 mod lower;
+mod name;
 mod reason;
+mod refusal;
 mod seated;
 mod sheet;
 
@@ -18,5 +20,7 @@ pub use fault::SheetFault;
 pub use given_lists::given;
 pub use laws::{made_is_given, one_result, one_sheet};
 pub use list_seats::ListSeats;
+pub use name::Name;
 pub use reason::{ExhaustedReason, explain};
+pub use refusal::SheetRefusal;
 pub use sheet::Sheet;

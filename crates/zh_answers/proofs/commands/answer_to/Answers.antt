@@ -1,8 +1,15 @@
-use Rattle.std.proofs.Common.{◌≡◌, ◌∙◌, refl, sym, true, false}
+use Rattle.std.proofs.Common.{◌≡◌, ◌∙◌, refl, sym, true, false, subst, ap}
+use Rattle.zh_commands.specs.declared.lines.BatchStep.TheVariants as steps
+use Rattle.zh_commands.specs.declared.lines.Request.TheVariants as requests
 use Rattle.zh_commands.specs.declared.replies.Refusal.TheVariants as refusals
-use Rattle.zh_ledger.specs.Submissions.{on_disk}
+use Rattle.zh_records.specs.declared.command.Command.{Command}
+use Rattle.zh_returns.specs.Tally.{Tally}
+use Rattle.zh_desks.specs.Batches.{rows_of}
+use Rattle.zh_ledger.specs.Submissions.{nothing, on_disk}
+use Rattle.zh_answers.specs.Answers.{MayAnswerQuery, MayAnswerRow}
+use Rattle.zh_answers.specs.Requests.{ReportsOutcome}
 use Rattle.zh_answers.specs.declared.answer.Answer.TheVariants as answers
-use Rattle.zh_answers.proofs.AnswerLemmas.{commit_acts, own_acts, own_held, quiet_acts, refused_held}
+use Rattle.zh_answers.proofs.AnswerLemmas.{own_held, query_held, refused_held, request_acts}
 use Rattle.zh_answers.proofs.BrokenLemmas.{broken_acts}
 use Rattle.zh_answers.proofs.commands.answer_to.Goals as goal
 
@@ -14,34 +21,43 @@ returns-then-is_broken-clause-acts g c =
 pub returns-then-is_broken-clause-held : goal.returns-then-is_broken-clause-held
 returns-then-is_broken-clause-held g c = refused_held c.args.desks.now c.args.line refusals.ReopenDisk
 
-pub returns-then-is_broken-clause-untouched : goal.returns-then-is_broken-clause-untouched
-returns-then-is_broken-clause-untouched g c = λ _. refl
+pub returns-in-Command-clause-acts : goal.returns-in-Command-clause-acts
+returns-in-Command-clause-acts g c =
+    let whole : c.args.ledger.now.store.broken ≡ false = sym c.is_broken.ensures ∙ c.if-is_broken.false in
+    let by = subst
+    (λ (command : Command). ReportsOutcome (on_disk c.args.ledger.now (g.D.Disk.history c.args.disk.now)) command (answers.Reply c.submit.result) (on_disk c.submit.new.ledger (g.D.Disk.history c.submit.new.disk)))
+    c.of_desk.ensures.command c.submit.ensures.reported in
+    request_acts _ _ c.args.ledger.now.tally c.args.desks.now c.args.line _ _ whole c.in-Command.is (by.submission.log, (by, refl))
 
-pub returns-in-Some-clause-acts : goal.returns-in-Some-clause-acts
-returns-in-Some-clause-acts g c = own_acts _ c.args.line.desk _ c.args.line.request c.in-Some.command _ _ _ c.in-Some.ensures.command c.submit.ensures.reported
-
-pub returns-clause-acts : goal.returns-clause-acts
-returns-clause-acts g c =
-    let whole : c.args.ledger.now.store.broken ≡ false = cc in
-    quiet_acts _ _ c.args.ledger.now.tally _ c.args.desks.now c.args.line _ whole c.count.ensures (sym c.in_default.ensures.command) c.in_default-request.not-Commit c.answer_without_command.ensures.answer
-
-pub returns-clause-untouched : goal.returns-clause-untouched
-returns-clause-untouched g c = λ _. refl
-
-pub returns-clause-held : goal.returns-clause-held
-returns-clause-held g c = c.answer_without_command.ensures.held
-
-pub returns-in-Some-clause-held : goal.returns-in-Some-clause-held
-returns-in-Some-clause-held g c = own_held c.args.desks.now c.args.line c.in-Some.command c.submit.result c.in-Some.ensures.command
-
-pub returns-in-Some-clause-untouched : goal.returns-in-Some-clause-untouched
-returns-in-Some-clause-untouched g c = c.submit.ensures.untouched
+pub returns-in-Command-clause-held : goal.returns-in-Command-clause-held
+returns-in-Command-clause-held g c = own_held c.args.desks.now c.args.line c.in-Command.command c.submit.result c.in-Command.is
 
 pub returns-in-Commit-clause-acts : goal.returns-in-Commit-clause-acts
 returns-in-Commit-clause-acts g c =
-    let before = on_disk c.args.ledger.now (g.D.Disk.history c.args.disk.now) in
-    let after = on_disk c.commit.new.ledger (g.D.Disk.history c.commit.new.disk) in
-    commit_acts before c.args.ledger.now.tally c.args.desks.now c.args.line (answers.Reply c.commit.result) after c.in-Commit.is c.commit.ensures.acts
+    let whole : c.args.ledger.now.store.broken ≡ false = sym c.is_broken.ensures ∙ c.if-is_broken.false in
+    request_acts _ _ c.args.ledger.now.tally c.args.desks.now c.args.line _ _ whole c.in-Commit.is c.commit.ensures.acts
 
-pub returns-in-Commit-clause-untouched : goal.returns-in-Commit-clause-untouched
-returns-in-Commit-clause-untouched g c = c.commit.ensures.untouched
+pub returns-in-Batch-Open-clause-acts : goal.returns-in-Batch-Open-clause-acts
+returns-in-Batch-Open-clause-acts g c =
+    let whole : c.args.ledger.now.store.broken ≡ false = sym c.is_broken.ensures ∙ c.if-is_broken.false in
+    request_acts _ _ c.args.ledger.now.tally c.args.desks.now c.args.line (requests.Batch steps.Open) _ whole (c.in-Batch-Open.is ∙ ap requests.Batch (rw c.in-Batch-Open.is at c.in-Batch-Open.field-0-is)) (nothing, ((c.open_batch.result, c.open_batch.ensures.answer, refl), refl, refl))
+
+pub returns-in-Batch-Row-clause-acts : goal.returns-in-Batch-Row-clause-acts
+returns-in-Batch-Row-clause-acts g c =
+    let whole : c.args.ledger.now.store.broken ≡ false = sym c.is_broken.ensures ∙ c.if-is_broken.false in
+    let may = subst (λ (t : Tally). MayAnswerRow t (rows_of c.args.desks.now c.args.line.desk) c.in-Batch-Row.row c.hold.result) c.count.ensures c.hold.ensures.answer in
+    request_acts _ _ c.args.ledger.now.tally c.args.desks.now c.args.line (requests.Batch (steps.Row c.in-Batch-Row.row)) _ whole (c.in-Batch-Row.is ∙ ap requests.Batch (rw c.in-Batch-Row.is at c.in-Batch-Row.field-0-is)) (nothing, ((c.hold.result, may, refl), refl, refl))
+
+pub returns-in-Batch-Drop-clause-acts : goal.returns-in-Batch-Drop-clause-acts
+returns-in-Batch-Drop-clause-acts g c =
+    let whole : c.args.ledger.now.store.broken ≡ false = sym c.is_broken.ensures ∙ c.if-is_broken.false in
+    request_acts _ _ c.args.ledger.now.tally c.args.desks.now c.args.line (requests.Batch steps.Drop) _ whole (c.in-Batch-Drop.is ∙ ap requests.Batch (rw c.in-Batch-Drop.is at c.in-Batch-Drop.field-0-is)) (nothing, ((c.drop_batch.result, c.drop_batch.ensures.answer, refl), refl, refl))
+
+pub returns-in-Query-clause-acts : goal.returns-in-Query-clause-acts
+returns-in-Query-clause-acts g c =
+    let whole : c.args.ledger.now.store.broken ≡ false = sym c.is_broken.ensures ∙ c.if-is_broken.false in
+    let may = subst (λ (t : Tally). MayAnswerQuery t c.in-Query.query c.answer_query.result) c.count-in-Query.ensures c.answer_query.ensures in
+    request_acts _ _ c.args.ledger.now.tally c.args.desks.now c.args.line (requests.Query c.in-Query.query) _ whole c.in-Query.is (nothing, (may, refl, refl))
+
+pub returns-in-Query-clause-held : goal.returns-in-Query-clause-held
+returns-in-Query-clause-held g c = query_held c.args.desks.now c.args.line c.in-Query.query c.answer_query.result c.in-Query.is

@@ -1,10 +1,10 @@
-use Rattle.std.proofs.Common.{◌∙◌, sym, arith}
+use Rattle.std.proofs.Common.{◌∙◌, sym}
 use Rattle.std.proofs.lemmas.List.{length-map}
 use Rattle.std.proofs.lemmas.Result.{err_from_is_err_and}
 use Rattle.zh_sheet.specs.Distribution.{HaveSeats}
 use Rattle.zh_sheet.proofs.AskedLemmas.{each_seated}
 use Rattle.zh_sheet.proofs.DistributionLemmas.{IsBasis, seats_refused, upper_given, upper_refused}
-use Rattle.zh_sheet.proofs.RefusalLemmas.{memory_answer, not_above, seats_early, upper_early}
+use Rattle.zh_sheet.proofs.RefusalLemmas.{no_memory_above, not_above, seats_early, upper_early}
 use Rattle.zh_sheet.proofs.above.seats_above.Goals as goal
 
 pub returns-in_err-seats : goal.returns-in_err-seats
@@ -61,12 +61,12 @@ returns c =
 pub returns-in_err-taking : goal.returns-in_err-taking
 returns-in_err-taking c =
     let p = err_from_is_err_and c.from_residual-in_err-taking.result c.from_residual-in_err-taking.ensures.1 in
-    rw (p.1, p.2) (not_above c.args.totals.now _ (omega arith) (memory_answer c.args.totals.now))
+    rw (p.1, p.2) (no_memory_above c.args.totals.now)
 
 pub returns-in_err-voters : goal.returns-in_err-voters
 returns-in_err-voters c =
     let p = err_from_is_err_and c.from_residual-in_err-voters.result c.from_residual-in_err-voters.ensures.1 in
-    rw (p.1, p.2) (not_above c.args.totals.now _ (omega arith) (memory_answer c.args.totals.now))
+    rw (p.1, p.2) (no_memory_above c.args.totals.now)
 
 pub voters-requires-clause-one_each : goal.voters-requires-clause-one_each
 voters-requires-clause-one_each c =

@@ -1,11 +1,11 @@
-use Rattle.std.proofs.Common.{◌≡◌, ◌<◌, ℕ, List, [], ◌∷◌, length, map, take, ap, subst, refl}
+use Rattle.std.proofs.Common.{◌≡◌, ◌<◌, ℕ, List, length, map, take, ap, subst, refl}
 use Rattle.std.specs.Io.KnownBytes.{Appends}
 use Rattle.std.proofs.lemmas.Result.{err_from_is_err_and}
 use Rattle.zh_film.specs.Frames.{frame_of, frames}
 use Rattle.zh_ledger.specs.Submissions.{OnDisk, on_disk}
 use Rattle.zh_office.specs.Office.{Office}
 use Rattle.zh_office.specs.Order.{Step}
-use Rattle.zh_office.specs.Runs.{answer_text, text_after}
+use Rattle.zh_office.specs.Runs.{answer_text}
 use Rattle.zh_office.specs.Served.{Session, session, step_of}
 use Rattle.zh_office.proofs.FilmLemmas.{answered, broken}
 use Rattle.zh_office.proofs.office.Office.answer.Goals as goal
@@ -23,7 +23,8 @@ returns-in_err-write_answer g c =
     let mid : Session = session (contents c.args.writer.now) after.holder after.history left (shown c.note.new.self) in
     let new : Session = session (contents c.write_answer.new.writer) after.holder after.history left (shown c.note.new.self) in
     let step : Step = step_of c.args.bytes.now answer after in
-    let text : answer_text c.desk_of-desk.result after.holder.ledger.tally.accepted answer ≡ step.text = ap (λ (d : ℕ). answer_text d after.holder.ledger.tally.accepted answer) c.desk_of-desk.ensures in
+    let text : answer_text c.desk_of-desk.result after.holder.ledger.tally.accepted answer ≡ step.text =
+    ap (λ (d : ℕ). answer_text d after.holder.ledger.tally.accepted answer) c.desk_of-desk.ensures in
     let front = subst (λ (written : List ℕ). (n : ℕ) × (n < length written) × Appends old.written new.written (take n written)) text c.in_err-write_answer.ensures.front in
     rw p.1 (record {
       answer = answer;
@@ -46,7 +47,8 @@ returns g c =
     let mid : Session = session (contents c.args.writer.now) after.holder after.history left (shown c.note.new.self) in
     let new : Session = session (contents c.write_answer.new.writer) after.holder after.history left (shown c.note-2.new.self) in
     let step : Step = step_of c.args.bytes.now answer after in
-    let text : answer_text c.desk_of-desk.result after.holder.ledger.tally.accepted answer ≡ step.text = ap (λ (d : ℕ). answer_text d after.holder.ledger.tally.accepted answer) c.desk_of-desk.ensures in
+    let text : answer_text c.desk_of-desk.result after.holder.ledger.tally.accepted answer ≡ step.text =
+    ap (λ (d : ℕ). answer_text d after.holder.ledger.tally.accepted answer) c.desk_of-desk.ensures in
     let written = subst (Appends old.written new.written) text c.in_ok-write_answer.ensures.all in
     record {
       answer = answer;

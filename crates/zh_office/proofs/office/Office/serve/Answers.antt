@@ -3,16 +3,18 @@ use Rattle.zh_film.specs.Frames.{frame_of, frames}
 use Rattle.zh_film.specs.Scenes.{scene}
 use Rattle.zh_film.specs.declared.kind.FrameKind.TheVariants.{Between}
 use Rattle.zh_office.specs.Served.{HasFailedRead, Session, session}
-use Rattle.zh_office.proofs.BlockLemmas.{Consumes-none}
 use Rattle.zh_office.proofs.ContinuesLemmas.{answers_continue, answers_on, breaks_on}
 use Rattle.zh_office.proofs.FilmLemmas.{unfailed, unfailed_write}
-use Rattle.zh_office.proofs.InputLemmas.{Serving-start, Serving-clean, Serving-more, Serving-breaks, Serving-breaks_calm, Serving-last_breaks, Serving-last_calm, Serving-stops, Serving-stops_calm, Serving-fails, Serving-ends, Consumes-kept}
+use Rattle.zh_office.proofs.InputLemmas.{Serving-start, Serving-clean, Serving-more, Serving-breaks, Serving-breaks_calm}
+use Rattle.zh_office.proofs.InputLemmas.{Serving-last_breaks, Serving-last_calm, Serving-stops, Serving-stops_calm, Serving-fails}
+use Rattle.zh_office.proofs.InputLemmas.{Serving-ends, Consumes-kept}
 use Rattle.zh_office.proofs.ReadCountLemmas.{TakesReads-start, TakesReads-more, TakesReads-same, TakesReads-stops}
 use Rattle.zh_office.proofs.office.Office.serve.Goals as goal
 
 pub loop-init : goal.loop-init
 loop-init g c =
-    let old : Session = session (g.W.Write.contents c.args.writer.now) c.args.self.now (g.D.Disk.history c.args.disk.now) (g.R.Read.remaining c.args.reader.now) (frames g.R.Read g.W.Write g.D.Disk c.args.film.now) in
+    let old : Session = session (g.W.Write.contents c.args.writer.now) c.args.self.now (g.D.Disk.history c.args.disk.now)
+    (g.R.Read.remaining c.args.reader.now) (frames g.R.Read g.W.Write g.D.Disk c.args.film.now) in
     let shown = map (frame_of g.R.Read g.W.Write g.D.Disk) in
     record {
       serving = Serving-start old _ _ c.new-line.ensures (ap shown (c.note.ensures ∙ ap (λ (l : List _). scene Between c.args.reader.now c.args.writer.now c.args.disk.now ∷ l) c.requires));
@@ -25,22 +27,29 @@ returns-in_default-clause-read g c =
 
 pub returns-in_err-last-clause-write : goal.returns-in_err-last-clause-write
 returns-in_err-last-clause-write g c =
-    λ _. Serving-last_breaks _ _ _ _ _ _ _ c.loop.invariant.serving (ap (map (frame_of g.R.Read g.W.Write g.D.Disk)) c.in-Ok.ensures.scenes) (rw c.if-len-eq0.true at c.in-Ok.ensures.bytes.0) (c.in-Ok.ensures.bytes.1 c.if-len-eq0.true (omega (arith, c.read.auto.into))) (rw c.in_err-last.was at c.finish.ensures)
+    λ _. Serving-last_breaks _ _ _ _ _ _ _ c.loop.invariant.serving (ap (map (frame_of g.R.Read g.W.Write g.D.Disk)) c.in-Ok.ensures.scenes)
+    (rw c.if-len-eq0.true at c.in-Ok.ensures.bytes.0) (c.in-Ok.ensures.bytes.1 c.if-len-eq0.true (omega (arith, c.read.auto.into)))
+    (rw c.in_err-last.was at c.finish.ensures)
 
 pub returns-then-len-eq0-clause-ok : goal.returns-then-len-eq0-clause-ok
 returns-then-len-eq0-clause-ok g c =
-    Serving-ends _ _ _ _ _ _ _ _ _ c.loop.invariant.serving (ap (map (frame_of g.R.Read g.W.Write g.D.Disk)) c.in-Ok.ensures.scenes) (rw c.if-len-eq0.true at c.in-Ok.ensures.bytes.0) (c.in-Ok.ensures.bytes.1 c.if-len-eq0.true (omega (arith, c.read.auto.into))) (rw c.in_ok-last.was at c.finish.ensures) c.saturating_add.ensures
+    Serving-ends _ _ _ _ _ _ _ _ _ c.loop.invariant.serving (ap (map (frame_of g.R.Read g.W.Write g.D.Disk)) c.in-Ok.ensures.scenes)
+    (rw c.if-len-eq0.true at c.in-Ok.ensures.bytes.0) (c.in-Ok.ensures.bytes.1 c.if-len-eq0.true (omega (arith, c.read.auto.into)))
+    (rw c.in_ok-last.was at c.finish.ensures) c.saturating_add.ensures
 
 pub take_block-requires : goal.take_block-requires
 take_block-requires g c = Serving-clean _ _ _ _ c.loop.invariant.serving
 
 pub returns-in_err-lines-clause-write : goal.returns-in_err-lines-clause-write
 returns-in_err-lines-clause-write g c =
-    λ _. Serving-breaks _ _ _ _ _ _ _ _ c.loop.invariant.serving (ap (map (frame_of g.R.Read g.W.Write g.D.Disk)) c.in-Ok.ensures.scenes) c.in-Ok.ensures.bytes.0 (rw c.in_err-lines.was at c.take_block.ensures)
+    λ _. Serving-breaks _ _ _ _ _ _ _ _ c.loop.invariant.serving (ap (map (frame_of g.R.Read g.W.Write g.D.Disk)) c.in-Ok.ensures.scenes)
+    c.in-Ok.ensures.bytes.0 (rw c.in_err-lines.was at c.take_block.ensures)
 
 pub loop-preserved : goal.loop-preserved
 loop-preserved g c = record {
-  serving = Serving-more _ _ _ _ _ _ _ _ _ _ _ c.loop.invariant.serving (ap (map (frame_of g.R.Read g.W.Write g.D.Disk)) c.in-Ok.ensures.scenes) c.in-Ok.ensures.bytes.0 (rw c.in_ok-lines.was at c.take_block.ensures) c.saturating_add-count.ensures;
+  serving = Serving-more _ _ _ _ _ _ _ _ _ _ _ c.loop.invariant.serving
+      (ap (map (frame_of g.R.Read g.W.Write g.D.Disk)) c.in-Ok.ensures.scenes) c.in-Ok.ensures.bytes.0
+      (rw c.in_ok-lines.was at c.take_block.ensures) c.saturating_add-count.ensures;
   reads = TakesReads-more _ _ _ _ _ _ c.loop.invariant.reads c.in-Ok.ensures.bytes.0 (omega arith) c.in-Ok.ensures.bound.0 (omega (arith, c.read.auto.into));
 }
 
@@ -63,7 +72,8 @@ returns-in_default-clause-failed g c =
 
 pub returns-in_err-last-clause-failed : goal.returns-in_err-last-clause-failed
 returns-in_err-last-clause-failed g c =
-    unfailed_write _ _ (Serving-breaks_calm _ _ _ _ _ _ _ _ c.loop.invariant.serving (ap (map (frame_of g.R.Read g.W.Write g.D.Disk)) c.in-Ok.ensures.scenes) (rw c.in_err-last.was at c.finish.ensures)) (search rules)
+    unfailed_write _ _ (Serving-breaks_calm _ _ _ _ _ _ _ _ c.loop.invariant.serving
+    (ap (map (frame_of g.R.Read g.W.Write g.D.Disk)) c.in-Ok.ensures.scenes) (rw c.in_err-last.was at c.finish.ensures)) (search rules)
 
 pub returns-then-len-eq0-clause-failed : goal.returns-then-len-eq0-clause-failed
 returns-then-len-eq0-clause-failed g c =
@@ -72,7 +82,8 @@ returns-then-len-eq0-clause-failed g c =
 
 pub returns-in_err-lines-clause-failed : goal.returns-in_err-lines-clause-failed
 returns-in_err-lines-clause-failed g c =
-    unfailed_write _ _ (Serving-breaks_calm _ _ _ _ _ _ _ _ c.loop.invariant.serving (ap (map (frame_of g.R.Read g.W.Write g.D.Disk)) c.in-Ok.ensures.scenes) (rw c.in_err-lines.was at c.take_block.ensures)) (search rules)
+    unfailed_write _ _ (Serving-breaks_calm _ _ _ _ _ _ _ _ c.loop.invariant.serving
+    (ap (map (frame_of g.R.Read g.W.Write g.D.Disk)) c.in-Ok.ensures.scenes) (rw c.in_err-lines.was at c.take_block.ensures)) (search rules)
 
 pub returns-clause-failed : goal.returns-clause-failed
 returns-clause-failed g c = unfailed _ _ (Serving-stops_calm _ _ _ _ c.loop.invariant.serving) (λ is. cc)

@@ -10,6 +10,7 @@ invariant-loop g l =
     let history = g.D.Disk.history in
     let shown = frames g.R.Read g.W.Write g.D.Disk in
     record {
-      serving : Serving (session (contents l.fn.writer) l.fn.self (history l.fn.disk) (remaining l.fn.reader) (shown l.fn.film)) (session (contents l.writer) l.self (history l.disk) (remaining l.reader) (shown l.film)) l.line.items l.count;
+      serving : Serving (session (contents l.fn.writer) l.fn.self (history l.fn.disk) (remaining l.fn.reader) (shown l.fn.film))
+          (session (contents l.writer) l.self (history l.disk) (remaining l.reader) (shown l.film)) l.line.items l.count;
       reads : TakesReads (remaining l.fn.reader) (remaining l.reader) l.counter;
     }

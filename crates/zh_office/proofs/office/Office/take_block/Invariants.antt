@@ -13,7 +13,9 @@ invariant-loop-ended g l =
     let shown = frames g.R.Read g.W.Write g.D.Disk in
     let line = l.fn.line.items in
     record {
-      progress : Progress (session (contents l.fn.writer) l.fn.self (history l.fn.disk) left (shown l.fn.film)) (session (contents l.writer) l.self (history l.disk) left (shown l.film)) (ended_lines (line ++ l.block)) (truncated (unfinished (line ++ l.block))) l.line.items l.rest l.count;
+      progress : Progress (session (contents l.fn.writer) l.fn.self (history l.fn.disk) left (shown l.fn.film))
+          (session (contents l.writer) l.self (history l.disk) left (shown l.film)) (ended_lines (line ++ l.block))
+          (truncated (unfinished (line ++ l.block))) l.line.items l.rest l.count;
       room : l.count + length l.rest ≤ length l.block;
     }
 
