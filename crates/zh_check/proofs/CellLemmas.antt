@@ -1,5 +1,5 @@
 -- Quotients that round, and cells of a table of lists.
-use Rattle.std.proofs.Common.{◌≡◌, ℕ, zero, suc, ◌+◌, ◌-◌, ◌*◌, ◌/◌, ◌%◌, ◌<◌, ◌≤◌, Bool, true, false, List, length, get_or, sym, ap, ◌∙◌, inl, inr, arith, mul_comm, subst}
+use Rattle.std.proofs.Common.{◌≡◌, ℕ, zero, suc, ◌+◌, ◌-◌, ◌*◌, ◌/◌, ◌%◌, ◌<◌, ◌≤◌, Bool, true, false, List, length, get_or, map, sym, ap, ◌∙◌, inl, inr, arith, mul_comm, subst}
 use Rattle.std.specs.Prelude.{◌↔◌}
 use Rattle.std.specs.List.{range_with_len}
 use Rattle.std.proofs.lemmas.Bool.{cases_lt}
@@ -12,7 +12,8 @@ use Rattle.zh_divisors.specs.Rounding.{Rounds}
 use Rattle.zh_matrices.proofs.CallerLemmas.{column_of, row_of}
 use Rattle.zh_records.proofs.CallerLemmas.{HasWidth, in_block}
 use Rattle.zh_check.specs.Cells.{DoFollowAt, DoSeatsFollow, LiesOnHalf, line_of_list}
-use Rattle.zh_check.specs.Reading.{group_divisors_read, row_divisors_read, seats_read, standing, standing_in, votes_read}
+use Rattle.zh_check.specs.Reading.{standing, votes_read}
+use Rattle.zh_check.specs.declared.cells.ShownList.{ShownList}
 use Rattle.zh_check.proofs.SizeLemmas.{length-standing, length-votes}
 
 -- a number times 2 s - 1, where s is positive
@@ -87,40 +88,26 @@ divisor_not n p s none S =
     let nothing : (2 * s + 1) * p ≡ (2 * s + 1) * 0 = ap (λ q. (2 * s + 1) * q) none in
     omega (arith, above, nothing)
 
+no_product : (list : ShownList) → list.column_divisor ≡ 0 → list.row_divisor * list.column_divisor ≡ 0
+no_product list none = ap (λ c. list.row_divisor * c) none ∙ omega arith
+
 -- so the seats follow exactly if they are that number
-pub follow_to : (votes row column seats s : ℕ) → Rounds (votes * (1000000 * 1000000)) (row * column) s → (s ≡ seats) ↔ DoSeatsFollow votes row column seats
-follow_to votes row column seats s is =
-    let n : ℕ = votes * (1000000 * 1000000) in (
-      λ same. record {
-        none = λ no. let product : row * column ≡ 0 = ap (λ c. row * c) no ∙ omega arith in absurd (divisor_not n (row * column) s product is);
-        rounds = λ some. rw (← same) is;
-      },
-      λ follow. elim (cases_lt 0 column) [
-        | inl some ↦ one_rounding n (row * column) s seats is (follow.rounds some)
-        | inr none ↦
-            let no : column ≡ 0 = omega (arith, none) in
-            let product : row * column ≡ 0 = ap (λ c. row * c) no ∙ omega arith in
-            absurd (divisor_not n (row * column) s product is)
+pub follow_to : (list : ShownList) (s : ℕ) → Rounds (list.votes * (1000000 * 1000000)) (list.row_divisor * list.column_divisor) s → (s ≡ list.seats) ↔ DoSeatsFollow list
+follow_to list s is =
+    let n : ℕ = list.votes * (1000000 * 1000000) in
+    let p : ℕ = list.row_divisor * list.column_divisor in (
+      λ same. record { none = λ no. absurd (divisor_not n p s (no_product list no) is); rounds = λ some. rw (← same) is },
+      λ follow. elim (cases_lt 0 list.column_divisor) [
+        | inl some ↦ one_rounding n p s list.seats is (follow.rounds some)
+        | inr none ↦ absurd (divisor_not n p s (no_product list (omega (arith, none))) is)
       ],
     )
 
-pub follow_half : (votes row column seats : ℕ) → LiesOnHalf (votes * (1000000 * 1000000)) (row * column) → ¬ DoSeatsFollow votes row column seats
-follow_half votes row column seats half follow = elim (cases_lt 0 column) [
-  | inl some ↦ half_not (votes * (1000000 * 1000000)) (row * column) seats half (follow.rounds some)
-  | inr none ↦
-      let no : column ≡ 0 = omega (arith, none) in
-      let product : row * column ≡ 0 = ap (λ c. row * c) no ∙ omega arith in
-      omega (arith, half.positive, product)
+pub follow_half : (list : ShownList) → LiesOnHalf (list.votes * (1000000 * 1000000)) (list.row_divisor * list.column_divisor) → ¬ DoSeatsFollow list
+follow_half list half follow = elim (cases_lt 0 list.column_divisor) [
+  | inl some ↦ half_not (list.votes * (1000000 * 1000000)) (list.row_divisor * list.column_divisor) list.seats half (follow.rounds some)
+  | inr none ↦ omega (arith, half.positive, no_product list (omega (arith, none)))
 ]
-
-pub follow_none : (votes row column seats : ℕ) → row * column ≡ 0 → (column ≡ 0) × (seats ≡ 0) ↔ DoSeatsFollow votes row column seats
-follow_none votes row column seats product = (
-  λ both. record { none = λ no. both.1; rounds = λ some. absurd (omega (arith, both.0, some)) },
-  λ follow. elim (cases_lt 0 column) [
-    | inl some ↦ absurd (divisor_not (votes * (1000000 * 1000000)) (row * column) seats product (follow.rounds some))
-    | inr none ↦ let no : column ≡ 0 = omega (arith, none) in (no, follow.none no)
-  ],
-)
 
 -- whether the list at a place stands
 pub standing_at : (canton : Canton) (k : ℕ) → k < length canton.constituencies * length canton.groups →
@@ -130,13 +117,14 @@ standing_at canton k lt =
     let n : ℕ = length canton.groups in
     let d : ℕ = k / n in
     let g : ℕ = k % n in
-    let wide : HasWidth (standing_in canton) n = record { at = λ d. length-map (range_with_len 1 n) (stands canton d) ∙ length-range_with_len 1 n } in
+    let row_of_flags : ℕ → List Bool = λ d. map (stands canton d) (range_with_len 1 n) in
+    let wide : HasWidth row_of_flags n = record { at = λ d. length-map (range_with_len 1 n) (stands canton d) ∙ length-range_with_len 1 n } in
     let turned : k ≡ n * d + g = omega (arith, div-add-mod' k n, mul_comm d n) in
     let row : get_or (range_with_len 1 m) d 0 ≡ d + 1 = get_or-range_with_len 1 m d 0 (row_of m n k lt) ∙ omega arith in
     let column : get_or (range_with_len 1 n) g 0 ≡ g + 1 = get_or-range_with_len 1 n g 0 (column_of m n k lt) ∙ omega arith in
     ap (λ p. get_or (standing canton) p false) turned
-    ∙ (in_block (standing_in canton) n wide (range_with_len 1 m) d g 0 false (omega (arith, row_of m n k lt, length-range_with_len 1 m)) (column_of m n k lt)
-    ∙ (ap (λ e. get_or (standing_in canton e) g false) row
+    ∙ (in_block row_of_flags n wide (range_with_len 1 m) d g 0 false (omega (arith, row_of m n k lt, length-range_with_len 1 m)) (column_of m n k lt)
+    ∙ (ap (λ e. get_or (row_of_flags e) g false) row
     ∙ (get_or-map (stands canton (d + 1)) (range_with_len 1 n) g 0 false (omega (arith, column_of m n k lt, length-range_with_len 1 n))
     ∙ ap (stands canton (d + 1)) column)))
 
@@ -153,15 +141,15 @@ next_line_hidden canton k lt away =
     let same = count_by_more_no (λ (s : Bool). s) (standing canton) k false (omega (arith, lt, length-standing canton)) away in
     omega (arith, same)
 
--- a place that is read
-pub place_there : (canton : Canton) (text items : List ℕ) (len place : ℕ) → items ≡ votes_read canton text → len ≡ length items → place < len →
-    place < length canton.constituencies * length canton.groups
-place_there canton text items len place read is lt = omega (arith, is, ap length read, length-votes canton text, lt)
+-- places are there, and few
+pub place_there : (canton : Canton) (text votes : List ℕ) (k : ℕ) → votes ≡ votes_read canton text → k < length votes →
+    k < length canton.constituencies * length canton.groups
+place_there canton text votes k read lt = omega (arith, lt, ap length read, length-votes canton text)
 
-pub few_places : (m n k : ℕ) → m ≤ 32 → n ≤ 32 → k < m * n → k < 1024
+pub few_places : (m n k : ℕ) → m ≤ 69 → n ≤ 69 → k < m * n → k < 4761
 few_places m n k few_rows few_columns lt =
-    let wide : m * n ≤ m * 32 = mul-le-mul_left m few_columns in
-    let high : m * 32 ≤ 32 * 32 = mul-le-mul_right 32 few_rows in
+    let wide : m * n ≤ m * 69 = mul-le-mul_left m few_columns in
+    let high : m * 69 ≤ 69 * 69 = mul-le-mul_right 69 few_rows in
     omega (arith, lt, wide, high)
 
 -- whether the list there stands, by a number of groups
@@ -182,22 +170,6 @@ one_more canton text place before here k lt = elim (cases_lt k place) [
   | inr last ↦ let at : k ≡ place = omega (arith, last, lt) in subst (λ j. DoFollowAt canton text j) (sym at) here
 ]
 
--- what is read at a place
-pub follow_read : (canton : Canton) (text votes rows columns seats : List ℕ) (k groups : ℕ) → votes ≡ votes_read canton text → rows ≡ row_divisors_read canton text →
-    columns ≡ group_divisors_read canton text → seats ≡ seats_read canton text → groups ≡ length canton.groups →
-    DoSeatsFollow (get_or votes k 0) (get_or rows (k / groups) 0) (get_or columns (k % groups) 0) (get_or seats k 0) →
-    DoSeatsFollow (get_or (votes_read canton text) k 0) (get_or (row_divisors_read canton text) (k / length canton.groups) 0)
-    (get_or (group_divisors_read canton text) (k % length canton.groups) 0) (get_or (seats_read canton text) k 0)
-follow_read canton text votes rows columns seats k groups v r c s g is =
-    rw (← v, ← r, ← c, ← s, ← g) is
-
-pub read_follow : (canton : Canton) (text votes rows columns seats : List ℕ) (k groups : ℕ) → votes ≡ votes_read canton text → rows ≡ row_divisors_read canton text →
-    columns ≡ group_divisors_read canton text → seats ≡ seats_read canton text → groups ≡ length canton.groups →
-    DoSeatsFollow (get_or (votes_read canton text) k 0) (get_or (row_divisors_read canton text) (k / length canton.groups) 0)
-    (get_or (group_divisors_read canton text) (k % length canton.groups) 0) (get_or (seats_read canton text) k 0) →
-    DoSeatsFollow (get_or votes k 0) (get_or rows (k / groups) 0) (get_or columns (k % groups) 0) (get_or seats k 0)
-read_follow canton text votes rows columns seats k groups v r c s g is =
-    rw (v, r, c, s, g) is
-
+-- a test that fails
 pub off_follows : (result : Bool) (P : Type 0) → (result ≡ true) ↔ P → result ≡ false → ¬ P
 off_follows result P both off p = let on : result ≡ true = both.1 p in absurd (cc)

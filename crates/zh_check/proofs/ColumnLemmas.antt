@@ -134,13 +134,6 @@ divisors_more x n = ap (map (divisor_or_0 x)) (numbers_more n) ∙ map-append (d
 column_positive : (x : Distribution) → IsDistribution x → (k : ℕ) → k < length (seated_groups x.upper.seats) → 0 < get_or x.lower.divisors.of_columns k 0
 column_positive x is k lt = omega (arith, is.limits.columns.from_1 k 0 (omega (arith, lt, is.limits.columns.one_each)))
 
--- a group has a divisor exactly where it is seated
-pub divisor_seated : (x : Distribution) → IsDistribution x → (n : ℕ) → n < length x.upper.seats → 0 < divisor_or_0 x (n + 1) → 0 < get_or x.upper.seats n 0
-divisor_seated x is n lt has = elim (cases_lt 0 (get_or x.upper.seats n 0)) [
-  | inl some ↦ some
-  | inr none ↦ absurd (omega (arith, has, divisor_none x n none))
-]
-
 fewer : (x : Distribution) (n : ℕ) → n < length x.upper.seats → 0 < get_or x.upper.seats n 0 →
     length (first_seated x.upper.seats n) < length (seated_groups x.upper.seats)
 fewer x n lt some =

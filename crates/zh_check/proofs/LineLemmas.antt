@@ -1,10 +1,9 @@
--- Lines of a text and words of a line.
+-- Where a byte is found.
 use Rattle.std.proofs.Common.{◌≡◌, ℕ, zero, suc, ◌-◌, ◌≤◌, Bool, true, false, cond, List, [], ◌∷◌, length, take, drop, Some, None, refl, sym, ap, ◌∙◌, inl, inr, arith, length-drop}
 use Rattle.std.specs.Prelude.{nat_lt, position}
-use Rattle.std.specs.List.{after_first, before_first, position_or_len}
+use Rattle.std.specs.List.{position_or_len}
 use Rattle.std.proofs.lemmas.Bool.{cases_lt, lt-ltb}
 use Rattle.std.proofs.lemmas.List.{take_all}
-use Rattle.zh_check.specs.Lines.{parts_words, word_at}
 
 -- where a byte is found
 pub found_at : {X : Type 0} (p : X → Bool) (xs : List X) (k : ℕ) → position p xs ≡ Some k → position_or_len p xs ≡ k
@@ -31,18 +30,3 @@ drop_past (suc n) (x ∷ xs) past = drop_past n xs (omega arith)
 
 pub all_after : {X : Type 0} (n : ℕ) (xs : List X) → take (length xs - n) (drop n xs) ≡ drop n xs
 all_after n xs = take_all (length xs - n) (drop n xs) (omega (arith, length-drop n xs))
-
--- words, one after the other
-pub word_first : (line : List ℕ) → word_at line 0 ≡ before_first parts_words line
-unfolding word_at
-word_first line = refl
-
-pub word_next : (line : List ℕ) (n : ℕ) → word_at line (suc n) ≡ word_at (after_first parts_words line) n
-unfolding word_at
-word_next line n = refl
-
-pub word_of : (line : List ℕ) (n m : ℕ) → n ≡ suc m → word_at line n ≡ word_at (after_first parts_words line) m
-word_of line n m e = ap (word_at line) e ∙ word_next line m
-
-pub word_here : (line : List ℕ) (n : ℕ) → n ≡ 0 → word_at line n ≡ before_first parts_words line
-word_here line n e = ap (word_at line) e ∙ word_first line

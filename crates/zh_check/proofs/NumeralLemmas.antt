@@ -1,9 +1,8 @@
--- What is written as a number may stand in a blank.
-use Rattle.std.proofs.Common.{◌≡◌, ℕ, zero, suc, ◌-◌, ◌/◌, ◌%◌, ◌^◌, ◌<◌, ◌≤◌, ◌&&◌, ◌||◌, Bool, true, false, cond, List, [], ◌∷◌, ◌++◌, length, min, Some, None, Option, refl, sym, ap, ◌∙◌, arith, decimal}
+-- What a sheet writes may stand at its part, and is read as it was.
+use Rattle.std.proofs.Common.{◌≡◌, ℕ, ◌-◌, ◌^◌, ◌<◌, ◌≤◌, ◌&&◌, ◌||◌, Bool, true, false, cond, List, [], ◌∷◌, ◌++◌, length, min, Some, None, Option, refl, sym, ap, ◌∙◌, arith, decimal}
 use Rattle.std.specs.Prelude.{◌==◌, codes, nat_le, not}
 use Rattle.std.specs.Str.{bytes_eq}
 use Rattle.std.specs.Char.{is_ascii_digit}
-use Rattle.std.specs.Fmt.{digits, digits_onto, digit_glyph}
 use Rattle.std.specs.List.{list_all}
 use Rattle.std.specs.Option.{option_map_or}
 use Rattle.std.proofs.lemmas.Bool.{le-leb, ne_eqb}
@@ -11,11 +10,11 @@ use Rattle.std.proofs.lemmas.List.Folds.{list_all-append}
 use Rattle.std.proofs.lemmas.Slice.Eq.{bytes_eq-Decides}
 use Rattle.std.proofs.Math.Nat.{min-eq_left}
 use Rattle.zh_sheet_text.specs.SheetText.{divisor_text}
+use Rattle.zh_sheet_text.specs.declared.part.SheetPart.{SheetPart}
+use Rattle.zh_sheet_text.specs.declared.part.SheetPart.TheVariants.{Kind, TakesPart, GroupVoters, GroupDivisor}
 use Rattle.zh_check.specs.Form.{dots_for, filled, fits, is_digit_or, is_divisor, is_number, is_number_from, is_made_of_digits}
-use Rattle.zh_check.specs.Lines.{digits_after, number_of_word, word_at}
-use Rattle.zh_check.specs.declared.blanks.Blank.{Blank}
-use Rattle.zh_check.specs.declared.blanks.Blank.TheVariants.{Desk, Kind, Number, Seats, Divisor, DivisorOrDash, Fraction, VotersOrDash, YesOrNo}
-use Rattle.zh_check.proofs.WordLemmas.{glyph_word, read-decimal, read-divisor}
+use Rattle.zh_check.specs.Lines.{digits_after, number_of_word}
+use Rattle.zh_check.proofs.WordLemmas.{numeral_is, read-decimal, read-divisor}
 
 -- a text of digits, or of such a byte
 abbrev IsNumeralOf : ℕ → List ℕ → Type 0
@@ -36,43 +35,16 @@ digit_is d low high = both _ _ (le-leb 48 d low) (le-leb d 57 high)
 digit_fits : (mark d : ℕ) → 48 ≤ d → d ≤ 57 → is_digit_or mark d ≡ true
 digit_fits mark d low high = either (is_ascii_digit d) (d == mark) (digit_is d low high)
 
-onto_numeral : (mark k n : ℕ) (acc : List ℕ) → IsNumeralOf mark acc → IsNumeralOf mark (digits_onto k 10 false n acc)
-onto_numeral mark zero n acc is = is
-onto_numeral mark (suc k) n acc is =
-    let d : ℕ = digit_glyph false (n % 10) in
-    let more : IsNumeralOf mark (d ∷ acc) = both (is_digit_or mark d) _ (digit_fits mark d (glyph_word n).0 (glyph_word n).1) is in
-    elim (n / 10 == 0) as (λ b. IsNumeralOf mark (cond b (d ∷ acc) (digits_onto k 10 false (n / 10) (d ∷ acc)))) [
-      | true ↦ more
-      | false ↦ onto_numeral mark k (n / 10) (d ∷ acc) more
-    ]
-
 decimal_digits : (mark n : ℕ) → IsNumeralOf mark (decimal n)
-unfolding digits
-decimal_digits mark n = onto_numeral mark 64 n [] refl
+decimal_digits mark =
+    numeral_is (λ ds. IsNumeralOf mark ds) (λ d low high. both (is_digit_or mark d) true (digit_fits mark d low high) refl)
+    (λ d ds low high is. both (is_digit_or mark d) (list_all (is_digit_or mark) ds) (digit_fits mark d low high) is)
 
 some_there : (x : ℕ) (xs : List ℕ) → (length (x ∷ xs) == 0) ≡ false
 some_there x xs = ne_eqb (length (x ∷ xs)) 0 (λ e. omega (arith, e))
 
-onto_some : (k n : ℕ) (acc : List ℕ) → (length acc == 0) ≡ false → (length (digits_onto k 10 false n acc) == 0) ≡ false
-onto_some zero n acc some = some
-onto_some (suc k) n acc some =
-    let d : ℕ = digit_glyph false (n % 10) in
-    elim (n / 10 == 0) as (λ b. (length (cond b (d ∷ acc) (digits_onto k 10 false (n / 10) (d ∷ acc))) == 0) ≡ false) [
-      | true ↦ some_there d acc
-      | false ↦ onto_some k (n / 10) (d ∷ acc) (some_there d acc)
-    ]
-
-first_some : (n : ℕ) (k : ℕ) → (length (digits_onto (suc k) 10 false n []) == 0) ≡ false
-first_some n k =
-    let d : ℕ = digit_glyph false (n % 10) in
-    elim (n / 10 == 0) as (λ b. (length (cond b (d ∷ []) (digits_onto k 10 false (n / 10) (d ∷ []))) == 0) ≡ false) [
-      | true ↦ some_there d []
-      | false ↦ onto_some k (n / 10) (d ∷ []) (some_there d [])
-    ]
-
 decimal_some : (n : ℕ) → (length (decimal n) == 0) ≡ false
-unfolding digits
-decimal_some n = first_some n 63
+decimal_some = numeral_is (λ ds. (length ds == 0) ≡ false) (λ d low high. some_there d []) (λ d ds low high is. some_there d ds)
 
 more_some : (xs ys : List ℕ) → (length xs == 0) ≡ false → (length (xs ++ ys) == 0) ≡ false
 more_some [] ys some = absurd (cc)
@@ -92,27 +64,26 @@ fraction_numeral n m =
     numeral 47 (decimal n ++ (codes "/" ++ decimal m)) (more_some (decimal n) (codes "/" ++ decimal m) (decimal_some n))
     (appended 47 (decimal n) (codes "/" ++ decimal m) (decimal_digits 47 n) (appended 47 (codes "/") (decimal m) refl (decimal_digits 47 m)))
 
--- a word that may stand in a blank is left there
-pub word_filled : (blank : Blank) (line word : List ℕ) (place : ℕ) → word_at line place ≡ word → fits blank word ≡ true → filled blank line place ≡ word
-word_filled blank line word place at fit =
-    ap (λ w. cond (fits blank w) w (dots_for w)) at ∙ ap (λ b. cond b word (dots_for word)) fit
+-- a word that may stand at a part is left there
+pub word_filled : (part : SheetPart) (word : List ℕ) → fits part word ≡ true → filled part word ≡ word
+word_filled part word fit = ap (λ b. cond b word (dots_for word)) fit
 
 second : (a b : Bool) → b ≡ true → (a || b) ≡ true
 second true b is = refl
 second false b is = is
 
 -- the number that is read of what is written
-number_read : (word : List ℕ) (n : ℕ) → digits_after 0 word ≡ n → n < 2 ^ 64 → number_of_word word ≡ n
+pub number_read : (word : List ℕ) (n : ℕ) → digits_after 0 word ≡ n → n < 2 ^ 64 → number_of_word word ≡ n
 number_read word n value small = ap (λ v. min v (2 ^ 64 - 1)) value ∙ min-eq_left (omega (arith, small))
 
-decimal_read : (n : ℕ) → n < 2 ^ 64 → number_of_word (decimal n) ≡ n
+pub decimal_read : (n : ℕ) → n < 2 ^ 64 → number_of_word (decimal n) ≡ n
 decimal_read n small = number_read (decimal n) n (read-decimal n small) small
 
 same_bytes : (xs ys : List ℕ) → xs ≡ ys → bytes_eq xs ys ≡ true
 same_bytes xs ys same = (bytes_eq-Decides xs ys).1 same
 
 -- numbers and divisors fit as they are written
-pub number_fits : (n : ℕ) → n < 2 ^ 64 → fits Number (decimal n) ≡ true
+pub number_fits : (n : ℕ) → n < 2 ^ 64 → is_number (decimal n) ≡ true
 number_fits n small = same_bytes (decimal n) (decimal (number_of_word (decimal n))) (ap decimal (sym (decimal_read n small)))
 
 within_fits : (low high n : ℕ) → low ≤ n → n ≤ high → n < 2 ^ 64 → is_number_from low high (decimal n) ≡ true
@@ -122,33 +93,33 @@ within_fits low high n above below small =
     (both (nat_le low (number_of_word (decimal n))) (nat_le (number_of_word (decimal n)) high)
     (ap (nat_le low) read ∙ le-leb low n above) (ap (λ m. nat_le m high) read ∙ le-leb n high below))
 
-pub desk_fits : (n : ℕ) → 1 ≤ n → n ≤ 8 → fits Desk (decimal n) ≡ true
+pub desk_fits : (n : ℕ) → 1 ≤ n → n ≤ 8 → is_number_from 1 8 (decimal n) ≡ true
 desk_fits n low high = within_fits 1 8 n low high (omega (arith, high))
 
-pub seats_fit : (n : ℕ) → n ≤ 400 → fits Seats (decimal n) ≡ true
+pub seats_fit : (n : ℕ) → n ≤ 400 → is_number_from 0 400 (decimal n) ≡ true
 seats_fit n few = within_fits 0 400 n (omega arith) few (omega (arith, few))
 
-pub divisor_fits : (m : ℕ) → m < 2 ^ 64 → fits Divisor (divisor_text m) ≡ true
+pub divisor_fits : (m : ℕ) → m < 2 ^ 64 → is_divisor (divisor_text m) ≡ true
 divisor_fits m small =
     same_bytes (divisor_text m) (divisor_text (number_of_word (divisor_text m)))
     (ap divisor_text (sym (number_read (divisor_text m) m (read-divisor m small) small)))
 
 pub divisor_or_dash_fits : (divisor : ℕ → ℕ) (found : Option ℕ) → ((k : ℕ) → divisor k < 2 ^ 64) →
-    fits DivisorOrDash (option_map_or (λ k. divisor_text (divisor k)) found (codes "-")) ≡ true
+    fits (GroupDivisor 0) (option_map_or (λ k. divisor_text (divisor k)) found (codes "-")) ≡ true
 divisor_or_dash_fits divisor None small = refl
 divisor_or_dash_fits divisor (Some k) small = second _ (is_divisor (divisor_text (divisor k))) (divisor_fits (divisor k) (small k))
 
-pub fraction_fits : (n m : ℕ) → fits Fraction (decimal n ++ (codes "/" ++ decimal m)) ≡ true
+pub fraction_fits : (n m : ℕ) → is_made_of_digits 47 (decimal n ++ (codes "/" ++ decimal m)) ≡ true
 fraction_fits n m = fraction_numeral n m
 
 pub kind_fits : (is_final : Bool) → fits Kind (cond is_final (codes "final") (codes "provisional")) ≡ true
 kind_fits true = refl
 kind_fits false = refl
 
-pub yes_or_no_fits : (yes : Bool) → fits YesOrNo (cond yes (codes "yes") (codes "no")) ≡ true
+pub yes_or_no_fits : (yes : Bool) → fits (TakesPart 0) (cond yes (codes "yes") (codes "no")) ≡ true
 yes_or_no_fits true = refl
 yes_or_no_fits false = refl
 
-pub voters_or_dash_fits : (shows : Bool) (n : ℕ) → fits VotersOrDash (cond shows (decimal n) (codes "-")) ≡ true
+pub voters_or_dash_fits : (shows : Bool) (n : ℕ) → fits (GroupVoters 0) (cond shows (decimal n) (codes "-")) ≡ true
 voters_or_dash_fits true n = second _ (is_made_of_digits 48 (decimal n)) (decimal_numeral 48 n)
 voters_or_dash_fits false n = refl

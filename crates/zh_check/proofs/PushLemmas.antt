@@ -1,8 +1,5 @@
 -- What is put at the end of a list that grows, and what is still to be put.
 use Rattle.std.proofs.Common.{◌≡◌, ℕ, ◌+◌, ◌<◌, Bool, true, false, cond, List, [], ◌∷◌, ◌++◌, map, filter, sym, ap, ◌∙◌, append_assoc}
-use Rattle.std.proofs.lemmas.List.{map-append}
-use Rattle.zh_check.specs.Lines.{after_if, after_where, line_if, lines_where}
-use Rattle.zh_check.proofs.ReadLemmas.{where_append}
 use Rattle.zh_check.proofs.StandingLemmas.{next_number, numbers_from}
 
 -- one number more
@@ -28,24 +25,3 @@ pub next_dropped : {A : Type 0} (f : ℕ → A) (test : ℕ → Bool) (n p : ℕ
 next_dropped f test n p lt fails =
     let rest : List ℕ = filter test (numbers_from n (p + 1)) in
     ap (λ ks. map f (filter test ks)) (next_number n p lt) ∙ ap (λ b. map f (cond b ((p + 1) ∷ rest) rest)) fails
-
--- one list more
-pub list_put : (number : List ℕ → ℕ) (s : Bool) (flags all_flags : List Bool) (text after line : List ℕ) (done new all : List ℕ) (value : ℕ) →
-    done ++ map number (lines_where all_flags text) ≡ all → all_flags ≡ s ∷ flags → line ≡ line_if s text → after ≡ after_if s text → value ≡ number line →
-    new ≡ done ++ value ∷ [] → new ++ map number (lines_where flags after) ≡ all
-list_put number s flags all_flags text after line done new all value before parts line_is after_is value_is put =
-    one_put done new (map number (lines_where flags after)) (map number (lines_where all_flags text)) all value (number (line_if s text)) before
-    (ap (λ fs. map number (lines_where fs text)) parts ∙ ap (λ t. number (line_if s text) ∷ map number (lines_where flags t)) (sym after_is))
-    (value_is ∙ ap number line_is) put
-
--- the lists of one constituency more
-pub lists_put : (number : List ℕ → ℕ) (front flags all_flags : List Bool) (text after : List ℕ) (done new all : List ℕ) →
-    done ++ map number (lines_where all_flags text) ≡ all → all_flags ≡ front ++ flags → after ≡ after_where front text →
-    new ≡ done ++ map number (lines_where front text) → new ++ map number (lines_where flags after) ≡ all
-lists_put number front flags all_flags text after done new all before parts after_is put =
-    some_put done new (map number (lines_where front text)) (map number (lines_where flags after)) (map number (lines_where all_flags text)) all before
-    (ap (λ fs. map number (lines_where fs text)) parts
-    ∙ (ap (map number) (where_append front flags text)
-    ∙ (map-append number (lines_where front text) (lines_where flags (after_where front text))
-    ∙ ap (λ t. map number (lines_where front text) ++ map number (lines_where flags t)) (sym after_is))))
-    put

@@ -1,13 +1,12 @@
--- A text that is cut at a byte, and the words of a line.
-use Rattle.std.proofs.Common.{◌≡◌, ℕ, zero, suc, ◌+◌, ◌<◌, ◌≤◌, true, false, All, List, [], ◌∷◌, ◌++◌, length, take, drop, get_or, refl, ap, ◌∙◌, arith, append_assoc}
+-- A text that is cut at a byte: its lines, and the words of a line.
+use Rattle.std.proofs.Common.{◌≡◌, ℕ, suc, ◌+◌, ◌<◌, ◌≤◌, true, false, All, List, [], ◌∷◌, ◌++◌, length, take, drop, refl, ap, ◌∙◌, arith}
 use Rattle.std.specs.Prelude.{◌==◌}
 use Rattle.std.specs.List.{after_first, before_first, position_or_len}
 use Rattle.std.proofs.lemmas.Bool.{eq-eqb, ne_eqb}
 use Rattle.std.proofs.lemmas.List.{take_all}
-use Rattle.std.proofs.lemmas.List.Elements.{All-append, All-cons, All-head, All-tail}
+use Rattle.std.proofs.lemmas.List.Elements.{All-head, All-tail}
 use Rattle.std.proofs.Math.Seq.{take-append_seam}
-use Rattle.zh_check.specs.Lines.{after_line, first_line, word_at}
-use Rattle.zh_check.proofs.LineLemmas.{word_first, word_next}
+use Rattle.zh_check.specs.Lines.{after_line, after_word, first_line, leading_word}
 
 -- the place of a byte that stands nowhere before
 seam_at : (c : ℕ) (xs rest : List ℕ) → All (λ b. c < b) xs → position_or_len (λ b. b == c) (xs ++ c ∷ rest) ≡ length xs
@@ -57,53 +56,23 @@ pub line_back : (body rest : List ℕ) → IsPlain body → after_line (body ++ 
 unfolding after_line
 line_back body rest plain = seam_back 10 body rest (λ k d lt. omega (arith, plain k d lt))
 
--- words, each with a space after it
-abbrev pub joined : List (List ℕ) → List ℕ → List ℕ
-joined [] rest = rest
-joined (word ∷ words) rest = word ++ 32 ∷ joined words rest
+-- the first word of a line, which is all of it where no space follows, and nothing of an empty one
+pub word_front : (word rest : List ℕ) → IsWord word → leading_word (word ++ 32 ∷ rest) ≡ word
+unfolding leading_word
+word_front word rest is = seam_front 32 word rest (λ k d lt. omega (arith, is k d lt))
 
-pub joined_end : (words : List (List ℕ)) (rest more : List ℕ) → joined words rest ++ more ≡ joined words (rest ++ more)
-joined_end [] rest more = refl
-joined_end (word ∷ words) rest more =
-    append_assoc word (32 ∷ joined words rest) more ∙ ap (λ r. word ++ 32 ∷ r) (joined_end words rest more)
+pub word_back : (word rest : List ℕ) → IsWord word → after_word (word ++ 32 ∷ rest) ≡ rest
+unfolding after_word
+word_back word rest is = seam_back 32 word rest (λ k d lt. omega (arith, is k d lt))
 
-abbrev pub AreWords : List (List ℕ) → Type 0
-AreWords [] = Unit {0}
-AreWords (word ∷ words) = IsWord word × AreWords words
+pub word_alone : (word : List ℕ) → IsWord word → leading_word word ≡ word
+unfolding leading_word
+word_alone word is = take_all (position_or_len (λ b. b == 32) word) word (omega (arith, nowhere 32 word (λ k d lt. omega (arith, is k d lt))))
 
-pub word_past : (words : List (List ℕ)) (rest : List ℕ) (n : ℕ) → AreWords words → word_at (joined words rest) (length words + n) ≡ word_at rest n
-word_past [] rest n are = let none : 0 + n ≡ n = omega arith in ap (word_at rest) none
-word_past (word ∷ words) rest n are =
-    let next : suc (length words) + n ≡ suc (length words + n) = omega arith in
-    let line : List ℕ = word ++ 32 ∷ joined words rest in
-    ap (word_at line) next ∙ word_next line (length words + n)
-    ∙ ap (λ xs. word_at xs (length words + n)) (seam_back 32 word (joined words rest) (λ k d lt. omega (arith, are.0 k d lt)))
-    ∙ word_past words rest n are.1
+pub no_word : leading_word [] ≡ []
+unfolding leading_word
+no_word = refl
 
-pub word_before : (word rest : List ℕ) → IsWord word → word_at (word ++ 32 ∷ rest) 0 ≡ word
-word_before word rest is = word_first (word ++ 32 ∷ rest) ∙ seam_front 32 word rest (λ k d lt. omega (arith, is k d lt))
-
-pub word_last : (word : List ℕ) → IsWord word → word_at word 0 ≡ word
-word_last word is =
-    word_first word ∙ take_all (position_or_len (λ b. b == 32) word) word (omega (arith, nowhere 32 word (λ k d lt. omega (arith, is k d lt))))
-
--- each word where it stands
-pub word_there : (words : List (List ℕ)) (rest : List ℕ) (n : ℕ) → AreWords words → n < length words → word_at (joined words rest) n ≡ get_or words n []
-word_there [] rest n are lt = absurd (omega arith)
-word_there (word ∷ words) rest zero are lt = word_before word (joined words rest) are.0
-word_there (word ∷ words) rest (suc n) are lt =
-    let line : List ℕ = word ++ 32 ∷ joined words rest in
-    word_next line n
-    ∙ ap (λ xs. word_at xs n) (seam_back 32 word (joined words rest) (λ k d lt. omega (arith, are.0 k d lt)))
-    ∙ word_there words rest n are.1 (omega arith)
-
-pub joined_plain : (words : List (List ℕ)) (rest : List ℕ) → AreWords words → IsPlain rest → IsPlain (joined words rest)
-joined_plain [] rest are plain = plain
-joined_plain (word ∷ words) rest are plain =
-    All-append (λ b. 32 ≤ b) word (32 ∷ joined words rest) (word_plain word are.0)
-    (All-cons (λ b. 32 ≤ b) 32 (joined words rest) (omega arith) (joined_plain words rest are.1 plain))
-
--- nothing has no words
-pub no_word : (n : ℕ) → word_at [] n ≡ []
-no_word zero = word_first []
-no_word (suc n) = word_next [] n ∙ no_word n
+pub no_more : after_word [] ≡ []
+unfolding after_word
+no_more = refl

@@ -1,7 +1,8 @@
 -- What is read of the text of a sheet is what the sheet says.
-use Rattle.std.proofs.Common.{◌≡◌, ℕ, ◌+◌, ◌-◌, ◌*◌, ◌<◌, ◌≤◌, Bool, true, false, cond, List, [], length, get_or, map, filter, flat_map, min, refl, sym, ap, ◌∙◌, inl, inr, arith, mul_comm}
-use Rattle.std.specs.Prelude.{codes, nat_lt, ◌↔◌}
+use Rattle.std.proofs.Common.{◌≡◌, ℕ, ◌+◌, ◌-◌, ◌*◌, ◌^◌, ◌<◌, ◌≤◌, All, Bool, true, false, cond, List, [], ◌∷◌, length, get_or, map, filter, flat_map, min, Option, refl, sym, ap, ◌∙◌, inl, inr, arith, mul_comm, decimal}
+use Rattle.std.specs.Prelude.{codes, nat_lt}
 use Rattle.std.specs.List.{range_with_len}
+use Rattle.std.specs.Option.{option_map_or}
 use Rattle.std.proofs.lemmas.Bool.{cases_lt, le-ltb, lt-ltb}
 use Rattle.std.proofs.lemmas.List.{get_or-map, length-map}
 use Rattle.std.proofs.lemmas.List.FromFn.{get_or-range_with_len, length-range_with_len}
@@ -10,113 +11,169 @@ use Rattle.zh_districts.specs.Canton.{Canton, stands}
 use Rattle.zh_records.proofs.CallerLemmas.{HasWidth, in_block}
 use Rattle.zh_sheet.specs.Distribution.{Distribution, IsDistribution, seated_groups}
 use Rattle.zh_sheet.specs.Given.{IsPublished, given_lists}
-use Rattle.zh_sheet.specs.Readings.{list_seats}
-use Rattle.zh_sheet_text.specs.SheetText.{constituency_line, group_line, sheet_text}
+use Rattle.zh_sheet.specs.Readings.{column_of, list_seats}
+use Rattle.zh_sheet_text.specs.Layout.{sheet_lines}
+use Rattle.zh_sheet_text.specs.SheetText.{divisor_text, part_text, sheet_text}
+use Rattle.zh_sheet_text.specs.declared.part.SheetPart.{SheetPart}
+use Rattle.zh_sheet_text.specs.declared.parts.Head.{Head}
+use Rattle.zh_sheet_text.specs.declared.part.SheetPart.TheVariants.{Desk, Kind, Accepted, ConstituencyDivisor, GroupDivisor, ListVotes, ListSeats}
+use Rattle.zh_sheet_text.proofs.CallerLemmas.{all_lines, list_seats_small}
 use Rattle.zh_totals.specs.Totals.{place_in, votes_in}
 use Rattle.zh_totals.proofs.CallerLemmas.{group_most}
-use Rattle.zh_check.specs.Lines.{lines_where, number_at}
-use Rattle.zh_check.specs.Reading.{column_divisors, divisors_in, group_divisors_read, text_of_lists, row_divisors_read, seats_in_columns, seats_on, seats_read, standing, votes_on, votes_read}
-use Rattle.zh_check.proofs.BodyLemmas.{constituency_body, constituency_body_plain, constituency_divisor, constituency_is, group_body, group_body_divisor, group_body_plain, group_is, kind, list_body, list_body_seats, list_body_votes}
-use Rattle.zh_check.proofs.NameLemmas.{no_number}
+use Rattle.zh_check.specs.Form.{IsFormed}
+use Rattle.zh_check.specs.Lines.{leading_word, number_of_word}
+use Rattle.zh_check.specs.Reading.{column_divisors, group_divisors_read, head_read, is_like, latest, row_divisors_read, seats_in_columns, seats_of_word, seats_read, votes_read, words_at}
 use Rattle.zh_check.proofs.ColumnLemmas.{divisor_at_place, divisor_none, group_count, positives-divisors, seated_divisor}
 use Rattle.zh_check.proofs.Divisors.{divisor_or_0, group_divisors}
 use Rattle.zh_check.proofs.ListLemmas.{all_seats, all_seats_are, all_votes_are}
+use Rattle.zh_check.proofs.NumeralLemmas.{decimal_read, number_read}
+use Rattle.zh_check.proofs.PartLemmas.{IsShown, all_shown, found_words, lines_formed, lines_read}
 use Rattle.zh_check.proofs.RangeLemmas.{filter_same, flat_same, map_flat, map_same, range_same, tabulated, two_maps}
-use Rattle.zh_check.proofs.ReadLemmas.{constituencies_read, groups_on, groups_read, lists_left, lists_on, lists_read, rows_read, shown_in}
-use Rattle.zh_check.proofs.ShownLemmas.{few_seats, group_small, hidden_seats, row_small}
+use Rattle.zh_check.proofs.SeamLemmas.{no_word, word_alone}
+use Rattle.zh_check.proofs.SectionLemmas.{group_numbers, kinds, only_first, only_groups, only_lists, only_rows, row_numbers}
+use Rattle.zh_check.proofs.ShownLemmas.{group_small, hidden_seats, row_small}
+use Rattle.zh_check.proofs.SpelledLemmas.{last_spelled, spelled}
+use Rattle.zh_check.proofs.WordLemmas.{decimal_word, divisor_or_dash, divisor_word, is_final_word, kind_word, read-divisor, read-divisor_or_dash}
 
--- the kind of a sheet
-pub final_word : (is_final : Bool) → (is_final ≡ true) ↔ (kind is_final ≡ codes "final")
-final_word true = (λ e. refl, λ e. refl)
-final_word false = (λ e. absurd (cc), λ e. let first : 112 ≡ 102 = ap (λ word. get_or word 0 0) e in absurd (omega (arith, first)))
+-- what is read of a word that is written
+number_shown : (n : ℕ) → n < 2 ^ 64 → number_of_word (leading_word (decimal n)) ≡ n
+number_shown n small = ap number_of_word (word_alone (decimal n) (decimal_word n)) ∙ decimal_read n small
 
--- the divisors of the constituencies
-pub rows_are : (x : Distribution) (desk : ℕ) (is_final : Bool) (accepted : ℕ) → IsDistribution x →
-    row_divisors_read x.totals.canton (sheet_text x desk is_final accepted) ≡ x.lower.divisors.of_rows
-rows_are x desk is_final accepted is =
-    let n : ℕ = length x.totals.canton.constituencies in
-    let rows : List ℕ = x.lower.divisors.of_rows in
-    let long : length rows ≡ n = is.limits.rows.one_each in
-    let divisor : List ℕ → ℕ = λ line. number_at line 9 in
-    ap (divisors_in n) (constituencies_read x desk is_final accepted)
-    ∙ (ap (map divisor) (rows_read (constituency_line x) (constituency_body x) 1 n (groups_on x) (constituency_is x) (constituency_body_plain x is.totals.canton))
-    ∙ (two_maps divisor (constituency_body x) (range_with_len 1 n)
-    ∙ (ap (λ m. map (λ d. divisor (constituency_body x d)) (range_with_len 1 m)) (sym long)
-    ∙ tabulated (λ d. divisor (constituency_body x d)) rows (λ k lt.
-    let place : k + 1 - 1 ≡ k = omega arith in
-    constituency_divisor x (k + 1) (row_small x is (k + 1 - 1)) ∙ ap (λ j. get_or rows j 0) place))))
+divisor_shown : (m : ℕ) → m < 2 ^ 64 → number_of_word (leading_word (divisor_text m)) ≡ m
+divisor_shown m small = ap number_of_word (word_alone (divisor_text m) (divisor_word m)) ∙ number_read (divisor_text m) m (read-divisor m small) small
 
--- those of the groups
-pub groups_are : (x : Distribution) (desk : ℕ) (is_final : Bool) (accepted : ℕ) → IsDistribution x →
-    group_divisors_read x.totals.canton (sheet_text x desk is_final accepted) ≡ group_divisors x (length x.totals.canton.groups)
-groups_are x desk is_final accepted is =
-    let n : ℕ = length x.totals.canton.groups in
-    let divisor : List ℕ → ℕ = λ line. number_at line 9 in
-    ap (divisors_in n) (groups_read x desk is_final accepted is.totals.canton)
-    ∙ (ap (map divisor) (rows_read (group_line x) (group_body x) 1 n (lists_on x) (group_is x) (group_body_plain x is.totals.canton))
-    ∙ (two_maps divisor (group_body x) (range_with_len 1 n)
-    ∙ map_same (λ g. divisor (group_body x g)) (divisor_or_0 x) (range_with_len 1 n) (λ g. group_body_divisor x g (group_small x is g))))
+dash_shown : (divisor : ℕ → ℕ) (found : Option ℕ) → option_map_or divisor found 0 < 2 ^ 64 →
+    number_of_word (leading_word (option_map_or (λ k. divisor_text (divisor k)) found (codes "-"))) ≡ option_map_or divisor found 0
+dash_shown divisor found small =
+    let word : List ℕ = option_map_or (λ k. divisor_text (divisor k)) found (codes "-") in
+    ap number_of_word (word_alone word (divisor_or_dash divisor found)) ∙ number_read word (option_map_or divisor found 0) (read-divisor_or_dash divisor found small) small
 
-pub columns_are : (x : Distribution) → IsDistribution x → column_divisors (group_divisors x (length x.totals.canton.groups)) ≡ x.lower.divisors.of_columns
-columns_are x is = ap (λ n. column_divisors (group_divisors x n)) (sym (group_count x is)) ∙ positives-divisors x is
+nothing_shown : number_of_word (leading_word []) ≡ 0
+nothing_shown = ap number_of_word no_word ∙ number_read [] 0 refl (omega arith)
 
--- the lines of the lists
-lists_are : (x : Distribution) (desk : ℕ) (is_final : Bool) (accepted : ℕ) → IsDistribution x →
-    lines_where (standing x.totals.canton) (text_of_lists x.totals.canton (sheet_text x desk is_final accepted))
-    ≡ flat_map (shown_in x) (range_with_len 1 (length x.totals.canton.constituencies))
-lists_are x desk is_final accepted is =
-    ap (lines_where (standing x.totals.canton)) (lists_left x desk is_final accepted is.totals.canton)
-    ∙ lists_read x (range_with_len 1 (length x.totals.canton.constituencies)) (codes "end\n")
+kind_is : (is_final : Bool) → is_final_word (cond is_final (codes "final") (codes "provisional")) ≡ is_final
+kind_is true = refl
+kind_is false = refl
+
+kind_shown : (is_final : Bool) → is_final_word (leading_word (cond is_final (codes "final") (codes "provisional"))) ≡ is_final
+kind_shown is_final = ap is_final_word (word_alone (cond is_final (codes "final") (codes "provisional")) (kind_word is_final)) ∙ kind_is is_final
+
+-- what a sheet says at each part
+abbrev said : Distribution → ℕ → Bool → ℕ → SheetPart → List ℕ
+said x desk is_final accepted = part_text x (record { desk = desk; is_final = is_final; accepted = accepted })
 
 -- a table of numbers that the lines of the lists show
-table_is : (x : Distribution) (number : List ℕ → ℕ) (value : ℕ → ℕ → ℕ) →
-    ((d g : ℕ) → 1 ≤ d → d ≤ length x.totals.canton.constituencies → 1 ≤ g → g ≤ length x.totals.canton.groups →
-    number (cond (stands x.totals.canton d g) (list_body x d g) []) ≡ value d g) →
-    map number (flat_map (shown_in x) (range_with_len 1 (length x.totals.canton.constituencies)))
-    ≡ flat_map (λ d. map (value d) (range_with_len 1 (length x.totals.canton.groups))) (range_with_len 1 (length x.totals.canton.constituencies))
-table_is x number value each =
-    let m : ℕ = length x.totals.canton.constituencies in
-    let n : ℕ = length x.totals.canton.groups in
-    map_flat number (shown_in x) (range_with_len 1 m)
-    ∙ flat_same (λ d. map number (shown_in x d)) (λ d. map (value d) (range_with_len 1 n)) 1 m (λ d d_low d_high.
-    two_maps number (λ g. cond (stands x.totals.canton d g) (list_body x d g) []) (range_with_len 1 n)
-    ∙ range_same (λ g. number (cond (stands x.totals.canton d g) (list_body x d g) [])) (value d) 1 n (λ g g_low g_high.
-    each d g d_low (omega arith) g_low (omega arith)))
-
--- the votes of a list that stands or not
-votes_shown : (x : Distribution) → IsPublished x → (d g : ℕ) → 1 ≤ d → d ≤ length x.totals.canton.constituencies → 1 ≤ g → g ≤ length x.totals.canton.groups →
-    (b : Bool) → stands x.totals.canton d g ≡ b → number_at (cond b (list_body x d g) []) 4 ≡ votes_in x.totals d g
-votes_shown x is d g d_low d_high g_low g_high true here =
-    let most = group_most x.totals d g is.distribution.totals d_low d_high g_low g_high in
-    list_body_votes x d g (omega (arith, most))
-votes_shown x is d g d_low d_high g_low g_high false away = no_number 4 ∙ sym (is.votes d d_low d_high g g_low g_high away)
-
-pub votes_are : (x : Distribution) (desk : ℕ) (is_final : Bool) (accepted : ℕ) → IsPublished x →
-    votes_read x.totals.canton (sheet_text x desk is_final accepted) ≡ x.totals.votes
-votes_are x desk is_final accepted is =
-    ap votes_on (lists_are x desk is_final accepted is.distribution)
-    ∙ (table_is x (λ line. number_at line 4) (votes_in x.totals)
-    (λ d g d_low d_high g_low g_high. votes_shown x is d g d_low d_high g_low g_high (stands x.totals.canton d g) refl)
-    ∙ all_votes_are x is.distribution)
-
--- its seats
-seats_shown : (x : Distribution) → IsPublished x → (d g : ℕ) → 1 ≤ d → d ≤ length x.totals.canton.constituencies → 1 ≤ g → g ≤ length x.totals.canton.groups →
-    (b : Bool) → stands x.totals.canton d g ≡ b → min (number_at (cond b (list_body x d g) []) 8) 400 ≡ list_seats x d g
-seats_shown x is d g d_low d_high g_low g_high true here =
-    let few : list_seats x d g ≤ 400 = few_seats x is.distribution d g in
-    ap (λ n. min n 400) (list_body_seats x d g (omega (arith, few))) ∙ min-eq_left few
-seats_shown x is d g d_low d_high g_low g_high false away =
-    ap (λ n. min n 400) (no_number 8) ∙ sym (hidden_seats x is d g d_low d_high g_low g_high away)
+table_is : {A : Type 0} (canton : Canton) (number : A → ℕ) (word : ℕ → ℕ → A) (value : ℕ → ℕ → ℕ) →
+    ((d g : ℕ) → 1 ≤ d → d ≤ length canton.constituencies → 1 ≤ g → g ≤ length canton.groups → number (word d g) ≡ value d g) →
+    map number (flat_map (λ d. map (word d) (group_numbers canton)) (row_numbers canton)) ≡ flat_map (λ d. map (value d) (group_numbers canton)) (row_numbers canton)
+table_is canton number word value each =
+    let m : ℕ = length canton.constituencies in
+    let n : ℕ = length canton.groups in
+    map_flat number (λ d. map (word d) (range_with_len 1 n)) (range_with_len 1 m)
+    ∙ flat_same (λ d. map number (map (word d) (range_with_len 1 n))) (λ d. map (value d) (range_with_len 1 n)) 1 m (λ d d_low d_high.
+    two_maps number (word d) (range_with_len 1 n)
+    ∙ range_same (λ g. number (word d g)) (value d) 1 n (λ g g_low g_high. each d g d_low (omega (arith, d_high)) g_low (omega (arith, g_high))))
 
 abbrev seat_table : Distribution → List ℕ
 seat_table x = flat_map (λ d. map (list_seats x d) (range_with_len 1 (length x.totals.canton.groups))) (range_with_len 1 (length x.totals.canton.constituencies))
 
-seats_table : (x : Distribution) (desk : ℕ) (is_final : Bool) (accepted : ℕ) → IsPublished x →
-    seats_read x.totals.canton (sheet_text x desk is_final accepted) ≡ seat_table x
-seats_table x desk is_final accepted is =
-    ap seats_on (lists_are x desk is_final accepted is.distribution)
-    ∙ table_is x (λ line. min (number_at line 8) 400) (list_seats x)
-    (λ d g d_low d_high g_low g_high. seats_shown x is d g d_low d_high g_low g_high (stands x.totals.canton d g) refl)
+-- the votes of a list that stands or not, and its seats
+votes_shown : (x : Distribution) → IsPublished x → (d g : ℕ) → 1 ≤ d → d ≤ length x.totals.canton.constituencies → 1 ≤ g → g ≤ length x.totals.canton.groups →
+    (b : Bool) → stands x.totals.canton d g ≡ b → number_of_word (leading_word (cond b (decimal (votes_in x.totals d g)) [])) ≡ votes_in x.totals d g
+votes_shown x is d g d_low d_high g_low g_high true here =
+    number_shown (votes_in x.totals d g) (omega (arith, group_most x.totals d g is.distribution.totals d_low d_high g_low g_high))
+votes_shown x is d g d_low d_high g_low g_high false away = nothing_shown ∙ sym (is.votes d d_low d_high g g_low g_high away)
+
+seats_shown : (x : Distribution) → IsPublished x → (d g : ℕ) → 1 ≤ d → d ≤ length x.totals.canton.constituencies → 1 ≤ g → g ≤ length x.totals.canton.groups →
+    (b : Bool) → stands x.totals.canton d g ≡ b → seats_of_word (leading_word (cond b (decimal (list_seats x d g)) [])) ≡ list_seats x d g
+seats_shown x is d g d_low d_high g_low g_high true here =
+    let few : list_seats x d g ≤ 400 = list_seats_small x is.distribution d g d_low d_high in
+    ap (λ n. min n 400) (number_shown (list_seats x d g) (omega (arith, few))) ∙ min-eq_left few
+seats_shown x is d g d_low d_high g_low g_high false away =
+    ap (λ n. min n 400) nothing_shown ∙ sym (hidden_seats x is d g d_low d_high g_low g_high away)
+
+module _ (x : Distribution) (desk : ℕ) (is_final : Bool) (accepted : ℕ) (is : IsDistribution x) (low : 1 ≤ desk) (high : desk ≤ 8) (small : accepted < 2 ^ 64) where
+  shown : All (IsShown x.totals.canton (said x desk is_final accepted)) (sheet_lines x.totals.canton)
+  shown =
+      let head : Head = record { desk = desk; is_final = is_final; accepted = accepted } in
+      all_shown x.totals.canton (said x desk is_final accepted) (spelled x is head low high small) (last_spelled x is head low high small) (sheet_lines x.totals.canton)
+      (all_lines x.totals.canton is.totals.canton)
+
+  -- the text is in its form
+  pub sheet_formed : IsFormed x.totals.canton (sheet_text x desk is_final accepted)
+  sheet_formed = sym (lines_formed x.totals.canton (said x desk is_final accepted) (sheet_lines x.totals.canton) shown)
+
+  words : (test : SheetPart → Bool) →
+      words_at test (sheet_lines x.totals.canton) (sheet_text x desk is_final accepted) ≡ flat_map (found_words (said x desk is_final accepted) test) (sheet_lines x.totals.canton)
+  words test = lines_read x.totals.canton (said x desk is_final accepted) test (sheet_lines x.totals.canton) shown
+
+  -- the first line
+  pub desk_is : (head_read x.totals.canton (sheet_text x desk is_final accepted)).desk ≡ desk
+  desk_is =
+      ap (λ ws. latest 0 (map number_of_word ws))
+      (words (is_like Desk) ∙ (kinds (found_words (said x desk is_final accepted) (is_like Desk)) x.totals.canton refl refl refl refl (λ n. refl) refl
+      ∙ only_first x.totals.canton (leading_word (decimal desk) ∷ [])))
+      ∙ number_shown desk (omega (arith, high))
+
+  pub final_is : (head_read x.totals.canton (sheet_text x desk is_final accepted)).is_final ≡ is_final
+  final_is =
+      ap (λ ws. latest false (map is_final_word ws))
+      (words (is_like Kind) ∙ (kinds (found_words (said x desk is_final accepted) (is_like Kind)) x.totals.canton refl refl refl refl (λ n. refl) refl
+      ∙ only_first x.totals.canton (leading_word (cond is_final (codes "final") (codes "provisional")) ∷ [])))
+      ∙ kind_shown is_final
+
+  pub accepted_is : (head_read x.totals.canton (sheet_text x desk is_final accepted)).accepted ≡ accepted
+  accepted_is =
+      ap (λ ws. latest 0 (map number_of_word ws))
+      (words (is_like Accepted) ∙ (kinds (found_words (said x desk is_final accepted) (is_like Accepted)) x.totals.canton refl refl refl refl (λ n. refl) refl
+      ∙ only_first x.totals.canton (leading_word (decimal accepted) ∷ [])))
+      ∙ number_shown accepted small
+
+  -- the divisors of the constituencies, and those of the groups
+  rows_are : row_divisors_read x.totals.canton (sheet_text x desk is_final accepted) ≡ x.lower.divisors.of_rows
+  rows_are =
+      let rows : List ℕ = x.lower.divisors.of_rows in
+      let f : ℕ → List ℕ = λ d. leading_word (divisor_text (get_or rows (d - 1) 0)) in
+      let long : length rows ≡ length x.totals.canton.constituencies = is.limits.rows.one_each in
+      ap (map number_of_word)
+      (words (is_like (ConstituencyDivisor 0)) ∙ (kinds (found_words (said x desk is_final accepted) (is_like (ConstituencyDivisor 0))) x.totals.canton refl refl refl refl (λ n. refl) refl
+      ∙ only_rows x.totals.canton f))
+      ∙ (two_maps number_of_word f (row_numbers x.totals.canton)
+      ∙ (ap (λ m. map (λ d. number_of_word (f d)) (range_with_len 1 m)) (sym long)
+      ∙ tabulated (λ d. number_of_word (f d)) rows (λ k lt.
+      let place : k + 1 - 1 ≡ k = omega arith in
+      divisor_shown (get_or rows (k + 1 - 1) 0) (row_small x is (k + 1 - 1)) ∙ ap (λ j. get_or rows j 0) place)))
+
+  groups_are : group_divisors_read x.totals.canton (sheet_text x desk is_final accepted) ≡ group_divisors x (length x.totals.canton.groups)
+  groups_are =
+      let f : ℕ → List ℕ = λ g. leading_word (said x desk is_final accepted (GroupDivisor g)) in
+      ap (map number_of_word)
+      (words (is_like (GroupDivisor 0)) ∙ (kinds (found_words (said x desk is_final accepted) (is_like (GroupDivisor 0))) x.totals.canton refl refl refl refl (λ n. refl) refl
+      ∙ only_groups x.totals.canton f))
+      ∙ (two_maps number_of_word f (group_numbers x.totals.canton)
+      ∙ map_same (λ g. number_of_word (f g)) (divisor_or_0 x) (group_numbers x.totals.canton)
+      (λ g. dash_shown (λ k. get_or x.lower.divisors.of_columns k 0) (column_of x g) (group_small x is g)))
+
+  -- the votes of the lists, and their seats
+  pub votes_are : IsPublished x → votes_read x.totals.canton (sheet_text x desk is_final accepted) ≡ x.totals.votes
+  votes_are published =
+      let f : ℕ → ℕ → List ℕ = λ d g. leading_word (cond (stands x.totals.canton d g) (decimal (votes_in x.totals d g)) []) in
+      ap (map number_of_word)
+      (words (is_like (ListVotes 0 0)) ∙ (kinds (found_words (said x desk is_final accepted) (is_like (ListVotes 0 0))) x.totals.canton refl refl refl refl (λ n. refl) refl ∙ only_lists x.totals.canton f))
+      ∙ (table_is x.totals.canton number_of_word f (votes_in x.totals)
+      (λ d g d_low d_high g_low g_high. votes_shown x published d g d_low d_high g_low g_high (stands x.totals.canton d g) refl)
+      ∙ all_votes_are x is)
+
+  seats_are : IsPublished x → seats_read x.totals.canton (sheet_text x desk is_final accepted) ≡ seat_table x
+  seats_are published =
+      let f : ℕ → ℕ → List ℕ = λ d g. leading_word (cond (stands x.totals.canton d g) (decimal (list_seats x d g)) []) in
+      ap (map seats_of_word)
+      (words (is_like (ListSeats 0 0)) ∙ (kinds (found_words (said x desk is_final accepted) (is_like (ListSeats 0 0))) x.totals.canton refl refl refl refl (λ n. refl) refl ∙ only_lists x.totals.canton f))
+      ∙ table_is x.totals.canton seats_of_word f (list_seats x)
+      (λ d g d_low d_high g_low g_high. seats_shown x published d g d_low d_high g_low g_high (stands x.totals.canton d g) refl)
+
+columns_are : (x : Distribution) → IsDistribution x → column_divisors (group_divisors x (length x.totals.canton.groups)) ≡ x.lower.divisors.of_columns
+columns_are x is = ap (λ n. column_divisors (group_divisors x n)) (sym (group_count x is)) ∙ positives-divisors x is
 
 table_at : (x : Distribution) (d g : ℕ) → 1 ≤ d → d ≤ length x.totals.canton.constituencies → 1 ≤ g → g ≤ length x.totals.canton.groups →
     get_or (seat_table x) (place_in x.totals.canton d g) 0 ≡ list_seats x d g
@@ -168,21 +225,21 @@ in_columns x is =
     ∙ ap (λ k. map (list_seats x d) (filter seated (range_with_len 1 k))) (sym (group_count x is))))
 
 -- the seats and divisors of the lists
-pub lower_is : (x : Distribution) (desk : ℕ) (is_final : Bool) (accepted : ℕ) → IsPublished x →
+pub lower_is : (x : Distribution) (desk : ℕ) (is_final : Bool) (accepted : ℕ) → IsPublished x → 1 ≤ desk → desk ≤ 8 → accepted < 2 ^ 64 →
     x.lower ≡ given_lists
     (seats_in_columns x.totals.canton (group_divisors_read x.totals.canton (sheet_text x desk is_final accepted)) (seats_read x.totals.canton (sheet_text x desk is_final accepted)))
     (row_divisors_read x.totals.canton (sheet_text x desk is_final accepted))
     (column_divisors (group_divisors_read x.totals.canton (sheet_text x desk is_final accepted)))
-lower_is x desk is_final accepted shown =
-    let is : IsDistribution x = shown.distribution in
+lower_is x desk is_final accepted published low high small =
+    let is : IsDistribution x = published.distribution in
     let canton : Canton = x.totals.canton in
     let text : List ℕ = sheet_text x desk is_final accepted in
-    let divisors : group_divisors_read canton text ≡ group_divisors x (length canton.groups) = groups_are x desk is_final accepted is in
+    let divisors : group_divisors_read canton text ≡ group_divisors x (length canton.groups) = groups_are x desk is_final accepted is low high small in
     let seats : seats_in_columns canton (group_divisors_read canton text) (seats_read canton text) ≡ x.lower.seats
     = ap (λ ds. seats_in_columns canton ds (seats_read canton text)) divisors
-    ∙ (ap (seats_in_columns canton (group_divisors x (length canton.groups))) (seats_table x desk is_final accepted shown)
+    ∙ (ap (seats_in_columns canton (group_divisors x (length canton.groups))) (seats_are x desk is_final accepted is low high small published)
     ∙ (in_columns x is ∙ all_seats_are x is)) in
-    let rows : row_divisors_read canton text ≡ x.lower.divisors.of_rows = rows_are x desk is_final accepted is in
+    let rows : row_divisors_read canton text ≡ x.lower.divisors.of_rows = rows_are x desk is_final accepted is low high small in
     let columns : column_divisors (group_divisors_read canton text) ≡ x.lower.divisors.of_columns = ap column_divisors divisors ∙ columns_are x is in
     ap (λ d. record { seats = x.lower.seats; divisors = d }) is.divisors
     ∙ (ap (λ s. given_lists s x.lower.divisors.of_rows x.lower.divisors.of_columns) (sym seats)

@@ -1,29 +1,31 @@
 -- Sums of the seats of lists, by constituency and by group.
-use Rattle.std.proofs.Common.{◌≡◌, ◌≢◌, ℕ, ◌+◌, ◌*◌, ◌<◌, ◌≤◌, All, Bool, List, [], ◌∷◌, length, get_or, min, Option, Some, None, Err, refl, inl, inr, sym, ap, ◌∙◌, arith}
+use Rattle.std.proofs.Common.{◌≡◌, ◌≢◌, ℕ, ◌+◌, ◌*◌, ◌<◌, ◌≤◌, All, Bool, List, [], ◌∷◌, length, get_or, map, Option, Some, None, Err, refl, inl, inr, sym, ap, ◌∙◌, arith}
 use Rattle.std.proofs.lemmas.List.Elements.{All-cons, All-nil}
 use Rattle.std.proofs.Math.Nat.{mul-le-mul_right}
 use Rattle.zh_districts.specs.Canton.{Canton}
 use Rattle.zh_divisors.proofs.CallerLemmas.{sum_to-ext}
 use Rattle.zh_divisors.specs.Shares.{Apportionment}
 use Rattle.zh_quorum.specs.Quorum.{AreParticipating}
+use Rattle.zh_sheet_text.specs.Layout.{sheet_lines}
 use Rattle.zh_totals.specs.Totals.{VoteTotals}
 use Rattle.zh_upper.specs.UpperSeats.{AreTied, HasNoGroup, HasNoVoters, IsReportedWhere}
 use Rattle.zh_upper.specs.VoterNumbers.{AreVoterSums}
 use Rattle.zh_upper.specs.declared.fault.UpperFault.{UpperFault}
 use Rattle.zh_upper.specs.declared.fault.UpperFault.TheVariants as faults
-use Rattle.zh_check.specs.Lines.{after_lines, first_line, lines_where, number_at}
-use Rattle.zh_check.specs.Reading.{lines_above, seats_on, seats_read, standing, text_of_lists}
-use Rattle.zh_check.specs.Totals.{AreConstituencySeats, AreGroupSeats, AreMet, FindsOffAmong, FindsOffTotal, HaveNoGroupSeats, IsOffAmong, IsSaid, IsUnmet, constituency_sum, group_sum, spaced_sum, totals_read}
+use Rattle.zh_sheet_text.specs.declared.part.SheetPart.TheVariants.{ListSeats}
+use Rattle.zh_check.specs.Lines.{after_lines, first_line}
+use Rattle.zh_check.specs.Reading.{is_like, lines_above, seats_of_word, seats_read, totals_read, words_at}
+use Rattle.zh_check.specs.Totals.{AreConstituencySeats, AreGroupSeats, AreMet, FindsOffAmong, FindsOffTotal, HaveNoGroupSeats, IsOffAmong, IsSaid, IsUnmet, constituency_sum, group_sum, spaced_sum}
 use Rattle.zh_check.specs.declared.checked.OffTotal.{OffTotal}
 use Rattle.zh_check.specs.declared.totals.Unmet.{Unmet}
 
 -- few seats are read
-few_on : (lines : List (List ℕ)) → All (λ s. s ≤ 400) (seats_on lines)
-few_on [] = All-nil (λ s. s ≤ 400)
-few_on (line ∷ lines) = All-cons (λ s. s ≤ 400) (min (number_at line 8) 400) (seats_on lines) (omega arith) (few_on lines)
+few_of : (words : List (List ℕ)) → All (λ s. s ≤ 400) (map seats_of_word words)
+few_of [] = All-nil (λ s. s ≤ 400)
+few_of (word ∷ words) = All-cons (λ s. s ≤ 400) (seats_of_word word) (map seats_of_word words) (omega arith) (few_of words)
 
 pub few_read : (canton : Canton) (text : List ℕ) → All (λ s. s ≤ 400) (seats_read canton text)
-few_read canton text = few_on (lines_where (standing canton) (text_of_lists canton text))
+few_read canton text = few_of (words_at (is_like (ListSeats 0 0)) (sheet_lines canton) text)
 
 -- the places of a row and of a column
 pub row_there : (m n d g : ℕ) → d < m → g < n → d * n + g * 1 < m * n
@@ -54,10 +56,7 @@ column_sum canton text seats rows columns read same_rows same g =
     (λ k lt. let place : g * 1 + k * length canton.groups ≡ k * length canton.groups + g = omega arith in
     ap (λ p. get_or seats p 0) place ∙ ap (λ xs. get_or xs (k * length canton.groups + g) 0) read))
 
--- so these sums are met, or this is the first that is not
-pub all_met : (sum their : ℕ → ℕ) (totals : List ℕ) → ((k : ℕ) → sum k ≡ their k) → AreMet sum totals → AreMet their totals
-all_met sum their totals same met k lt = sym (same k) ∙ met k lt
-
+-- the first sum that is not met
 pub off_among : (sum their : ℕ → ℕ) (totals text : List ℕ) (before line : ℕ) (unmet : Unmet) (off : OffTotal) → ((k : ℕ) → sum k ≡ their k) →
     IsUnmet sum totals unmet → line ≡ before + unmet.place → IsSaid text line unmet.seats (get_or totals unmet.place 0) off → IsOffAmong their totals text before off
 off_among sum their totals text before line unmet off same is at said = record {

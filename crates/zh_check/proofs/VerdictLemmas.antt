@@ -1,13 +1,15 @@
 -- What is recomputed of a text, and what is right.
-use Rattle.std.proofs.Common.{◌≡◌, ◌≢◌, ℕ, ◌-◌, ◌^◌, ◌≤◌, Bool, true, false, List, Option, Some, None, refl, sym, ap, ◌∙◌, subst, arith}
-use Rattle.std.specs.Prelude.{IfSome, codes, ◌↔◌}
+use Rattle.std.proofs.Common.{◌≡◌, ◌≢◌, ℕ, ◌-◌, ◌^◌, ◌<◌, ◌≤◌, Bool, List, [], ◌∷◌, map, Option, Some, None, sym, ap, ◌∙◌, subst, arith}
+use Rattle.std.specs.Prelude.{IfSome}
 use Rattle.zh_districts.specs.Canton.{Canton}
 use Rattle.zh_matrices.specs.SeatMatrix.{SeatMatrix}
 use Rattle.zh_sheet.specs.Distribution.{Distribution}
 use Rattle.zh_sheet.specs.Given.{IsGiven, IsPublished, given_lists}
-use Rattle.zh_totals.specs.Totals.{AreTotals, VoteTotals}
-use Rattle.zh_check.specs.Lines.{first_line, number_at, word_at}
-use Rattle.zh_check.specs.Reading.{column_divisors, group_divisors_read, row_divisors_read, seats_in_columns, seats_read, votes_read}
+use Rattle.zh_sheet_text.specs.Layout.{sheet_lines}
+use Rattle.zh_totals.specs.Totals.{VoteTotals}
+use Rattle.zh_sheet_text.specs.declared.part.SheetPart.TheVariants.{Accepted}
+use Rattle.zh_check.specs.Lines.{number_of_word}
+use Rattle.zh_check.specs.Reading.{column_divisors, group_divisors_read, head_read, is_like, latest, lists_read, row_divisors_read, seats_in_columns, seats_read, totals_read, words_at}
 use Rattle.zh_check.specs.Form.{FindsOffForm, IsFormed, IsOffForm}
 use Rattle.zh_check.specs.Others.{FindsOtherVotes, HasHeldVotes, HasOtherVotes}
 use Rattle.zh_check.specs.declared.checked.OtherVotes.{OtherVotes}
@@ -17,23 +19,12 @@ use Rattle.zh_check.specs.declared.checked.SheetVerdict.{SheetVerdict}
 use Rattle.zh_check.specs.declared.checked.SheetVerdict.TheVariants as verdicts
 use Rattle.zh_check.specs.declared.checked.WrongLine.{WrongLine}
 use Rattle.zh_check.specs.declared.checked.RightSheet.{RightSheet}
-use Rattle.zh_check.proofs.BodyLemmas.{head_accepted, head_desk, head_kind, kind}
-use Rattle.zh_check.proofs.FormedLemmas.{sheet_formed}
-use Rattle.zh_check.proofs.ReadLemmas.{head_read}
-use Rattle.zh_check.proofs.SheetLemmas.{final_word, lower_is, votes_are}
+use Rattle.zh_check.proofs.SheetLemmas.{accepted_is, desk_is, final_is, lower_is, sheet_formed, votes_are}
 
--- the totals and the lists of a text
-abbrev pub totals_in : Canton → List ℕ → VoteTotals
-totals_in canton text = record { canton = canton; votes = votes_read canton text }
-
-abbrev pub lists_in : Canton → List ℕ → SeatMatrix
-lists_in canton text =
-    given_lists (seats_in_columns canton (group_divisors_read canton text) (seats_read canton text)) (row_divisors_read canton text)
-    (column_divisors (group_divisors_read canton text))
-
+-- what follows from what is read
 pub same_lists : (canton : Canton) (text divisors table rows seats columns : List ℕ) → divisors ≡ group_divisors_read canton text → table ≡ seats_read canton text →
     rows ≡ row_divisors_read canton text → seats ≡ seats_in_columns canton divisors table → columns ≡ column_divisors divisors →
-    given_lists seats rows columns ≡ lists_in canton text
+    given_lists seats rows columns ≡ lists_read canton text
 same_lists canton text divisors table rows seats columns divisors_are table_is rows_are seats_are columns_are =
     let all_seats : seats ≡ seats_in_columns canton (group_divisors_read canton text) (seats_read canton text)
     = seats_are ∙ (ap (λ ds. seats_in_columns canton ds table) divisors_are ∙ ap (seats_in_columns canton (group_divisors_read canton text)) table_is) in
@@ -42,55 +33,34 @@ same_lists canton text divisors table rows seats columns divisors_are table_is r
     ∙ ap (given_lists (seats_in_columns canton (group_divisors_read canton text) (seats_read canton text)) (row_divisors_read canton text))
     (columns_are ∙ ap column_divisors divisors_are))
 
--- a desk that there is not
-pub no_desk : (canton : Canton) (text : List ℕ) (desk : ℕ) → desk ≡ number_at (first_line text) 0 → (1 ≤ desk → desk ≤ 8 → ⊥) → FindsSheet canton text None
-no_desk canton text desk read not = record {
-  some = tt;
-  every = λ c is. absurd (not (omega (arith, read, is.desk_read, is.desk.0)) (omega (arith, read, is.desk_read, is.desk.1)));
-}
-
--- votes that are no totals
-pub no_totals : (canton : Canton) (text : List ℕ) (given : VoteTotals) → given ≡ totals_in canton text → ¬ AreTotals given → FindsSheet canton text None
-no_totals canton text given read not = record {
-  some = tt;
-  every = λ c is. absurd (not (subst (λ t. AreTotals t) (is.votes ∙ sym read) is.meets.distribution.totals));
-}
-
 -- seats that do not follow
-pub no_sheet : (canton : Canton) (text : List ℕ) (totals : VoteTotals) (lists : SeatMatrix) → totals ≡ totals_in canton text → lists ≡ lists_in canton text →
+pub no_sheet : (canton : Canton) (text : List ℕ) (totals : VoteTotals) (lists : SeatMatrix) → totals ≡ totals_read canton text → lists ≡ lists_read canton text →
     IsGiven totals lists None → FindsSheet canton text None
 no_sheet canton text totals lists votes seats given = record {
   some = tt;
   every = λ c is. let e : None ≡ Some c.sheet = given.every c.sheet is.meets (is.votes ∙ sym votes) (is.lists ∙ sym seats) in absurd (cc);
 }
 
-same_truth : {P : Type 0} (a b : Bool) → (a ≡ true) ↔ P → (b ≡ true) ↔ P → a ≡ b
-same_truth true true a b = refl
-same_truth false false a b = refl
-same_truth true false a b = sym (b.1 (a.0 refl))
-same_truth false true a b = a.1 (b.0 refl)
-
 -- the sheet that follows
 pub one_sheet : (canton : Canton) (text : List ℕ) (totals : VoteTotals) (lists : SeatMatrix) (x : Distribution) (desk : ℕ) (is_final : Bool) (accepted : ℕ) →
-    totals ≡ totals_in canton text → lists ≡ lists_in canton text → IsGiven totals lists (Some x) →
-    1 ≤ desk → desk ≤ 8 → desk ≡ number_at (first_line text) 0 → (is_final ≡ true) ↔ (word_at (first_line text) 2 ≡ codes "final") →
-    accepted ≡ number_at (first_line text) 3 → FindsSheet canton text (Some (record { sheet = x; desk = desk; is_final = is_final; accepted = accepted }))
-one_sheet canton text totals lists x desk is_final accepted votes seats given low high desk_read final_read accepted_read = record {
+    totals ≡ totals_read canton text → lists ≡ lists_read canton text → IsGiven totals lists (Some x) →
+    1 ≤ desk → desk ≤ 8 → desk ≡ (head_read canton text).desk → is_final ≡ (head_read canton text).is_final → accepted ≡ (head_read canton text).accepted → FindsSheet canton text (Some (record { sheet = x; desk = desk; is_final = is_final; accepted = accepted }))
+one_sheet canton text totals lists x desk is_final accepted votes seats given low high desk_same final_same accepted_same = record {
   some = record {
     votes = given.votes ∙ votes;
     lists = given.seats ∙ seats;
     meets = given.meets;
     desk = (low, high);
-    desk_read = desk_read;
-    is_final = final_read;
-    accepted = accepted_read;
+    read = desk_same;
+    is_final = final_same;
+    accepted = accepted_same;
   };
   every = λ c is.
       let e : Some x ≡ Some c.sheet = given.every c.sheet is.meets (is.votes ∙ sym votes) (is.lists ∙ sym seats) in
       let sheet : x ≡ c.sheet = cc in
-      let desks : desk ≡ c.desk = desk_read ∙ sym is.desk_read in
-      let kinds : is_final ≡ c.is_final = same_truth is_final c.is_final final_read is.is_final in
-      let counts : accepted ≡ c.accepted = accepted_read ∙ sym is.accepted in
+      let desks : desk ≡ c.desk = desk_same ∙ sym is.read in
+      let kinds : is_final ≡ c.is_final = final_same ∙ sym is.is_final in
+      let counts : accepted ≡ c.accepted = accepted_same ∙ sym is.accepted in
       ap Some
       (ap (λ s. record { sheet = s; desk = desk; is_final = is_final; accepted = accepted }) sheet
       ∙ (ap (λ d. record { sheet = c.sheet; desk = d; is_final = is_final; accepted = accepted }) desks
@@ -99,24 +69,28 @@ one_sheet canton text totals lists x desk is_final accepted votes seats given lo
 }
 
 -- a number that is read has at most 64 bits
-pub number_most : (line : List ℕ) (place : ℕ) → number_at line place ≤ 2 ^ 64 - 1
-unfolding number_at
-number_most line place = omega arith
+latest_most : (before : ℕ) (words : List (List ℕ)) → before ≤ 2 ^ 64 - 1 → latest before (map number_of_word words) ≤ 2 ^ 64 - 1
+latest_most before [] most = most
+latest_most before (word ∷ words) most = latest_most (number_of_word word) words (omega arith)
+
+accepted_most : (canton : Canton) (text : List ℕ) → (head_read canton text).accepted ≤ 2 ^ 64 - 1
+accepted_most canton text = latest_most 0 (words_at (is_like Accepted) (sheet_lines canton) text) (omega arith)
 
 -- a sheet is recomputed from its own text
 own_text : (c : RightSheet) → (1 ≤ c.desk) × (c.desk ≤ 8) → c.accepted ≤ 2 ^ 64 - 1 → IsPublished c.sheet → IsRecomputed c.sheet.totals.canton (right_text c) c
-own_text c desk accepted shown = record {
-  votes = ap (λ v. record { canton = c.sheet.totals.canton; votes = v }) (sym (votes_are c.sheet c.desk c.is_final c.accepted shown));
-  lists = lower_is c.sheet c.desk c.is_final c.accepted shown;
-  meets = shown;
-  desk = desk;
-  desk_read = sym (ap (λ l. number_at l 0) (head_read c.sheet c.desk c.is_final c.accepted) ∙ head_desk c.desk c.is_final c.accepted (omega (arith, desk.1)));
-  is_final =
-      let word : word_at (first_line (right_text c)) 2 ≡ kind c.is_final = ap (λ l. word_at l 2) (head_read c.sheet c.desk c.is_final c.accepted) ∙ head_kind c.desk c.is_final c.accepted in
-      let both = final_word c.is_final in
-      (λ yes_final. word ∙ both.0 yes_final, λ e. both.1 (sym word ∙ e));
-  accepted = sym (ap (λ l. number_at l 3) (head_read c.sheet c.desk c.is_final c.accepted) ∙ head_accepted c.desk c.is_final c.accepted (omega (arith, accepted)));
-}
+own_text c desk accepted published =
+    let is = published.distribution in
+    let small : c.accepted < 2 ^ 64 = omega (arith, accepted) in
+    record {
+      votes = ap (λ v. record { canton = c.sheet.totals.canton; votes = v })
+          (sym (votes_are c.sheet c.desk c.is_final c.accepted is desk.0 desk.1 small published));
+      lists = lower_is c.sheet c.desk c.is_final c.accepted published desk.0 desk.1 small;
+      meets = published;
+      desk = desk;
+      read = sym (desk_is c.sheet c.desk c.is_final c.accepted is desk.0 desk.1 small);
+      is_final = sym (final_is c.sheet c.desk c.is_final c.accepted is desk.0 desk.1 small);
+      accepted = sym (accepted_is c.sheet c.desk c.is_final c.accepted is desk.0 desk.1 small);
+    }
 
 pub right_recomputed : (canton : Canton) (held : Option VoteTotals) (bytes : List ℕ) (c : RightSheet) → IsRight canton held bytes c → IsRecomputed canton bytes c
 right_recomputed canton held bytes c is =
@@ -152,7 +126,7 @@ why_reason canton held bytes verdict parts found why = (parts, none_recomputed c
 right_formed : (canton : Canton) (held : Option VoteTotals) (bytes : List ℕ) (c : RightSheet) → IsRight canton held bytes c → IsFormed canton bytes
 right_formed canton held bytes c is =
     subst (λ text. IsFormed canton text) (sym is.text)
-    (subst (λ k. IsFormed k (right_text c)) is.same_setup (sheet_formed c.sheet c.desk c.is_final c.accepted is.meets.distribution is.desk.0 is.desk.1 is.accepted))
+    (subst (λ k. IsFormed k (right_text c)) is.same_setup (sheet_formed c.sheet c.desk c.is_final c.accepted is.meets.distribution is.desk.0 is.desk.1 (omega (arith, is.accepted))))
 
 pub off_form : (canton : Canton) (held : Option VoteTotals) (bytes : List ℕ) (wrong : WrongLine) → IsOffForm canton bytes wrong →
     (c : RightSheet) → ¬ IsRight canton held bytes c
@@ -210,7 +184,7 @@ found_right canton held bytes r parts found printed =
     let is : IsRecomputed canton bytes r = found.some in
     record {
       desk = is.desk;
-      accepted = omega (arith, is.accepted, number_most (first_line bytes) 3);
+      accepted = omega (arith, is.accepted, accepted_most canton bytes);
       same_setup = ap (λ t. t.canton) is.votes;
       meets = is.meets;
       votes = read_votes canton held bytes r is parts.votes;

@@ -1,42 +1,61 @@
--- Numerals are words, and their digits write their numbers.
-use Rattle.std.proofs.Common.{◌≡◌, ℕ, zero, suc, ◌+◌, ◌-◌, ◌*◌, ◌/◌, ◌%◌, ◌^◌, ◌<◌, ◌≤◌, Bool, true, false, cond, List, [], ◌∷◌, ◌++◌, length, Some, None, Option, refl, ap, ◌∙◌, arith, decimal}
-use Rattle.std.specs.Prelude.{nat_le, codes, replicate, ◌==◌}
+-- Numerals and other words, and the numbers that their digits write.
+use Rattle.std.proofs.Common.{◌≡◌, ℕ, zero, suc, ◌+◌, ◌-◌, ◌*◌, ◌/◌, ◌%◌, ◌^◌, ◌<◌, ◌≤◌, All, Bool, true, false, cond, List, [], ◌∷◌, ◌++◌, length, map, slice_get, Some, None, Option, refl, ap, ◌∙◌, arith, decimal}
+use Rattle.std.specs.Prelude.{IsTrue, nat_le, codes, replicate, ◌==◌}
 use Rattle.std.specs.Fmt.{digits, digits_onto, digit_glyph}
 use Rattle.std.specs.List.{list_all}
 use Rattle.std.specs.Option.{option_map_or}
+use Rattle.std.specs.Str.{bytes_eq}
 use Rattle.std.specs.Str.Parse.{AllDigits, digits_value_after}
 use Rattle.std.specs.Char.{digit_value}
 use Rattle.std.proofs.lemmas.Bool.{and_parts, le-leb, leb-true}
 use Rattle.std.proofs.lemmas.Bool.Decides.{nat_tests}
 use Rattle.std.proofs.lemmas.Fmt.{decimal_is_IsNumeral, length-decimal-le}
-use Rattle.std.proofs.lemmas.List.Elements.{All-append, All-cons, All-nil}
+use Rattle.std.proofs.lemmas.List.Elements.{All-append, All-cons, All-head, All-nil, All-tail}
 use Rattle.std.proofs.lemmas.Str.Parse.{digit_from_value}
 use Rattle.std.proofs.Math.Nat.{div-add-mod', mod-lt}
+use Rattle.zh_districts.specs.Canton.{is_name, is_printable}
 use Rattle.zh_sheet_text.specs.SheetText.{divisor_text, six_digits}
 use Rattle.zh_check.specs.Lines.{digits_after}
 use Rattle.zh_check.proofs.DigitLemmas.{after_append}
 use Rattle.zh_check.proofs.SeamLemmas.{IsPlain, IsWord}
 
--- numerals are words
-pub glyph_word : (n : ℕ) → (48 ≤ digit_glyph false (n % 10)) × (digit_glyph false (n % 10) ≤ 57)
-glyph_word n =
+-- what holds of a text of digits, whatever these are, holds of a numeral
+digit : (n : ℕ) → (48 ≤ digit_glyph false (n % 10)) × (digit_glyph false (n % 10) ≤ 57)
+digit n =
     let small : n % 10 < 10 = mod-lt n (omega arith) in
     let is : digit_glyph false (n % 10) ≡ 48 + n % 10 = grind (arith, nat_tests) in
     (omega arith, omega arith)
 
-onto_word : (k n : ℕ) (acc : List ℕ) → IsWord acc → IsWord (digits_onto k 10 false n acc)
-onto_word zero n acc is = is
-onto_word (suc k) n acc is =
+onto : (Q : List ℕ → Type 0) → ((d : ℕ) (ds : List ℕ) → 48 ≤ d → d ≤ 57 → Q ds → Q (d ∷ ds)) → (k n : ℕ) (ds : List ℕ) → Q ds → Q (digits_onto k 10 false n ds)
+onto Q more zero n ds is = is
+onto Q more (suc k) n ds is =
     let d : ℕ = digit_glyph false (n % 10) in
-    let more : IsWord (d ∷ acc) = All-cons (λ b. 33 ≤ b) d acc (omega (arith, (glyph_word n).0)) is in
-    elim (n / 10 == 0) as (λ b. IsWord (cond b (d ∷ acc) (digits_onto k 10 false (n / 10) (d ∷ acc)))) [
-      | true ↦ more
-      | false ↦ onto_word k (n / 10) (d ∷ acc) more
+    let next : Q (d ∷ ds) = more d ds (digit n).0 (digit n).1 is in
+    elim (n / 10 == 0) as (λ b. Q (cond b (d ∷ ds) (digits_onto k 10 false (n / 10) (d ∷ ds)))) [
+      | true ↦ next
+      | false ↦ onto Q more k (n / 10) (d ∷ ds) next
     ]
 
-pub decimal_word : (n : ℕ) → IsWord (decimal n)
+from_one : (Q : List ℕ → Type 0) → ((d : ℕ) → 48 ≤ d → d ≤ 57 → Q (d ∷ [])) → ((d : ℕ) (ds : List ℕ) → 48 ≤ d → d ≤ 57 → Q ds → Q (d ∷ ds)) →
+    (k n : ℕ) → Q (digits_onto (suc k) 10 false n [])
+from_one Q one more k n =
+    let d : ℕ = digit_glyph false (n % 10) in
+    let first : Q (d ∷ []) = one d (digit n).0 (digit n).1 in
+    elim (n / 10 == 0) as (λ b. Q (cond b (d ∷ []) (digits_onto k 10 false (n / 10) (d ∷ [])))) [
+      | true ↦ first
+      | false ↦ onto Q more k (n / 10) (d ∷ []) first
+    ]
+
+pub numeral_is : (Q : List ℕ → Type 0) → ((d : ℕ) → 48 ≤ d → d ≤ 57 → Q (d ∷ [])) → ((d : ℕ) (ds : List ℕ) → 48 ≤ d → d ≤ 57 → Q ds → Q (d ∷ ds)) →
+    (n : ℕ) → Q (decimal n)
 unfolding digits
-decimal_word n = onto_word 64 n [] (All-nil (λ b. 33 ≤ b))
+numeral_is Q one more n = from_one Q one more 63 n
+
+-- numerals are words
+pub decimal_word : (n : ℕ) → IsWord (decimal n)
+decimal_word =
+    numeral_is (λ ds. IsWord ds) (λ d low high. All-cons (λ b. 33 ≤ b) d [] (omega (arith, low)) (All-nil (λ b. 33 ≤ b)))
+    (λ d ds low high is. All-cons (λ b. 33 ≤ b) d ds (omega (arith, low)) is)
 
 -- digits are read as they are written
 after_digits : (ds : List ℕ) (n : ℕ) → AllDigits 10 ds → digits_after n ds ≡ digits_value_after 10 n ds
@@ -144,6 +163,9 @@ by_test (b ∷ word) e =
     let parts = and_parts (nat_le 33 b) (list_all (λ b. nat_le 33 b) word) e in
     All-cons (λ b. 33 ≤ b) b word (leb-true 33 b parts.0) (by_test word parts.1)
 
+abbrev pub is_final_word : List ℕ → Bool
+is_final_word word = bytes_eq word (codes "final")
+
 pub kind_word : (is_final : Bool) → IsWord (cond is_final (codes "final") (codes "provisional"))
 kind_word true = by_test (codes "final") refl
 kind_word false = by_test (codes "provisional") refl
@@ -152,8 +174,20 @@ pub yes_or_no_word : (yes : Bool) → IsWord (cond yes (codes "yes") (codes "no"
 yes_or_no_word true = by_test (codes "yes") refl
 yes_or_no_word false = by_test (codes "no") refl
 
-pub plain_test : (words : List ℕ) → list_all (λ b. nat_le 32 b) words ≡ true → IsPlain words
-plain_test [] e = All-nil (λ b. 32 ≤ b)
-plain_test (b ∷ words) e =
-    let parts = and_parts (nat_le 32 b) (list_all (λ b. nat_le 32 b) words) e in
-    All-cons (λ b. 32 ≤ b) b words (leb-true 32 b parts.0) (plain_test words parts.1)
+-- names have no control characters
+printable : (name : List ℕ) → list_all is_printable name ≡ true → IsPlain name
+printable [] e = All-nil (λ b. 32 ≤ b)
+printable (b ∷ name) e =
+    let parts = and_parts (is_printable b) (list_all is_printable name) e in
+    let high = and_parts _ _ parts.0 in
+    All-cons (λ b. 32 ≤ b) b name (leb-true 32 b high.0) (printable name parts.1)
+
+name_plain : (name : List ℕ) → IsTrue (is_name name) → IsPlain name
+name_plain name is = printable name (and_parts _ _ (and_parts _ _ is).1).1
+
+-- that of a part of the set-up, which has none where there is no such part
+pub named_plain : {X : Type 0} (name : X → List ℕ) (xs : List X) (k : ℕ) → All (λ name. IsTrue (is_name name)) (map name xs) →
+    IsPlain (option_map_or name (slice_get xs k) [])
+named_plain name [] k rule = All-nil (λ b. 32 ≤ b)
+named_plain name (x ∷ xs) zero rule = name_plain (name x) (All-head (λ name. IsTrue (is_name name)) (name x) (map name xs) rule)
+named_plain name (x ∷ xs) (suc k) rule = named_plain name xs k (All-tail (λ name. IsTrue (is_name name)) (name x) (map name xs) rule)

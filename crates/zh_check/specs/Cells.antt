@@ -5,6 +5,7 @@ use Rattle.zh_districts.specs.Canton.{Canton}
 use Rattle.zh_divisors.specs.Rounding.{Rounds}
 use Rattle.zh_check.specs.Lines.{after_lines, first_line}
 use Rattle.zh_check.specs.Reading.{group_divisors_read, lines_above, row_divisors_read, seats_read, standing, votes_read}
+use Rattle.zh_check.specs.declared.cells.ShownList.{ShownList}
 use Rattle.zh_check.specs.declared.checked.OffList.{OffList}
 use Rattle.zh_check.specs.declared.checked.ListQuotient.{ListQuotient}
 use Rattle.zh_check.specs.declared.checked.ListQuotient.TheVariants.{NoDivisor, OnHalf, RoundsTo}
@@ -22,21 +23,35 @@ IsQuotient n p OnHalf = LiesOnHalf n p
 IsQuotient n p NoDivisor = p ≡ 0
 
 -- the votes over both divisors, in millionths, round to the seats, on no half; a group without a divisor has none
-pub record DoSeatsFollow (votes row column seats : ℕ) : Type 0 where
-  pub none : column ≡ 0 → seats ≡ 0
-  pub rounds : 0 < column → Rounds (votes * (1000000 * 1000000)) (row * column) seats
+pub record DoSeatsFollow (list : ShownList) : Type 0 where
+  pub none : list.column_divisor ≡ 0 → list.seats ≡ 0
+  pub rounds : 0 < list.column_divisor → Rounds (list.votes * (1000000 * 1000000)) (list.row_divisor * list.column_divisor) list.seats
 
--- those of the list at a place, constituency by constituency, where it stands
+-- the list at a place, constituency by constituency, as a text shows it
+abbrev pub shown_list : Canton → List ℕ → ℕ → ShownList
+shown_list canton text place = record {
+  votes = slice_index (votes_read canton text) place;
+  row_divisor = slice_index (row_divisors_read canton text) (place / length canton.groups);
+  column_divisor = slice_index (group_divisors_read canton text) (place % length canton.groups);
+  seats = slice_index (seats_read canton text) place;
+}
+
+-- its seats follow, where it stands
 abbrev pub DoFollowAt : Canton → List ℕ → ℕ → Type 0
-DoFollowAt canton text place = slice_index_or (standing canton) place false ≡ true →
-    DoSeatsFollow (slice_index (votes_read canton text) place) (slice_index (row_divisors_read canton text) (place / length canton.groups))
-    (slice_index (group_divisors_read canton text) (place % length canton.groups)) (slice_index (seats_read canton text) place)
+DoFollowAt canton text place = slice_index_or (standing canton) place false ≡ true → DoSeatsFollow (shown_list canton text place)
 
 -- the number of the line of that list, from 1
 abbrev pub line_of_list : Canton → ℕ → ℕ
 line_of_list canton place =
     2 + lines_above canton + length canton.constituencies + length canton.groups
     + count_by (λ stands. stands) (take place (standing canton))
+
+-- what is said of a list: its votes and divisors, and what they come to
+pub record IsOffAs (list : ShownList) (off : OffList) : Type 0 where
+  pub votes : off.votes ≡ list.votes
+  pub row : off.row_divisor ≡ list.row_divisor
+  pub column : off.column_divisor ≡ list.column_divisor
+  pub quotient : IsQuotient (list.votes * (1000000 * 1000000)) (list.row_divisor * list.column_divisor) off.quotient
 
 -- this is the first list whose seats do not follow, and what they should be
 pub record IsOffList (canton : Canton) (text : List ℕ) (off : OffList) : Type 0 where
@@ -46,10 +61,7 @@ pub record IsOffList (canton : Canton) (text : List ℕ) (off : OffList) : Type 
   pub before : (k : ℕ) → k < place → DoFollowAt canton text k
   pub line : off.line ≡ line_of_list canton place
   pub found : off.found.items ≡ first_line (after_lines (off.line - 1) text)
-  pub votes : off.votes ≡ slice_index (votes_read canton text) place
-  pub row : off.row_divisor ≡ slice_index (row_divisors_read canton text) (place / length canton.groups)
-  pub column : off.column_divisor ≡ slice_index (group_divisors_read canton text) (place % length canton.groups)
-  pub quotient : IsQuotient (off.votes * (1000000 * 1000000)) (off.row_divisor * off.column_divisor) off.quotient
+  pub says : IsOffAs (shown_list canton text place) off
 
 -- the seats of each list follow
 abbrev pub EachFollows : Canton → List ℕ → Type 0

@@ -21,11 +21,7 @@ after_line text = after_first ends_line text
 unfoldable pub whole_line : List ℕ → List ℕ
 whole_line text = take (position_or_len ends_line text + 1) text
 
--- so many lines, empty ones where the text has no more, and what follows them
-abbrev pub first_lines : ℕ → List ℕ → List (List ℕ)
-first_lines zero text = []
-first_lines (suc n) text = first_line text ∷ first_lines n (after_line text)
-
+-- what follows so many lines
 abbrev pub after_lines : ℕ → List ℕ → List ℕ
 after_lines zero text = text
 after_lines (suc n) text = after_lines n (after_line text)
@@ -39,19 +35,12 @@ abbrev pub after_if : Bool → List ℕ → List ℕ
 after_if true text = after_line text
 after_if false text = text
 
--- the same for some lines, one after the other
-abbrev pub lines_where : List Bool → List ℕ → List (List ℕ)
-lines_where [] text = []
-lines_where (stands ∷ more) text = line_if stands text ∷ lines_where more (after_if stands text)
+-- the first word of a line, and what follows it
+unfoldable pub leading_word : List ℕ → List ℕ
+leading_word line = before_first parts_words line
 
-abbrev pub after_where : List Bool → List ℕ → List ℕ
-after_where [] text = text
-after_where (stands ∷ more) text = after_where more (after_if stands text)
-
--- the word at a place of a line, from 0: nothing where it has fewer
-unfoldable pub word_at : List ℕ → ℕ → List ℕ
-word_at line zero = before_first parts_words line
-word_at line (suc n) = word_at (after_first parts_words line) n
+unfoldable pub after_word : List ℕ → List ℕ
+after_word line = after_first parts_words line
 
 -- the number that the digits of a word write after those of a number; other bytes are passed over
 abbrev pub digits_after : ℕ → List ℕ → ℕ
@@ -61,6 +50,3 @@ digits_after n (b ∷ word) = if is_ascii_digit b then digits_after (n * 10 + (b
 -- the number that is read of a word: that which its digits write, at most the greatest of 64 bits
 abbrev pub number_of_word : List ℕ → ℕ
 number_of_word word = min (digits_after 0 word) (2 ^ 64 - 1)
-
-unfoldable pub number_at : List ℕ → ℕ → ℕ
-number_at line place = number_of_word (word_at line place)

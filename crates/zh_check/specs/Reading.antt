@@ -1,67 +1,103 @@
--- What only the text of a sheet can know: its first line, the votes, the divisors and the seats of the lists.
-use Rattle.std.specs.Prelude.{◌≡◌, ℕ, Bool, nat_lt, IsTrue, ◌↔◌}
-use Rattle.std.specs.Prelude.{List, codes, length, map, flat_map, filter, min, slice_index}
+-- What only the text of a sheet can know: what its first line says, the votes, the divisors and the seats of the lists.
+use Rattle.std.specs.Prelude.{◌≡◌, ℕ, Bool, false, true, if◌then◌else◌, nat_lt}
+use Rattle.std.specs.Prelude.{List, [], ◌∷◌, ◌++◌, codes, length, map, flat_map, filter, min, slice_index}
 use Rattle.std.specs.List.{range_with_len}
 use Rattle.std.specs.Option.{option_map_or}
+use Rattle.std.specs.Str.{bytes_eq}
 use Rattle.zh_districts.specs.Canton.{Canton, stands}
+use Rattle.zh_matrices.specs.SeatMatrix.{SeatMatrix}
 use Rattle.zh_sheet.specs.Distribution.{seated_groups}
-use Rattle.zh_totals.specs.Totals.{place_in}
-use Rattle.zh_check.specs.Lines.{after_line, after_lines, first_line, first_lines, lines_where, number_at, word_at}
+use Rattle.zh_sheet.specs.Given.{given_lists}
+use Rattle.zh_sheet_text.specs.Layout.{SheetLine, sheet_lines}
+use Rattle.zh_sheet_text.specs.declared.part.SheetPart.{SheetPart}
+use Rattle.zh_sheet_text.specs.declared.part.SheetPart.TheVariants.{Desk, Kind, Accepted, ConstituencyDivisor, GroupDivisor}
+use Rattle.zh_sheet_text.specs.declared.part.SheetPart.TheVariants.{ListVotes, ListSeats}
+use Rattle.zh_totals.specs.Totals.{VoteTotals, place_in}
+use Rattle.zh_check.specs.Lines.{after_if, after_word, leading_word, line_if, number_of_word}
+use Rattle.zh_check.specs.declared.values.Head.{Head}
 use Rattle.zh_check.specs.declared.values.Values.{Values}
+
+-- the words at those parts of a line that pass a test
+abbrev pub words_in : (SheetPart → Bool) → List SheetPart → List ℕ → List (List ℕ)
+words_in test [] line = []
+words_in test (part ∷ parts) line = (if test part then leading_word line ∷ [] else []) ++ words_in test parts (after_word line)
+
+-- those of a text, line by line: empty ones in a line that is not there
+abbrev pub words_at : (SheetPart → Bool) → List SheetLine → List ℕ → List (List ℕ)
+words_at test [] text = []
+words_at test (line ∷ lines) text =
+    words_in test line.parts (line_if line.is_there text) ++ words_at test lines (after_if line.is_there text)
+
+-- parts of one kind, of those that are read
+abbrev pub is_like : SheetPart → SheetPart → Bool
+is_like Desk Desk = true
+is_like Kind Kind = true
+is_like Accepted Accepted = true
+is_like (ConstituencyDivisor d) (ConstituencyDivisor e) = true
+is_like (GroupDivisor g) (GroupDivisor h) = true
+is_like (ListVotes d g) (ListVotes e h) = true
+is_like (ListSeats d g) (ListSeats e h) = true
+is_like part other = false
+
+-- the last of some values, or that before them
+abbrev pub latest : {A : Type 0} → A → List A → A
+latest before [] = before
+latest before (value ∷ values) = latest value values
+
+-- at most 400 seats
+abbrev pub seats_of_word : List ℕ → ℕ
+seats_of_word word = min (number_of_word word) 400
+
+-- what a text says in its first line
+abbrev pub head_read : Canton → List ℕ → Head
+head_read canton text = record {
+  desk = latest 0 (map number_of_word (words_at (is_like Desk) (sheet_lines canton) text));
+  is_final = latest false (map (λ word. bytes_eq word (codes "final")) (words_at (is_like Kind) (sheet_lines canton) text));
+  accepted = latest 0 (map number_of_word (words_at (is_like Accepted) (sheet_lines canton) text));
+}
+
+-- its divisors in millionths, 0 for a dash, which has no digit
+abbrev pub row_divisors_read : Canton → List ℕ → List ℕ
+row_divisors_read canton text = map number_of_word (words_at (is_like (ConstituencyDivisor 0)) (sheet_lines canton) text)
+
+abbrev pub group_divisors_read : Canton → List ℕ → List ℕ
+group_divisors_read canton text = map number_of_word (words_at (is_like (GroupDivisor 0)) (sheet_lines canton) text)
+
+-- the votes and the seats of the lists, constituency by constituency: none of one that does not stand
+abbrev pub votes_read : Canton → List ℕ → List ℕ
+votes_read canton text = map number_of_word (words_at (is_like (ListVotes 0 0)) (sheet_lines canton) text)
+
+abbrev pub seats_read : Canton → List ℕ → List ℕ
+seats_read canton text = map seats_of_word (words_at (is_like (ListSeats 0 0)) (sheet_lines canton) text)
+
+-- what some words add to what is read, each with its part
+pub record AddsWords (words : (SheetPart → Bool) → List (List ℕ)) (old new : Values) : Type 0 where
+  pub desk : new.head.desk ≡ latest old.head.desk (map number_of_word (words (is_like Desk)))
+  pub is_final : new.head.is_final ≡ latest old.head.is_final (map (λ word. bytes_eq word (codes "final")) (words (is_like Kind)))
+  pub accepted : new.head.accepted ≡ latest old.head.accepted (map number_of_word (words (is_like Accepted)))
+  pub rows : new.row_divisors.items ≡ old.row_divisors.items ++ map number_of_word (words (is_like (ConstituencyDivisor 0)))
+  pub groups : new.group_divisors.items ≡ old.group_divisors.items ++ map number_of_word (words (is_like (GroupDivisor 0)))
+  pub votes : new.votes.items ≡ old.votes.items ++ map number_of_word (words (is_like (ListVotes 0 0)))
+  pub seats : new.seats.items ≡ old.seats.items ++ map seats_of_word (words (is_like (ListSeats 0 0)))
+
+-- all that is read
+pub record IsRead (canton : Canton) (text : List ℕ) (read : Values) : Type 0 where
+  pub desk : read.head.desk ≡ (head_read canton text).desk
+  pub is_final : read.head.is_final ≡ (head_read canton text).is_final
+  pub accepted : read.head.accepted ≡ (head_read canton text).accepted
+  pub rows : read.row_divisors.items ≡ row_divisors_read canton text
+  pub groups : read.group_divisors.items ≡ group_divisors_read canton text
+  pub votes : read.votes.items ≡ votes_read canton text
+  pub seats : read.seats.items ≡ seats_read canton text
 
 -- the lines between the first line and the constituencies: the house, two keys, and a canton-wide quorum where there is one
 abbrev pub lines_above : Canton → ℕ
 lines_above canton = option_map_or (λ _. 4) canton.canton_quorum 3
 
--- the text from the constituencies on, from the groups on, and from the lists on
-abbrev pub text_of_constituencies : Canton → List ℕ → List ℕ
-text_of_constituencies canton text = after_lines (lines_above canton) (after_line text)
-
-abbrev pub text_of_groups : Canton → List ℕ → List ℕ
-text_of_groups canton text = after_lines (length canton.constituencies) (text_of_constituencies canton text)
-
-abbrev pub text_of_lists : Canton → List ℕ → List ℕ
-text_of_lists canton text = after_lines (length canton.groups) (text_of_groups canton text)
-
--- a divisor in millionths is the word after nine others; a dash has no digit
-abbrev pub divisors_in : ℕ → List ℕ → List ℕ
-divisors_in n text = map (λ line. number_at line 9) (first_lines n text)
-
 -- which lists stand, constituency by constituency
-abbrev pub standing_in : Canton → ℕ → List Bool
-standing_in canton d = map (stands canton d) (range_with_len 1 (length canton.groups))
-
 abbrev pub standing : Canton → List Bool
-standing canton = flat_map (standing_in canton) (range_with_len 1 (length canton.constituencies))
-
--- the votes and the seats of the lists: none of one that does not stand, and at most 400 seats
-abbrev pub votes_on : List (List ℕ) → List ℕ
-votes_on lines = map (λ line. number_at line 4) lines
-
-abbrev pub seats_on : List (List ℕ) → List ℕ
-seats_on lines = map (λ line. min (number_at line 8) 400) lines
-
-abbrev pub votes_read : Canton → List ℕ → List ℕ
-votes_read canton text = votes_on (lines_where (standing canton) (text_of_lists canton text))
-
-abbrev pub seats_read : Canton → List ℕ → List ℕ
-seats_read canton text = seats_on (lines_where (standing canton) (text_of_lists canton text))
-
-abbrev pub row_divisors_read : Canton → List ℕ → List ℕ
-row_divisors_read canton text = divisors_in (length canton.constituencies) (text_of_constituencies canton text)
-
-abbrev pub group_divisors_read : Canton → List ℕ → List ℕ
-group_divisors_read canton text = divisors_in (length canton.groups) (text_of_groups canton text)
-
--- all that is read
-pub record IsRead (canton : Canton) (text : List ℕ) (read : Values) : Type 0 where
-  pub desk : read.head.desk ≡ number_at (first_line text) 0
-  pub is_final : IsTrue read.head.is_final ↔ word_at (first_line text) 2 ≡ codes "final"
-  pub accepted : read.head.accepted ≡ number_at (first_line text) 3
-  pub rows : read.row_divisors.items ≡ row_divisors_read canton text
-  pub groups : read.group_divisors.items ≡ group_divisors_read canton text
-  pub votes : read.votes.items ≡ votes_read canton text
-  pub seats : read.seats.items ≡ seats_read canton text
+standing canton =
+    flat_map (λ d. map (stands canton d) (range_with_len 1 (length canton.groups))) (range_with_len 1 (length canton.constituencies))
 
 -- the seats of the groups with a divisor, constituency by constituency
 abbrev pub seats_in_columns : Canton → List ℕ → List ℕ → List ℕ
@@ -72,3 +108,13 @@ seats_in_columns canton divisors seats =
 -- the divisors that there are
 abbrev pub column_divisors : List ℕ → List ℕ
 column_divisors divisors = filter (λ n. nat_lt 0 n) divisors
+
+-- the seats and the divisors of the lists, as a lower apportionment
+abbrev pub lists_read : Canton → List ℕ → SeatMatrix
+lists_read canton text =
+    given_lists (seats_in_columns canton (group_divisors_read canton text) (seats_read canton text)) (row_divisors_read canton text)
+    (column_divisors (group_divisors_read canton text))
+
+-- the votes as totals
+abbrev pub totals_read : Canton → List ℕ → VoteTotals
+totals_read canton text = record { canton = canton; votes = votes_read canton text }

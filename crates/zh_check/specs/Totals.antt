@@ -11,13 +11,9 @@ use Rattle.zh_upper.specs.UpperSeats.{AreTied, AreUpperSeats, HasNoGroup, HasNoV
 use Rattle.zh_upper.specs.VoterNumbers.{AreVoterSums}
 use Rattle.zh_sheet.specs.Distribution.{HaveSeats, Targets}
 use Rattle.zh_check.specs.Lines.{after_lines, first_line}
-use Rattle.zh_check.specs.Reading.{lines_above, seats_read, votes_read}
+use Rattle.zh_check.specs.Reading.{lines_above, seats_read, totals_read}
 use Rattle.zh_check.specs.declared.checked.OffTotal.{OffTotal}
 use Rattle.zh_check.specs.declared.totals.Unmet.{Unmet}
-
--- the votes of a text as totals
-abbrev pub totals_read : Canton → List ℕ → VoteTotals
-totals_read canton text = record { canton = canton; votes = votes_read canton text }
 
 -- the seats of the lists of a constituency, and of a group, both counted from 0
 abbrev pub constituency_sum : Canton → List ℕ → ℕ → ℕ

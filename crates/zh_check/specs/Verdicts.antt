@@ -1,15 +1,14 @@
 -- When a published sheet is right, and which of its lines is wrong where it is not.
-use Rattle.std.specs.Prelude.{◌≡◌, ◌≢◌, ℕ, ◌-◌, ◌^◌, ◌≤◌, IsTrue, ◌↔◌, Option, Some, IfSome, List, codes}
+use Rattle.std.specs.Prelude.{◌≡◌, ◌≢◌, ℕ, ◌-◌, ◌^◌, ◌≤◌, Option, Some, IfSome, List}
 use Rattle.zh_districts.specs.Canton.{Canton}
 use Rattle.zh_totals.specs.Totals.{VoteTotals}
-use Rattle.zh_sheet.specs.Given.{IsPublished, given_lists}
+use Rattle.zh_sheet.specs.Given.{IsPublished}
 use Rattle.zh_sheet_text.specs.SheetText.{sheet_text}
 use Rattle.zh_check.specs.Cells.{EachFollows, IsOffList}
 use Rattle.zh_check.specs.Differences.{DiffersAt}
 use Rattle.zh_check.specs.Form.{IsFormed, IsOffForm}
-use Rattle.zh_check.specs.Lines.{first_line, number_at, word_at}
 use Rattle.zh_check.specs.Others.{HasHeldVotes, HasOtherVotes}
-use Rattle.zh_check.specs.Reading.{column_divisors, group_divisors_read, row_divisors_read, seats_in_columns, seats_read, votes_read}
+use Rattle.zh_check.specs.Reading.{head_read, lists_read, totals_read}
 use Rattle.zh_check.specs.Totals.{IsNoneOff, IsOffTotal}
 use Rattle.zh_check.specs.declared.checked.RightSheet.{RightSheet}
 use Rattle.zh_check.specs.declared.checked.SheetVerdict.TheVariants as verdicts
@@ -31,16 +30,13 @@ pub record IsRight (canton : Canton) (held : Option VoteTotals) (bytes : List �
 
 -- the sheet that follows from the first line, the votes, the divisors and the seats of the lists that the bytes show
 pub record IsRecomputed (canton : Canton) (bytes : List ℕ) (c : RightSheet) : Type 0 where
-  pub votes : c.sheet.totals ≡ record { canton = canton; votes = votes_read canton bytes }
-  pub lists : c.sheet.lower ≡ given_lists
-      (seats_in_columns canton (group_divisors_read canton bytes) (seats_read canton bytes))
-      (row_divisors_read canton bytes)
-      (column_divisors (group_divisors_read canton bytes))
+  pub votes : c.sheet.totals ≡ totals_read canton bytes
+  pub lists : c.sheet.lower ≡ lists_read canton bytes
   pub meets : IsPublished c.sheet
   pub desk : (1 ≤ c.desk) × (c.desk ≤ 8)
-  pub desk_read : c.desk ≡ number_at (first_line bytes) 0
-  pub is_final : IsTrue c.is_final ↔ word_at (first_line bytes) 2 ≡ codes "final"
-  pub accepted : c.accepted ≡ number_at (first_line bytes) 3
+  pub read : c.desk ≡ (head_read canton bytes).desk
+  pub is_final : c.is_final ≡ (head_read canton bytes).is_final
+  pub accepted : c.accepted ≡ (head_read canton bytes).accepted
 
 -- it is found exactly where there is one
 pub record FindsSheet (canton : Canton) (bytes : List ℕ) (found : Option RightSheet) : Type 0 where

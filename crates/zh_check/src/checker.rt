@@ -9,6 +9,7 @@ use crate::form::first_off_form;
 use crate::others::first_other_votes;
 use crate::reasons::why_none;
 use crate::recomputed::{recomputed, text_of};
+use crate::values::read;
 use std::alloc::{AllocError, Global};
 use zh_districts::Setup;
 use zh_totals::Totals;
@@ -29,11 +30,12 @@ pub fn check<'s>(
     if let Some(wrong) = first_off_form(alloc, setup, text)? {
         return Ok(SheetVerdict::OffForm(wrong));
     }
-    if let Some(other) = first_other_votes(alloc, setup, text, held)? {
+    let values = read(alloc, setup, text)?;
+    if let Some(other) = first_other_votes(alloc, setup, text, &values.votes, held)? {
         return Ok(SheetVerdict::OtherVotes(other));
     }
-    let Some(right) = recomputed(alloc, setup, text)? else {
-        return why_none(alloc, setup, text);
+    let Some(right) = recomputed(alloc, setup, text, &values)? else {
+        return why_none(alloc, setup, text, values);
     };
     let expected = text_of(alloc, &right)?;
     if !is_same(text, &expected) {

@@ -1,96 +1,72 @@
-//! The forms of the lines of a sheet.
-ghost use Rattle.std.specs.Prelude.{◌≡◌, ◌++◌, ◌≤◌, [], OnOk, length};
-ghost use Rattle.zh_check.specs.Form.{constituency_form, group_form, head_form, house_form, key_form, list_form, quorum_form};
+//! The forms of the lines of a sheet, part by part.
+ghost use Rattle.std.specs.Prelude.{◌≡◌, ◌++◌, All, OnOk};
+ghost use Rattle.zh_check.specs.Form.{line_form, part_form, parts_form};
+ghost use Rattle.zh_check.specs.Lines.{after_if};
+ghost use Rattle.zh_sheet_text.specs.Layout.{IsPartOf};
 
-use crate::blanks::{Blank, filled, push_blank, push_field, push_name};
+use crate::blanks::filled;
+use crate::lines::{Lines, split_word};
+use itoa::Buffer;
 use std::alloc::AllocError;
 use zh_districts::Setup;
+use zh_sheet_text::{LineParts, SheetPart, label_text, mark_after};
 
-/// Puts the form of the first line at the end of a text.
-pub(crate) fn push_head(text: &mut Vec<u8>, line: &[u8]) -> Result<(), AllocError>
-    ensures { OnOk result (text.new.items ≡ text.old.items ++ head_form line.now) }
-{
-    text.extend_from_slice(filled(Blank::Desk, line, 0))?;
-    push_blank(text, b" sheet ", Blank::Kind, line, 2)?;
-    push_blank(text, b" ", Blank::Number, line, 3)?;
-    text.extend_from_slice(b"\n")
-}
-
-/// Puts the line of the house at the end of a text.
-pub(crate) fn push_house(text: &mut Vec<u8>, setup: &Setup) -> Result<(), AllocError>
-    ensures { OnOk result (text.new.items ≡ text.old.items ++ house_form setup.now []) }
-{
-    push_field(text, b"house ", setup.house())?;
-    text.extend_from_slice(b"\n")
-}
-
-/// Puts the line of a canton-wide quorum, in per mille, at the end of a text.
-pub(crate) fn push_quorum(text: &mut Vec<u8>, per_mille: u32) -> Result<(), AllocError>
-    ensures { OnOk result (text.new.items ≡ text.old.items ++ quorum_form per_mille []) }
-{
-    push_field(text, b"quorum canton ", per_mille)?;
-    text.extend_from_slice(b"\n")
-}
-
-/// Puts the form of a key at the end of a text.
-pub(crate) fn push_key(text: &mut Vec<u8>, words: &[u8], line: &[u8]) -> Result<(), AllocError>
-    ensures { OnOk result (text.new.items ≡ text.old.items ++ key_form words.now line.now) }
-{
-    push_blank(text, words, Blank::Fraction, line, 2)?;
-    text.extend_from_slice(b"\n")
-}
-
-/// Puts the form of a constituency's line at the end of a text.
-pub(crate) fn push_constituency(
+/// Puts what should stand at a part at the end of a text: what the set-up says, or the word that is found there.
+fn push_part(
     text: &mut Vec<u8>,
     setup: &Setup,
-    constituency: u32,
-    line: &[u8],
+    part: SheetPart,
+    word: &[u8],
 ) -> Result<(), AllocError>
-    requires from_one { 1 ≤ constituency }
-    requires there { constituency ≤ length setup.now.constituencies }
-    ensures { OnOk result (text.new.items ≡ text.old.items ++ constituency_form setup.now constituency line.now) }
+    requires { IsPartOf setup.now part }
+    ensures { OnOk result (text.new.items ≡ text.old.items ++ part_form setup.now part word.now) }
 {
-    push_field(text, b"constituency ", constituency)?;
-    push_field(text, b" persons ", setup.persons(constituency))?;
-    push_blank(text, b" seats ", Blank::Seats, line, 5)?;
-    push_blank(text, b" votes ", Blank::Number, line, 7)?;
-    push_blank(text, b" divisor ", Blank::Divisor, line, 9)?;
-    push_name(text, setup.constituency_name(constituency).as_bytes())
+    match part {
+        SheetPart::Fixed(label) => text.extend_from_slice(label_text(label)),
+        SheetPart::Number(number) => text.extend_from_slice(
+            Buffer::new().format(number).as_bytes(),
+        ),
+        SheetPart::ConstituencyName(d) => text.extend_from_slice(
+            setup.constituency_name(d).as_bytes(),
+        ),
+        SheetPart::GroupName(g) => text.extend_from_slice(setup.group_name(g).as_bytes()),
+        _ => text.extend_from_slice(filled(part, word)),
+    }
 }
 
-/// Puts the form of a group's line at the end of a text.
-pub(crate) fn push_group(
+/// Puts the form of a line at the end of a text.
+fn push_parts(
     text: &mut Vec<u8>,
     setup: &Setup,
-    group: u32,
+    parts: &[SheetPart],
     line: &[u8],
 ) -> Result<(), AllocError>
-    requires from_one { 1 ≤ group }
-    requires there { group ≤ length setup.now.groups }
-    ensures { OnOk result (text.new.items ≡ text.old.items ++ group_form setup.now group line.now) }
+    requires { All (IsPartOf setup.now) parts.now }
+    ensures { OnOk result (text.new.items ≡ text.old.items ++ parts_form setup.now parts.now line.now) }
 {
-    push_field(text, b"group ", group)?;
-    push_blank(text, b" quorum ", Blank::YesOrNo, line, 3)?;
-    push_blank(text, b" voters ", Blank::VotersOrDash, line, 5)?;
-    push_blank(text, b" seats ", Blank::Seats, line, 7)?;
-    push_blank(text, b" divisor ", Blank::DivisorOrDash, line, 9)?;
-    push_name(text, setup.group_name(group).as_bytes())
+    let mut rest = line;
+    for place in 0..parts.len() {
+        let (word, after) = split_word(rest);
+        push_part(text, setup, parts[place], word)?;
+        text.extend_from_slice(mark_after(place + 1 == parts.len()))?;
+        rest = after;
+    }
+    Ok(())
 }
 
-/// Puts the form of a list's line at the end of a text.
-pub(crate) fn push_list(
+/// Puts the form of the next line at the end of a text, where it is there.
+pub(crate) fn push_line(
     text: &mut Vec<u8>,
-    constituency: u32,
-    group: u32,
-    line: &[u8],
+    lines: &mut Lines<'_>,
+    setup: &Setup,
+    line: &LineParts,
 ) -> Result<(), AllocError>
-    ensures { OnOk result (text.new.items ≡ text.old.items ++ list_form constituency group line.now) }
+    requires { All (IsPartOf setup.now) line.now.parts }
+    ensures put { OnOk result (text.new.items ≡ text.old.items ++ line_form setup.now line.now lines.old) }
+    ensures rest { OnOk result (lines.new ≡ after_if line.now.is_there lines.old) }
 {
-    push_field(text, b"list ", constituency)?;
-    push_field(text, b" ", group)?;
-    push_blank(text, b" votes ", Blank::Number, line, 4)?;
-    push_blank(text, b" voters ", Blank::VotersOrDash, line, 6)?;
-    push_blank(text, b" seats ", Blank::Seats, line, 8)?;
-    text.extend_from_slice(b"\n")
+    if !line.is_there() {
+        return Ok(());
+    }
+    push_parts(text, setup, line.parts(), lines.next())
 }

@@ -1,7 +1,8 @@
 //! A text line by line. What is read is compared later, so nothing is refused here.
 ghost use Rattle.std.specs.Prelude.{◌≡◌, ◌==◌, ◌-◌, ◌^◌, ◌∷◌, ◌↔◌, [], ℕ, IfOk, IsTrue, min, position};
 ghost use Rattle.std.specs.List.{after_first, before_first};
-ghost use Rattle.zh_check.specs.Lines.{after_line, after_lines, digits_after, first_line, number_at, number_of_word, whole_line, word_at};
+ghost use Rattle.zh_check.specs.Lines.{after_if, after_line, after_lines, after_word, digits_after, first_line, leading_word};
+ghost use Rattle.zh_check.specs.Lines.{line_if, number_of_word, whole_line};
 
 use std::alloc::{AllocError, Global};
 use std::marker::Model;
@@ -79,6 +80,14 @@ impl<'a> Lines<'a> {
         line
     }
 
+    /// The next line where it is there, and else an empty one.
+    pub fn next_if(&mut self, is_there: bool) -> &'a [u8]
+        ensures line { result.now ≡ line_if is_there self.old }
+        ensures rest { self.new ≡ after_if is_there self.old }
+    {
+        if is_there { self.next() } else { &[] }
+    }
+
     /// Goes past so many lines.
     pub fn skip(&mut self, count: u32)
         ensures { self.new ≡ after_lines count self.old }
@@ -98,15 +107,12 @@ pub(crate) fn line_after(alloc: Global, text: &[u8], before: u32) -> Result<Vec<
     Vec::from_slice(alloc, lines.next())
 }
 
-/// The word at a place of a line, from 0.
-pub(crate) fn word_at(line: &[u8], place: u32) -> &[u8]
-    ensures { result.now ≡ word_at line.now place }
+/// The first word of a line, and what follows it.
+pub(crate) fn split_word(line: &[u8]) -> (&[u8], &[u8])
+    ensures word { result.0.now ≡ leading_word line.now }
+    ensures rest { result.1.now ≡ after_word line.now }
 {
-    let mut rest = line;
-    for _ in 0..place {
-        rest = split_first(rest, b' ').1;
-    }
-    split_first(rest, b' ').0
+    split_first(line, b' ')
 }
 
 /// A number with one digit more after it, at most the greatest of 64 bits; other bytes are passed over.
@@ -130,11 +136,4 @@ pub(crate) fn number_of_word(word: &[u8]) -> u64
         number = with_digit(number, *byte);
     }
     number
-}
-
-/// The number that is read of the word at a place of a line.
-pub(crate) fn number_at(line: &[u8], place: u32) -> u64
-    ensures { result ≡ number_at line.now place }
-{
-    number_of_word(word_at(line, place))
 }

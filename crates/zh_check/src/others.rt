@@ -2,11 +2,11 @@
 ghost use Rattle.std.specs.Prelude.{◌≡◌, ◌≢◌, ◌+◌, ◌*◌, ◌↔◌, IfOk, IfNone, IfSome, IsTrue, length};
 ghost use Rattle.std.specs.Option.{option_copied};
 ghost use Rattle.zh_check.specs.Others.{FindsOtherVotes, IsFirstOther, IsOther, IsOtherVotes};
+ghost use Rattle.zh_check.specs.Reading.{votes_read};
 
 use crate::checked::OtherVotes;
 use crate::lines::line_after;
 use crate::places::lines_before;
-use crate::values::read;
 use std::alloc::{AllocError, Global};
 use zh_districts::Setup;
 use zh_totals::Totals;
@@ -60,22 +60,23 @@ fn has_votes(votes: &[u64], held: &Totals<'_>) -> bool
     votes == held.all()
 }
 
-/// The first list whose votes, as a text shows them, are not those that are held, if there are any.
+/// The first list whose votes, as they are read of a text, are not those that are held, if there are any.
 pub(crate) fn first_other_votes(
     alloc: Global,
     setup: &Setup,
     text: &[u8],
+    votes: &[u64],
     held: Option<&Totals<'_>>,
 ) -> Result<Option<OtherVotes>, AllocError>
+    requires { votes.now ≡ votes_read setup.now text.now }
     ensures { IfOk result (FindsOtherVotes setup.now (option_copied held.entry) text.now) }
 {
     let Some(held) = held else {
         return Ok(None);
     };
-    let values = read(alloc, setup, text)?;
-    if has_votes(&values.votes, held) {
+    if has_votes(votes, held) {
         return Ok(None);
     }
-    let other = other_votes(alloc, setup, text, &values.votes, held.all())?;
+    let other = other_votes(alloc, setup, text, votes, held.all())?;
     Ok(Some(other))
 }

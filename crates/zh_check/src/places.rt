@@ -3,8 +3,17 @@ ghost use Rattle.std.specs.Prelude.{◌≡◌, ◌+◌, ◌*◌, ◌<◌, ◌≤
 ghost use Rattle.zh_check.specs.Others.{line_of_votes};
 ghost use Rattle.zh_check.specs.Reading.{lines_above, standing};
 
-use crate::values::lines_above;
 use zh_districts::Setup;
+
+/// How many lines stand between the first line and the constituencies.
+pub(crate) fn lines_above(setup: &Setup) -> u32
+    ensures { result ≡ lines_above setup.now }
+{
+    match setup.canton_quorum() {
+        Some(_) => 4,
+        None => 3,
+    }
+}
 
 /// How many lines stand before those of the lists.
 pub(crate) fn lines_before_lists(setup: &Setup) -> u32
@@ -15,7 +24,7 @@ pub(crate) fn lines_before_lists(setup: &Setup) -> u32
 }
 
 /// Whether the list at a place stands.
-fn stands_at(setup: &Setup, place: usize) -> bool
+pub(crate) fn stands_at(setup: &Setup, place: usize) -> bool
     requires { place < length setup.now.constituencies * length setup.now.groups }
     ensures { result ≡ slice_index_or (standing setup.now) place false }
 {

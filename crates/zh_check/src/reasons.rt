@@ -6,9 +6,10 @@ ghost use Rattle.zh_check.specs.Verdicts.{IsWhyNone};
 
 use crate::cells::first_off_list;
 use crate::checked::{OffTotal, SheetVerdict};
+use crate::places::lines_above;
 use crate::targets::{constituency_seats, group_seats};
 use crate::totals::{first_unmet, off_total};
-use crate::values::{Values, lines_above, read};
+use crate::values::Values;
 use std::alloc::{AllocError, Global};
 use zh_districts::Setup;
 use zh_totals::Totals;
@@ -81,15 +82,16 @@ fn first_off_total(
     }
 }
 
-/// Why no sheet follows, where none does.
+/// Why no sheet follows from what is read of a text, where none does.
 pub(crate) fn why_none<'s>(
     alloc: Global,
     setup: &'s Setup,
     text: &[u8],
+    values: Values,
 ) -> Result<SheetVerdict<'s>, AllocError>
+    requires { IsRead setup.now text.now values }
     ensures { IfOk result (IsWhyNone setup.now text.now) }
 {
-    let values = read(alloc, setup, text)?;
     if let Some(off) = first_off_list(alloc, setup, text, &values)? {
         return Ok(SheetVerdict::OffList(off));
     }

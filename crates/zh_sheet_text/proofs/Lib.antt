@@ -1,4 +1,6 @@
+pub mod CallerLemmas
+mod EachLemmas
+mod LayoutLemmas
 mod LongestLemmas
 mod PageLemmas
 mod PrintingLemmas
-mod StandingLemmas

@@ -1,14 +1,15 @@
 -- How long the text of a sheet is at most: 1,094 lines of 256 bytes.
-use Rattle.std.proofs.Common.{◌≡◌, ◌∙◌, ℕ, zero, suc, ◌+◌, ◌-◌, ◌*◌, ◌/◌, ◌%◌, ◌^◌, ◌<◌, ◌≤◌, ◌==◌, Bool, cond, true, false, All, IfSome, IsTrue, Option, Some, None, List, [], ◌∷◌, ◌++◌, length, get_or, map, replicate, decimal, codes, refl, ap, sym, arith, length-append, inl, inr}
+use Rattle.std.proofs.Common.{◌≡◌, ◌∙◌, ℕ, zero, suc, ◌+◌, ◌-◌, ◌*◌, ◌/◌, ◌%◌, ◌^◌, ◌<◌, ◌≤◌, ◌==◌, Bool, cond, true, false, All, IsTrue, Option, Some, None, List, [], ◌∷◌, ◌++◌, length, get_or, map, replicate, decimal, codes, refl, ap, sym, arith, length-append, inl, inr}
 use Rattle.std.specs.Prelude.{slice_get, sum}
-use Rattle.std.specs.List.{flat_map, range_with_len}
+use Rattle.std.specs.List.{flat_map}
 use Rattle.std.specs.Option.{option_map_or}
 use Rattle.std.proofs.lemmas.Bool.{cases_lt}
 use Rattle.std.proofs.lemmas.Fmt.{length-decimal-le}
 use Rattle.std.proofs.lemmas.List.{get_or_past, length-map, length-replicate}
+use Rattle.std.proofs.lemmas.List.Elements.{All-head, All-tail}
 use Rattle.std.proofs.lemmas.List.Quantifiers.{position-Some}
 use Rattle.std.proofs.lemmas.List.Sums.{get_or-le-sum_by, sum_by-cons}
-use Rattle.zh_districts.specs.Canton.{Constituency, Group, is_name, persons_of, stands}
+use Rattle.zh_districts.specs.Canton.{Canton, Constituency, Group, is_name}
 use Rattle.zh_districts.specs.Seats.{persons}
 use Rattle.zh_districts.proofs.CallerLemmas.{is_name-short}
 use Rattle.zh_divisors.proofs.CallerLemmas.{sum_to-le, term-le-sum_to}
@@ -21,14 +22,17 @@ use Rattle.zh_upper.specs.VoterNumbers.{voter_number, voter_sum}
 use Rattle.zh_upper.proofs.CallerLemmas.{voter_number-le}
 use Rattle.zh_sheet.specs.Distribution.{Distribution, IsDistribution, seated_groups}
 use Rattle.zh_sheet.specs.Readings.{column_of, list_seats, takes_part}
-use Rattle.zh_sheet_text.specs.SheetText.{constituency_line, divisor_text, field, group_line, list_line, list_lines, sheet_text, six_digits}
+use Rattle.zh_sheet_text.specs.Layout.{IsPartOf, IsUpTo, SheetLine, mark_before, sheet_lines}
+use Rattle.zh_sheet_text.specs.SheetText.{divisor_text, line_text, part_text, joined_parts, sheet_text, six_digits}
+use Rattle.zh_sheet_text.specs.declared.parts.Head.{Head}
+use Rattle.zh_sheet_text.specs.declared.part.SheetPart.{SheetPart}
+use Rattle.zh_sheet_text.specs.declared.part.SheetPart.TheVariants.{Fixed, Number, Desk, Kind, Accepted, SeatsKey, UpperKey, ConstituencySeats, ConstituencyVotes, ConstituencyDivisor, ConstituencyName, TakesPart, GroupVoters, GroupSeats, GroupDivisor, GroupName, ListVotes, ListVoters, ListSeats}
+use Rattle.zh_sheet_text.proofs.EachLemmas.{Each, each_more}
+use Rattle.zh_sheet_text.proofs.LayoutLemmas.{IsLineOf, all_lines, few_lines, most, most_of}
 
 -- numbers of 64 bits have 20 digits
 digits : (n : ℕ) → n < 2 ^ 64 → length (decimal n) ≤ 20
 digits n small = length-decimal-le 20 n (omega arith) (omega arith) small
-
-number : (words : List ℕ) (n : ℕ) → n < 2 ^ 64 → length (field words n) ≤ length words + 20
-number words n small = omega (arith, length-append words (decimal n), digits n small)
 
 six : (n : ℕ) → n < 1000000 → length (six_digits n) ≤ 6
 six n small =
@@ -41,6 +45,10 @@ divisor n small =
     let rest = simp length-append at (six (n % 1000000) (omega arith)) in
     simp length-append (omega (arith, whole, rest))
 
+fraction : (num den : ℕ) → num < 2 ^ 64 → den < 2 ^ 64 → length (decimal num ++ (codes "/" ++ decimal den)) ≤ 41
+fraction num den one other =
+    omega (arith, digits num one, digits den other, length-append (decimal num) (codes "/" ++ decimal den), length-append (codes "/") (decimal den))
+
 -- one text or the other
 choice : (b : Bool) (one other : List ℕ) (most : ℕ) → length one ≤ most → length other ≤ most → length (cond b one other) ≤ most
 choice true one other most is or = is
@@ -52,7 +60,7 @@ found text most None some each = some
 found text most (Some k) some each = each k
 
 -- elements that are all small, and one past the end
-each_at_most : (xs : List ℕ) (most k : ℕ) → All (λ v. v ≤ most) xs → get_or xs k 0 ≤ most
+pub each_at_most : (xs : List ℕ) (most k : ℕ) → All (λ v. v ≤ most) xs → get_or xs k 0 ≤ most
 each_at_most xs most k all = elim (cases_lt k (length xs)) [
   | inl within ↦ all k 0 within
   | inr past ↦ let none = get_or_past xs k 0 past in omega (arith, none)
@@ -69,11 +77,6 @@ mapped_at_most : {X : Type 0} (f : X → ℕ) (most : ℕ) (xs : List X) (k : �
 mapped_at_most f most [] k all = omega arith
 mapped_at_most f most (x ∷ xs) zero all = all 0 x (omega arith)
 mapped_at_most f most (x ∷ xs) (suc k) all = mapped_at_most f most xs k (λ i d within. all (suc i) d (omega arith))
-
-found_at_most : {X : Type 0} (f : X → ℕ) (most : ℕ) (xs : List X) (k : ℕ) → All (λ x. f x ≤ most) xs → option_map_or f (slice_get xs k) 0 ≤ most
-found_at_most f most [] k all = omega arith
-found_at_most f most (x ∷ xs) zero all = all 0 x (omega arith)
-found_at_most f most (x ∷ xs) (suc k) all = found_at_most f most xs k (λ i d within. all (suc i) d (omega arith))
 
 -- a name that is looked up
 name_at : {X : Type 0} (name : X → List ℕ) (xs : List X) (k : ℕ) → All (λ n. IsTrue (is_name n)) (map name xs) → length (option_map_or name (slice_get xs k) []) ≤ 40
@@ -99,23 +102,31 @@ seats_within (n ∷ numbers) (true ∷ taking) (suc k) same others =
 seats_within (n ∷ numbers) (false ∷ taking) zero same others = let none : n ≡ 0 = others 0 refl in omega arith
 seats_within (n ∷ numbers) (false ∷ taking) (suc k) same others = seats_within numbers taking k (omega arith) (λ place. others (suc place))
 
--- lines of at most so many bytes
-lines_within : (line : ℕ → List ℕ) (most a n : ℕ) → ((i : ℕ) → a ≤ i → i < a + n → length (line i) ≤ most) → length (flat_map line (range_with_len a n)) ≤ n * most
-lines_within line most a zero each = omega arith
-lines_within line most a (suc n) each =
-    let first = each a (omega arith) (omega arith) in
-    let others = lines_within line most (a + 1) n (λ i from_a within. each i (omega arith) (omega arith)) in
-    omega (arith, first, others, length-append (line a) (flat_map line (range_with_len (a + 1) n)))
+-- parts of at most so many bytes, and lines of them
+parts_within : (text : SheetPart → List ℕ) (parts : List SheetPart) → Each (λ part. length (text part) ≤ most part) parts → length (joined_parts text parts) ≤ most_of parts
+parts_within text [] each = omega arith
+parts_within text (part ∷ parts) each =
+    omega (arith, each.0, parts_within text parts each.1, length-append (text part) (mark_before parts ∷ joined_parts text parts))
+
+lines_within : (text : SheetLine → List ℕ) (lines : List SheetLine) → All (λ line. length (text line) ≤ 256) lines → length (flat_map text lines) ≤ length lines * 256
+lines_within text [] each = omega arith
+lines_within text (line ∷ lines) each =
+    omega (
+      arith,
+      All-head (λ line. length (text line) ≤ 256) line lines each,
+      lines_within text lines (All-tail (λ line. length (text line) ≤ 256) line lines each),
+      length-append (text line) (flat_map text lines),
+    )
 
 module _ (x : Distribution) (is : IsDistribution x) where
   -- the numbers of a sheet
-  seats_small : (k : ℕ) → get_or x.seats.seats k 0 ≤ 400
+  pub seats_small : (k : ℕ) → get_or x.seats.seats k 0 ≤ 400
   seats_small k = omega (arith, within_sum x.seats.seats k, is.seats.in_proportion.add_up, is.totals.canton.house.1)
 
   all_participants : sum (of_participants x.upper.seats x.taking) ≤ 400
   all_participants = omega (arith, is.upper.in_proportion.add_up, is.totals.canton.house.1)
 
-  upper_small : (k : ℕ) → get_or x.upper.seats k 0 ≤ 400
+  pub upper_small : (k : ℕ) → get_or x.upper.seats k 0 ≤ 400
   upper_small k =
       omega (arith, all_participants, seats_within x.upper.seats x.taking k (is.participation.one_each ∙ sym is.voters.one_each ∙ sym is.upper.one_each) is.upper.others)
 
@@ -147,7 +158,10 @@ module _ (x : Distribution) (is : IsDistribution x) where
     | inr past ↦ let none = get_or_past x.voters k 0 (omega (arith, is.voters.one_each, past)) in omega (arith, none)
   ]
 
-  list_seats_small : (d g : ℕ) → 1 ≤ d → d ≤ length x.totals.canton.constituencies → list_seats x d g ≤ 400
+  votes_most : (d g : ℕ) → IsUpTo (length x.totals.canton.constituencies) d × IsUpTo (length x.totals.canton.groups) g → votes_in x.totals d g ≤ 10 ^ 14
+  votes_most d g of = omega (arith, group_most x.totals d g is.totals of.0.from_one of.0.there of.1.from_one of.1.there)
+
+  pub list_seats_small : (d g : ℕ) → 1 ≤ d → d ≤ length x.totals.canton.constituencies → list_seats x d g ≤ 400
   list_seats_small d g from_one there =
       elim (column_of x g) as (λ o. column_of x g ≡ o → option_map_or (λ column. seats_of x.lower d (column + 1)) o 0 ≤ 400) [
         | None ↦ λ is_none. omega arith
@@ -161,72 +175,58 @@ module _ (x : Distribution) (is : IsDistribution x) where
             omega (arith, here, all, one, seats_small (d - 1))
       ] refl
 
-  -- the lines
-  quorum : length (option_map_or (λ q. field (codes "quorum canton ") q ++ 10 ∷ []) x.totals.canton.canton_quorum []) ≤ 256
-  quorum =
-      elim x.totals.canton.canton_quorum as (λ o. IfSome o (λ q. (1 ≤ q) × (q ≤ 49)) → length (option_map_or (λ q. field (codes "quorum canton ") q ++ 10 ∷ []) o []) ≤ 256) [
-        | None ↦ λ limits. omega arith
-        | (Some q) ↦ λ limits. simp length-append (omega (arith, digits q (omega (arith, limits))))
-      ] is.totals.canton.canton_quorum
+  -- what stands at a part
+  module _ (head : Head) (desk : head.desk ≤ 8) (accepted : head.accepted < 2 ^ 64) where
+    part_within : (part : SheetPart) → IsPartOf x.totals.canton part → length (part_text x head part) ≤ most part
+    part_within (Fixed label) of = omega arith
+    part_within (Number n) of = digits n (omega (arith, of))
+    part_within Desk of = digits head.desk (omega (arith, desk))
+    part_within Kind of = choice head.is_final (codes "final") (codes "provisional") 11 (omega arith) (omega arith)
+    part_within Accepted of = digits head.accepted accepted
+    part_within SeatsKey of =
+        fraction x.seats.num x.seats.den (omega (arith, is.seats_key.num_is, persons_small is.seats_key.last, persons_small is.seats_key.next))
+        (omega (arith, is.seats_key.den_is, seats_small is.seats_key.last, seats_small is.seats_key.next))
+    part_within UpperKey of =
+        fraction x.upper.num x.upper.den (omega (
+          arith,
+          is.upper_key.num_is,
+          participant_at_most x.voters x.taking (10 ^ 14) is.upper_key.last voters_small,
+          participant_at_most x.voters x.taking (10 ^ 14) is.upper_key.next voters_small,
+        ))
+        (omega (arith, is.upper_key.den_is, participant_seats_small is.upper_key.last, participant_seats_small is.upper_key.next))
+    part_within (ConstituencySeats d) of = digits (get_or x.seats.seats (d - 1) 0) (omega (arith, seats_small (d - 1)))
+    part_within (ConstituencyVotes d) of =
+        digits (constituency_votes x.totals d) (omega (arith, constituency_most x.totals d is.totals of.from_one of.there))
+    part_within (ConstituencyDivisor d) of =
+        divisor (get_or x.lower.divisors.of_rows (d - 1) 0) (omega (arith, each_at_most x.lower.divisors.of_rows (10 ^ 18) (d - 1) is.limits.rows.at_most))
+    part_within (ConstituencyName d) of = name_at (λ (c : Constituency). c.name) x.totals.canton.constituencies (d - 1) is.totals.canton.constituency_names.rule
+    part_within (TakesPart g) of = choice (takes_part x g) (codes "yes") (codes "no") 3 (omega arith) (omega arith)
+    part_within (GroupVoters g) of =
+        choice (takes_part x g) (decimal (get_or x.voters (g - 1) 0)) (codes "-") 20 (digits (get_or x.voters (g - 1) 0) (omega (arith, voters_small (g - 1)))) (omega arith)
+    part_within (GroupSeats g) of = digits (get_or x.upper.seats (g - 1) 0) (omega (arith, upper_small (g - 1)))
+    part_within (GroupDivisor g) of =
+        found (λ k. divisor_text (get_or x.lower.divisors.of_columns k 0)) 27 (column_of x g) (omega arith) (λ k.
+        divisor (get_or x.lower.divisors.of_columns k 0) (omega (arith, each_at_most x.lower.divisors.of_columns (10 ^ 12) k is.limits.columns.at_most)))
+    part_within (GroupName g) of = name_at (λ (c : Group). c.name) x.totals.canton.groups (g - 1) is.totals.canton.group_names.rule
+    part_within (ListVotes d g) of = digits (votes_in x.totals d g) (omega (arith, votes_most d g of))
+    part_within (ListVoters d g) of =
+        let few = voter_number-le (votes_in x.totals d g) (get_or x.seats.seats (d - 1) 0)
+        (is.seats.each (d - 1) (omega (arith, one_seat_each, of.0.from_one, of.0.there))) in
+        choice (takes_part x g) (decimal (voter_number (votes_in x.totals d g) (get_or x.seats.seats (d - 1) 0))) (codes "-") 20
+        (digits (voter_number (votes_in x.totals d g) (get_or x.seats.seats (d - 1) 0)) (omega (arith, votes_most d g of, few))) (omega arith)
+    part_within (ListSeats d g) of = digits (list_seats x d g) (omega (arith, list_seats_small d g of.0.from_one of.0.there))
 
-  constituency : (d : ℕ) → 1 ≤ d → d ≤ length x.totals.canton.constituencies → length (constituency_line x d) ≤ 256
-  constituency d from_one there =
-      let number = digits d (omega (arith, is.totals.canton.constituencies.1)) in
-      let persons = digits (persons_of x.totals.canton d) (omega (arith, found_at_most (λ (c : Constituency). c.persons) 10000000 x.totals.canton.constituencies (d - 1) few_persons)) in
-      let seats = digits (get_or x.seats.seats (d - 1) 0) (omega (arith, seats_small (d - 1))) in
-      let votes = digits (constituency_votes x.totals d) (omega (arith, constituency_most x.totals d is.totals from_one there)) in
-      let over = divisor (get_or x.lower.divisors.of_rows (d - 1) 0) (omega (arith, each_at_most x.lower.divisors.of_rows (10 ^ 18) (d - 1) is.limits.rows.at_most)) in
-      let name = name_at (λ (c : Constituency). c.name) x.totals.canton.constituencies (d - 1) is.totals.canton.constituency_names.rule in
-      simp length-append (omega (arith, number, persons, seats, votes, simp length-append at over, name))
-
-  group : (g : ℕ) → 1 ≤ g → g ≤ length x.totals.canton.groups → length (group_line x g) ≤ 256
-  group g from_one there =
-      let number = digits g (omega (arith, is.totals.canton.groups.1)) in
-      let yes = choice (takes_part x g) (codes "yes") (codes "no") 3 (omega arith) (omega arith) in
-      let voters = choice (takes_part x g) (decimal (get_or x.voters (g - 1) 0)) (codes "-") 20 (digits (get_or x.voters (g - 1) 0) (omega (arith, voters_small (g - 1)))) (omega arith) in
-      let seats = digits (get_or x.upper.seats (g - 1) 0) (omega (arith, upper_small (g - 1))) in
-      let over = found (λ k. divisor_text (get_or x.lower.divisors.of_columns k 0)) 27 (column_of x g) (omega arith) (λ k.
-      divisor (get_or x.lower.divisors.of_columns k 0) (omega (arith, each_at_most x.lower.divisors.of_columns (10 ^ 12) k is.limits.columns.at_most))) in
-      let name = name_at (λ (c : Group). c.name) x.totals.canton.groups (g - 1) is.totals.canton.group_names.rule in
-      simp length-append (omega (arith, number, yes, voters, seats, over, name))
-
-  list : (d g : ℕ) → 1 ≤ d → d ≤ length x.totals.canton.constituencies → 1 ≤ g → g ≤ length x.totals.canton.groups → length (list_line x d g) ≤ 256
-  list d g from_one there group_from_one group_there =
-      let number = digits d (omega (arith, is.totals.canton.constituencies.1)) in
-      let group_number = digits g (omega (arith, is.totals.canton.groups.1)) in
-      let most = group_most x.totals d g is.totals from_one there group_from_one group_there in
-      let votes = digits (votes_in x.totals d g) (omega (arith, most)) in
-      let few = voter_number-le (votes_in x.totals d g) (get_or x.seats.seats (d - 1) 0) (is.seats.each (d - 1) (omega (arith, one_seat_each))) in
-      let voters = choice (takes_part x g) (decimal (voter_number (votes_in x.totals d g) (get_or x.seats.seats (d - 1) 0))) (codes "-") 20 (digits (voter_number (votes_in x.totals d g) (get_or x.seats.seats (d - 1) 0)) (omega (arith, most, few))) (omega arith) in
-      let seats = digits (list_seats x d g) (omega (arith, list_seats_small d g from_one there)) in
-      simp length-append (omega (arith, number, group_number, votes, voters, seats))
-
-  lists : (d : ℕ) → 1 ≤ d → d ≤ length x.totals.canton.constituencies → length (list_lines x d) ≤ 8192
-  lists d from_one there =
-      let all = lines_within (λ g. cond (stands x.totals.canton d g) (list_line x d g) []) 256 1 (length x.totals.canton.groups) (λ g g1 g2.
-      choice (stands x.totals.canton d g) (list_line x d g) [] 256 (list d g from_one there g1 (omega arith)) (omega arith)) in
-      omega (arith, all, is.totals.canton.groups.1)
-
-  longest : (desk : ℕ) (is_final : Bool) (accepted : ℕ) → desk ≤ 8 → accepted < 2 ^ 64 → length (sheet_text x desk is_final accepted) ≤ 280064
-  longest desk is_final accepted few small =
-      let on = digits desk (omega arith) in
-      let state = choice is_final (codes "final") (codes "provisional") 11 (omega arith) (omega arith) in
-      let commands = digits accepted small in
-      let house = digits x.totals.canton.house (omega (arith, is.totals.canton.house.1)) in
-      let a = digits x.seats.num (omega (arith, is.seats_key.num_is, persons_small is.seats_key.last, persons_small is.seats_key.next)) in
-      let b = digits x.seats.den (omega (arith, is.seats_key.den_is, seats_small is.seats_key.last, seats_small is.seats_key.next)) in
-      let c = digits x.upper.num (omega (
-        arith,
-        is.upper_key.num_is,
-        participant_at_most x.voters x.taking (10 ^ 14) is.upper_key.last voters_small,
-        participant_at_most x.voters x.taking (10 ^ 14) is.upper_key.next voters_small,
-      )) in
-      let d = digits x.upper.den (omega (arith, is.upper_key.den_is, participant_seats_small is.upper_key.last, participant_seats_small is.upper_key.next)) in
-      let constituencies = lines_within (constituency_line x) 256 1 (length x.totals.canton.constituencies) (λ d d1 d2. constituency d d1 (omega arith)) in
-      let groups = lines_within (group_line x) 256 1 (length x.totals.canton.groups) (λ g g1 g2. group g g1 (omega arith)) in
-      let all = lines_within (list_lines x) 8192 1 (length x.totals.canton.constituencies) (λ d d1 d2. lists d d1 (omega arith)) in
-      simp length-append (omega (arith, on, state, commands, house, a, b, c, d, quorum, constituencies, groups, all, is.totals.canton.constituencies.1, is.totals.canton.groups.1))
+    line_within : (line : SheetLine) → IsLineOf x.totals.canton line → length (line_text (part_text x head) line) ≤ 256
+    line_within line of =
+        let all = parts_within (part_text x head) line.parts
+        (each_more (IsPartOf x.totals.canton) (λ part. length (part_text x head part) ≤ most part) line.parts part_within of.parts) in
+        choice line.is_there (joined_parts (part_text x head) line.parts) [] 256 (omega (arith, all, of.short)) (omega arith)
 
 -- no sheet is longer
 pub no_longer : (x : Distribution) (desk : ℕ) (is_final : Bool) (accepted : ℕ) → IsDistribution x → desk ≤ 8 → accepted < 2 ^ 64 → length (sheet_text x desk is_final accepted) ≤ 280064
-no_longer x desk is_final accepted is few small = longest x is desk is_final accepted few small
+no_longer x desk is_final accepted is few small =
+    let canton : Canton = x.totals.canton in
+    let head : Head = record { desk = desk; is_final = is_final; accepted = accepted } in
+    let all = lines_within (line_text (part_text x head)) (sheet_lines canton)
+    (λ k d lt. line_within x is head few small (get_or (sheet_lines canton) k d) (all_lines canton is.totals.canton k d lt)) in
+    omega (arith, all, few_lines canton is.totals.canton)

@@ -1,25 +1,36 @@
 -- Parts that are put on a page one after another.
-use Rattle.std.proofs.Common.{◌≡◌, ℕ, ◌+◌, ◌-◌, ◌≤◌, Bool, true, false, if◌then◌else◌, Option, Some, None, List, [], ◌∷◌, ◌++◌, length, take, drop, replicate, codes, decimal, refl, ap, sym, ◌∙◌, arith, append_assoc, length-append}
+use Rattle.std.proofs.Common.{◌≡◌, ℕ, zero, suc, ◌+◌, ◌-◌, ◌<◌, ◌≤◌, Bool, true, false, if◌then◌else◌, Option, Some, None, List, [], ◌∷◌, ◌++◌, length, take, drop, replicate, codes, decimal, refl, ap, sym, ◌∙◌, inl, inr, arith, append_assoc, length-append}
 use Rattle.std.specs.Option.{option_map_or}
+use Rattle.std.specs.Prelude.{◌==◌}
 use Rattle.std.proofs.Math.Seq.{take-length}
-use Rattle.std.proofs.lemmas.List.{drop-replicate, length-replicate}
+use Rattle.std.proofs.lemmas.Bool.{cases_lt, eq-eqb, ne_eqb}
+use Rattle.std.proofs.lemmas.List.{drop_all, drop-replicate, length-replicate}
+use Rattle.zh_sheet_text.specs.Layout.{mark_before}
 use Rattle.zh_sheet_text.specs.Printing.{or_dash}
 use Rattle.zh_sheet_text.specs.SheetText.{six_digits}
+use Rattle.zh_sheet_text.specs.declared.part.SheetPart.{SheetPart}
 
--- the page is what it was, and then this text
-pub record EndsWith (old page text : List ℕ) : Type 0 where
-  pub is : page ≡ old ++ text
+-- a part and the mark after it, of what is still to be put
+pub marked_put : (page next new here whole rest all : List ℕ) (sign : ℕ) → page ++ whole ≡ all → whole ≡ here ++ sign ∷ rest → next ≡ page ++ here →
+    new ≡ next ++ sign ∷ [] → new ++ rest ≡ all
+marked_put page next new here whole rest all sign before parts put marked =
+    ap (λ t. t ++ rest) (marked ∙ ap (λ t. t ++ sign ∷ []) put)
+    ∙ (append_assoc (page ++ here) (sign ∷ []) rest
+    ∙ (append_assoc page here (sign ∷ rest) ∙ (ap (λ t. page ++ t) (sym parts) ∙ before)))
 
-pub put_first : {A : Type 0} (old page : List ℕ) (text : A → List ℕ) (n m : A) → page ≡ old ++ text n → n ≡ m → EndsWith old page (text m)
-put_first old page text n m put same = record { is = put ∙ ap (λ k. old ++ text k) same }
+-- the last is the one after which none is left
+some_left : (parts : List SheetPart) (n : ℕ) → n < length parts → mark_before (drop n parts) ≡ 32
+some_left [] n lt = absurd (omega arith)
+some_left (part ∷ parts) zero lt = refl
+some_left (part ∷ parts) (suc n) lt = some_left parts n (omega (arith, lt))
 
-pub put_next : {A : Type 0} (old before page next : List ℕ) (text : A → List ℕ) (n m : A) → EndsWith old page before → next ≡ page ++ text n → n ≡ m → EndsWith old next (before ++ text m)
-put_next old before page next text n m first put same = record {
-  is = put ∙ (ap (λ k. page ++ text k) same ∙ (ap (λ t. t ++ text m) first.is ∙ append_assoc old before (text m)));
-}
-
-pub put_words : (old before page next words : List ℕ) → EndsWith old page before → next ≡ page ++ words → EndsWith old next (before ++ words)
-put_words old before page next words first put = record { is = put ∙ (ap (λ t. t ++ words) first.is ∙ append_assoc old before words) }
+pub last_of : (parts : List SheetPart) (k : ℕ) → k < length parts → (if k + 1 == length parts then 10 else 32) ≡ mark_before (drop (k + 1) parts)
+last_of parts k lt = elim (cases_lt (k + 1) (length parts)) [
+  | inl more ↦
+      ap (λ b. if b then 10 else 32) (ne_eqb (k + 1) (length parts) (λ e. absurd (omega (arith, e, more)))) ∙ sym (some_left parts (k + 1) more)
+  | inr past ↦
+      ap (λ b. if b then 10 else 32) (eq-eqb (k + 1) (length parts) (omega (arith, lt, past))) ∙ sym (ap mark_before (drop_all (k + 1) parts past))
+]
 
 -- a dash for what is left out
 pub dash_unless : (there : Bool) (n : ℕ) → or_dash decimal (if there then Some n else None) ≡ (if there then decimal n else codes "-")

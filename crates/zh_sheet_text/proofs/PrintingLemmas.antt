@@ -1,26 +1,16 @@
 -- Text that is printed part by part.
-use Rattle.std.proofs.Common.{◌≡◌, ℕ, zero, suc, ◌+◌, ◌<◌, ◌≤◌, List, [], ◌++◌, Option, ◌∷◌, Result, Ok, Err, OnErr, OnOk, length, take, refl, ap, sym, ◌∙◌, subst, inl, inr, arith, add-one, append_assoc, append-nil, length-append}
+use Rattle.std.proofs.Common.{◌≡◌, ℕ, ◌+◌, ◌<◌, ◌≤◌, List, [], ◌++◌, Option, ◌∷◌, Result, Ok, Err, OnErr, OnOk, length, get_or, take, drop, refl, ap, sym, ◌∙◌, subst, arith, append_assoc, append-nil, length-append, take-append-drop}
 use Rattle.std.specs.Io.KnownBytes.{Appends}
-use Rattle.std.specs.List.{flat_map, range_with_len}
+use Rattle.std.specs.List.{flat_map}
 use Rattle.std.proofs.KnownBytes.{Appends-nil, Appends-trans}
 use Rattle.std.proofs.Math.Seq.{take-append-add}
-use Rattle.std.proofs.lemmas.Bool.{cases_lt}
-use Rattle.std.proofs.lemmas.List.{take-append-le}
+use Rattle.std.proofs.lemmas.List.{take-append-le, take_all, take_more}
 use Rattle.std.proofs.lemmas.List.Concat.{flat_map-append}
 use Rattle.zh_sheet_text.specs.Printing.{Prints, WritesFront}
-use Rattle.zh_sheet.proofs.CallerLemmas.{numbers_more}
 
 -- what is put on the page
 pub Prints-put : (held : Option (List ℕ)) (page next text : List ℕ) → next ≡ page ++ text → Prints held page held next text
 Prints-put held page next text put = record { sent = []; appended = Appends-nil held; whole = sym put }
-
--- what is put on an empty page, line by line
-pub Prints-lines : (held : Option (List ℕ)) (empty one two four five a b c d e : List ℕ) → empty ≡ [] → one ≡ empty ++ a → two ≡ one ++ b →
-    four ≡ two ++ (c ++ d) → five ≡ four ++ e → Prints held [] held five (a ++ b ++ c ++ d ++ e)
-Prints-lines held empty one two four five a b c d e is_empty first second keys last =
-    Prints-put held [] five (a ++ b ++ c ++ d ++ e)
-    (last ∙ ap (λ t. t ++ e) (keys
-    ∙ (sym (append_assoc two c d) ∙ ap (λ t. t ++ c ++ d) (second ∙ ap (λ t. t ++ b) (first ∙ ap (λ t. t ++ a) is_empty)))))
 
 -- one text after another
 pub Prints-append : (a b c : Option (List ℕ)) (p q r x y : List ℕ) → Prints a p b q x → Prints b q c r y → Prints a p c r (x ++ y)
@@ -62,67 +52,47 @@ all_written a b p q x none left printed =
     let whole : x ≡ printed.sent = ap (λ t. t ++ x) (sym none) ∙ (printed.whole ∙ (ap (λ t. printed.sent ++ t) left ∙ append-nil printed.sent)) in
     subst (Appends a b) (sym whole) printed.appended
 
--- lines of the numbers from 1 to n
-abbrev lines : (ℕ → List ℕ) → ℕ → List ℕ
-lines line n = flat_map line (range_with_len 1 n)
+-- the text of one line more
+pub lines_printed : {X : Type 0} (a b c : Option (List ℕ)) (p q r : List ℕ) (text : X → List ℕ) (xs : List X) (k : ℕ) (d : X) → k < length xs →
+    Prints a p b q (flat_map text (take k xs)) → Prints b q c r (text (get_or xs k d)) → Prints a p c r (flat_map text (take (k + 1) xs))
+lines_printed a b c p q r text xs k d lt before next =
+    let line : List ℕ = text (get_or xs k d) in
+    let more : flat_map text (take (k + 1) xs) ≡ flat_map text (take k xs) ++ line
+    = ap (flat_map text) (take_more xs k d lt)
+    ∙ (flat_map-append text (take k xs) (get_or xs k d ∷ []) ∙ ap (λ t. flat_map text (take k xs) ++ t) (append-nil line)) in
+    subst (Prints a p c r) (sym more) (Prints-append a b c p q r (flat_map text (take k xs)) line before next)
 
-lines_more : (line : ℕ → List ℕ) (n : ℕ) → lines line (n + 1) ≡ lines line n ++ line (n + 1)
-lines_more line n =
-    ap (flat_map line) (numbers_more n)
-    ∙ (flat_map-append line (range_with_len 1 n) ((n + 1) ∷ []) ∙ ap (λ t. lines line n ++ t) (append-nil (line (n + 1))))
+-- the writer stops at a line
+pub lines_stopped : {X : Type 0} (a b c : Option (List ℕ)) (p q : List ℕ) (text : X → List ℕ) (xs : List X) (k : ℕ) (d : X) → k < length xs →
+    Prints a p b q (flat_map text (take k xs)) → WritesFront b c (q ++ text (get_or xs k d)) → WritesFront a c (p ++ flat_map text xs)
+lines_stopped a b c p q text xs k d lt before stopped =
+    let line : List ℕ = text (get_or xs k d) in
+    let front : List ℕ = flat_map text (take (k + 1) xs) in
+    let rest : List ℕ = flat_map text (drop (k + 1) xs) in
+    let so_far : Prints a p b (q ++ line) front = lines_printed a b b p q (q ++ line) text xs k d lt before (Prints-put b q (q ++ line) line refl) in
+    let whole : flat_map text xs ≡ front ++ rest = ap (flat_map text) (sym (take-append-drop (k + 1) xs)) ∙ flat_map-append text (take (k + 1) xs) (drop (k + 1) xs) in
+    subst (WritesFront a c) (append_assoc p front rest ∙ ap (λ t. p ++ t) (sym whole))
+    (WritesFront-append a c (p ++ front) rest (WritesFront-after a b c p (q ++ line) front so_far stopped))
 
--- the first lines, and the others
-lines_split : (line : ℕ → List ℕ) (k n : ℕ) → k ≤ n → (rest : List ℕ) × (lines line n ≡ lines line k ++ rest)
-lines_split line k zero within = let same : k ≡ 0 = omega arith in rw same ([], refl)
-lines_split line k (suc n) within =
-    elim (cases_lt k (suc n)) [
-      | inl before ↦
-          let (rest, split) = lines_split line k n (omega (arith, before)) in
-          (rest ++ line (n + 1), ap (lines line) (sym (add-one n)) ∙ (lines_more line n ∙ (ap (λ t. t ++ line (n + 1)) split ∙ append_assoc (lines line k) rest (line (n + 1)))))
-      | inr last ↦ let same : k ≡ suc n = omega (arith, within, last) in rw same ([], sym (append-nil (lines line (suc n))))
-    ]
-
--- the line of one number more
-pub lines_printed : (a b c : Option (List ℕ)) (p q r : List ℕ) (line : ℕ → List ℕ) (n : ℕ) →
-    Prints a p b q (flat_map line (range_with_len 1 n)) → Prints b q c r (line (n + 1)) → Prints a p c r (flat_map line (range_with_len 1 (n + 1)))
-lines_printed a b c p q r line n before next =
-    subst (Prints a p c r) (sym (lines_more line n)) (Prints-append a b c p q r (lines line n) (line (n + 1)) before next)
-
--- the writer stops at the line of a number
-pub lines_stopped : (a b c : Option (List ℕ)) (p q : List ℕ) (line : ℕ → List ℕ) (k n : ℕ) → k < n →
-    Prints a p b q (flat_map line (range_with_len 1 k)) → WritesFront b c (q ++ line (k + 1)) → WritesFront a c (p ++ flat_map line (range_with_len 1 n))
-lines_stopped a b c p q line k n within before stopped =
-    let put : Prints b q b (q ++ line (k + 1)) (line (k + 1)) = Prints-put b q (q ++ line (k + 1)) (line (k + 1)) refl in
-    let so_far = lines_printed a b b p q (q ++ line (k + 1)) line k before put in
-    let front = WritesFront-after a b c p (q ++ line (k + 1)) (lines line (k + 1)) so_far stopped in
-    let (rest, split) = lines_split line (k + 1) n (omega (arith, within)) in
-    let whole : (p ++ lines line (k + 1)) ++ rest ≡ p ++ lines line n = append_assoc p (lines line (k + 1)) rest ∙ ap (λ t. p ++ t) (sym split) in
-    subst (WritesFront a c) whole (WritesFront-append a c (p ++ lines line (k + 1)) rest front)
-
--- the lines of all numbers
-pub lines_all : (a b : Option (List ℕ)) (p q : List ℕ) (line : ℕ → List ℕ) (k n : ℕ) → k ≡ n → Prints a p b q (flat_map line (range_with_len 1 k)) → Prints a p b q (flat_map line (range_with_len 1 n))
-lines_all a b p q line k n same printed = subst (λ (m : ℕ). Prints a p b q (flat_map line (range_with_len 1 m))) same printed
+-- all lines are printed
+pub lines_all : {X : Type 0} (a b : Option (List ℕ)) (p q : List ℕ) (text : X → List ℕ) (xs : List X) (k : ℕ) → length xs ≤ k →
+    Prints a p b q (flat_map text (take k xs)) → Prints a p b q (flat_map text xs)
+lines_all a b p q text xs k past printed = subst (λ ls. Prints a p b q (flat_map text ls)) (take_all k xs past) printed
 
 -- what holds holds at an error
 pub at_error : {T E : Type 0} {P : Type 0} (result : Result T E) → P → OnErr result P
 at_error (Ok value) holds = tt
 at_error (Err error) holds = holds
 
--- the writer stops in the next part
-pub stopped_in : (a b c : Option (List ℕ)) (page before next : List ℕ) → Prints a [] b page before → WritesFront b c (page ++ next) → WritesFront a c (before ++ next)
-stopped_in a b c page before next printed stopped =
-    let put : Prints b page b (page ++ next) next = Prints-put b page (page ++ next) next refl in
-    WritesFront-after a b c [] (page ++ next) (before ++ next) (Prints-append a b b [] page (page ++ next) before next printed put) stopped
+-- what waits on the page is sent
+pub sent_whole : {T E : Type 0} (result : Result T E) (a b c : Option (List ℕ)) (page left text : List ℕ) → Prints a [] b page text →
+    OnOk result (Prints b page c left []) → OnOk result (left ≡ []) → OnOk result (Appends a c text)
+sent_whole (Ok value) a b c page left text printed sent empty =
+    subst (Appends a c) (append-nil text)
+    (all_written a c [] left (text ++ []) refl empty (Prints-append a b c [] page left text [] printed sent))
+sent_whole (Err error) a b c page left text printed sent empty = tt
 
--- the last part is put on the page, which is then sent
-pub sent_whole : {T E : Type 0} (result : Result T E) (a b c : Option (List ℕ)) (page full left before last : List ℕ) → Prints a [] b page before → full ≡ page ++ last →
-    OnOk result (Prints b full c left []) → OnOk result (left ≡ []) → OnOk result (Appends a c (before ++ last))
-sent_whole (Ok value) a b c page full left before last printed put sent empty =
-    all_written a c [] left (before ++ last) refl empty (Prints-append a b c [] page left before last printed (Prints-sent b c page full left last put sent))
-sent_whole (Err error) a b c page full left before last printed put sent empty = tt
-
-pub sent_front : {T E : Type 0} (result : Result T E) (a b c : Option (List ℕ)) (page full before last : List ℕ) → Prints a [] b page before → full ≡ page ++ last →
-    OnErr result (WritesFront b c full) → OnErr result (WritesFront a c (before ++ last))
-sent_front (Ok value) a b c page full before last printed put stopped = tt
-sent_front (Err error) a b c page full before last printed put stopped =
-    stopped_in a b c page before last printed (subst (WritesFront b c) put stopped)
+pub sent_front : {T E : Type 0} (result : Result T E) (a b c : Option (List ℕ)) (page text : List ℕ) → Prints a [] b page text →
+    OnErr result (WritesFront b c page) → OnErr result (WritesFront a c text)
+sent_front (Ok value) a b c page text printed stopped = tt
+sent_front (Err error) a b c page text printed stopped = WritesFront-after a b c [] page text printed stopped

@@ -1,17 +1,19 @@
--- The text of a sheet, line by line (docs/FORMATS.md, "The sheet"): 10 ends a line, 48 is the digit 0.
+-- The text of a sheet (docs/FORMATS.md, "The sheet"): what stands at each part of its lines; 48 is the digit 0.
 use Rattle.std.specs.Prelude.{ℕ, ◌-◌, ◌/◌, ◌%◌, Bool, if◌then◌else◌, codes, decimal}
 use Rattle.std.specs.Prelude.{List, [], ◌∷◌, ◌++◌, length, replicate, slice_get, slice_index, flat_map}
-use Rattle.std.specs.List.{range_with_len}
 use Rattle.std.specs.Option.{option_map_or}
-use Rattle.zh_districts.specs.Canton.{persons_of, stands}
+use Rattle.zh_districts.specs.Canton.{Canton}
 use Rattle.zh_totals.specs.Totals.{constituency_votes, votes_in}
 use Rattle.zh_upper.specs.VoterNumbers.{voter_number}
 use Rattle.zh_sheet.specs.Distribution.{Distribution}
 use Rattle.zh_sheet.specs.Readings.{column_of, list_seats, takes_part}
-
--- words, and the number that follows them
-abbrev pub field : List ℕ → ℕ → List ℕ
-field words number = words ++ decimal number
+use Rattle.zh_sheet_text.specs.Layout.{SheetLine, label_text, mark_before, sheet_lines}
+use Rattle.zh_sheet_text.specs.declared.parts.Head.{Head}
+use Rattle.zh_sheet_text.specs.declared.part.SheetPart.{SheetPart}
+use Rattle.zh_sheet_text.specs.declared.part.SheetPart.TheVariants.{Fixed, Number, Desk, Kind, Accepted, SeatsKey, UpperKey}
+use Rattle.zh_sheet_text.specs.declared.part.SheetPart.TheVariants.{ConstituencySeats, ConstituencyVotes, ConstituencyDivisor}
+use Rattle.zh_sheet_text.specs.declared.part.SheetPart.TheVariants.{ConstituencyName, TakesPart, GroupVoters, GroupSeats, GroupDivisor}
+use Rattle.zh_sheet_text.specs.declared.part.SheetPart.TheVariants.{GroupName, ListVotes, ListVoters, ListSeats}
 
 -- a number of 0 to 999,999 in six digits
 abbrev pub six_digits : ℕ → List ℕ
@@ -21,51 +23,48 @@ six_digits number = replicate (6 - length (decimal number)) 48 ++ decimal number
 abbrev pub divisor_text : ℕ → List ℕ
 divisor_text millionths = decimal (millionths / 1000000) ++ codes "." ++ six_digits (millionths % 1000000)
 
--- a constituency: its persons, seats, votes, divisor and name
-abbrev pub constituency_line : Distribution → ℕ → List ℕ
-constituency_line x d =
-    field (codes "constituency ") d
-    ++ field (codes " persons ") (persons_of x.totals.canton d)
-    ++ field (codes " seats ") (slice_index x.seats.seats (d - 1))
-    ++ field (codes " votes ") (constituency_votes x.totals d)
-    ++ codes " divisor " ++ divisor_text (slice_index x.lower.divisors.of_rows (d - 1))
-    ++ codes " " ++ option_map_or (λ c. c.name) (slice_get x.totals.canton.constituencies (d - 1)) [] ++ 10 ∷ []
+-- names
+abbrev pub constituency_name : Canton → ℕ → List ℕ
+constituency_name canton d = option_map_or (λ c. c.name) (slice_get canton.constituencies (d - 1)) []
 
--- a group: whether it takes part, its voter sum where it does, its seats, its divisor where it has seats, and its name
-abbrev pub group_line : Distribution → ℕ → List ℕ
-group_line x g =
-    field (codes "group ") g
-    ++ codes " quorum " ++ (if takes_part x g then codes "yes" else codes "no")
-    ++ codes " voters " ++ (if takes_part x g then decimal (slice_index x.voters (g - 1)) else codes "-")
-    ++ field (codes " seats ") (slice_index x.upper.seats (g - 1))
-    ++ codes " divisor " ++ option_map_or (λ k. divisor_text (slice_index x.lower.divisors.of_columns k)) (column_of x g) (codes "-")
-    ++ codes " " ++ option_map_or (λ c. c.name) (slice_get x.totals.canton.groups (g - 1)) [] ++ 10 ∷ []
+abbrev pub group_name : Canton → ℕ → List ℕ
+group_name canton g = option_map_or (λ c. c.name) (slice_get canton.groups (g - 1)) []
 
--- a list: its votes, its voter number where its group takes part, and its seats
-abbrev pub list_line : Distribution → ℕ → ℕ → List ℕ
-list_line x d g =
-    field (codes "list ") d
-    ++ field (codes " ") g
-    ++ field (codes " votes ") (votes_in x.totals d g)
-    ++ codes " voters "
-    ++ (if takes_part x g then decimal (voter_number (votes_in x.totals d g) (slice_index x.seats.seats (d - 1))) else codes "-")
-    ++ field (codes " seats ") (list_seats x d g) ++ 10 ∷ []
+-- what stands at a part: the divisors of seats are not reduced; voter numbers stand only where the group takes part, and the
+-- divisor of a group only where it has seats
+abbrev pub part_text : Distribution → Head → SheetPart → List ℕ
+part_text x head (Fixed label) = label_text label
+part_text x head (Number n) = decimal n
+part_text x head Desk = decimal head.desk
+part_text x head Kind = if head.is_final then codes "final" else codes "provisional"
+part_text x head Accepted = decimal head.accepted
+part_text x head SeatsKey = decimal x.seats.num ++ (codes "/" ++ decimal x.seats.den)
+part_text x head UpperKey = decimal x.upper.num ++ (codes "/" ++ decimal x.upper.den)
+part_text x head (ConstituencySeats d) = decimal (slice_index x.seats.seats (d - 1))
+part_text x head (ConstituencyVotes d) = decimal (constituency_votes x.totals d)
+part_text x head (ConstituencyDivisor d) = divisor_text (slice_index x.lower.divisors.of_rows (d - 1))
+part_text x head (ConstituencyName d) = constituency_name x.totals.canton d
+part_text x head (TakesPart g) = if takes_part x g then codes "yes" else codes "no"
+part_text x head (GroupVoters g) = if takes_part x g then decimal (slice_index x.voters (g - 1)) else codes "-"
+part_text x head (GroupSeats g) = decimal (slice_index x.upper.seats (g - 1))
+part_text x head (GroupDivisor g) =
+    option_map_or (λ k. divisor_text (slice_index x.lower.divisors.of_columns k)) (column_of x g) (codes "-")
+part_text x head (GroupName g) = group_name x.totals.canton g
+part_text x head (ListVotes d g) = decimal (votes_in x.totals d g)
+part_text x head (ListVoters d g) =
+    if takes_part x g then decimal (voter_number (votes_in x.totals d g) (slice_index x.seats.seats (d - 1))) else codes "-"
+part_text x head (ListSeats d g) = decimal (list_seats x d g)
 
--- the lists that stand in a constituency, by group
-abbrev pub list_lines : Distribution → ℕ → List ℕ
-list_lines x d =
-    flat_map (λ g. if stands x.totals.canton d g then list_line x d g else []) (range_with_len 1 (length x.totals.canton.groups))
+-- the parts of a line, each with what stands after it
+abbrev pub joined_parts : (SheetPart → List ℕ) → List SheetPart → List ℕ
+joined_parts text [] = []
+joined_parts text (part ∷ parts) = text part ++ mark_before parts ∷ joined_parts text parts
 
--- the whole text, for a desk, final or provisional, after so many accepted commands: the house; the divisors of the seats of the
--- constituencies and of the groups, not reduced; the canton-wide quorum in per mille, where there is one; then line by line
+-- a line, where it is there
+abbrev pub line_text : (SheetPart → List ℕ) → SheetLine → List ℕ
+line_text text line = if line.is_there then joined_parts text line.parts else []
+
+-- the whole text, for a desk, final or provisional, after so many accepted commands
 abbrev pub sheet_text : Distribution → ℕ → Bool → ℕ → List ℕ
 sheet_text x desk is_final accepted =
-    decimal desk ++ codes " sheet " ++ (if is_final then codes "final" else codes "provisional") ++ field (codes " ") accepted ++ 10 ∷ []
-    ++ (field (codes "house ") x.totals.canton.house ++ 10 ∷ [])
-    ++ (field (codes "seats key ") x.seats.num ++ field (codes "/") x.seats.den ++ 10 ∷ [])
-    ++ (field (codes "upper key ") x.upper.num ++ field (codes "/") x.upper.den ++ 10 ∷ [])
-    ++ option_map_or (λ q. field (codes "quorum canton ") q ++ 10 ∷ []) x.totals.canton.canton_quorum []
-    ++ flat_map (constituency_line x) (range_with_len 1 (length x.totals.canton.constituencies))
-    ++ flat_map (group_line x) (range_with_len 1 (length x.totals.canton.groups))
-    ++ flat_map (list_lines x) (range_with_len 1 (length x.totals.canton.constituencies))
-    ++ codes "end\n"
+    flat_map (line_text (part_text x (record { desk = desk; is_final = is_final; accepted = accepted }))) (sheet_lines x.totals.canton)

@@ -2,9 +2,17 @@
 #![tactic(auto)]
 
 mod laws;
-mod lines;
+mod layout;
+mod line;
 mod page;
+mod part;
+mod parts;
 mod sheet_writer;
 
 pub use laws::{LONGEST_SHEET, no_longer};
+pub use layout::{line_at, line_count};
+pub use line::LineParts;
+pub use page::is_divisor_text;
+pub use part::{Label, SheetPart, label_text, mark_after};
+pub use parts::Head;
 pub use sheet_writer::write_sheet;

@@ -1,7 +1,8 @@
 //! Text that waits for the writer.
-ghost use Rattle.std.specs.Prelude.{◌≡◌, ◌+◌, ◌<◌, ◌≤◌, ◌++◌, [], length, decimal, OnErr, OnOk};
+ghost use Rattle.std.specs.Prelude.{◌≡◌, ◌+◌, ◌<◌, ◌≤◌, ◌++◌, [], codes, length, decimal, OnErr, OnOk};
+ghost use Rattle.std.specs.Str.{bytes_eq};
 ghost use Rattle.zh_sheet_text.specs.Printing.{Prints, Puts, WritesFront, or_dash};
-ghost use Rattle.zh_sheet_text.specs.SheetText.{divisor_text, field, six_digits};
+ghost use Rattle.zh_sheet_text.specs.SheetText.{divisor_text, six_digits};
 
 use itoa::Buffer;
 use std::io::Write;
@@ -11,8 +12,11 @@ use zh_commands::{WriteFault, put};
 /// The bytes that a page has room for.
 pub(crate) const ROOM: usize = 4096;
 
+/// The bytes of the longest part, and more.
+pub(crate) const PART: usize = 41;
+
 /// The bytes of the longest line, and more.
-pub(crate) const LINE: usize = 256;
+pub(crate) const LINE: usize = 512;
 
 /// Text that waits for the writer, so that it goes out in few writes. It takes no memory.
 #[derive(Drop)]
@@ -60,13 +64,14 @@ impl Page {
         self.push(Buffer::new().format(number).as_bytes());
     }
 
-    /// Puts words and a number at the end.
-    pub fn push_field(&mut self, words: &[u8], number: u64)
-        requires { length self.old + length words.now + 20 ≤ ROOM }
-        ensures { Puts (length words.now + 20) (field words.now number) self.old self.new }
+    /// Puts a fraction at the end.
+    pub fn push_fraction(&mut self, num: u64, den: u32)
+        requires { length self.old + 41 ≤ ROOM }
+        ensures { Puts 41 (decimal num ++ (codes "/" ++ decimal den)) self.old self.new }
     {
-        self.push(words);
-        self.push_number(number);
+        self.push_number(num);
+        self.push(b"/");
+        self.push_number(u64::from(den));
     }
 
     /// Puts a number of six digits at the end, zeros in front.
@@ -114,6 +119,13 @@ impl Page {
         }
     }
 
+    /// What waits for the writer.
+    pub fn text(&self) -> &[u8]
+        ensures waiting { result.now ≡ self.now }
+    {
+        &self.bytes[..self.end]
+    }
+
     /// Hands what waits to the writer.
     pub fn send<W: Write>(&mut self, out: &mut W) -> Result<(), WriteFault>
         ensures sends { OnOk result (Prints (W.contents out.old) self.old (W.contents out.new) self.new []) }
@@ -136,4 +148,13 @@ impl Page {
         }
         Ok(())
     }
+}
+
+/// Whether a word is a divisor of so many millionths, as a sheet writes it.
+pub fn is_divisor_text(millionths: u64, word: &[u8]) -> bool
+    ensures { result ≡ bytes_eq word.now (divisor_text millionths) }
+{
+    let mut page = Page::new();
+    page.push_divisor(millionths);
+    word == page.text()
 }

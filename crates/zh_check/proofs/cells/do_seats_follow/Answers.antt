@@ -5,13 +5,10 @@ use Rattle.zh_check.proofs.cells.do_seats_follow.Goals as goal
 
 pub returns-in-RoundsTo : goal.returns-in-RoundsTo
 returns-in-RoundsTo c =
-    let both = follow_to c.args.votes c.args.row_divisor c.args.column_divisor c.args.seats c.in-RoundsTo.number c.in-RoundsTo.ensures in (
+    let both = follow_to c.args.list c.in-RoundsTo.number c.in-RoundsTo.ensures in (
       λ yes. both.0 (eqb-true c.in-RoundsTo.number c.from.result yes ∙ c.from.ensures),
       λ follow. eq-eqb c.in-RoundsTo.number c.from.result (both.1 follow ∙ sym c.from.ensures),
     )
 
 pub returns-in-OnHalf : goal.returns-in-OnHalf
-returns-in-OnHalf c = (
-  λ no. absurd (cc),
-  λ follow. absurd (follow_half c.args.votes c.args.row_divisor c.args.column_divisor c.args.seats c.in-OnHalf.ensures follow),
-)
+returns-in-OnHalf c = (λ no. absurd (cc), λ follow. absurd (follow_half c.args.list c.in-OnHalf.ensures follow))

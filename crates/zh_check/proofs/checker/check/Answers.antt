@@ -38,8 +38,8 @@ pub returns-then-not-is_same-clause-exactly : goal.returns-then-not-is_same-clau
 returns-then-not-is_same-clause-exactly c =
     let found : FindsSheet c.args.setup.now c.args.text.now (Some c.in-Some-3.right)
     = subst (λ f. FindsSheet c.args.setup.now c.args.text.now f) c.in-Some-3.is c.in_ok-right.ensures in
-    other_text c.args.setup.now (option_copied c.args.held) c.args.text.now c.deref.result.now c.in-Some-3.right found
-    (c.deref.ensures.value ∙ c.in_ok-expected.ensures)
+    other_text c.args.setup.now (option_copied c.args.held) c.args.text.now c.deref-2.result.now c.in-Some-3.right found
+    (c.deref-2.ensures.value ∙ c.in_ok-expected.ensures)
     (λ e. let is : c.is_same.result ≡ true = c.is_same.ensures.1 e in let none = c.if-not-is_same.true in absurd (cc))
 
 pub returns-then-not-is_same-clause-reason : goal.returns-then-not-is_same-clause-reason
@@ -52,7 +52,7 @@ returns-then-not-is_same-clause-reason c =
       differs_from c.args.setup.now c.args.text.now c.deref-then-not-is_same.result.now c.in_ok-first_difference.field-0 c.in-Some-3.right found
           (c.deref-then-not-is_same.ensures.value ∙ c.in_ok-expected.ensures)
           (λ e.
-          let is : c.is_same.result ≡ true = c.is_same.ensures.1 (e ∙ (c.deref-then-not-is_same.ensures.value ∙ sym c.deref.ensures.value)) in
+          let is : c.is_same.result ≡ true = c.is_same.ensures.1 (e ∙ (c.deref-then-not-is_same.ensures.value ∙ sym c.deref-2.ensures.value)) in
           let none = c.if-not-is_same.true in absurd (cc))
           (λ differ. subst (λ s. DiffersAt c.args.text.now c.deref-then-not-is_same.result.now s c.in_ok-first_difference.field-0)
           (c.deref-then-not-is_same-2.ensures.value ∙ sym c.deref-then-not-is_same.ensures.value) (c.in_ok-first_difference.ensures differ)),
@@ -65,4 +65,4 @@ returns-clause-exactly c =
     let parts : PartsHold c.args.setup.now (option_copied c.args.held) c.args.text.now
     = parts_hold c.args.setup.now (option_copied c.args.held) c.args.text.now _ _ c.in_default.is c.in_default-2.is c.in_ok-wrong.ensures c.in_ok-other.ensures in
     found_right c.args.setup.now (option_copied c.args.held) c.args.text.now c.in-Some-3.right parts found
-    (c.is_same.ensures.0 c.if-not-is_same.false ∙ (c.deref.ensures.value ∙ c.in_ok-expected.ensures))
+    (c.is_same.ensures.0 c.if-not-is_same.false ∙ (c.deref-2.ensures.value ∙ c.in_ok-expected.ensures))

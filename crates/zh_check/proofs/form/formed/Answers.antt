@@ -1,16 +1,29 @@
-use Rattle.std.proofs.Common.{[], subst}
-use Rattle.zh_check.specs.Form.{PutsForms, constituency_forms, forms_above, group_forms, list_forms}
-use Rattle.zh_check.proofs.FormLemmas.{all_formed}
+use Rattle.std.proofs.Common.{◌<◌, ◌++◌, All, length, append-nil, ap, sym, ◌∙◌, subst, arith}
+use Rattle.std.proofs.lemmas.List.{drop_all}
+use Rattle.zh_sheet_text.specs.Layout.{IsPartOf, SheetLine, end_line, sheet_lines}
+use Rattle.zh_sheet_text.proofs.CallerLemmas.{parts_at}
+use Rattle.zh_check.specs.Form.{in_forms, line_form}
+use Rattle.zh_check.specs.Lines.{after_if}
+use Rattle.zh_check.proofs.FormLemmas.{line_put}
 use Rattle.zh_check.proofs.form.formed.Goals as goal
+
+pub push_line-requires : goal.push_line-requires
+push_line-requires c =
+    subst (λ (line : SheetLine). All (IsPartOf c.args.setup.now) line.parts) (sym c.line_at.ensures)
+    (parts_at c.args.setup.now c.line_count-place-end.ensures.canton c.loop-place.place)
+
+pub loop-place-preserved : goal.loop-place-preserved
+loop-place-preserved c =
+    let canton = c.args.setup.now in
+    let there : c.loop-place.place < length (sheet_lines canton) = omega (arith, c.loop-place-test.true, c.line_count-place-end.ensures.count) in
+    line_put canton (sheet_lines canton) c.loop-place.place end_line c.loop-place.found.items c.push_line.new.text.items c.loop-place.lines c.push_line.new.lines _ there
+    c.loop-place.invariant (c.in_ok-push_line.ensures.put ∙ ap (λ line. c.loop-place.found.items ++ line_form canton line c.loop-place.lines) c.line_at.ensures)
+    (c.in_ok-push_line.ensures.rest ∙ ap (λ (line : SheetLine). after_if line.is_there c.loop-place.lines) c.line_at.ensures)
 
 pub returns : goal.returns
 returns c =
     let canton = c.args.setup.now in
-    let first : PutsForms (forms_above canton) [] c.args.text.now c.push_above.new.text.items c.push_above.new.lines
-    = subst (λ l. PutsForms (forms_above canton) [] l c.push_above.new.text.items c.push_above.new.lines) c.new-lines.ensures
-    (subst (λ t. PutsForms (forms_above canton) t c.new-lines.result c.push_above.new.text.items c.push_above.new.lines)
-    c.new-found.ensures.items c.in_ok-push_above.ensures) in
-    all_formed (forms_above canton) (constituency_forms canton) (group_forms canton) (list_forms canton) c.args.text.now
-    c.push_above.new.text.items c.push_above.new.lines c.push_constituencies.new.text.items c.push_constituencies.new.lines
-    c.push_groups.new.text.items c.push_groups.new.lines c.push_lists.new.text.items c.push_lists.new.lines c.extend_from_slice.new.self.items
-    first c.in_ok-push_constituencies.ensures c.in_ok-push_groups.ensures c.in_ok-push_lists.ensures c.in_ok-extend_from_slice.ensures.items
+    sym (append-nil c.loop-place.found.items)
+    ∙ (ap (λ ls. c.loop-place.found.items ++ in_forms canton ls c.loop-place.lines)
+    (sym (drop_all c.loop-place.place (sheet_lines canton) (omega (arith, c.loop-place-test.false, c.line_count-place-end.ensures.count))))
+    ∙ c.loop-place.invariant)

@@ -3,8 +3,8 @@ use Rattle.std.specs.Option.{option_map}
 use Rattle.std.proofs.lemmas.Result.{IfOk-weaker}
 use Rattle.zh_totals.specs.GivenVotes.{AreTotalsOf}
 use Rattle.zh_totals.specs.Totals.{VoteTotals}
-use Rattle.zh_check.specs.Reading.{lines_above}
-use Rattle.zh_check.specs.Totals.{AreConstituencySeats, AreGroupSeats, AreMet, FindsConstituencySeats, FindsGroupSeats, FindsOffAmong, FindsOffTotal, constituency_sum, group_sum, totals_read}
+use Rattle.zh_check.specs.Reading.{lines_above, totals_read}
+use Rattle.zh_check.specs.Totals.{AreConstituencySeats, AreGroupSeats, AreMet, FindsConstituencySeats, FindsGroupSeats, FindsOffAmong, FindsOffTotal, constituency_sum, group_sum}
 use Rattle.zh_check.proofs.TotalLemmas.{groups_found}
 use Rattle.zh_check.proofs.reasons.first_off_total.Goals as goal
 
