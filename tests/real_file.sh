@@ -106,6 +106,7 @@ check "a missing file: run, load and export make none" missing_file
 check "no permission for a file, or its folder" no_permission
 check "a fault shows its path as it was given, without control characters" shown_paths
 check "a load of a file that is missing, or a folder" files_of_a_load
+check "a record without an end is refused" records_without_end
 check "a disk that is made is for its owner alone" modes
 check "a disk that is made is of zeros" zeros
 check "files beside the disk" beside

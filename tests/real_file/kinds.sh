@@ -192,6 +192,20 @@ shown_paths() {
 }
 
 # The files of a load, and of a folder that is given for one.
+# A record that has no end is read no further than a record may go on: by a load, a dry run and a check.
+records_without_end() {
+    new_disk d
+    cp d before
+    ends 1 "" "refused csv" load d /dev/zero
+    ends 1 "" "row 1: $(printf '%3000s' | tr ' ' '?') refused csv"$'\nrefused 1 of 1 records' dry_run d /dev/zero
+    { echo municipality,list,number,votes; echo 1,1,1,7; printf '1,2,1,"'; cat /dev/zero; } 2> none | load d /dev/stdin > replies 2> faults
+    same "the replies to a field without end" "refused csv" "$(cat replies)"
+    same "the faults of a field without end" "" "$(cat faults)"
+    { echo municipality,list,number,votes; echo 1,1,1,7; printf '1,2,1,"'; yes ''; } 2> none | dry_run d /dev/stdin > replies 2> faults
+    same "the last line of a dry run of a field without end" "refused 1 of 2 records" "$(tail -n 1 replies)"
+    same_bytes d before
+}
+
 files_of_a_load() {
     new_disk d
     rm -rf kinds

@@ -72,6 +72,7 @@ unreadable_sheets() {
     ends 1 $'sheet file\nnone: there is no such file' "" check_sheet "$setup" none --held none
     ends 1 $'setup file\nnone: there is no such file' "" check_sheet none none --held none
     ends 1 $'held csv\nsheet' "" check_sheet "$setup" sheet --held sheet
+    ends 1 $'held csv\n/dev/zero' "" check_sheet "$setup" sheet --held /dev/zero
     rmdir folder
 }
 

@@ -7,4 +7,4 @@ mod shown;
 
 pub use checked::write_check;
 pub use reports::{name_of_held, name_of_setup, rows_report, setup_report};
-pub use shown::{ShownKey, push_shown, shown_key};
+pub use shown::{push_shown, shown_key};

@@ -1,5 +1,5 @@
 -- The text of a count.
-use Rattle.std.proofs.Common.{◌≡◌, ◌<◌, ◌+◌, ◌^◌, ℕ, zero, suc, List, [], ◌∷◌, ◌++◌, length, get_or, false, Option, Some, None, refl, sym, ap, ◌∙◌, arith, append_assoc, add-zero, subst, decimal, All, IfSome}
+use Rattle.std.proofs.Common.{◌≡◌, ◌≤◌, ◌<◌, ◌+◌, ◌^◌, ℕ, zero, suc, List, [], ◌∷◌, ◌++◌, length, get_or, false, Option, Some, None, refl, sym, ap, ◌∙◌, arith, append_assoc, add-zero, subst, decimal, All, IfSome}
 use Rattle.std.specs.Int.{IsInRange}
 use Rattle.std.specs.List.{flat_map, list_any}
 use Rattle.std.proofs.lemmas.Bool.Decides.{nat_tests}
@@ -11,9 +11,17 @@ use Rattle.zh_record_text.specs.Records.{IsBetweenRecords, PutsText, record_text
 use Rattle.zh_record_text.proofs.CallerLemmas.{Puts-none, Puts-push}
 use Rattle.zh_returns.specs.declared.entry.Entry.{Entry}
 use Rattle.zh_returns.specs.Payload.{numbers}
-use Rattle.zh_csv.specs.Records.{Record}
-use Rattle.zh_csv.specs.Load.{names}
-use Rattle.zh_csv.specs.Export.{following, line, votes_field, record_of, ArePlain}
+use Rattle.zh_returns.specs.Tally.{Tally, held}
+use Rattle.zh_csv.specs.Records.{Record, names}
+use Rattle.zh_csv.specs.Export.{following, line, entry_text, votes_field, record_of}
+
+-- the text of what is held of a list
+abbrev pub list_text : Tally → ℕ → ℕ → List ℕ
+list_text tally municipality list = entry_text municipality list (held tally municipality list)
+
+-- fields, two at least, none of which calls for quotes
+abbrev pub ArePlain : Record → Type 0
+ArePlain fields = (2 ≤ length fields) × All (λ field. needs_quotes default_writer field ≡ false) fields
 
 -- a digit calls for no quotes
 digit_plain : (byte : ℕ) → IsInRange 48 57 byte → needs_byte default_writer byte ≡ false

@@ -1,12 +1,10 @@
 -- The text of a count. 44 is the comma, 10 the end of a line.
-use Rattle.std.specs.Prelude.{◌≡◌, ◌≤◌, All, ℕ, List, [], ◌∷◌, ◌++◌, length, Option, Some, None, codes, decimal, false}
+use Rattle.std.specs.Prelude.{ℕ, List, [], ◌∷◌, ◌++◌, length, Option, Some, None, codes, decimal}
 use Rattle.std.specs.List.{flat_map}
-use Rattle.csv.specs.Writing.{default_writer, needs_quotes}
 use Rattle.zh_returns.specs.declared.entry.Entry.{Entry}
 use Rattle.zh_returns.specs.Payload.{numbers}
 use Rattle.zh_returns.specs.Tally.{Tally, held}
-use Rattle.zh_csv.specs.Records.{Record}
-use Rattle.zh_csv.specs.Load.{names}
+use Rattle.zh_csv.specs.Records.{Record, names}
 
 -- the fields after the first, a comma before each, and the end of the line
 abbrev pub following : Record → List ℕ
@@ -32,17 +30,11 @@ abbrev pub entry_text : ℕ → ℕ → Option Entry → List ℕ
 entry_text municipality list None = []
 entry_text municipality list (Some entry) = line (record_of municipality list entry)
 
-abbrev pub list_text : Tally → ℕ → ℕ → List ℕ
-list_text tally municipality list = entry_text municipality list (held tally municipality list)
-
 -- the lines of a municipality, list by list
 abbrev pub municipality_text : Tally → ℕ → List ℕ
-municipality_text tally municipality = flat_map (list_text tally municipality) (numbers 1 (length tally.canton.groups))
+municipality_text tally municipality =
+    flat_map (λ list. entry_text municipality list (held tally municipality list)) (numbers 1 (length tally.canton.groups))
 
 -- the line of the names, and then those of what is held, municipality by municipality
 abbrev pub export_text : Tally → List ℕ
 export_text tally = line names ++ flat_map (municipality_text tally) (numbers 1 (length tally.canton.municipalities))
-
--- fields, two at least, none of which calls for quotes
-abbrev pub ArePlain : Record → Type 0
-ArePlain fields = (2 ≤ length fields) × All (λ field. needs_quotes default_writer field ≡ false) fields

@@ -5,7 +5,7 @@ ghost use Rattle.std.specs.Io.KnownBytes.{Appends};
 ghost use Rattle.std.specs.List.{flat_map};
 ghost use Rattle.zh_returns.specs.Payload.{numbers};
 ghost use Rattle.zh_record_text.specs.Records.{IsBetweenRecords, PutsText};
-ghost use Rattle.zh_csv.specs.Load.{names};
+ghost use Rattle.zh_csv.specs.Records.{names};
 ghost use Rattle.zh_csv.specs.Export.{line, record_of, entry_text, municipality_text, export_text, votes_field};
 
 use csv::{Writer, WriterBuilder};

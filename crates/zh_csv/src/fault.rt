@@ -3,6 +3,7 @@
 ghost use Rattle.std.specs.Prelude.{◌≡◌};
 ghost use Rattle.zh_csv.specs.declared.fault.LoadFault.TheVariants.{Memory};
 
+use crate::records::ReadFault;
 use std::alloc::AllocError;
 use thiserror::Error;
 use zh_desks::RowFault;
@@ -11,7 +12,7 @@ use zh_returns::Reason;
 /// Why a text gives no batch: of the first record that cannot be taken, the first reason that applies.
 #[derive(Clone, Copy, Debug, PartialEq, Eq, Error)]
 pub enum LoadFault {
-    /// The first record is missing or does not name the columns, or a record does not have four fields.
+    /// The first record is missing or does not name the columns, or a record does not have four fields or is too long.
     #[error("csv")]
     Csv,
     /// A field is no numeral, or a replacement number is 0.
@@ -36,5 +37,19 @@ impl From<AllocError> for LoadFault {
 
     fn from(_error: AllocError) -> LoadFault {
         LoadFault::Memory
+    }
+}
+
+impl From<ReadFault> for LoadFault {
+    ghost use Rattle.zh_csv.specs.declared.fault.LoadFault.TheVariants as faults;
+    ghost use Rattle.zh_csv.specs.declared.records.ReadFault.TheVariants as reading;
+
+    ghost from_gives = { λ error fault. (error ≡ reading.Memory → fault ≡ faults.Memory) × (error ≡ reading.Read → fault ≡ faults.Read) };
+
+    fn from(error: ReadFault) -> LoadFault {
+        match error {
+            ReadFault::Memory => LoadFault::Memory,
+            ReadFault::Read => LoadFault::Read,
+        }
     }
 }

@@ -3,7 +3,9 @@
 ghost use Rattle.std.specs.Prelude.{◌≡◌, ◌≢◌, ◌↔◌, ◌<◌, ◌∷◌, [], IsTrue, MatchResult, MatchOption, get_or, length};
 ghost use Rattle.csv.specs.Records.{fields_of};
 ghost use Rattle.zh_records.specs.declared.row.Row.{Row};
-ghost use Rattle.zh_csv.specs.Load.{names, fields, IsReadable, IsUnread};
+ghost use Rattle.zh_csv.specs.Load.{fields, IsReadable};
+ghost use Rattle.zh_csv.specs.Reading.{IsUnread};
+ghost use Rattle.zh_csv.specs.Records.{may_be_row, names};
 
 use crate::fault::LoadFault;
 use csv::ByteRecord;
@@ -12,6 +14,9 @@ use zh_records::Row;
 
 /// How many fields a record has.
 pub const FIELDS: usize = 4;
+
+/// The most bytes of a record, those of its fields and one for the end of each.
+pub(crate) const MOST_BYTES: usize = 1_000;
 
 /// A field of a record.
 pub fn field(record: &ByteRecord, place: usize) -> &[u8]
@@ -60,13 +65,29 @@ fn row_in(record: &ByteRecord) -> Option<Row>
     if row.number == 0 { None } else { Some(row) }
 }
 
+/// Whether a record may be that of a row: it has four fields, and no more bytes than a record may have.
+pub fn may_be_row(record: &ByteRecord) -> bool
+    ensures { result ≡ may_be_row (fields_of «record».now) }
+{
+    if record.len() != FIELDS {
+        return false;
+    }
+    let front = field(record, 0)
+        .len()
+        .saturating_add(field(record, 1).len());
+    let back = field(record, 2)
+        .len()
+        .saturating_add(field(record, 3).len());
+    front.saturating_add(back) <= MOST_BYTES - FIELDS
+}
+
 /// The row of a record, or why it is none.
 pub fn row_of(record: &ByteRecord) -> Result<Row, LoadFault>
     ensures { MatchResult result
         (λ row. IsReadable row × (fields_of «record».now ≡ fields row))
-        (IsUnread (fields_of «record».now)) }
+        (IsUnread fields IsReadable (fields_of «record».now)) }
 {
-    if record.len() != FIELDS {
+    if !may_be_row(record) {
         return Err(LoadFault::Csv);
     }
     row_in(record).ok_or(LoadFault::Syntax)

@@ -10,10 +10,9 @@ use Rattle.csv.proofs.RoundTrip.{read-write-many}
 use Rattle.zh_returns.specs.declared.entry.Entry.{Entry}
 use Rattle.zh_returns.specs.Payload.{numbers}
 use Rattle.zh_returns.specs.Tally.{Tally, held}
-use Rattle.zh_csv.specs.Records.{Record, AreAll}
-use Rattle.zh_csv.specs.Load.{names}
-use Rattle.zh_csv.specs.Export.{line, entry_text, list_text, municipality_text, export_text, ArePlain}
-use Rattle.zh_csv.proofs.CallerLemmas.{row_text-plain, record_plain, names_plain}
+use Rattle.zh_csv.specs.Records.{Record, AreAll, names}
+use Rattle.zh_csv.specs.Export.{line, entry_text, municipality_text, export_text}
+use Rattle.zh_csv.proofs.CallerLemmas.{ArePlain, list_text, row_text-plain, record_plain, names_plain}
 use Rattle.zh_held.specs.declared.row.HeldRow.{HeldRow}
 use Rattle.zh_held.specs.Rows.{held_fields, held_entry, IsHeldRow}
 

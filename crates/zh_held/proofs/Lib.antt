@@ -4,6 +4,6 @@ mod ExportSumsLemmas
 mod FewRowsLemmas
 mod FieldLemmas
 mod OneHoldingLemmas
-mod ReadLemmas
 mod RunningLemmas
 mod SumLemmas
+mod TakenLemmas

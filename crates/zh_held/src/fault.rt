@@ -10,7 +10,7 @@ use zh_returns::Reason;
 /// What is wrong with a record.
 #[derive(Clone, Copy, Debug, PartialEq, Eq, Error)]
 pub enum HeldFault {
-    /// The first record does not name the columns, or one does not have four fields.
+    /// The first record does not name the columns, or one does not have four fields or is too long.
     #[error("csv")]
     Csv,
     /// A field is no numeral, or a replacement number is 0.

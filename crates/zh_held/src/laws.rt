@@ -6,8 +6,9 @@ ghost use Rattle.zh_returns.specs.Limits.{IsTally};
 ghost use Rattle.zh_returns.specs.Tally.{Tally};
 ghost use Rattle.zh_totals.specs.Counting.{totals_of};
 ghost use Rattle.zh_csv.specs.Export.{export_text};
+ghost use Rattle.zh_csv.specs.Reading.{IsOfText};
 ghost use Rattle.zh_csv.specs.declared.fault.LoadFault.{LoadFault};
-ghost use Rattle.zh_held.specs.Held.{AddsUp, AreHeldIn, IsOfExport};
+ghost use Rattle.zh_held.specs.Held.{AddsUp, AreHeldIn};
 ghost use Rattle.zh_held.specs.Rows.{AreHeld};
 ghost use Rattle.zh_held.specs.declared.held_reader.HeldSums.{HeldSums};
 ghost use Rattle.zh_held.specs.declared.row.HeldRow.{HeldRow};
@@ -15,7 +16,7 @@ ghost use Rattle.zh_held.specs.declared.row.HeldRow.{HeldRow};
 /// A text decides what its sums are, or why it has none, refused memory and a reader that fails aside.
 pub fn one_holding()
     ensures { (canton : Canton) (text : List ℕ) (held other : Result HeldSums LoadFault)
-        → AddsUp canton text held → AddsUp canton text other → IsOfExport held → IsOfExport other → held ≡ other }
+        → AddsUp canton text held → AddsUp canton text other → IsOfText held → IsOfText other → held ≡ other }
 {}
 
 /// A row for each list in each municipality is the most: 32 lists, 512 municipalities.

@@ -3,13 +3,13 @@
 ghost use Rattle.std.specs.Prelude.{◌≡◌, ◌≢◌, ◌<◌, ◌^◌, ℕ, Option, IfSome, MatchResult, MatchOption, length};
 ghost use Rattle.csv.specs.Records.{fields_of};
 ghost use Rattle.zh_csv.specs.Export.{votes_field};
+ghost use Rattle.zh_csv.specs.Reading.{IsUnread};
 ghost use Rattle.zh_held.specs.Rows.{held_fields, IsHeldRow};
-ghost use Rattle.zh_held.specs.Held.{IsNoRow};
 ghost use Rattle.zh_held.specs.declared.row.HeldRow.{HeldRow};
 
 use csv::ByteRecord;
 use zh_commands::numeral;
-use zh_csv::{FIELDS, LoadFault, field};
+use zh_csv::{LoadFault, field, may_be_row};
 
 /// What is held under a municipality and a list: a replacement number from 1, and the votes, or none where the list is
 /// withdrawn.
@@ -36,7 +36,7 @@ fn votes_in(field: &[u8]) -> Option<Option<u32>>
 
 /// The row that four fields say.
 fn row_in(record: &ByteRecord) -> Option<HeldRow>
-    requires { length (fields_of «record».now) ≡ FIELDS }
+    requires { length (fields_of «record».now) ≡ 4 }
     ensures { MatchOption result
         ((row : HeldRow) → IsHeldRow row → fields_of «record».now ≢ held_fields row)
         (λ row. IsHeldRow row × (fields_of «record».now ≡ held_fields row)) }
@@ -54,9 +54,9 @@ fn row_in(record: &ByteRecord) -> Option<HeldRow>
 pub(crate) fn row_of(record: &ByteRecord) -> Result<HeldRow, LoadFault>
     ensures { MatchResult result
         (λ row. IsHeldRow row × (fields_of «record».now ≡ held_fields row))
-        (IsNoRow (fields_of «record».now)) }
+        (IsUnread held_fields IsHeldRow (fields_of «record».now)) }
 {
-    if record.len() != FIELDS {
+    if !may_be_row(record) {
         return Err(LoadFault::Csv);
     }
     row_in(record).ok_or(LoadFault::Syntax)

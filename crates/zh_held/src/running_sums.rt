@@ -11,10 +11,11 @@ ghost use Rattle.zh_held.specs.Rows.{holds_key, IsHeldRow};
 ghost use Rattle.zh_held.specs.Running.{has_seen, AreKeysOf, HasTaken};
 ghost use Rattle.zh_held.specs.declared.row.HeldRow.{HeldRow};
 
-use crate::row::HeldRow;
+use crate::row::{HeldRow, row_of};
+use csv::ByteRecord;
 use std::alloc::{AllocError, Global};
 use std::collections::BTreeSet;
-use zh_csv::LoadFault;
+use zh_csv::{LoadFault, Takes};
 use zh_desks::{RowFault, unfit};
 use zh_districts::Setup;
 use zh_records::Row;
@@ -52,8 +53,8 @@ impl<'s> RunningSums<'s> {
         })
     }
 
-    /// Takes one row more.
-    pub(crate) fn take(&mut self, row: &HeldRow) -> Result<(), LoadFault>
+    /// Notes one row more.
+    fn note(&mut self, row: &HeldRow) -> Result<(), LoadFault>
         requires readable { IsHeldRow row.now }
         requires taken { (canton : Canton) × (rows : List HeldRow) × HasTaken canton rows self.old }
         ensures { (canton : Canton) (rows : List HeldRow) → HasTaken canton rows self.old → MatchResult result
@@ -85,5 +86,24 @@ impl<'s> RunningSums<'s> {
         ensures { result ≡ self.entry.totals }
     {
         self.totals
+    }
+}
+
+impl<'s> Takes for RunningSums<'s> {
+    ghost use Rattle.zh_held.specs.Held.{holding};
+    ghost use Rattle.zh_held.specs.Running.{HasTaken};
+
+    type Row = HeldRow;
+
+    ghost kind = { holding };
+
+    ghost holds = { λ canton sums rows. HasTaken canton rows sums };
+
+    fn take(&mut self, record: &ByteRecord) -> Result<(), LoadFault> {
+        // So its rows are few.
+        let setup = self.totals.setup();
+        let is_small = setup.municipalities() <= 512 && setup.groups() <= 32;
+        prove!(is_small);
+        self.note(&row_of(record)?)
     }
 }

@@ -2,6 +2,7 @@
 use Rattle.std.proofs.Common.{List, ℕ, [], Option, refl, inl, arith}
 use Rattle.csv.specs.Reading.{Reached, strip_bom}
 use Rattle.csv.specs.declared.parser.State.TheVariants as states
+use Rattle.zh_csv.specs.Front.{front_of}
 use Rattle.zh_returns.specs.Tally.{Tally}
 use Rattle.zh_judgements.specs.Findings.{begun}
 use Rattle.zh_judgements.specs.Judged.{IsBrokenOff}
@@ -13,7 +14,7 @@ pub nothing_judged : (tally : Tally) (IsText : List ℕ → Type 0) (w : Option 
 unfolding Reached
 nothing_judged tally IsText w = record {
   records = [];
-  first = λ bytes is. (states.StartRecord, strip_bom bytes, (refl, refl));
+  first = λ bytes is. (states.StartRecord, strip_bom (front_of bytes), (refl, refl));
   enough = omega arith;
   written = inl (none_written 0 w (finding_lines (begun tally [])) refl);
 }

@@ -8,13 +8,17 @@ use Rattle.csv.specs.declared.reader.Reader.{Reader}
 use Rattle.zh_records.specs.declared.row.Row.{Row}
 use Rattle.zh_returns.specs.Tally.{Tally}
 use Rattle.zh_record_text.proofs.CallerLemmas.{Appends-join}
-use Rattle.zh_csv.specs.Records.{Record, AreAll}
-use Rattle.zh_csv.proofs.CallerLemmas.{all_first}
+use Rattle.zh_csv.specs.Front.{front_of}
+use Rattle.zh_csv.specs.Records.{Record, AreAll, HasRead}
+use Rattle.zh_csv.specs.declared.records.ReadFault.{ReadFault}
+use Rattle.zh_csv.specs.declared.records.ReadFault.TheVariants as reading
+use Rattle.zh_csv.proofs.CallerLemmas.{all_first, are_first}
 use Rattle.zh_judgements.specs.Findings.{judgement, rows_after, rows_kept, findings_on, first_findings, begun, findings, counts_of, counts_with, forecast_by, forecast_of}
-use Rattle.zh_judgements.specs.Judged.{AreAllOf, AreBrokenOff, AreFirstOf, AreJudged, HasGiven, IsAfter, IsBrokenOff, IsJudged, Judges, WritesUpTo, BreaksOffLine, bytes_left, records_judged}
+use Rattle.zh_judgements.specs.Judged.{AreAllOf, AreBrokenOff, AreFirstOf, AreJudged, IsAfter, IsBrokenOff, IsJudged, Judges, WritesUpTo, BreaksOffLine, bytes_left, records_judged}
 use Rattle.zh_judgements.specs.Rows.{row_in}
 use Rattle.zh_judgements.specs.Text.{forecast_text, judgement_text, line_by, line_of, finding_lines}
 use Rattle.zh_judgements.specs.declared.fault.JudgementFault.{JudgementFault}
+use Rattle.zh_judgements.specs.declared.fault.JudgementFault.TheVariants as faults
 use Rattle.zh_judgements.specs.declared.judgement.Counts.{Counts}
 use Rattle.zh_judgements.specs.declared.judgement.Forecast.{Forecast}
 use Rattle.zh_judgements.specs.declared.judgement.Judgement.{Judgement}
@@ -22,7 +26,11 @@ use Rattle.zh_judgements.specs.declared.judgement.Judgement.TheVariants.{Stores,
 use Rattle.zh_judgements.specs.declared.progress.Progress.{Progress}
 use Rattle.zh_judgements.proofs.FindingLemmas.{begun_push, counts_push, findings_push, lines_push, next_finding, rows_push}
 use Rattle.zh_judgements.proofs.FrontLemmas.{all_written, front_after, front_more}
-use Rattle.zh_judgements.proofs.ReaderLemmas.{are_first}
+
+-- a reader that gives no record waits for none, and breaks off no line
+pub reader_early : (error : ReadFault) (fault : JudgementFault) → (error ≡ reading.Memory → fault ≡ faults.Memory) × (error ≡ reading.Read → fault ≡ faults.Read) → (bytes_left fault ≡ 0) × (records_judged fault ≡ 0)
+reader_early reading.Memory fault is = rw (is.0 refl) (refl, refl)
+reader_early reading.Read fault is = rw (is.1 refl) (refl, refl)
 
 -- the lines on the records after the first
 abbrev other_lines : Tally → List Record → List ℕ
@@ -32,7 +40,7 @@ other_lines tally others = finding_lines (findings_on tally others)
 pub record HasJudged {R : Type 0} (remaining : R → Option (List ℕ)) (tally : Tally) (first : Record) (old new : Reader R) (w w' : Option (List ℕ)) (number : ℕ) (progress : Progress) : Type 0 where
   pub others : List Record
   pub count : number ≡ 2 + length others
-  pub given : (bytes : List ℕ) → HasGiven remaining bytes (first ∷ []) old → HasGiven remaining bytes (first ∷ others) new
+  pub given : (bytes : List ℕ) → HasRead remaining (front_of bytes) (first ∷ []) old → HasRead remaining (front_of bytes) (first ∷ others) new
   pub written : Appends w w' (other_lines tally others)
   pub after : IsAfter tally (first ∷ others) progress
 
@@ -41,7 +49,7 @@ module _ {R : Type 0} (remaining : R → Option (List ℕ)) (tally : Tally) (fir
   none_judged progress after nothing = record { others = []; count = refl; given = λ bytes has. has; written = nothing; after = after }
 
   module _ (now next : Reader R) (w' w'' : Option (List ℕ)) (number : ℕ) (progress : Progress) (fields : Record) (has : HasJudged remaining tally first old now w w' number progress)
-      (gives : (bytes : List ℕ) (given : List Record) → HasGiven remaining bytes given now → HasGiven remaining bytes (given ++ fields ∷ []) next) where
+      (gives : (bytes : List ℕ) (given : List Record) → HasRead remaining (front_of bytes) given now → HasRead remaining (front_of bytes) (given ++ fields ∷ []) next) where
     rows_are : progress.rows ≡ rows_kept tally.canton [] has.others
     rows_are = has.after.rows
 
@@ -73,26 +81,26 @@ module _ {R : Type 0} (remaining : R → Option (List ℕ)) (tally : Tally) (fir
 
     -- the writer fails under it
     pub broken_at : (fault : JudgementFault) → BreaksOffLine fault w' w'' (line_by number fields (judgement tally progress.rows (row_in fields)))
-        → AreBrokenOff tally first (λ bytes. HasGiven remaining bytes (first ∷ []) old) (WritesUpTo (bytes_left fault) w w'') (records_judged fault)
+        → AreBrokenOff tally first (λ bytes. HasRead remaining (front_of bytes) (first ∷ []) old) (WritesUpTo (bytes_left fault) w w'') (records_judged fault)
     broken_at fault (early, front) = record {
       others = has.others ++ fields ∷ [];
-      front = λ bytes begins. are_first remaining bytes (first ∷ (has.others ++ fields ∷ [])) next (gives bytes (first ∷ has.others) (has.given bytes begins));
+      front = λ bytes begins. are_first remaining (front_of bytes) (first ∷ (has.others ++ fields ∷ [])) next (gives bytes (first ∷ has.others) (has.given bytes begins));
       enough = omega (arith, early);
       written = subst (WritesUpTo (bytes_left fault) w w'') lines_are (front_after _ w w' w'' (other_lines tally has.others) _ has.written front);
     }
 
   module _ (now : Reader R) (w' : Option (List ℕ)) (number : ℕ) (progress : Progress) (has : HasJudged remaining tally first old now w w' number progress) where
     -- no record is given any more, or no more are taken
-    pub broken_between : (left least : ℕ) → left ≡ 0 → least + 1 ≤ number → AreBrokenOff tally first (λ bytes. HasGiven remaining bytes (first ∷ []) old) (WritesUpTo left w w') least
+    pub broken_between : (left least : ℕ) → left ≡ 0 → least + 1 ≤ number → AreBrokenOff tally first (λ bytes. HasRead remaining (front_of bytes) (first ∷ []) old) (WritesUpTo left w w') least
     broken_between left least none few = record {
       others = has.others;
-      front = λ bytes begins. are_first remaining bytes (first ∷ has.others) now (has.given bytes begins);
+      front = λ bytes begins. are_first remaining (front_of bytes) (first ∷ has.others) now (has.given bytes begins);
       enough = omega (arith, few, has.count);
       written = all_written left w w' (other_lines tally has.others) none has.written;
     }
 
     -- the text has ended
-    pub all_judged : ((bytes : List ℕ) (given : List Record) → HasGiven remaining bytes given now → AreAll bytes given) → AreJudged tally first (λ bytes. HasGiven remaining bytes (first ∷ []) old) w w' progress
+    pub all_judged : ((bytes : List ℕ) (given : List Record) → HasRead remaining (front_of bytes) given now → AreAll (front_of bytes) given) → AreJudged tally first (λ bytes. HasRead remaining (front_of bytes) (first ∷ []) old) w w' progress
     all_judged ends = record {
       others = has.others;
       all = λ bytes begins. ends bytes (first ∷ has.others) (has.given bytes begins);
@@ -136,7 +144,7 @@ module _ (tally : Tally) (first : Record) (IsText : List ℕ → Type 0) (w w' :
         → IsBrokenOff tally IsText w w3 (bytes_left fault) (records_judged fault)
     last_broken fault w3 (early, front) = record {
       records = first ∷ judged.others;
-      first = λ bytes is. all_first bytes (first ∷ judged.others) (judged.all bytes is);
+      first = λ bytes is. all_first (front_of bytes) (first ∷ judged.others) (judged.all bytes is);
       enough = omega (arith, early);
       written = inr (
         judged.all,
@@ -187,7 +195,7 @@ none_written_whole tally w w' w'' (Err fault) progress after first is all front 
 pub none_judges : (tally : Tally) (IsText : List ℕ → Type 0) (w w' : Option (List ℕ)) (result : Result Forecast JudgementFault) → AreAllOf IsText []
     → MatchResult result (λ forecast. Appends w w' (judgement_text tally []) × (forecast ≡ forecast_of (findings tally []))) (λ fault. BreaksOffLine fault w w' (judgement_text tally [])) → Judges tally IsText w w' result
 none_judges tally IsText w w' (Ok forecast) all judged = record { records = []; all = all; written = judged.0; comes_to = judged.1 }
-none_judges tally IsText w w' (Err fault) all (early, front) = record { records = []; first = λ bytes is. all_first bytes [] (all bytes is); enough = omega (arith, early); written = inr (all, front) }
+none_judges tally IsText w w' (Err fault) all (early, front) = record { records = []; first = λ bytes is. all_first (front_of bytes) [] (all bytes is); enough = omega (arith, early); written = inr (all, front) }
 
 -- the last line, written or not
 pub last_judges : (tally : Tally) (first : Record) (IsText : List ℕ → Type 0) (w w' w'' w3 : Option (List ℕ)) (progress : Progress) (result : Result Forecast JudgementFault) → Appends w w' (finding_lines (first_findings first)) → AreJudged tally first IsText w' w'' progress

@@ -5,5 +5,4 @@ mod FrontLemmas
 mod JudgedLemmas
 mod LineLemmas
 mod LoadedLemmas
-mod ReaderLemmas
 mod RowLemmas

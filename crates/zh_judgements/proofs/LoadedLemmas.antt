@@ -1,7 +1,8 @@
 -- What is found of the records that a loading reads.
-use Rattle.std.proofs.Common.{◌≡◌, ◌≢◌, ◌≤◌, ◌||◌, ◌⊎◌, inl, inr, ℕ, ◌+◌, List, [], ◌∷◌, ◌++◌, map, length, Bool, true, false, Some, None, Result, Ok, Err, refl, sym, ap, ◌∙◌, subst, arith, append_assoc, length-append, if◌then◌else◌}
+use Rattle.std.proofs.Common.{◌≡◌, ◌≢◌, ◌<◌, ◌≤◌, ◌||◌, ◌⊎◌, inl, inr, ℕ, ◌+◌, List, [], ◌∷◌, ◌++◌, map, length, Bool, true, false, Some, None, Result, Ok, Err, refl, sym, ap, ◌∙◌, subst, arith, append_assoc, length-append, if◌then◌else◌}
 use Rattle.std.specs.List.{list_any}
 use Rattle.std.proofs.lemmas.List.{append-nil}
+use Rattle.std.proofs.lemmas.List.Folds.{list_any-append}
 use Rattle.zh_records.specs.declared.command.Command.{Command}
 use Rattle.zh_records.specs.declared.command.Command.TheVariants as commands
 use Rattle.zh_records.specs.declared.row.Row.{Row}
@@ -12,11 +13,13 @@ use Rattle.zh_returns.specs.declared.verdict.Verdict.TheVariants as verdicts
 use Rattle.zh_commands.specs.declared.replies.Reply.{Reply}
 use Rattle.zh_commands.specs.declared.replies.Reply.TheVariants as replies
 use Rattle.zh_commands.specs.declared.replies.Refusal.TheVariants as refusals
-use Rattle.zh_csv.specs.Load.{names, fields, fault_after, AreLoaded, HasNoNames, IsUnheld, IsUnread, Loads, LoadsFrom, StopsAt}
-use Rattle.zh_csv.specs.Records.{Record, AreAll, AreFirst}
+use Rattle.zh_csv.specs.Front.{front_of, most_bytes}
+use Rattle.zh_csv.specs.Load.{fields, fault_after, loading, AreLoaded, IsReadable, Loads, LoadsFrom}
+use Rattle.zh_csv.specs.Reading.{HasNoNames, IsUnheld, IsUnread, StopsAt}
+use Rattle.zh_csv.specs.Records.{Record, AreAll, AreFirst, names, may_be_row, record_size}
 use Rattle.zh_csv.specs.declared.fault.LoadFault.{LoadFault}
 use Rattle.zh_csv.specs.declared.fault.LoadFault.TheVariants as faults
-use Rattle.zh_csv.proofs.CallerLemmas.{all_first, first_more, no_fault, none_after, readable_there}
+use Rattle.zh_csv.proofs.CallerLemmas.{EndsInPart, all_first, all_of_front, first_more, is_loading, never_cut, no_fault, none_after, readable_there, too_long}
 use Rattle.zh_ledger.specs.Ledger.{Ledger, MayFollow, MayResultWhere, MayStoreWhere, is_spent}
 use Rattle.zh_ledger.specs.Submissions.{OnDisk, Log}
 use Rattle.zh_ledger.specs.declared.outcome.Outcome.{Outcome}
@@ -28,12 +31,12 @@ use Rattle.zh_office.specs.Office.{Office}
 use Rattle.zh_office.specs.Runs.{its_ledger}
 use Rattle.zh_office.specs.Undisturbed.{is_disturbed, is_memory}
 use Rattle.zh_judgements.specs.Answered.{IsAnswered, IsByJudgement}
-use Rattle.zh_judgements.specs.Findings.{Finding, by_verdict, findings, findings_on, forecast_of, judgement, refuses, rows_after, stores}
+use Rattle.zh_judgements.specs.Findings.{Finding, begun, by_verdict, findings, findings_on, forecast_of, judgement, refuses, rows_after, stores}
 use Rattle.zh_judgements.specs.Rows.{row_in}
 use Rattle.zh_judgements.specs.declared.judgement.Judgement.{Judgement}
 use Rattle.zh_judgements.proofs.AnyLemmas.{all_refused, all_taken, answered_refused, answered_same, answered_stored, any_refused, any_stored}
-use Rattle.zh_judgements.proofs.FindingLemmas.{findings_from, found_in_turn}
-use Rattle.zh_judgements.proofs.RowLemmas.{names_found, names_missed, row_in-fields, row_in-unread}
+use Rattle.zh_judgements.proofs.FindingLemmas.{begun_push, findings_from, found_in_turn, next_finding}
+use Rattle.zh_judgements.proofs.RowLemmas.{names_found, names_missed, read_other, row_in-fields, row_in-unread}
 
 -- a row among rows that can be held together
 module _ (tally : Tally) (before : List Row) (row : Row) (others : List Row) (are : AreLoaded tally.canton (before ++ row ∷ others)) where
@@ -78,7 +81,7 @@ or_true true = refl
 or_true false = refl
 
 -- the record at which a loading stops is refused
-last_refused : (tally : Tally) (rows : List Row) (last : Record) (fault : LoadFault) → (IsUnread last fault ⊎ IsUnheld tally.canton rows last fault) → refuses (judgement tally rows (row_in last)) ≡ true
+last_refused : (tally : Tally) (rows : List Row) (last : Record) (fault : LoadFault) → (IsUnread fields IsReadable last fault ⊎ IsUnheld (loading tally.canton) rows last fault) → refuses (judgement tally rows (row_in last)) ≡ true
 last_refused tally rows last fault (inl unread) = rw (row_in-unread last fault unread) refl
 last_refused tally rows last fault (inr (row, readable, is, refused)) = rw (is, row_in-fields row readable, refused) refl
 
@@ -114,11 +117,11 @@ unnamed_refused tally text records all (inr (first, begins, other)) =
     let bad = names_missed first other in
     rw (is, bad) refl
 
-stopped_refused : (tally : Tally) (text : List ℕ) (records : List Record) (fault : LoadFault) → AreAll text records → StopsAt tally.canton text fault → any_refused (findings tally records) ≡ true
+stopped_refused : (tally : Tally) (text : List ℕ) (records : List Record) (fault : LoadFault) → AreAll text records → StopsAt (loading tally.canton) text fault → any_refused (findings tally records) ≡ true
 stopped_refused tally text records fault all stops =
     let (rest, is) = begin_all text records (names ∷ (map fields stops.rows ++ stops.last ∷ [])) all stops.records in
     ap (λ (r : List Record). any_refused (findings tally r)) is ∙ ap any_refused (after_names tally ((map fields stops.rows ++ stops.last ∷ []) ++ rest))
-    ∙ stop_refused tally 2 [] stops.rows stops.last rest stops.loaded (last_refused tally stops.rows stops.last fault stops.refused)
+    ∙ stop_refused tally 2 [] stops.rows stops.last rest stops.held (last_refused tally stops.rows stops.last fault stops.refused)
 
 fault_refused : (tally : Tally) (text : List ℕ) (records : List Record) (fault : LoadFault) → fault ≢ faults.Memory → fault ≢ faults.Read → AreAll text records → Loads tally.canton text (Err fault) → any_refused (findings tally records) ≡ true
 fault_refused tally text records faults.Csv memory read all (inl unnamed) = unnamed_refused tally text records all unnamed
@@ -208,8 +211,31 @@ module _ (old new : OnDisk Office) (text : List ℕ) (records : List Record) (re
       batch_answered (findings old.holder.ledger.tally records) old.holder.ledger (commands.Batch 0 (row ∷ rows)) reply acts.0.outcome by_judgement acts.0.reply verdicts_on (list_any is_refusal verdicts_on) refl
       (refused_are old.holder.ledger.tally text records (row ∷ rows) all (loads.known text refl)) (stored_are old.holder.ledger.tally text records (row ∷ rows) all (loads.known text refl)) follows
 
+-- a record that is too long is refused
+long_refused : (tally : Tally) (few : List Record) (part : Record) → most_bytes < record_size part → any_refused (findings tally (few ++ part ∷ [])) ≡ true
+long_refused tally [] part long =
+    let other : part ≡ names → ⊥ = λ same. let wrong : true ≡ false = ap may_be_row (sym same) ∙ too_long part long in cc wrong in
+    let bad = names_missed part other in
+    rw bad refl
+long_refused tally (first ∷ others) part long =
+    let last : any_refused (next_finding tally 2 [] others part ∷ []) ≡ true = rw (read_other part (too_long part long)) refl in
+    ap any_refused (begun_push tally first others part)
+    ∙ list_any-append (λ (f : Finding). refuses f.judgement) (begun tally (first ∷ others)) (next_finding tally 2 [] others part ∷ [])
+    ∙ ap (λ (b : Bool). any_refused (begun tally (first ∷ others)) || b) last ∙ or_true (any_refused (begun tally (first ∷ others)))
+
+-- a text of which not all is read
+module _ (old new : OnDisk Office) (text : List ℕ) (records : List Record) (reply : Reply) (log : Log) (cut : EndsInPart text records) where
+  cut_answered : (loaded : Result (List Row) LoadFault) → LoadsFrom old.holder.ledger.tally.canton (Some text) false loaded
+      → Acts (its_ledger old) (command_loaded false loaded) (λ a. a ≡ answers.Reply (load_reply false loaded)) (answers.Reply reply) log (its_ledger new) → IsAnswered (forecast_of (findings old.holder.ledger.tally records)) reply
+  cut_answered (Err fault) loads acts =
+      let refused : any_refused (findings old.holder.ledger.tally records) ≡ true = ap (λ (l : List Record). any_refused (findings old.holder.ledger.tally l)) cut.is ∙ long_refused old.holder.ledger.tally cut.few cut.part cut.long in
+      subst (IsAnswered (forecast_of (findings old.holder.ledger.tally records))) (same_reply reply (replies.Refused (load_refusal fault)) acts.0) (answered_refused (findings old.holder.ledger.tally records) (load_refusal fault) refused)
+  cut_answered (Ok rows) loads acts =
+      let (all, are) = loads.known text refl in
+      absurd (never_cut (loading old.holder.ledger.tally.canton) (is_loading old.holder.ledger.tally.canton) text rows cut.few cut.last are all cut.first cut.longer)
+
 -- any office
-pub forecast_kept : (old new : OnDisk Office) (text : List ℕ) (records : List Record) (reply : Reply) → LoadTurn old (Some text) false reply new → AreAll text records → IsByJudgement reply → IsAnswered (forecast_of (findings old.holder.ledger.tally records)) reply
+forecast_kept : (old new : OnDisk Office) (text : List ℕ) (records : List Record) (reply : Reply) → LoadTurn old (Some text) false reply new → AreAll text records → IsByJudgement reply → IsAnswered (forecast_of (findings old.holder.ledger.tally records)) reply
 forecast_kept old new text records reply turn all by_judgement = by old.holder.ledger.store.broken refl
   where
     by : (broken : Bool) → old.holder.ledger.store.broken ≡ broken → IsAnswered (forecast_of (findings old.holder.ledger.tally records)) reply
@@ -219,3 +245,23 @@ forecast_kept old new text records reply turn all by_judgement = by old.holder.l
     by false is =
         let acts = subst (λ (b : Bool). Acts (its_ledger old) (command_loaded b turn.loaded) (λ a. a ≡ answers.Reply (load_reply b turn.loaded)) (answers.Reply reply) turn.log (its_ledger new)) is turn.acts in
         answered old new text records reply turn.log all by_judgement turn.loaded is (turn.loads is) acts
+
+-- by what is read of a text
+forecast_read : (old new : OnDisk Office) (text : List ℕ) (records : List Record) (reply : Reply) → LoadTurn old (Some text) false reply new → AreAll (front_of text) records → IsByJudgement reply → IsAnswered (forecast_of (findings old.holder.ledger.tally records)) reply
+forecast_read old new text records reply turn all by_judgement = either (all_of_front text records all)
+  where
+    by : EndsInPart text records → (broken : Bool) → old.holder.ledger.store.broken ≡ broken → IsAnswered (forecast_of (findings old.holder.ledger.tally records)) reply
+    by cut true is =
+        let acts = subst (λ (b : Bool). Acts (its_ledger old) (command_loaded b turn.loaded) (λ a. a ≡ answers.Reply (load_reply b turn.loaded)) (answers.Reply reply) turn.log (its_ledger new)) is turn.acts in
+        absurd (disturbed reply (replies.Refused refusals.ReopenDisk) by_judgement acts.0 refl)
+    by cut false is =
+        let acts = subst (λ (b : Bool). Acts (its_ledger old) (command_loaded b turn.loaded) (λ a. a ≡ answers.Reply (load_reply b turn.loaded)) (answers.Reply reply) turn.log (its_ledger new)) is turn.acts in
+        cut_answered old new text records reply turn.log cut turn.loaded (turn.loads is) acts
+
+    either : AreAll text records ⊎ EndsInPart text records → IsAnswered (forecast_of (findings old.holder.ledger.tally records)) reply
+    either (inl whole) = forecast_kept old new text records reply turn whole by_judgement
+    either (inr cut) = by cut old.holder.ledger.store.broken refl
+
+pub forecast_of_text : (old new : OnDisk Office) (text : List ℕ) (records : List Record) (reply : Reply) → LoadTurn old (Some text) false reply new → (AreAll text records ⊎ AreAll (front_of text) records) → IsByJudgement reply → IsAnswered (forecast_of (findings old.holder.ledger.tally records)) reply
+forecast_of_text old new text records reply turn (inl whole) by_judgement = forecast_kept old new text records reply turn whole by_judgement
+forecast_of_text old new text records reply turn (inr read) by_judgement = forecast_read old new text records reply turn read by_judgement

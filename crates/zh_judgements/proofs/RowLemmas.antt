@@ -1,5 +1,5 @@
 -- A record is read in one way.
-use Rattle.std.proofs.Common.{◌≡◌, ◌≢◌, ◌<◌, ◌≤◌, ◌^◌, ◌==◌, ◌&&◌, ◌⊎◌, inl, inr, ⊎_elim, ℕ, nat_lt, List, [], ◌∷◌, length, Option, Some, None, Ok, Err, refl, ap, ◌∙◌, subst, arith, true, false, Bool, decimal, if◌then◌else◌}
+use Rattle.std.proofs.Common.{◌≡◌, ◌≢◌, ◌<◌, ◌≤◌, ◌^◌, ◌==◌, ◌&&◌, ◌⊎◌, inl, inr, ⊎_elim, ℕ, nat_lt, List, [], ◌∷◌, length, Option, Some, None, Result, Ok, Err, refl, ap, ◌∙◌, subst, arith, true, false, Bool, decimal, if◌then◌else◌}
 use Rattle.std.specs.Str.{bytes_eq}
 use Rattle.std.specs.Str.Parse.{AllDigits, digits_value}
 use Rattle.std.proofs.lemmas.Bool.Decides.{nat_tests}
@@ -9,14 +9,20 @@ use Rattle.std.proofs.lemmas.Slice.Eq.{bytes_eq-Decides, slice_eq-Decides}
 use Rattle.std.proofs.lemmas.Str.Parse.{numerals_by_value, tells_digits}
 use Rattle.zh_records.specs.declared.row.Row.{Row}
 use Rattle.zh_commands.specs.declared.replies.Refusal.TheVariants as refusals
-use Rattle.zh_csv.specs.Records.{Record}
-use Rattle.zh_csv.specs.Load.{fields, names, IsReadable, IsUnread}
+use Rattle.zh_csv.specs.Records.{Record, may_be_row, names}
+use Rattle.zh_csv.specs.Load.{fields, IsReadable}
+use Rattle.zh_csv.specs.Reading.{IsUnread}
 use Rattle.zh_csv.specs.declared.fault.LoadFault.{LoadFault}
 use Rattle.zh_csv.specs.declared.fault.LoadFault.TheVariants as faults
 use Rattle.zh_judgements.specs.Findings.{Finding, first_findings}
-use Rattle.zh_judgements.specs.Rows.{is_numeral, number_read, row_with, row_in, has_names}
+use Rattle.zh_csv.proofs.CallerLemmas.{four_of_row, may_be}
+use Rattle.zh_judgements.specs.Rows.{number_read, row_with, row_in, has_names}
 use Rattle.zh_judgements.specs.Text.{line_by, finding_lines}
 use Rattle.zh_judgements.specs.declared.judgement.Judgement.TheVariants.{Refused}
+
+-- whether a field is the numeral of a number of 32 bits
+abbrev is_numeral : List ℕ → ℕ → Bool
+is_numeral field number = nat_lt number (2 ^ 32) && bytes_eq field (decimal number)
 
 -- the numeral of a number of 32 bits is read as it
 pub number_read-decimal : (n : ℕ) → n < 2 ^ 32 → number_read (decimal n) ≡ Some n
@@ -30,7 +36,7 @@ number_read-decimal n small =
 pub row_in-fields : (row : Row) → IsReadable row → row_in (fields row) ≡ Ok row
 row_in-fields row is =
     let some : (row.number == 0) ≡ false = grind (arith, nat_tests, is.number.0) in
-    rw (number_read-decimal row.municipality is.municipality, number_read-decimal row.list is.list, number_read-decimal row.number is.number.1, number_read-decimal row.votes is.votes, some) refl
+    rw (may_be row is, number_read-decimal row.municipality is.municipality, number_read-decimal row.list is.list, number_read-decimal row.number is.number.1, number_read-decimal row.votes is.votes, some) refl
 
 and_both : (a b : Bool) → (a && b) ≡ true → (a ≡ true) × (b ≡ true)
 and_both true true both = (refl, refl)
@@ -70,14 +76,35 @@ module _ (a b c d : List ℕ) (row : Row) where
   four_sound (Some m) (Some l) None w em el en ev is = cc is
   four_sound (Some m) (Some l) (Some n) None em el en ev is = cc is
 
+-- the row whose numerals four fields are, however long
+abbrev row_of_four : Record → Result Row LoadFault
+row_of_four (a ∷ b ∷ c ∷ d ∷ []) = row_with (number_read a) (number_read b) (number_read c) (number_read d)
+row_of_four fields = Err faults.Csv
+
+read_short : (all : Record) → may_be_row all ≡ true → row_in all ≡ row_of_four all
+read_short [] may = refl
+read_short (a ∷ []) may = refl
+read_short (a ∷ b ∷ []) may = refl
+read_short (a ∷ b ∷ c ∷ []) may = refl
+read_short (a ∷ b ∷ c ∷ d ∷ []) may = rw may refl
+read_short (a ∷ b ∷ c ∷ d ∷ e ∷ rest) may = refl
+
+pub read_other : (all : Record) → may_be_row all ≡ false → row_in all ≡ Err faults.Csv
+read_other [] other = refl
+read_other (a ∷ []) other = refl
+read_other (a ∷ b ∷ []) other = refl
+read_other (a ∷ b ∷ c ∷ []) other = refl
+read_other (a ∷ b ∷ c ∷ d ∷ []) other = rw other refl
+read_other (a ∷ b ∷ c ∷ d ∷ e ∷ rest) other = refl
+
 -- a row that is read is that of the fields
-pub row_in-sound : (record_fields : Record) (row : Row) → row_in record_fields ≡ Ok row → IsReadable row × (record_fields ≡ fields row)
-row_in-sound [] row is = cc is
-row_in-sound (a ∷ []) row is = cc is
-row_in-sound (a ∷ b ∷ []) row is = cc is
-row_in-sound (a ∷ b ∷ c ∷ []) row is = cc is
-row_in-sound (a ∷ b ∷ c ∷ d ∷ []) row is = four_sound a b c d row (number_read a) (number_read b) (number_read c) (number_read d) refl refl refl refl is
-row_in-sound (a ∷ b ∷ c ∷ d ∷ e ∷ rest) row is = cc is
+row_of_four-sound : (record_fields : Record) (row : Row) → row_of_four record_fields ≡ Ok row → IsReadable row × (record_fields ≡ fields row)
+row_of_four-sound [] row is = cc is
+row_of_four-sound (a ∷ []) row is = cc is
+row_of_four-sound (a ∷ b ∷ []) row is = cc is
+row_of_four-sound (a ∷ b ∷ c ∷ []) row is = cc is
+row_of_four-sound (a ∷ b ∷ c ∷ d ∷ []) row is = four_sound a b c d row (number_read a) (number_read b) (number_read c) (number_read d) refl refl refl refl is
+row_of_four-sound (a ∷ b ∷ c ∷ d ∷ e ∷ rest) row is = cc is
 
 -- four numbers or not
 four_or : (x y z w : Option ℕ) → (row_with x y z w ≡ Err faults.Syntax) ⊎ ((row : Row) × (row_with x y z w ≡ Ok row))
@@ -92,29 +119,21 @@ four_or (Some m) (Some l) None w = inl refl
 four_or (Some m) (Some l) (Some n) None = inl refl
 
 -- a record that is no row is read as none
-no_row : (all : Record) → length all ≡ 4 → ((row : Row) → IsReadable row → all ≢ fields row) → row_in all ≡ Err faults.Syntax
+no_row : (all : Record) → length all ≡ 4 → ((row : Row) → IsReadable row → all ≢ fields row) → row_of_four all ≡ Err faults.Syntax
 no_row [] four none = absurd (omega arith)
 no_row (a ∷ []) four none = absurd (omega arith)
 no_row (a ∷ b ∷ []) four none = absurd (omega arith)
 no_row (a ∷ b ∷ c ∷ []) four none = absurd (omega arith)
 no_row (a ∷ b ∷ c ∷ d ∷ []) four none =
-    ⊎_elim (λ (is : row_in (a ∷ b ∷ c ∷ d ∷ []) ≡ Err faults.Syntax). is)
-    (λ (found : (row : Row) × (row_in (a ∷ b ∷ c ∷ d ∷ []) ≡ Ok row)).
-    let sound = row_in-sound (a ∷ b ∷ c ∷ d ∷ []) found.0 found.1 in absurd (none found.0 sound.0 sound.1))
+    ⊎_elim (λ (is : row_of_four (a ∷ b ∷ c ∷ d ∷ []) ≡ Err faults.Syntax). is)
+    (λ (found : (row : Row) × (row_of_four (a ∷ b ∷ c ∷ d ∷ []) ≡ Ok row)).
+    let sound = row_of_four-sound (a ∷ b ∷ c ∷ d ∷ []) found.0 found.1 in absurd (none found.0 sound.0 sound.1))
     (four_or (number_read a) (number_read b) (number_read c) (number_read d))
 no_row (a ∷ b ∷ c ∷ d ∷ e ∷ rest) four none = absurd (omega arith)
 
-other_length : (all : Record) → length all ≢ 4 → row_in all ≡ Err faults.Csv
-other_length [] other = refl
-other_length (a ∷ []) other = refl
-other_length (a ∷ b ∷ []) other = refl
-other_length (a ∷ b ∷ c ∷ []) other = refl
-other_length (a ∷ b ∷ c ∷ d ∷ []) other = absurd (other refl)
-other_length (a ∷ b ∷ c ∷ d ∷ e ∷ rest) other = refl
-
-pub row_in-unread : (all : Record) (fault : LoadFault) → IsUnread all fault → row_in all ≡ Err fault
-row_in-unread all faults.Csv other = other_length all other
-row_in-unread all faults.Syntax (four, none) = no_row all four none
+pub row_in-unread : (all : Record) (fault : LoadFault) → IsUnread fields IsReadable all fault → row_in all ≡ Err fault
+row_in-unread all faults.Csv other = read_other all other
+row_in-unread all faults.Syntax (may, none) = read_short all may ∙ no_row all (four_of_row all may) none
 row_in-unread all (faults.Judged reason) none = absurd none
 row_in-unread all (faults.Row fault) none = absurd none
 row_in-unread all faults.Memory none = absurd none

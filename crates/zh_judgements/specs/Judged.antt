@@ -1,29 +1,15 @@
 -- What the judging of a text leaves.
-use Rattle.std.specs.Prelude.{◌≡◌, ◌⊎◌, ◌≤◌, ◌+◌, ◌-◌, ◌^◌, ℕ, List, [], ◌∷◌, drop, length, take, Option, Some, Result, Ok, Err, true}
+use Rattle.std.specs.Prelude.{◌≡◌, ◌⊎◌, ◌≤◌, ◌+◌, ◌-◌, ◌^◌, ℕ, List, [], ◌∷◌, drop, length, take, Option, Result, Ok, Err}
 use Rattle.std.specs.Io.KnownBytes.{Appends}
-use Rattle.csv.specs.Reading.{default_config, Ready, source_of}
-use Rattle.csv.specs.Reading.{reader_config, reader_trim, reader_state, is_flexible}
-use Rattle.csv.specs.declared.reader.Reader.{Reader}
-use Rattle.csv.specs.declared.reader.Trim.TheVariants as trims
 use Rattle.zh_returns.specs.Tally.{Tally}
-use Rattle.zh_csv.specs.Records.{Record, AreAll, AreFirst, LeavesAfter}
+use Rattle.zh_csv.specs.Front.{front_of}
+use Rattle.zh_csv.specs.Records.{Record, AreAll, AreFirst}
 use Rattle.zh_judgements.specs.Findings.{begun, counts_of, findings, findings_on, forecast_of, rows_kept}
 use Rattle.zh_judgements.specs.Text.{finding_lines, judgement_text}
 use Rattle.zh_judgements.specs.declared.fault.JudgementFault.{JudgementFault}
 use Rattle.zh_judgements.specs.declared.fault.JudgementFault.TheVariants as faults
 use Rattle.zh_judgements.specs.declared.judgement.Forecast.{Forecast}
 use Rattle.zh_judgements.specs.declared.progress.Progress.{Progress}
-
--- a reader that gave these records of a text, each as long as it is, and gives the next one
-pub record HasGiven {R : Type 0} (remaining : R → Option (List ℕ)) (text : List ℕ) (records : List Record)
-    (reader : Reader R) : Type 0 where
-  pub config : reader_config reader ≡ default_config
-  pub trim : reader_trim reader ≡ trims.None
-  pub flexible : is_flexible reader ≡ true
-  pub ready : Ready reader
-  pub rest : List ℕ
-  pub source : source_of remaining reader ≡ Some rest
-  pub leaves : LeavesAfter text records (reader_state reader) rest
 
 -- what is kept after the first records of a text
 pub record IsAfter (tally : Tally) (records : List Record) (progress : Progress) : Type 0 where
@@ -48,12 +34,12 @@ WritesUpTo left writer writer' text = (front : ℕ) × (front + left ≤ length 
 abbrev pub BreaksOffLine : JudgementFault → Option (List ℕ) → Option (List ℕ) → List ℕ → Type 0
 BreaksOffLine fault writer writer' text = (records_judged fault ≡ 0) × WritesUpTo (bytes_left fault) writer writer' text
 
--- these are all the records of a text of which this is known, or the first of them
+-- these are all the records of what is read of a text, of which this is known, or the first of them
 abbrev pub AreAllOf : (List ℕ → Type 0) → List Record → Type 0
-AreAllOf IsText records = (bytes : List ℕ) → IsText bytes → AreAll bytes records
+AreAllOf IsText records = (bytes : List ℕ) → IsText bytes → AreAll (front_of bytes) records
 
 abbrev pub AreFirstOf : (List ℕ → Type 0) → List Record → Type 0
-AreFirstOf IsText records = (bytes : List ℕ) → IsText bytes → AreFirst bytes records
+AreFirstOf IsText records = (bytes : List ℕ) → IsText bytes → AreFirst (front_of bytes) records
 
 -- all of it is written
 pub record IsJudged (tally : Tally) (IsText : List ℕ → Type 0) (writer writer' : Option (List ℕ)) (forecast : Forecast) : Type 0 where

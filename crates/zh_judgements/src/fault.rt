@@ -6,6 +6,7 @@ ghost use Rattle.zh_judgements.specs.declared.fault.JudgementFault.TheVariants.{
 use std::alloc::AllocError;
 use thiserror::Error;
 use zh_commands::WriteFault;
+use zh_csv::ReadFault;
 
 /// Why a text is not judged to its end.
 #[derive(Clone, Copy, Debug, PartialEq, Eq, Error)]
@@ -37,5 +38,19 @@ impl From<WriteFault> for JudgementFault {
 
     fn from(_: WriteFault) -> JudgementFault {
         JudgementFault::Write
+    }
+}
+
+impl From<ReadFault> for JudgementFault {
+    ghost use Rattle.zh_csv.specs.declared.records.ReadFault.TheVariants as reading;
+    ghost use Rattle.zh_judgements.specs.declared.fault.JudgementFault.TheVariants as faults;
+
+    ghost from_gives = { λ error fault. (error ≡ reading.Memory → fault ≡ faults.Memory) × (error ≡ reading.Read → fault ≡ faults.Read) };
+
+    fn from(error: ReadFault) -> JudgementFault {
+        match error {
+            ReadFault::Memory => JudgementFault::Memory,
+            ReadFault::Read => JudgementFault::Read,
+        }
     }
 }

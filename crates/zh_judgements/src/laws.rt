@@ -1,7 +1,8 @@
 //! Laws of forecasts.
 
-ghost use Rattle.std.specs.Prelude.{◌≡◌, ◌<◌, ◌+◌, ℕ, List, [], Some, false, get_or, length, slice_get, take};
+ghost use Rattle.std.specs.Prelude.{◌≡◌, ◌<◌, ◌+◌, ◌⊎◌, ℕ, List, [], Some, false, get_or, length, slice_get, take};
 ghost use Rattle.zh_commands.specs.declared.replies.Reply.{Reply};
+ghost use Rattle.zh_csv.specs.Front.{front_of};
 ghost use Rattle.zh_csv.specs.Records.{Record, AreAll};
 ghost use Rattle.zh_districts.specs.Canton.{Canton};
 ghost use Rattle.zh_ledger.specs.Submissions.{OnDisk};
@@ -13,10 +14,11 @@ ghost use Rattle.zh_judgements.specs.Findings.{finding_on, findings, findings_on
 ghost use Rattle.zh_judgements.specs.Rows.{row_in};
 
 /// A text whose records these are is answered by a loading as its forecast says: stored, the same, or refused. Left aside are
-/// a reader that fails, refused memory, a device that fails, and numbers that are used up.
+/// a reader that fails, refused memory, a device that fails, and numbers that are used up. The forecast is right too where a
+/// record is too long, and the text is read no further.
 pub fn forecast_is_kept()
     ensures { (old new : OnDisk Office) (text : List ℕ) (records : List Record) (reply : Reply)
-        → LoadTurn old (Some text) false reply new → AreAll text records → IsByJudgement reply
+        → LoadTurn old (Some text) false reply new → (AreAll text records ⊎ AreAll (front_of text) records) → IsByJudgement reply
         → IsAnswered (forecast_of (findings old.holder.ledger.tally records)) reply }
 {}
 

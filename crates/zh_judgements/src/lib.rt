@@ -6,7 +6,6 @@ mod judgement;
 mod laws;
 mod line;
 mod progress;
-mod reader;
 mod text;
 
 pub use fault::JudgementFault;

@@ -44,8 +44,8 @@ fn refused_for(fault: LoadFault) -> Result<Judgement, AllocError>
 /// The judgement of a row after others, with which it is held where reading it has no fault.
 fn judge_row(count: &Count<'_>, rows: &mut Batch, row: Row) -> Result<Judgement, AllocError>
     requires { IsReadable row }
-    ensures judged { IfOk result (λ judged. judged ≡ judgement count.now rows.old (Ok row)) }
-    ensures held { OnOk result (rows.new ≡ rows_after count.now.canton rows.old (Ok row)) }
+    ensures { IfOk result (λ judged. (judged ≡ judgement count.now rows.old (Ok row))
+        × (rows.new ≡ rows_after count.now.canton rows.old (Ok row))) }
 {
     if let Err(fault) = hold(count.setup(), rows, row) {
         return refused_for(fault);
@@ -59,8 +59,8 @@ fn judge_record(
     rows: &mut Batch,
     record: &ByteRecord,
 ) -> Result<Judgement, AllocError>
-    ensures judged { IfOk result (λ judged. judged ≡ judgement count.now rows.old (row_in (fields_of record.now))) }
-    ensures held { OnOk result (rows.new ≡ rows_after count.now.canton rows.old (row_in (fields_of record.now))) }
+    ensures { IfOk result (λ judged. (judged ≡ judgement count.now rows.old (row_in (fields_of record.now)))
+        × (rows.new ≡ rows_after count.now.canton rows.old (row_in (fields_of record.now)))) }
 {
     match row_of(record) {
         Ok(row) => judge_row(count, rows, row),
@@ -122,8 +122,8 @@ impl Progress {
         record: &ByteRecord,
         out: &mut W,
     ) -> Result<Progress, JudgementFault>
-        ensures begun { IfOk result (λ progress. (tally : Tally) → IsAfter tally (fields_of record.now ∷ []) progress) }
-        ensures few { IfOk result (λ progress. (progress.counts.refused ≤ progress.counts.records) × (progress.counts.records ≤ 1)) }
+        ensures begun { IfOk result (λ progress. ((tally : Tally) → IsAfter tally (fields_of record.now ∷ []) progress)
+            × (progress.counts.refused ≤ progress.counts.records) × (progress.counts.records ≤ 1)) }
         ensures all { OnOk result
             (Appends (W.contents out.old) (W.contents out.new) (finding_lines (first_findings (fields_of record.now)))) }
         ensures front { IfErr result (λ fault.

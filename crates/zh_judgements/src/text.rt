@@ -3,11 +3,12 @@
 ghost use Rattle.std.specs.Prelude.{◌≡◌, ◌≤◌, ◌∷◌, [], ℕ, List, Some, IfErr, IfOk, IsErrOf, MatchResult, OnOk, true};
 ghost use Rattle.std.specs.Io.KnownBytes.{Appends};
 ghost use Rattle.csv.specs.Records.{fields_of};
+ghost use Rattle.zh_csv.specs.Front.{front_of};
 ghost use Rattle.zh_csv.specs.Noted.{has_failed, inner_reader};
-ghost use Rattle.zh_csv.specs.Records.{Record};
+ghost use Rattle.zh_csv.specs.Records.{Record, HasRead};
 ghost use Rattle.zh_returns.specs.Tally.{Tally};
 ghost use Rattle.zh_judgements.specs.Findings.{findings, forecast_by, forecast_of};
-ghost use Rattle.zh_judgements.specs.Judged.{AreBrokenOff, AreJudged, BreaksOffLine, HasGiven, IsAfter, Judges};
+ghost use Rattle.zh_judgements.specs.Judged.{AreBrokenOff, AreJudged, BreaksOffLine, IsAfter, Judges};
 ghost use Rattle.zh_judgements.specs.Judged.{WritesUpTo, bytes_left, records_judged};
 ghost use Rattle.zh_judgements.specs.Text.{forecast_text, judgement_text};
 
@@ -15,12 +16,11 @@ use crate::fault::JudgementFault;
 use crate::judgement::{Counts, Forecast};
 use crate::line::forecast_line;
 use crate::progress::Progress;
-use crate::reader::{next_record, reader_of};
 use csv::{ByteRecord, Reader};
 use std::alloc::Global;
 use std::io::{Read, Write};
 use zh_commands::put;
-use zh_csv::NotedReader;
+use zh_csv::{FrontReader, NotedReader, next_record, reader_of};
 use zh_returns::Count;
 
 /// Judges the records that follow the first.
@@ -35,9 +35,9 @@ fn judge_others<R: Read, W: Write>(
     requires within { progress.old.counts.refused ≤ progress.old.counts.records }
     requires few { progress.old.counts.records ≤ 1 }
     ensures { (first : Record) → IsAfter count.now (first ∷ []) progress.old → MatchResult result
-        (λ _. AreJudged count.now first (λ bytes. HasGiven R.remaining bytes (first ∷ []) reader.old)
+        (λ _. AreJudged count.now first (λ bytes. HasRead R.remaining (front_of bytes) (first ∷ []) reader.old)
         (W.contents out.old) (W.contents out.new) progress.new)
-        (λ fault. AreBrokenOff count.now first (λ bytes. HasGiven R.remaining bytes (first ∷ []) reader.old)
+        (λ fault. AreBrokenOff count.now first (λ bytes. HasRead R.remaining (front_of bytes) (first ∷ []) reader.old)
         (WritesUpTo (bytes_left fault) (W.contents out.old) (W.contents out.new)) (records_judged fault)) }
 {
     for number in 2..u32::MAX {
@@ -85,7 +85,7 @@ fn judge_all<R: Read, W: Write>(
     record: &mut ByteRecord,
     out: &mut W,
 ) -> Result<Forecast, JudgementFault>
-    ensures { Judges count.now (λ bytes. HasGiven R.remaining bytes (fields_of record.old ∷ []) reader.old)
+    ensures { Judges count.now (λ bytes. HasRead R.remaining (front_of bytes) (fields_of record.old ∷ []) reader.old)
         (W.contents out.old) (W.contents out.new) result }
 {
     let mut progress = Progress::begin(alloc, record, out)?;
@@ -102,7 +102,7 @@ fn judge_records<R: Read + Drop, W: Write>(
 ) -> Result<Forecast, JudgementFault>
     ensures { Judges count.now (λ bytes. R.remaining text ≡ Some bytes) (W.contents out.old) (W.contents out.new) result }
 {
-    let mut reader = reader_of(alloc, text);
+    let mut reader = reader_of(alloc, FrontReader::new(text));
     let mut record = ByteRecord::new(alloc);
     if !next_record(&mut reader, &mut record)? {
         return judge_none(alloc, out);

@@ -4,7 +4,7 @@ use Rattle.std.specs.Io.KnownBytes.{append_known}
 use Rattle.zh_returns.specs.Payload.{numbers}
 use Rattle.zh_record_text.proofs.CallerLemmas.{Puts-back, Puts-join}
 use Rattle.zh_csv.specs.Export.{line, municipality_text}
-use Rattle.zh_csv.specs.Load.{names}
+use Rattle.zh_csv.specs.Records.{names}
 use Rattle.zh_csv.proofs.export.write_count.Goals as goal
 
 pub returns-in-Ok : goal.returns-in-Ok

@@ -1,5 +1,5 @@
 use Rattle.std.proofs.Common.{◌≡◌, arith, ap, length}
-use Rattle.zh_csv.specs.Export.{list_text}
+use Rattle.zh_csv.proofs.ExportLemmas.{list_text}
 use Rattle.zh_csv.proofs.ExportLemmas.{Puts-start, Puts-next}
 use Rattle.zh_csv.proofs.export.write_municipality.Goals as goal
 

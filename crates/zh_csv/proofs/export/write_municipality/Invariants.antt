@@ -1,7 +1,7 @@
 use Rattle.std.specs.List.{flat_map}
 use Rattle.zh_returns.specs.Payload.{numbers}
 use Rattle.zh_record_text.specs.Records.{PutsText}
-use Rattle.zh_csv.specs.Export.{list_text}
+use Rattle.zh_csv.proofs.ExportLemmas.{list_text}
 use Rattle.zh_csv.proofs.export.write_municipality.Given as goal
 
 abbrev pub invariant-loop-place : goal.invariant-loop-place

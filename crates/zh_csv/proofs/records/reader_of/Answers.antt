@@ -6,13 +6,13 @@ pub returns : goal.returns
 unfolding Reached
 returns g c bytes known =
     let from = c.from_reader.ensures in
-    let set = c.has_headers.ensures in
+    let set = c.flexible.ensures in
+    let before = c.has_headers.ensures in
     record {
-      config = from.config ∙ ap (λ b. b.config) set ∙ c.new.ensures.config;
-      trim = from.trim ∙ ap (λ b. b.trim) set ∙ c.new.ensures.trim;
-      flexible = from.flexible ∙ ap (λ b. b.flexible) set ∙ c.new.ensures.flexible;
-      ready = inr (inr (from.has_headers ∙ ap (λ b. b.has_headers) set, from.headers));
-      expected = from.expected;
+      config = from.config ∙ ap (λ b. b.config) set ∙ ap (λ b. b.config) before ∙ c.new.ensures.config;
+      trim = from.trim ∙ ap (λ b. b.trim) set ∙ ap (λ b. b.trim) before ∙ c.new.ensures.trim;
+      flexible = from.flexible ∙ ap (λ b. b.flexible) set;
+      ready = inr (inr (from.has_headers ∙ ap (λ b. b.has_headers) set ∙ ap (λ b. b.has_headers) before, from.headers));
       rest = strip_bom bytes;
       source = from.source ∙ ap (option_map strip_bom) known;
       leaves = (sym from.state, refl);

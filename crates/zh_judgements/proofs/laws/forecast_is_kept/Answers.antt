@@ -1,5 +1,5 @@
-use Rattle.zh_judgements.proofs.LoadedLemmas.{forecast_kept}
+use Rattle.zh_judgements.proofs.LoadedLemmas.{forecast_of_text}
 use Rattle.zh_judgements.proofs.laws.forecast_is_kept.Goals as goal
 
 pub returns : goal.returns
-returns c = forecast_kept
+returns c = forecast_of_text

@@ -2,7 +2,7 @@ use Rattle.std.proofs.Common.{◌≡◌, List, ℕ, Err, refl, sym, subst, rules
 use Rattle.csv.specs.Records.{fields_of}
 use Rattle.zh_judgements.specs.Judged.{BreaksOffLine}
 use Rattle.std.specs.Io.KnownBytes.{Appends}
-use Rattle.zh_csv.specs.Load.{names}
+use Rattle.zh_csv.specs.Records.{names}
 use Rattle.zh_judgements.proofs.RowLemmas.{names_missed, missed_line}
 use Rattle.zh_judgements.proofs.progress.judge_first.Goals as goal
 

@@ -4,22 +4,12 @@ use Rattle.zh_judgements.specs.Rows.{row_in}
 use Rattle.zh_judgements.proofs.RowLemmas.{row_in-fields, row_in-unread}
 use Rattle.zh_judgements.proofs.progress.judge_record.Goals as goal
 
-pub returns-in-Ok-clause-judged : goal.returns-in-Ok-clause-judged
-returns-in-Ok-clause-judged c =
+pub returns-in-Ok : goal.returns-in-Ok
+returns-in-Ok c =
     let read : row_in (fields_of c.args.record.now) ≡ Ok c.in-Ok.row = ap row_in c.in-Ok.ensures.1 ∙ row_in-fields c.in-Ok.row c.in-Ok.ensures.0 in
     rw read (search rules)
 
-pub returns-in-Ok-clause-held : goal.returns-in-Ok-clause-held
-returns-in-Ok-clause-held c =
-    let read : row_in (fields_of c.args.record.now) ≡ Ok c.in-Ok.row = ap row_in c.in-Ok.ensures.1 ∙ row_in-fields c.in-Ok.row c.in-Ok.ensures.0 in
-    rw read (search rules)
-
-pub returns-in-Err-clause-judged : goal.returns-in-Err-clause-judged
-returns-in-Err-clause-judged c =
-    let read : row_in (fields_of c.args.record.now) ≡ Err c.in-Err.fault = row_in-unread (fields_of c.args.record.now) c.in-Err.fault c.in-Err.ensures in
-    rw read (search rules)
-
-pub returns-in-Err-clause-held : goal.returns-in-Err-clause-held
-returns-in-Err-clause-held c =
+pub returns-in-Err : goal.returns-in-Err
+returns-in-Err c =
     let read : row_in (fields_of c.args.record.now) ≡ Err c.in-Err.fault = row_in-unread (fields_of c.args.record.now) c.in-Err.fault c.in-Err.ensures in
     rw read (search rules)

@@ -16,6 +16,6 @@ returns-in_err-progress g c tally =
 
 pub returns : goal.returns
 returns g c tally =
-    let after = subst (λ (r : Record). IsAfter tally (r ∷ []) c.in_ok-progress.progress) c.new.ensures.fields (c.in_ok-progress.ensures.begun tally) in
+    let after = subst (λ (r : Record). IsAfter tally (r ∷ []) c.in_ok-progress.progress) c.new.ensures.fields (c.in_ok-progress.ensures.begun.0 tally) in
     let first = subst (λ (r : Record). Appends (g.W.Write.contents c.args.out.now) (g.W.Write.contents c.begin-2.new.out) (finding_lines (first_findings r))) c.new.ensures.fields c.in_ok-progress.ensures.all in
     none_written_whole tally _ _ _ c.write_forecast.result c.in_ok-progress.progress after first c.write_forecast.ensures.comes_to c.write_forecast.ensures.all c.write_forecast.ensures.front

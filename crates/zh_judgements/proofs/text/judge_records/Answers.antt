@@ -1,31 +1,35 @@
-use Rattle.std.proofs.Common.{◌≡◌, [], ◌∷◌, Err, Some, true, false, inl, rules, arith}
+use Rattle.std.proofs.Common.{◌≡◌, ◌∙◌, ap, [], ◌∷◌, Err, Some, true, false, inl, option_map, rules, arith}
 use Rattle.csv.specs.Records.{fields_of}
+use Rattle.std.proofs.lemmas.Result.{err_from_is_err_and}
+use Rattle.zh_csv.specs.Records.{HasRead}
+use Rattle.zh_csv.specs.Front.{front_of}
+use Rattle.zh_csv.specs.Fronts.{front_left}
+use Rattle.zh_csv.proofs.CallerLemmas.{are_first}
 use Rattle.zh_judgements.specs.Findings.{begun}
-use Rattle.zh_judgements.specs.Judged.{HasGiven}
 use Rattle.zh_judgements.specs.Text.{finding_lines}
 use Rattle.zh_judgements.proofs.FrontLemmas.{none_written}
-use Rattle.zh_judgements.proofs.JudgedLemmas.{judges_of, none_judges}
-use Rattle.zh_judgements.proofs.ReaderLemmas.{are_first}
+use Rattle.zh_judgements.proofs.JudgedLemmas.{judges_of, none_judges, reader_early}
 use Rattle.zh_judgements.proofs.text.judge_records.Goals as goal
 
 pub returns-in_err-next_record : goal.returns-in_err-next_record
 returns-in_err-next_record g c =
-    let is : c.from_residual.result ≡ Err c.in_err-next_record.field-0.0 = search rules in
-    rw is (record {
+    let p = err_from_is_err_and c.from_residual.result c.from_residual.ensures.1 in
+    let early = reader_early c.in_err-next_record.field-0.0 p.0 p.2 in
+    rw p.1 (record {
       records = [];
-      first = λ bytes known. are_first g.R.Read.remaining bytes [] c.reader_of-reader.result (c.reader_of-reader.ensures bytes known);
-      enough = omega (arith, c.in_err-next_record.ensures.fault.1);
-      written = inl (none_written _ (g.W.Write.contents c.args.out.now) (finding_lines (begun c.args.count.now [])) c.in_err-next_record.ensures.fault.0);
+      first = λ bytes known. are_first (front_left g.R.Read.remaining) (front_of bytes) [] c.reader_of-reader.result (c.reader_of-reader.ensures (front_of bytes) (c.new.ensures ∙ ap (option_map front_of) known));
+      enough = omega (arith, early.1);
+      written = inl (none_written _ (g.W.Write.contents c.args.out.now) (finding_lines (begun c.args.count.now [])) early.0);
     })
 
 pub returns-then-not-branch : goal.returns-then-not-branch
 returns-then-not-branch g c =
     let gone : c.in_ok-next_record.field-0 ≡ false = search rules in
     none_judges c.args.count.now (λ bytes. g.R.Read.remaining c.args.text ≡ Some bytes) _ _ c.judge_none.result
-    (λ bytes known. rw (c.in_ok-next_record.was, gone) at (c.next_record.ensures.read bytes [] (c.reader_of-reader.ensures bytes known))) (c.judge_none.ensures c.args.count.now)
+    (λ bytes known. rw (c.in_ok-next_record.was, gone) at (c.next_record.ensures (front_of bytes) [] (c.reader_of-reader.ensures (front_of bytes) (c.new.ensures ∙ ap (option_map front_of) known)))) (c.judge_none.ensures c.args.count.now)
 
 pub returns : goal.returns
 returns g c =
     let found : c.in_ok-next_record.field-0 ≡ true = search rules in
-    judges_of c.args.count.now (λ bytes. HasGiven g.R.Read.remaining bytes (fields_of c.next_record.new.record ∷ []) c.next_record.new.reader) (λ bytes. g.R.Read.remaining c.args.text ≡ Some bytes) _ _ c.judge_all.result
-    (λ bytes known. rw (c.in_ok-next_record.was, found) at (c.next_record.ensures.read bytes [] (c.reader_of-reader.ensures bytes known))) c.judge_all.ensures
+    judges_of c.args.count.now (λ bytes. HasRead (front_left g.R.Read.remaining) (front_of bytes) (fields_of c.next_record.new.record ∷ []) c.next_record.new.reader) (λ bytes. g.R.Read.remaining c.args.text ≡ Some bytes) _ _ c.judge_all.result
+    (λ bytes known. rw (c.in_ok-next_record.was, found) at (c.next_record.ensures (front_of bytes) [] (c.reader_of-reader.ensures (front_of bytes) (c.new.ensures ∙ ap (option_map front_of) known)))) c.judge_all.ensures

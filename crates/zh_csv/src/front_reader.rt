@@ -1,0 +1,89 @@
+//! A reader of the front of a text.
+
+ghost use Rattle.std.specs.Prelude.{◌≡◌, ◌≤◌, ◌<◌, ◌-◌, ◌++◌, ℕ, List, length, option_map, take};
+ghost use Rattle.std.specs.Io.{ReadsAtMost};
+ghost use Rattle.std.specs.Io.KnownBytes.{ReadConsumes};
+ghost use Rattle.zh_csv.specs.Front.{point_after, front, front_of, left_at, most_read};
+ghost use Rattle.zh_csv.specs.Fronts.{front_left};
+
+use crate::fields::MOST_BYTES;
+use crate::point::Point;
+use std::io::{Read, Result};
+
+/// The most bytes of a text that are read of a record: each field may stand in quotation marks, and each byte in them be one,
+/// written twice.
+const MOST_READ: usize = 3 * MOST_BYTES;
+
+/// Where a text stands, and how many bytes more are read of the record there.
+#[derive(Clone, Copy)]
+struct Limit {
+    point: Point,
+    left: usize,
+}
+
+impl Limit {
+    /// Counts a byte that is read.
+    fn count(&mut self, byte: u8)
+        requires { 0 < self.old.left }
+        ensures { (self.new.point ≡ point_after self.old.point byte)
+            × (self.new.left ≡ left_at most_read (point_after self.old.point byte) (self.old.left - 1)) }
+    {
+        self.point = self.point.after(byte);
+        self.left = match self.point {
+            Point::Between => MOST_READ,
+            _ => self.left - 1,
+        };
+    }
+
+    /// Counts bytes that follow, and returns how many of them are read.
+    fn pass(&mut self, bytes: &[u8]) -> usize
+        ensures count { (result ≤ length bytes.now) × (0 < self.old.left → 0 < length bytes.now → 0 < result) }
+        ensures front { (rest : List ℕ) → front most_read self.old.point self.old.left (bytes.now ++ rest)
+            ≡ take result bytes.now ++ front most_read self.new.point self.new.left rest }
+    {
+        for place in 0..bytes.len() {
+            if self.left == 0 {
+                return place;
+            }
+            self.count(bytes[place]);
+        }
+        bytes.len()
+    }
+}
+
+/// A reader that reads no further into a record of a text than a record may go on, and then is at its end.
+#[derive(Drop)]
+pub struct FrontReader<R> {
+    inner: R,
+    limit: Limit,
+}
+
+impl<R: Read> FrontReader<R> {
+    /// A reader of the front of a text.
+    pub fn new(inner: R) -> Self
+        ensures { front_left R.remaining result ≡ option_map front_of (R.remaining inner) }
+    {
+        FrontReader {
+            inner,
+            limit: Limit {
+                point: Point::Start,
+                left: MOST_READ,
+            },
+        }
+    }
+}
+
+impl<R: Read> Read for FrontReader<R> {
+    ghost remaining = { λ reader. option_map (front most_read reader.limit.point reader.limit.left) (R.remaining reader.inner) };
+
+    fn read(&mut self, buf: &mut [u8]) -> Result<usize>
+        ensures bound { ReadsAtMost result buf.new }
+        ensures bytes { ReadConsumes (front_left R.remaining self.old) (front_left R.remaining self.new) result buf.new }
+    {
+        if self.limit.left == 0 {
+            return Ok(0);
+        }
+        let count = self.inner.read(buf)?;
+        Ok(self.limit.pass(&buf[..count]))
+    }
+}

@@ -1,0 +1,103 @@
+//! The rows of a text, read one after the other.
+
+ghost use Rattle.std.specs.Prelude.{◌≡◌, ◌≢◌, ◌<◌, ◌⊎◌, ◌++◌, ◌∷◌, [], ℕ, List, Some, IsErrOf, MatchResult, length, option_map, true};
+ghost use Rattle.csv.specs.Records.{fields_of};
+ghost use Rattle.zh_districts.specs.Canton.{Canton};
+ghost use Rattle.zh_csv.specs.Front.{front_of};
+ghost use Rattle.zh_csv.specs.Noted.{has_failed, inner_reader};
+ghost use Rattle.zh_csv.specs.Reading.{IsUnheld, IsUnread, ReadsRows};
+ghost use Rattle.zh_csv.specs.Records.{HasRead, names};
+ghost use Rattle.zh_csv.specs.declared.fault.LoadFault.{LoadFault};
+
+use crate::fault::LoadFault;
+use crate::fields::is_names;
+use crate::front_reader::FrontReader;
+use crate::noted_reader::NotedReader;
+use crate::records::{next_record, reader_of};
+use csv::{ByteRecord, Reader};
+use std::alloc::Global;
+use std::io::Read;
+
+/// What takes rows of one kind, one after the other, and holds them together.
+pub trait Takes {
+    ghost use Rattle.zh_districts.specs.Canton.{Canton};
+    ghost use Rattle.zh_csv.specs.Reading.{RowKind};
+
+    /// A row.
+    type Row;
+
+    /// The kind of its rows, by the set-up.
+    ghost kind: { Canton → RowKind Self.Row };
+
+    /// It holds these rows of a set-up.
+    ghost holds: { Canton → Self → List Self.Row → Type 0 };
+
+    /// Takes the row of a record, after those that it holds.
+    fn take(&mut self, record: &ByteRecord) -> Result<(), LoadFault>
+        requires { (canton : Canton) × (rows : List Self.Row) × holds canton self.old rows }
+        ensures { (canton : Canton) (rows : List Self.Row) → holds canton self.old rows → MatchResult result
+            (λ _. (length rows < 16384)
+            × ((row : Self.Row) × (fields_of «record».now ≡ (kind canton).fields row) × holds canton self.new (rows ++ row ∷ [])))
+            (λ fault. (kind canton).AreHeld rows
+            × (fault ≢ LoadFault.Memory → IsUnread (kind canton).fields (kind canton).IsReadable (fields_of «record».now) fault
+            ⊎ IsUnheld (kind canton) rows (fields_of «record».now) fault)) };
+}
+
+/// The most rows: one for each list in each municipality.
+const MOST_HELD: u32 = 16_384;
+
+/// Takes the rows that follow the names of the columns, and returns how many they are.
+fn take_rows<R: Read, T: Takes>(
+    reader: &mut Reader<R>,
+    record: &mut ByteRecord,
+    taker: &mut T,
+) -> Result<u32, LoadFault>
+    requires { (canton : Canton) × T.holds canton taker.old [] }
+    ensures { (canton : Canton) → T.holds canton taker.old [] → ReadsRows (T.kind canton)
+        (λ text. HasRead R.remaining text (names ∷ []) reader.old) (T.holds canton taker.new) result }
+{
+    for rows in 0..=MOST_HELD {
+        if !next_record(reader, record)? {
+            return Ok(rows);
+        }
+        taker.take(record)?;
+    }
+    unreachable!()
+}
+
+/// Takes the rows of the front of a text, and returns how many they are.
+fn take_text<R: Read + Drop, T: Takes>(
+    alloc: Global,
+    text: R,
+    taker: &mut T,
+) -> Result<u32, LoadFault>
+    requires { (canton : Canton) × T.holds canton taker.old [] }
+    ensures { (canton : Canton) → T.holds canton taker.old [] → ReadsRows (T.kind canton)
+        (λ front. option_map front_of (R.remaining text) ≡ Some front) (T.holds canton taker.new) result }
+{
+    let mut reader = reader_of(alloc, FrontReader::new(text));
+    let mut record = ByteRecord::new(alloc);
+    if !next_record(&mut reader, &mut record)? || !is_names(&record) {
+        return Err(LoadFault::Csv);
+    }
+    take_rows(&mut reader, &mut record, taker)
+}
+
+/// Takes the rows of a text, and returns how many they are: its first record is the names of the columns, and each further one
+/// that of a row. One record is held at a time, and 16,386 are read at most.
+pub fn read_rows<R: Read, T: Takes>(
+    alloc: Global,
+    text: &mut NotedReader<R>,
+    taker: &mut T,
+) -> Result<u32, LoadFault>
+    requires { (canton : Canton) × T.holds canton taker.old [] }
+    ensures rows { (canton : Canton) → T.holds canton taker.old [] → ReadsRows (T.kind canton)
+        (λ front. option_map front_of (R.remaining (inner_reader text.old)) ≡ Some front) (T.holds canton taker.new) result }
+    ensures read { IsErrOf result LoadFault.Read → has_failed text.new ≡ true }
+{
+    match take_text(alloc, &mut *text, taker) {
+        // A read that fails is noted, so here it was memory that was refused.
+        Err(LoadFault::Read) if !text.has_failed() => Err(LoadFault::Memory),
+        taken => taken,
+    }
+}
