@@ -18,9 +18,10 @@ use Rattle.zh_arguments.specs.Arguments.{AsksFor, IsMisuse, Names, command_in, k
 use Rattle.zh_arguments.specs.Commands.{zhcount}
 use Rattle.zh_arguments.specs.Table.{path_in}
 use Rattle.zh_arguments.specs.declared.misuse.Misuse.{Misuse}
+use Rattle.zh_arguments.specs.declared.arguments.Query.TheVariants as queries
 use Rattle.zh_arguments.specs.declared.arguments.Task.{Task}
 use Rattle.zh_arguments.specs.declared.arguments.Task.TheVariants as tasks
-use Rattle.zh_arguments.specs.declared.arguments.Task.TheVariants.{Rehearse, Format, Run, Load, DryRun, Export}
+use Rattle.zh_arguments.specs.declared.arguments.Task.TheVariants.{Rehearse, Format, Run, Load, DryRun}
 
 -- the path that was found, or else the empty text
 pub path_found : (found : Option (Bor (List ℕ))) (none path : Bor (List ℕ)) (f : Found) (name : Text)
@@ -79,10 +80,10 @@ not_misused (Some (name, rows)) (Format paths) asks = other_name name (codes "fo
 not_misused (Some (name, rows)) (Run paths) asks = other_name name (codes "run") rows asks.0 refl
 not_misused (Some (name, rows)) (Load paths csv) asks = other_name name (codes "load") rows asks.0 refl
 not_misused (Some (name, rows)) (DryRun paths csv) asks = other_name name (codes "load") rows asks.0 refl
-not_misused (Some (name, rows)) (Export paths) asks = other_name name (codes "export") rows asks.0 refl
-not_misused (Some (name, rows)) (tasks.Status paths view) asks = other_name name (codes "status") rows asks.0.0 (rw asks.1 refl)
+not_misused (Some (name, rows)) (tasks.Show paths queries.Export) asks = other_name name (codes "export") rows asks.0.0 refl
+not_misused (Some (name, rows)) (tasks.Show paths (queries.Status view)) asks = other_name name (codes "status") rows asks.0.0 (rw asks.1 refl)
+not_misused (Some (name, rows)) (tasks.Show paths (queries.Seats is_final layout)) asks = other_name name (codes "seats") rows asks.0.0 (rw asks.1.0 refl)
 not_misused (Some (name, rows)) (tasks.Check paths) asks = other_name name (codes "check") rows asks.0 refl
-not_misused (Some (name, rows)) (tasks.Seats paths is_final layout) asks = other_name name (codes "seats") rows asks.0.0 (rw asks.1 refl)
 not_misused (Some (name, rows)) (tasks.SheetSeats setup sheet layout) asks = other_name name (codes "seats") rows asks.0 (rw asks.1 refl)
 not_misused (Some (name, rows)) (tasks.List setup table) asks = other_name name (codes "list") rows asks.0 (rw asks.2 refl)
 
@@ -113,7 +114,9 @@ asked a arguments task is kinds asks =
     (taken a arguments is kinds ∙ ap (λ (m : Option Misuse). option_map_or (λ misuse. kind_by misuse ∷ []) m []) (not_misused (command_in arguments) task asks), asks)
 
 -- a command that was misused
-pub refused_misuse : (a : App) (arguments : List Text) (e : Error) (misuse : Misuse) → a ≡ zhcount → (is_simple_and_free a ≡ true → fault_of a arguments ≡ []) → IsMisuse (command_in arguments) misuse → kind_of e ≡ kind_by misuse → HasKind (refusals arguments) e
+pub refused_misuse : (a : App) (arguments : List Text) (e : Error) (misuse : Misuse) → a ≡ zhcount
+    → (is_simple_and_free a ≡ true → fault_of a arguments ≡ []) → IsMisuse (command_in arguments) misuse → kind_of e ≡ kind_by misuse
+    → HasKind (refusals arguments) e
 refused_misuse a arguments e misuse is kinds misused kind =
     let all : refusals arguments ≡ kind_by misuse ∷ [] = taken a arguments is kinds ∙ ap (λ (m : Option Misuse). option_map_or (λ misuse. kind_by misuse ∷ []) m []) misused in
     subst (λ (ks : Kinds). HasKind ks e) (sym all) (inr (inl kind))

@@ -27,14 +27,18 @@ number_read text (Some n) (small, is) =
     rw (value, lt-ltb n (2 ^ 32) small, equal text (decimal n) is) refl
 
 -- the part that was given
-part_read : (rows : List Row) (m d : Option Text) → m ≡ first_of (codes "municipality") rows → d ≡ first_of (codes "constituency") rows → part_of m d ≡ part_of (first_of (codes "municipality") rows) (first_of (codes "constituency") rows)
+part_read : (rows : List Row) (m d : Option Text) → m ≡ first_of (codes "municipality") rows → d ≡ first_of (codes "constituency") rows
+    → part_of m d ≡ part_of (first_of (codes "municipality") rows) (first_of (codes "constituency") rows)
 part_read rows m d m_is d_is = λ i. part_of (m_is i) (d_is i)
 
 -- the table of the name and the part that were given
-pub table_read : (rows : List Row) (m d : Option Text) (name : Text) (part : Part) (result : Option Table) → m ≡ first_of (codes "municipality") rows → d ≡ first_of (codes "constituency") rows → name ≡ path_in (codes "of") rows → Some part ≡ part_of m d → result ≡ table_named name part → result ≡ table_in rows
+pub table_read : (rows : List Row) (m d : Option Text) (name : Text) (part : Part) (result : Option Table) → m
+    ≡ first_of (codes "municipality") rows → d ≡ first_of (codes "constituency") rows → name ≡ path_in (codes "of") rows → Some part
+    ≡ part_of m d → result ≡ table_named name part → result ≡ table_in rows
 table_read rows m d name part result m_is d_is name_is part_is is =
     is ∙ ap (λ (n : Text). table_named n part) name_is ∙ ap (option_and_then (table_named (path_in (codes "of") rows))) (part_is ∙ part_read rows m d m_is d_is)
 
 -- no table without a part
-pub no_part : (rows : List Row) (m d : Option Text) (result : Option Table) → m ≡ first_of (codes "municipality") rows → d ≡ first_of (codes "constituency") rows → None ≡ part_of m d → result ≡ None → result ≡ table_in rows
+pub no_part : (rows : List Row) (m d : Option Text) (result : Option Table) → m ≡ first_of (codes "municipality") rows → d
+    ≡ first_of (codes "constituency") rows → None ≡ part_of m d → result ≡ None → result ≡ table_in rows
 no_part rows m d result m_is d_is part_is is = is ∙ ap (option_and_then (table_named (path_in (codes "of") rows))) (part_is ∙ part_read rows m d m_is d_is)

@@ -10,8 +10,10 @@ use Rattle.clap.specs.declared.error.kind.ErrorKind.TheVariants as kinds
 use Rattle.clap.specs.Faults.{fault_of}
 use Rattle.clap.specs.declared.error.Error.{Error}
 use Rattle.zh_arguments.specs.declared.arguments.Paths.{Paths}
+use Rattle.zh_arguments.specs.declared.arguments.Query.{Query}
+use Rattle.zh_arguments.specs.declared.arguments.Query.TheVariants.{Export, Status, Seats}
 use Rattle.zh_arguments.specs.declared.arguments.Task.{Task}
-use Rattle.zh_arguments.specs.declared.arguments.Task.TheVariants.{Rehearse, Format, Run, Load, DryRun, Export}
+use Rattle.zh_arguments.specs.declared.arguments.Task.TheVariants.{Rehearse, Format, Run, Load, DryRun}
 use Rattle.zh_arguments.specs.declared.arguments.Task.TheVariants as tasks
 use Rattle.zh_arguments.specs.declared.check.CheckPaths.{CheckPaths}
 use Rattle.zh_arguments.specs.declared.misuse.Misuse.{Misuse}
@@ -64,16 +66,26 @@ unfoldable pub refusals : List Text → Kinds
 refusals arguments =
     or_else (fault_of zhcount arguments) (option_map_or (λ misuse. kind_by misuse ∷ []) (misuse_of (command_in arguments)) [])
 
+-- the name of the command of a query
+abbrev pub query_name : Query → Text
+query_name Export = codes "export"
+query_name (Status view) = codes "status"
+query_name (Seats is_final layout) = codes "seats"
+
 -- what a command asks for that works on a disk; which view of a status, and which seats, stands below
 abbrev pub AsksOnDisk : Text × List Row → Task → Type 0
 AsksOnDisk given (Format paths) = (given.0 ≡ codes "format") × ArePaths given.1 paths
 AsksOnDisk given (Run paths) = (given.0 ≡ codes "run") × ArePaths given.1 paths
 AsksOnDisk given (Load paths csv) = (given.0 ≡ codes "load") × AreLoadPaths given.1 false paths csv.now
 AsksOnDisk given (DryRun paths csv) = (given.0 ≡ codes "load") × AreLoadPaths given.1 true paths csv.now
-AsksOnDisk given (Export paths) = (given.0 ≡ codes "export") × ArePaths given.1 paths
-AsksOnDisk given (tasks.Status paths view) = (given.0 ≡ codes "status") × ArePaths given.1 paths
-AsksOnDisk given (tasks.Seats paths is_final layout) = (given.0 ≡ codes "seats") × ArePaths given.1 paths
+AsksOnDisk given (tasks.Show paths query) = (given.0 ≡ query_name query) × ArePaths given.1 paths
 AsksOnDisk given task = ⊥
+
+-- what else was given to the command of a query asks for this one
+abbrev pub IsQueryIn : List Row → Query → Type 0
+IsQueryIn rows Export = Unit {0}
+IsQueryIn rows (Status view) = view_in rows ≡ Some view
+IsQueryIn rows (Seats is_final layout) = (source_in rows ≡ Some (Disk is_final)) × (layout ≡ layout_in rows)
 
 -- the task that a command asks for, or no command
 abbrev pub Names : Option (Text × List Row) → Task → Type 0
@@ -82,12 +94,10 @@ Names (Some given) Rehearse =
     (given.0 ≢ codes "format") × (given.0 ≢ codes "run") × (given.0 ≢ codes "load") × (given.0 ≢ codes "export")
     × (given.0 ≢ codes "list") × (given.0 ≢ codes "status") × (given.0 ≢ codes "check")
     × (given.0 ≢ codes "seats")
-Names (Some given) (tasks.Status paths view) = AsksOnDisk given (tasks.Status paths view) × (view_in given.1 ≡ Some view)
+Names (Some given) (tasks.Show paths query) = AsksOnDisk given (tasks.Show paths query) × IsQueryIn given.1 query
 Names (Some given) (tasks.List setup table) =
     (given.0 ≡ codes "list") × (setup.now ≡ path_in (codes "setup") given.1) × (table_in given.1 ≡ Some table)
 Names (Some given) (tasks.Check paths) = (given.0 ≡ codes "check") × AreCheckPaths given.1 paths
-Names (Some given) (tasks.Seats paths is_final layout) =
-    AsksOnDisk given (tasks.Seats paths is_final layout) × (source_in given.1 ≡ Some (Disk is_final)) × (layout ≡ layout_in given.1)
 Names (Some given) (tasks.SheetSeats setup sheet layout) =
     (given.0 ≡ codes "seats") × (source_in given.1 ≡ Some Sheet) × (setup.now ≡ path_in (codes "setup") given.1)
     × (sheet.now ≡ path_in (codes "sheet") given.1) × (layout ≡ layout_in given.1)

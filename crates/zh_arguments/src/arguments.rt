@@ -28,6 +28,17 @@ pub struct Paths<'a> {
     pub disk: &'a str,
 }
 
+/// What is asked of what is held on a disk.
+#[derive(Clone, Copy)]
+pub enum Query {
+    /// It as CSV.
+    Export,
+    /// How far the returns have come in.
+    Status(View),
+    /// Its seats.
+    Seats { is_final: bool, layout: Layout },
+}
+
 /// What the program is asked to do.
 #[derive(Clone, Copy)]
 pub enum Task<'a> {
@@ -47,13 +58,8 @@ pub enum Task<'a> {
         paths: Paths<'a>,
         csv: &'a str,
     },
-    /// Write what is held as CSV.
-    Export(Paths<'a>),
-    /// Write how far the returns have come in.
-    Status {
-        paths: Paths<'a>,
-        view: View,
-    },
+    /// Write what a query asks of what is held.
+    Show(Paths<'a>, Query),
     /// Write a table of the set-up as CSV.
     List {
         setup: &'a str,
@@ -61,12 +67,6 @@ pub enum Task<'a> {
     },
     /// Check a published sheet.
     Check(CheckPaths<'a>),
-    /// Write the seats of the count on the disk.
-    Seats {
-        paths: Paths<'a>,
-        is_final: bool,
-        layout: Layout,
-    },
     /// Write the seats of a published sheet.
     SheetSeats {
         setup: &'a str,
@@ -101,15 +101,15 @@ fn named_task<'a>(name: &'a str, given: &ArgMatches<'a>) -> Result<Task<'a>, Mis
         "format" => Task::Format(paths_in(given)),
         "run" => Task::Run(paths_in(given)),
         "load" => load_in(given),
-        "export" => Task::Export(paths_in(given)),
+        "export" => Task::Show(paths_in(given), Query::Export),
         "list" => Task::List {
             setup: setup_in(given),
             table: table_in(given).ok_or(Misuse::Table)?,
         },
-        "status" => Task::Status {
-            paths: paths_in(given),
-            view: view_in(given).ok_or(Misuse::Flags)?,
-        },
+        "status" => Task::Show(
+            paths_in(given),
+            Query::Status(view_in(given).ok_or(Misuse::Flags)?),
+        ),
         "check" => Task::Check(check_paths_in(given)),
         "seats" => seats_in(given).ok_or(Misuse::Source)?,
         _ => Task::Rehearse,

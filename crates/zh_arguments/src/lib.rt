@@ -10,6 +10,6 @@ mod seats;
 mod table;
 mod view;
 
-pub use arguments::{Paths, Task, read_arguments};
+pub use arguments::{Paths, Query, Task, read_arguments};
 pub use check::CheckPaths;
 pub use seats::Layout;

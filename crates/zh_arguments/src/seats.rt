@@ -7,7 +7,7 @@ ghost use Rattle.zh_arguments.specs.Arguments.{Names};
 ghost use Rattle.zh_arguments.specs.Seats.{is_given, layout_in, source_in, source_of};
 ghost use Rattle.zh_arguments.specs.Table.{path_in};
 
-use crate::arguments::{Task, paths_in, setup_in};
+use crate::arguments::{Query, Task, paths_in, setup_in};
 use crate::commands::{flag, option, setup_path};
 use crate::view::has_flag;
 use clap::{ArgMatches, Command};
@@ -113,11 +113,9 @@ fn task_from<'a>(source: Source, given: &ArgMatches<'a>) -> Task<'a>
 {
     let layout = layout_in(given);
     match source {
-        Source::Disk { is_final } => Task::Seats {
-            paths: paths_in(given),
-            is_final,
-            layout,
-        },
+        Source::Disk { is_final } => {
+            Task::Show(paths_in(given), Query::Seats { is_final, layout })
+        }
         Source::Sheet => Task::SheetSeats {
             setup: setup_in(given),
             sheet: sheet_in(given),

@@ -18,23 +18,26 @@ use Rattle.zh_commands.specs.declared.lines.Request.{Request}
 use Rattle.zh_commands.specs.declared.lines.Request.TheVariants as requests
 use Rattle.zh_commands.specs.declared.replies.Reply.{Reply}
 use Rattle.zh_commands.specs.declared.replies.Reply.TheVariants.{Refused, Stored}
+use Rattle.zh_commands.specs.declared.replies.Refusal.TheVariants as refusals
 use Rattle.zh_totals.specs.Counting.{totals_of}
 use Rattle.zh_totals.specs.Totals.{VoteTotals}
 use Rattle.zh_sheet.specs.Distribution.{Distribution}
 use Rattle.zh_sheet.specs.Made.{IsMade, IsSheetOf}
+use Rattle.zh_sheet.specs.Refusals.{LeaveNoSeats}
 use Rattle.zh_sheet.specs.declared.fault.SheetFault.{SheetFault}
 use Rattle.zh_sheet.specs.declared.fault.SheetFault.TheVariants as faults
+use Rattle.zh_sheet.specs.declared.refusal.SheetRefusal.TheVariants as sheets
 use Rattle.zh_ledger.specs.Ledger.{Ledger}
 use Rattle.zh_ledger.specs.Submissions.{Log, OnDisk}
 use Rattle.zh_ledger.specs.declared.outcome.Outcome.{Outcome}
 use Rattle.zh_ledger.specs.declared.outcome.Outcome.TheVariants as outcomes
-use Rattle.zh_answers.specs.Answers.{MayAdd, MayAnswerRow, MayAnswerTo, MayHold, MayReplyTo, answer_to_commit, answer_to_drop, answer_to_open, reply_by_place, shown, shown_content, shown_desk}
+use Rattle.zh_answers.proofs.CallerLemmas.{is_plain, HoldsWithoutCommand, without_command}
 use Rattle.zh_answers.specs.Requests.{Acts, MayAnswerWhere, reply_to}
 use Rattle.zh_answers.specs.Sheets.{MayAnswerFinal, MayGive, answer_with, sheet_refusal}
 use Rattle.zh_answers.specs.declared.answer.Answer.{Answer}
 use Rattle.zh_answers.specs.declared.answer.Answer.TheVariants as answers
 use Rattle.zh_office.specs.Office.{MayAnswer, Office}
-use Rattle.zh_program.specs.Sheets.{FollowsFrom, LeaveNoSeats, IsTie}
+use Rattle.zh_program.specs.Sheets.{FollowsFrom, IsTie}
 use Rattle.zh_program.proofs.TieLemmas.{tied_above, tied_seats}
 
 -- what an answer says of these totals
@@ -76,15 +79,10 @@ tie_fair totals reply other none = record { fair = record { sheet = λ sheet is_
 
 -- a sheet, or why there is none
 fault_fair : (totals : VoteTotals) (fault : SheetFault) → IsMade totals (Err fault) → StoresNone totals (answers.Reply (Refused (sheet_refusal fault)))
-fault_fair totals faults.TiedSeats made = tie_fair totals _ (λ number is. absurd cc) (tied_seats totals (made.refused.refused faults.TiedSeats refl).holds)
-fault_fair totals faults.TiedUpper made = tie_fair totals _ (λ number is. absurd cc) (tied_above totals (made.refused.refused faults.TiedUpper refl).holds)
-fault_fair totals (faults.TiedLower d g) made = tie_fair totals _ (λ number is. absurd cc) (made.refused.tied d g refl)
-fault_fair totals faults.Memory made = plain totals _ (λ no. no)
-fault_fair totals (faults.NoSeat d) made = plain totals _ (λ no. no)
-fault_fair totals faults.NoGroup made = plain totals _ (λ no. no)
-fault_fair totals faults.NoVoters made = plain totals _ (λ no. no)
-fault_fair totals (faults.NoVotes d) made = plain totals _ (λ no. no)
-fault_fair totals faults.Exhausted made = plain totals _ (λ no. no)
+fault_fair totals (faults.Refused sheets.TiedSeats) made = tie_fair totals _ (λ number is. absurd cc) (tied_seats totals made.refused.refused.holds)
+fault_fair totals (faults.Refused sheets.TiedUpper) made = tie_fair totals _ (λ number is. absurd cc) (tied_above totals made.refused.refused.holds)
+fault_fair totals (faults.Refused (sheets.TiedLower d g)) made = tie_fair totals _ (λ number is. absurd cc) (made.refused.tied d g refl)
+fault_fair totals _ made = plain totals _ (λ no. no)
 
 follows : (totals : VoteTotals) (sheet : Distribution) → IsSheetOf totals sheet → FollowsFrom totals sheet
 follows totals sheet is = record { votes = is.votes; meets = is.meets }
@@ -107,84 +105,38 @@ made_fair totals is_final (Err fault) made = fault_fair totals fault made
 given_fair : (tally : Tally) (is_final : Bool) (answer : Answer) → MayGive tally is_final answer → StoresNone (totals_of tally) answer
 given_fair tally is_final answer (made, is, same) = same_fair (totals_of tally) answer (answer_with is_final made) same (made_fair (totals_of tally) is_final made is)
 
-final_fair : (tally : Tally) (answer : Answer) → MayAnswerFinal tally answer → StoresNone (totals_of tally) answer
-final_fair tally answer may = ⊎_elim
-    (λ one. same_fair (totals_of tally) answer _ one.2 (plain (totals_of tally) _ (λ no. no)))
-    (λ closed. given_fair tally true answer closed.1) may
+-- a plain reply reports neither
+plain_unmarked : (reply : Reply) → is_plain reply ≡ true → ¬ IsMarked (answers.Reply reply)
+plain_unmarked (Stored number) is marked = absurd (cc)
+plain_unmarked (Refused (refusals.Judged reason)) is marked = absurd marked
+plain_unmarked (Refused (refusals.Row fault)) is marked = absurd marked
+plain_unmarked (Refused refusals.NoBatch) is marked = absurd marked
+plain_unmarked (Refused refusals.BatchOpen) is marked = absurd marked
+plain_unmarked (Refused refusal) is marked = absurd (cc)
+plain_unmarked reply is marked = absurd marked
 
--- the replies that report nothing of a sheet
-module _ (totals : VoteTotals) where
-  reply_fair : (a b : Reply) → a ≡ b → ¬ IsMarked (answers.Reply b) → StoresNone totals (answers.Reply a)
-  reply_fair a b same none = same_fair totals (answers.Reply a) (answers.Reply b) (ap (λ (r : Reply). answers.Reply r) same) (plain totals b none)
+-- the answers to a line without a command
+answered_fair : (tally : Tally) → HoldsWithoutCommand tally (λ request answer. StoresNone (totals_of tally) answer)
+answered_fair tally = record {
+  plain = λ request reply is. plain (totals_of tally) reply (plain_unmarked reply is);
+  memory = λ row. plain (totals_of tally) _ (λ no. no);
+  sheet = given_fair tally false;
+  final = given_fair tally true;
+}
 
-  opened_plain : (rows : Option (List Row)) → ¬ IsMarked (answers.Reply (answer_to_open rows))
-  opened_plain None = λ no. no
-  opened_plain (Some rows) = λ no. no
-
-  dropped_plain : (rows : Option (List Row)) → ¬ IsMarked (answers.Reply (answer_to_drop rows))
-  dropped_plain None = λ no. no
-  dropped_plain (Some rows) = λ no. no
-
-  committed_plain : (rows : Option (List Row)) → ¬ IsMarked (answers.Reply (answer_to_commit rows))
-  committed_plain None = λ no. no
-  committed_plain (Some rows) = λ no. no
-
-  content_plain : (number : ℕ) (votes : Option ℕ) → ¬ IsMarked (answers.Reply (shown_content number votes))
-  content_plain number None = λ no. no
-  content_plain number (Some votes) = λ no. no
-
-  shown_plain : (entry : Option Entry) → ¬ IsMarked (answers.Reply (shown entry))
-  shown_plain None = λ no. no
-  shown_plain (Some entry) = content_plain entry.number entry.votes
-
-  desk_plain : (entry : Option Entry) → ¬ IsMarked (answers.Reply (shown_desk entry))
-  desk_plain None = λ no. no
-  desk_plain (Some entry) = λ no. no
-
-  placed_plain : (place : Option Misplaced) (reply : Reply) → ¬ IsMarked (answers.Reply reply) → ¬ IsMarked (answers.Reply (reply_by_place place reply))
-  placed_plain (Some place) reply none = λ no. no
-  placed_plain None reply none = none
-
-  hold_fair : (fault : Option RowFault) (count : ℕ) (reply : Reply) → MayHold fault count reply → StoresNone totals (answers.Reply reply)
-  hold_fair (Some fault) count reply may = reply_fair reply _ may (λ no. no)
-  hold_fair None count reply may = ⊎_elim (λ held. reply_fair reply _ held (λ no. no)) (λ memory. reply_fair reply _ memory (λ no. no)) may
-
-  add_fair : (reason : Option Reason) (rows : List Row) (row : Row) (reply : Reply) → MayAdd reason rows row reply → StoresNone totals (answers.Reply reply)
-  add_fair (Some reason) rows row reply may = reply_fair reply _ may (λ no. no)
-  add_fair None rows row reply may = hold_fair (fault_in rows row) _ reply may
-
-  row_fair : (tally : Tally) (rows : Option (List Row)) (row : Row) (reply : Reply) → MayAnswerRow tally rows row reply → StoresNone totals (answers.Reply reply)
-  row_fair tally None row reply may = reply_fair reply _ may (λ no. no)
-  row_fair tally (Some rows) row reply may = add_fair (unfit tally.canton row) rows row reply may
-
-  replied_fair : (tally : Tally) (batches : desks.Held) (desk : Desk) (request : Request) (reply : Reply) → MayReplyTo tally batches desk request reply → StoresNone totals (answers.Reply reply)
-  replied_fair tally batches desk requests.Open reply may = reply_fair reply _ may (opened_plain (rows_of batches desk))
-  replied_fair tally batches desk (requests.Row row) reply may = row_fair tally (rows_of batches desk) row reply may
-  replied_fair tally batches desk requests.Commit reply may = reply_fair reply _ may (committed_plain (rows_of batches desk))
-  replied_fair tally batches desk requests.Drop reply may = reply_fair reply _ may (dropped_plain (rows_of batches desk))
-  replied_fair tally batches desk (requests.Show municipality list) reply may = reply_fair reply _ may (placed_plain _ _ (shown_plain (held tally municipality list)))
-  replied_fair tally batches desk (requests.Last municipality list) reply may = reply_fair reply _ may (placed_plain _ _ (desk_plain (held tally municipality list)))
-  replied_fair tally batches desk request reply may = absurd may
-
-  -- the report of an outcome
-  outcome_plain : (outcome : Outcome) → ¬ IsTie (answers.Reply (reply_to outcome))
-  outcome_plain (outcomes.Stored number) = λ no. no
-  outcome_plain outcomes.Same = λ no. no
-  outcome_plain (outcomes.Refused reason) = λ no. no
-  outcome_plain outcomes.Spent = λ no. no
-  outcome_plain outcomes.Device = λ no. no
-  outcome_plain outcomes.Broken = λ no. no
-
--- the answer to a line without a command
-answered_fair : (tally : Tally) (batches : desks.Held) (desk : Desk) (request : Request) (answer : Answer) → MayAnswerTo tally batches desk request answer → StoresNone (totals_of tally) answer
-answered_fair tally batches desk requests.Sheet answer may = given_fair tally false answer may
-answered_fair tally batches desk requests.Final answer may = final_fair tally answer may
-answered_fair tally batches desk request (answers.Reply reply) may = replied_fair (totals_of tally) tally batches desk request reply may
-answered_fair tally batches desk request (answers.Sheet sheet is_final) may = absurd may
+-- the report of an outcome
+outcome_plain : (outcome : Outcome) → ¬ IsTie (answers.Reply (reply_to outcome))
+outcome_plain (outcomes.Stored number) = λ no. no
+outcome_plain outcomes.Same = λ no. no
+outcome_plain (outcomes.Refused reason) = λ no. no
+outcome_plain outcomes.Spent = λ no. no
+outcome_plain outcomes.Device = λ no. no
+outcome_plain outcomes.Broken = λ no. no
 
 where_fair : (broken : Bool) (tally : Tally) (batches : desks.Held) (line : Line) (answer : Answer) → MayAnswerWhere broken tally batches line answer → StoresNone (totals_of tally) answer
 where_fair true tally batches line answer may = same_fair (totals_of tally) answer _ may (plain (totals_of tally) _ (λ no. no))
-where_fair false tally batches line answer may = answered_fair tally batches line.desk line.request answer may
+where_fair false tally batches line answer may =
+    without_command tally (λ request answer. StoresNone (totals_of tally) answer) (answered_fair tally) batches line.desk line.request answer may
 
 pub may_fair : (office : Office) (reading : Result Line LineFault) (answer : Answer) → MayAnswer office reading answer → StoresNone (totals_of office.ledger.tally) answer
 may_fair office (Err lines.Syntax) answer may = same_fair (totals_of office.ledger.tally) answer _ may (plain (totals_of office.ledger.tally) _ (λ no. no))
@@ -197,7 +149,7 @@ pub acts_fair : (old new : OnDisk Ledger) (command : Option Command) (May : Answ
 acts_fair old new None May answer more fair (may, none, same) = subst (λ (o : OnDisk Ledger). IsFair (totals_of o.holder.tally) answer) (sym same) (fair answer may).fair
 acts_fair old new (Some command) May answer more fair (by, logs) =
     let totals = totals_of new.holder.tally in
-    subst (IsFair totals) (sym by.reply) (fair_reply totals (reply_to by.outcome) (outcome_plain totals by.outcome))
+    subst (IsFair totals) (sym by.reply) (fair_reply totals (reply_to by.outcome) (outcome_plain by.outcome))
 
 -- `stored` is the answer to a command.
 pub acts_stored : (old new : OnDisk Ledger) (command : Option Command) (May : Answer → Type 0) (answer : Answer) (more : Log) → ((a : Answer) → May a → StoresNone (totals_of old.holder.tally) a) → Acts old command May answer more new

@@ -5,7 +5,7 @@ use Rattle.zh_disk.specs.History.{History}
 use Rattle.zh_districts.specs.Canton.{Canton, IsCanton}
 use Rattle.zh_returns.specs.Tally.{Tally}
 use Rattle.zh_ledger.specs.Opening.{MayLeave, Opening, Opens}
-use Rattle.zh_ledger.specs.Stands.{Holds, Stands}
+use Rattle.zh_ledger.specs.Stands.{Holds, HoldsFramed}
 use Rattle.zh_ledger.specs.Submissions.{OnDisk}
 use Rattle.zh_ledger.specs.declared.fault.OpenFault.{OpenFault}
 use Rattle.zh_office.specs.Office.{Office}
@@ -27,7 +27,7 @@ use Rattle.zh_ledger.proofs.CallerLemmas.{has_none}
 pub record Keeps (canton : Canton) (first last : History) (talk : Conversation) (xs : List Exchange) : Type 0 where
   pub office : IsTrue last.honest → (bytes : List ℕ) → first.trail ≡ fresh_trail bytes → (tally : Tally) → IsCanton tally.canton → Holds tally bytes
       → Headline tally (fresh_trail bytes) talk xs
-  pub idle : IsTrue last.honest → (bytes : List ℕ) → first.trail ≡ fresh_trail bytes → ((tally : Tally) → IsCanton tally.canton → ¬ Stands tally bytes) → xs ≡ []
+  pub idle : IsTrue last.honest → (bytes : List ℕ) → first.trail ≡ fresh_trail bytes → ((tally : Tally) → IsCanton tally.canton → ¬ HoldsFramed tally bytes) → xs ≡ []
 
 -- how an office goes on from its start
 abbrev pub GoesOnTo : OnDisk Office → List Exchange → OnDisk Office → Type 0
@@ -45,7 +45,7 @@ opened_keeps canton first last start end xs old new limits from goes told = reco
         headline_of tally (fresh_trail bytes) (talking old new start.history.trail last.trail) xs (opening_always canton first start from.begun (from.honest honest) bytes fresh tally limits own holds) then.0
         (then.1.disk ∙ ap (λ (h : History). h.trail) from.ended) told
 
-    stood : IsTrue last.honest → (bytes : List ℕ) → first.trail ≡ fresh_trail bytes → ((tally : Tally) → IsCanton tally.canton → ¬ Stands tally bytes) → xs ≡ []
+    stood : IsTrue last.honest → (bytes : List ℕ) → first.trail ≡ fresh_trail bytes → ((tally : Tally) → IsCanton tally.canton → ¬ HoldsFramed tally bytes) → xs ≡ []
     stood honest bytes fresh none =
         let opens = subst (λ (t : Trail). Opens canton (Ok start.holder.ledger) t start.history.trail) fresh (from.begun.opening.call.did (from.honest honest)) in
         absurd (none start.holder.ledger.tally (subst IsCanton (sym from.begun.opening.ready.set_up) limits) opens.opened.stood)

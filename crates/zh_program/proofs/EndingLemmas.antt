@@ -1,27 +1,25 @@
 -- What the program says of a task, by how it ended.
 use Rattle.std.proofs.Common.{◌≡◌, ◌≢◌, ◌∙◌, ℕ, Option, Result, Ok, Err, IfErr, MatchResult, sym, ap, subst}
 use Rattle.zh_arguments.specs.declared.arguments.Task.{Task}
-use Rattle.zh_world.specs.declared.world.World.{World}
 use Rattle.zh_tasks.specs.Remarks.{BecameOf}
 use Rattle.zh_tasks.specs.Tasks.{Does}
-use Rattle.zh_tasks.specs.World.{Known}
+use Rattle.zh_tasks.specs.World.{Known, UsedOf, WorldOf}
 use Rattle.zh_tasks.specs.declared.fault.TaskFault.{TaskFault}
-use Rattle.zh_tasks.specs.declared.used.Used.{Used}
 use Rattle.zh_tasks.specs.declared.fault.TaskFault.TheVariants as faults
 use Rattle.zh_program.specs.Program.{MetFault, ends}
 use Rattle.zh_program.specs.Paths.{fault_path}
 use Rattle.zh_program.specs.Reports.{report_text}
 
-module _ {I O E F T D R : Type 0} (of : Known I O E F T D R) where
+module _ (of : Known) where
   -- a task that ended with status 0 was done, and nothing more is said of it
-  pub was_done : (task : Task) (old after new : World I O E F) (result : Result (Unit {0}) TaskFault) (used : Option (Used I O D T)) (status : ℕ)
+  pub was_done : (task : Task) (old after new : WorldOf of) (result : Result (Unit {0}) TaskFault) (used : Option (UsedOf of)) (status : ℕ)
       → Does of task old after (ends result used) → MatchResult result (λ _. (status ≡ 0) × (new ≡ after)) (λ _. status ≡ 1) → status ≡ 0
       → Does of task old new (ends (Ok tt) used)
-  was_done task old after new (Ok done) used status does by zero = subst (λ (w : World I O E F). Does of task old w (ends (Ok tt) used)) (sym by.1) does
+  was_done task old after new (Ok done) used status does by zero = subst (λ (w : WorldOf of). Does of task old w (ends (Ok tt) used)) (sym by.1) does
   was_done task old after new (Err fault) used status does by zero = absurd cc
 
   -- one that ended with status 1 met a fault, which is reported; of a file that was refused nothing is
-  pub met_fault : (task : Task) (old after new : World I O E F) (result : Result (Unit {0}) TaskFault) (used : Option (Used I O D T)) (status : ℕ)
+  pub met_fault : (task : Task) (old after new : WorldOf of) (result : Result (Unit {0}) TaskFault) (used : Option (UsedOf of)) (status : ℕ)
       → Does of task old after (ends result used) → MatchResult result (λ _. (status ≡ 0) × (new ≡ after)) (λ _. status ≡ 1)
       → new ≡ record after { faults = new.faults; remark = new.remark } → (result ≡ Err faults.Refused → new ≡ after)
       → IfErr result (λ fault. fault ≢ faults.Refused → BecameOf new.remark (of.errors.contents after.faults) (of.errors.contents new.faults) (report_text (fault_path task fault) fault)) → status ≡ 1

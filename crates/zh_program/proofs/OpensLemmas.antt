@@ -12,7 +12,7 @@ use Rattle.zh_records.specs.declared.format.Format.{Format}
 use Rattle.zh_records.specs.declared.format.Format.TheVariants.{One}
 use Rattle.zh_ledger.specs.Ledger.{Ledger}
 use Rattle.zh_ledger.specs.Opening.{IsCause, MayLeave, Migrates, Opens}
-use Rattle.zh_ledger.specs.Stands.{Holds, IsKept, Stands, StandsFor}
+use Rattle.zh_ledger.specs.Stands.{Holds, HoldsLedger, HoldsFramed, StandsFor}
 use Rattle.zh_ledger.specs.Submissions.{OnDisk}
 use Rattle.zh_ledger.specs.declared.fault.OpenFault.{OpenFault}
 use Rattle.zh_ledger.specs.declared.fault.OpenFault.TheVariants as faults
@@ -73,14 +73,14 @@ module _ (canton : Canton) (first : History) (start : OnDisk Office) (begun : Is
   pub opening_always : Always (Holds tally) (fresh_trail bytes) start.history.trail
   opening_always = opening_holds canton bytes tally limits own holds start.history.trail opens.moments
 
-  stood : Stands start.holder.ledger.tally bytes
+  stood : HoldsFramed start.holder.ledger.tally bytes
   stood = opens.opened.stood
 
   own_count : start.holder.ledger.tally ≡ tally
   own_count = found_count canton (fresh_trail bytes) start.history.trail start.holder.ledger opens tally
       (same_canton canton bytes tally limits own holds start.holder.ledger.tally stood.format stood.content stood.end stood.framed stood.stands begun.opening.ready.set_up) holds
 
-  knows : (c : List ℕ) → IsImage start.history.trail.now c → IsKept start.holder.ledger c
+  knows : (c : List ℕ) → IsImage start.history.trail.now c → HoldsLedger start.holder.ledger c
   knows = begun.kept honest holds.content holds.end (subst (λ (t : Trail). IsClean holds.content holds.end t.now.bytes) (sym fresh) holds.clean)
 
   pub started : IsAt tally start.history.trail [] start

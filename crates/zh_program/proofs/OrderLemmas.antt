@@ -1,9 +1,9 @@
 -- The exchanges of a conversation that is in order.
-use Rattle.std.proofs.Common.{◌≡◌, ◌≤◌, ◌⊎◌, inl, inr, ⊎_elim, ◌+◌, ℕ, List, [], ◌∷◌, ◌++◌, map, length, length-append, take, refl, sym, ◌∙◌, ap, subst, arith, append_assoc, Option, None, Some}
+use Rattle.std.proofs.Common.{◌≡◌, ◌≤◌, ◌⊎◌, inl, inr, ⊎_elim, ◌+◌, ℕ, List, [], ◌∷◌, ◌++◌, map, length, length-append, take, refl, sym, ◌∙◌, ap, subst, arith, append_assoc, Option}
 use Rattle.std.proofs.Math.Seq.{take-append-add, take-append_seam, take-length}
 use Rattle.std.proofs.lemmas.List.{append-nil}
 use Rattle.std.specs.Prelude.{flat_map}
-use Rattle.std.specs.Io.KnownBytes.{Appends, Consumes}
+use Rattle.std.specs.Io.KnownBytes.{Appends}
 use Rattle.std.proofs.KnownBytes.{Appends-nil, Appends-trans}
 use Rattle.zh_disk.specs.Disk.{IsImage, Trail}
 use Rattle.zh_film.specs.Frames.{Frame, InOrder, now_at}
@@ -13,7 +13,6 @@ use Rattle.zh_ledger.specs.Images.{HasSome}
 use Rattle.zh_ledger.specs.Submissions.{Log}
 use Rattle.zh_office.specs.Order as steps
 use Rattle.zh_office.specs.Order.{ComesAfter, IsDone, Step, disk_after, texts}
-use Rattle.zh_office.specs.Text.{ended_lines}
 use Rattle.zh_tasks.specs.Run.{Streams}
 use Rattle.zh_program.specs.Exchanges.{Exchange, disk_by, line_in, log_of, text_of}
 use Rattle.zh_program.specs.Order.{AnswersBeforeReading, Conversation, KeepsWhatIsTold, Throughout}
@@ -21,7 +20,7 @@ use Rattle.zh_program.specs.Stopped.{Always}
 use Rattle.zh_program.proofs.AlwaysLemmas.{always_same}
 use Rattle.zh_program.proofs.ExchangeLemmas.{disk_more, log_append}
 use Rattle.zh_program.proofs.SoundLemmas.{has_front}
-use Rattle.zh_program.proofs.TurnLemmas.{AreTurns, AtRest, IsOne, at_any, at_one}
+use Rattle.zh_program.proofs.TurnLemmas.{AreTurns, at_any, at_one}
 
 -- an exchange, as a step
 abbrev pub step_in : Exchange → Step

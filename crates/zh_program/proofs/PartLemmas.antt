@@ -1,5 +1,5 @@
 -- What a task on a disk has done, by the task.
-use Rattle.std.proofs.Common.{◌≡◌, ◌≢◌, ◌⊎◌, inl, inr, ⊎_elim, ℕ, List, [], Option, Some, None, Bool, Result, Err, Ok, OnOk, IsTrue, refl, sym, ◌∙◌, ◌∷◌, ap, map, subst}
+use Rattle.std.proofs.Common.{◌≡◌, ◌≢◌, ℕ, List, [], Option, Some, None, Result, Err, Ok, OnOk, IsTrue, refl, sym, ◌∙◌, ◌∷◌, ap, map, subst}
 use Rattle.std.specs.Prelude.{length, slice_index}
 use Rattle.std.specs.Borrow.{Bor}
 use Rattle.std.specs.Io.KnownBytes.{Keeps as KeepsBytes}
@@ -14,27 +14,19 @@ use Rattle.zh_ledger.specs.declared.fault.OpenFault.{OpenFault}
 use Rattle.zh_office.specs.Office.{Office}
 use Rattle.zh_arguments.specs.declared.arguments.Paths.{Paths}
 use Rattle.zh_arguments.specs.declared.arguments.Task.{Task}
-use Rattle.zh_arguments.specs.declared.arguments.Task.TheVariants as tasks
-use Rattle.zh_arguments.specs.declared.arguments.Task.TheVariants.{Format, Run, Load, Export}
+use Rattle.zh_arguments.specs.declared.arguments.Task.TheVariants.{Format, Run, Load}
 use Rattle.zh_world.specs.Files.{Begins, BeginsOrIsMade, BeginsWith}
-use Rattle.zh_world.specs.declared.world.World.{World}
-use Rattle.zh_office.specs.declared.service.ServeFault.TheVariants as serving
-use Rattle.zh_tasks.specs.DryRun.{DryRuns, HasDryRun}
 use Rattle.zh_tasks.specs.Format.{Formatted, FormatsBlank}
 use Rattle.zh_tasks.specs.Load.{HasLoaded, LoadsFile, LoadsText}
 use Rattle.zh_tasks.specs.Opened.{IsFrom, IsOnlyOpened, WithOffice}
 use Rattle.zh_film.specs.Frames.{frame_of, frames}
 use Rattle.zh_film.specs.Scenes.{scenes}
 use Rattle.zh_tasks.specs.Run.{Ran, Serves, Streams, streams_of}
-use Rattle.zh_tasks.specs.Shown.{HasShown, ShowsHeld}
-use Rattle.zh_tasks.specs.declared.shown.Shown.{Shown}
-use Rattle.zh_tasks.specs.World.{IsMetAt, IsSetupAt, Known}
+use Rattle.zh_tasks.specs.Reading.{MakesReading}
+use Rattle.zh_tasks.specs.World.{FilmedOf, IsMetAt, IsSetupAt, Known, ObservedOf, WorldOf}
 use Rattle.zh_tasks.specs.declared.fault.TaskFault.{TaskFault}
-use Rattle.zh_tasks.specs.declared.used.Filmed.{Filmed}
 use Rattle.zh_tasks.specs.declared.fault.TaskFault.TheVariants as faults
-use Rattle.zh_tasks.specs.declared.file.TaskFile.TheVariants as files
 use Rattle.zh_world.specs.declared.fault.FileFault.{FileFault}
-use Rattle.zh_tasks.specs.declared.used.Observed.{Observed}
 use Rattle.zh_program.specs.Due.{AnswerLines, AreOfTask, talk_of}
 use Rattle.zh_program.specs.Exchanges.{Exchange}
 use Rattle.zh_program.specs.Order.{Conversation}
@@ -61,17 +53,6 @@ by_office : {X : Type 0} (canton : Canton) (first last : History) (nothing : Typ
 by_office canton first last nothing Does (Err (faults.Open fault)) by refused opened = refused fault refl by.0 by.1
 by_office canton first last nothing Does (Ok done) by refused opened = opened by
 by_office canton first last nothing Does (Err fault) by refused opened = opened by
-
--- nothing is given to an office by a dry run
-only_judged : (Met : FileFault → Type 0) (text w w' : Option (List ℕ)) (Spans : OnDisk Office → OnDisk Office → Type 0) (result : Result (Unit {0}) TaskFault) → DryRuns Met text w w' Spans result → IsOnlyOpened Spans
-only_judged Met text w w' Spans (Ok done) (forecast, other, has) = (has.start, has.spans)
-only_judged Met text w w' Spans (Err faults.Refused) (refused, records, has) = (has.start, has.spans)
-only_judged Met text w w' Spans (Err faults.Memory) by = (by.start, by.spans)
-only_judged Met text w w' Spans (Err (faults.Unopened files.Csv cause)) by = (by.1.start, by.1.spans)
-only_judged Met text w w' Spans (Err faults.CsvFile) by = (by.start, by.spans)
-only_judged Met text w w' Spans (Err (faults.Serve serving.Turns)) by = (by.start, by.spans)
-only_judged Met text w w' Spans (Err faults.Write) by = (by.start, by.spans)
-only_judged Met text w w' Spans (Err fault) by = absurd by
 
 pub known_fresh : (known : Option (List ℕ)) (first : History) (bytes : List ℕ) → Begins known first → known ≡ Some bytes → first.trail ≡ fresh_trail bytes
 known_fresh None first bytes begins is = absurd cc
@@ -109,23 +90,23 @@ pub held_made : (tally : Tally) (bytes : List ℕ) (t : Trail) → Holds tally b
 held_made tally [] t holds new = absurd (none_held tally [] refl holds)
 held_made tally (byte ∷ bytes) t holds is = is
 
-module _ {I O E F T D R : Type 0} (of : Known I O E F T D R) where
+module _ (of : Known) where
   -- the exchanges of a task, which were due, in its conversation, and what is kept of a disk that began with this history
-  pub record HasDone (task : Task) (old after : World I O E F) (status : ℕ) (canton : Canton) (first : History) (used : Filmed I O D T) : Type 0 where
+  pub record HasDone (task : Task) (old after : WorldOf of) (status : ℕ) (canton : Canton) (first : History) (used : FilmedOf of) : Type 0 where
     pub exchanges : List Exchange
     pub opened : Trail
     pub due : AreOfTask (of.files.text_at old.files) task (talk_of of task old after opened used) status exchanges
     pub told : IsTold exchanges (talk_of of task old after opened used)
     pub kept : Keeps canton first (of.disks.history used.disk) (talk_of of task old after opened used) exchanges
 
-  module _ (old after : World I O E F) (files : F) (first last : D) (observed : Observed I O D T) (canton : Canton) (limits : IsCanton canton) (status : ℕ) (result : Result (Unit {0}) TaskFault) (failed : (fault : TaskFault) → result ≡ Err fault → status ≢ 0) where
+  module _ (old after : WorldOf of) (files : of.Folder) (first last : of.Disk) (observed : ObservedOf of) (canton : Canton) (limits : IsCanton canton) (status : ℕ) (result : Result (Unit {0}) TaskFault) (failed : (fault : TaskFault) → result ≡ Err fault → status ≢ 0) where
     abbrev pub begun : History
     begun = of.disks.history first
 
     abbrev pub ended : History
     ended = of.disks.history last
 
-    abbrev pub used : Filmed I O D T
+    abbrev pub used : FilmedOf of
     used = record { disk = last; observed = observed }
 
     -- what the streams were, and what they are, with the film
@@ -170,12 +151,12 @@ module _ {I O E F T D R : Type 0} (of : Known I O E F T D R) where
         let known = of.files.text_at old.files csv.now in
         let Met : FileFault → Type 0 = IsMetAt of.files csv.now files after.files in
         let read : KeepsBytes known by.text.bytes = subst (λ (at : List ℕ → Option (List ℕ)). KeepsBytes (at csv.now) by.text.bytes) texts by.read in
-        let left : now.left ≡ before.left = ap (λ (world : World I O E F). of.readers.remaining world.input) by.rest in
+        let left : now.left ≡ before.left = ap (λ (world : WorldOf of). of.readers.remaining world.input) by.rest in
         let answered : HasAnswered known by.text before now read status canton limits begun ended → HasDone (Load paths csv) old after status canton begun used
         = λ a. record { exchanges = a.exchanges; opened = a.opened; due = a.due; told = a.told; kept = a.kept } in
         by_office canton begun ended ((after ≡ record old { files = files }) × (scenes observed.film ≡ [])) (LoadsFile Met ((after.output ≡ old.output) × (scenes observed.film ≡ [])) (LoadsText by.text before now)) result by.loaded
         (λ fault is nothing opening. answered (refused_answered known by.text before now read status canton limits begun ended fault (failed (faults.Open fault) is)
-        (record { left = left; written = ap (λ (world : World I O E F). of.writers.contents world.output) nothing.0; film = none_shown nothing.1 }) opening))
+        (record { left = left; written = ap (λ (world : WorldOf of). of.writers.contents world.output) nothing.0; film = none_shown nothing.1 }) opening))
         (λ loads. answered (load_done known by.text before now read status canton limits begun ended Met ((after.output ≡ old.output) × (scenes observed.film ≡ []))
         (λ same. record { left = left; written = ap of.writers.contents same.0; film = none_shown same.1 }) result failed loads))
 
@@ -212,16 +193,11 @@ module _ {I O E F T D R : Type 0} (of : Known I O E F T D R) where
           kept = subst (λ (talk : Conversation). Keeps canton begun ended talk []) (silent opened) (opened_keeps canton begun ended opens.0 opens.0 [] apart apart limits opens.1 (nothing_given opens.0) told);
         })
 
-    -- the same of a task that shows what is held
-    pub shown_part : (task : Task) → ((text_at : List ℕ → Option (List ℕ)) (talk : Conversation) → AreOfTask text_at task talk status []) → ((opened : Trail) → none_told opened ≡ talk_of of task old after opened used) → (May : Tally → Shown → Type 0)
-        → HasShown of May canton (record old { files = files }, first) (after, last) result → HasDone task old after status canton begun used
-    shown_part task none silent May by =
-        only_part task none silent (after ≡ record old { files = files }) (ShowsHeld of (record old { files = files }) after May) (λ shows. (shows.0, shows.1)) by.shown
-
-    pub dry_part : (paths : Paths) (csv : Bor (List ℕ)) → HasDryRun of csv.now canton (record old { files = files }, first) (after, last) result → HasDone (tasks.DryRun paths csv) old after status canton begun used
-    dry_part paths csv by =
-        only_part (tasks.DryRun paths csv) (λ text_at talk. refl) (λ opened. refl) (after ≡ record old { files = files }) (DryRuns (IsMetAt of.files csv.now files after.files) by.text (of.writers.contents old.output) (of.writers.contents after.output))
-        (only_judged (IsMetAt of.files csv.now files after.files) by.text (of.writers.contents old.output) (of.writers.contents after.output) (IsFrom canton begun ended) result) by.judged
+    -- the same of a task that reads what is held
+    pub read_part : (task : Task) → ((text_at : List ℕ → Option (List ℕ)) (talk : Conversation) → AreOfTask text_at task talk status []) → ((opened : Trail) → none_told opened ≡ talk_of of task old after opened used)
+        → (Reads : Tally → WorldOf of → WorldOf of → Result (Unit {0}) TaskFault → Type 0) → MakesReading of Reads canton (record old { files = files }, first) (after, last) result → HasDone task old after status canton begun used
+    read_part task none silent Reads by =
+        only_part task none silent (after ≡ record old { files = files }) (λ Spans end. (start : OnDisk Office) × Spans start start × Reads start.holder.ledger.tally (record old { files = files }) after end) (λ reads. (reads.0, reads.1)) by.read
 
     pub format_part : (paths : Paths) → Formatted of canton (record old { files = files }, first) (after, last) result → HasDone (Format paths) old after status canton begun used
     format_part paths by =

@@ -1,5 +1,5 @@
 -- What the program has done that hands a disk over, by its task.
-use Rattle.std.proofs.Common.{◌≡◌, ◌≢◌, ◌⊎◌, ⊎_elim, ℕ, List, Option, Some, None, Result, Err, IsTrue, refl, sym, ◌∙◌, ap, subst, codes}
+use Rattle.std.proofs.Common.{◌≡◌, ◌≢◌, ⊎_elim, ℕ, List, Option, Some, None, Result, Err, IsTrue, refl, sym, ◌∙◌, ap, subst, codes}
 use Rattle.std.specs.Prelude.{IsSomeAnd}
 use Rattle.zh_disk.specs.History.{History}
 use Rattle.zh_disk.specs.declared.memory.MemoryDisk.{MemoryDisk}
@@ -11,33 +11,28 @@ use Rattle.clap.specs.Words.{Row, Text}
 use Rattle.zh_arguments.specs.declared.arguments.Paths.{Paths}
 use Rattle.zh_arguments.specs.declared.arguments.Task.{Task}
 use Rattle.zh_arguments.specs.declared.arguments.Task.TheVariants as tasks
-use Rattle.zh_arguments.specs.declared.arguments.Task.TheVariants.{Rehearse, Format, Run, Load, Export}
+use Rattle.zh_arguments.specs.declared.arguments.Task.TheVariants.{Rehearse, Format, Run, Load}
 use Rattle.zh_world.specs.Files.{Begins}
 use Rattle.zh_world.specs.declared.world.Remark.{Remark}
-use Rattle.zh_world.specs.declared.world.World.{World}
 use Rattle.zh_tasks.specs.DryRun.{HasDryRun}
-use Rattle.zh_tasks.specs.Export.{MayExport}
 use Rattle.zh_tasks.specs.Format.{Formatted}
 use Rattle.zh_tasks.specs.Load.{HasLoaded}
 use Rattle.zh_tasks.specs.OnDisk.{HasUsed, UsesFilm}
 use Rattle.zh_tasks.specs.Run.{Ran}
-use Rattle.zh_tasks.specs.Seats.{MayShowSeats}
-use Rattle.zh_tasks.specs.Shown.{HasShown}
-use Rattle.zh_tasks.specs.Status.{MayShowStatus}
+use Rattle.zh_tasks.specs.Query.{MayShow}
+use Rattle.zh_tasks.specs.Reading.{MakesReading}
+use Rattle.zh_tasks.specs.Shown.{Shows}
 use Rattle.zh_tasks.specs.Tasks.{Does}
-use Rattle.zh_tasks.specs.World.{Known, finding, making}
+use Rattle.zh_tasks.specs.World.{FilmedOf, Known, ObservedOf, UsedOf, WorldOf, finding, making}
 use Rattle.zh_tasks.specs.declared.fault.TaskFault.{TaskFault}
-use Rattle.zh_tasks.specs.declared.used.Filmed.{Filmed}
-use Rattle.zh_tasks.specs.declared.used.Used.{Used}
 use Rattle.zh_tasks.specs.declared.used.Used.TheVariants.{Disk, Rehearsal}
-use Rattle.zh_tasks.specs.declared.used.Observed.{Observed}
 use Rattle.zh_program.specs.Due.{talk_of}
 use Rattle.zh_program.specs.Program.{disk_path, ends}
 use Rattle.zh_program.specs.Promise.{Promise}
 use Rattle.zh_program.specs.Stopped.{MakesEmpty}
 use Rattle.zh_program.proofs.OrderLemmas.{awaited_of}
 use Rattle.zh_program.proofs.TouchLemmas.{unfilmed}
-use Rattle.zh_program.proofs.PartLemmas.{HasDone, dry_part, format_part, known_fresh, held_made, known_made, load_part, made_empty, run_part, setup_limits, shown_part}
+use Rattle.zh_program.proofs.PartLemmas.{HasDone, format_part, known_fresh, held_made, known_made, load_part, made_empty, read_part, run_part, setup_limits}
 
 at_path : (rows : List Row) (paths : Paths) (path : List ℕ) → Some paths.disk.now ≡ Some path → ArePaths rows paths → path ≡ path_in (codes "disk") rows
 at_path rows paths path on are = let is : paths.disk.now ≡ path = cc in sym is ∙ are.1
@@ -52,27 +47,25 @@ asked_on (Some given) (Format paths) path on asks = (asks, at_path given.1 paths
 asked_on (Some given) (Run paths) path on asks = (asks, at_path given.1 paths path on asks.1)
 asked_on (Some given) (Load paths csv) path on asks = (asks, at_path given.1 paths path on asks.1.1)
 asked_on (Some given) (tasks.DryRun paths csv) path on asks = (asks, at_path given.1 paths path on asks.1.1)
-asked_on (Some given) (Export paths) path on asks = (asks, at_path given.1 paths path on asks.1)
-asked_on (Some given) (tasks.Status paths view) path on asks = (asks.0, at_path given.1 paths path on asks.0.1)
-asked_on (Some given) (tasks.Seats paths is_final layout) path on asks = (asks.0, at_path given.1 paths path on asks.0.1)
+asked_on (Some given) (tasks.Show paths query) path on asks = (asks.0, at_path given.1 paths path on asks.0.1)
 asked_on (Some given) (tasks.SheetSeats setup sheet layout) path on asks = absurd cc
 
-module _ {I O E F T D R : Type 0} (of : Known I O E F T D R) where
+module _ (of : Known) where
   -- the promise, of the disk that was handed over, and its film
-  module _ (arguments : List (List ℕ)) (old after : World I O E F) (said : E) (remark : Remark) (status : ℕ) (result : Result (Unit {0}) TaskFault) (failed : (fault : TaskFault) → result ≡ Err fault → status ≢ 0) (used : Option (Used I O D T)) (filmed : Filmed I O D T) (handed : used ≡ Some (Disk filmed)) where
-    abbrev new : World I O E F
+  module _ (arguments : List (List ℕ)) (old after : WorldOf of) (said : of.Errors) (remark : Remark) (status : ℕ) (result : Result (Unit {0}) TaskFault) (failed : (fault : TaskFault) → result ≡ Err fault → status ≢ 0) (used : Option (UsedOf of)) (filmed : FilmedOf of) (handed : used ≡ Some (Disk filmed)) where
+    abbrev new : WorldOf of
     new = record after { faults = said; remark = remark }
 
-    same_disk : (last : Filmed I O D T) → used ≡ Some (Disk last) → last ≡ filmed
+    same_disk : (last : FilmedOf of) → used ≡ Some (Disk last) → last ≡ filmed
     same_disk last is = let same : Some (Disk last) ≡ Some (Disk filmed) = sym is ∙ handed in cc
 
     none_early : {X : Type 0} → used ≡ None → X
     none_early is = let wrong : Some (Disk filmed) ≡ None = sym handed ∙ is in absurd cc
 
-    none_rehearsed : {X : Type 0} → (film : Film I O MemoryDisk) → used ≡ Some (Rehearsal film) → X
+    none_rehearsed : {X : Type 0} → (film : Film of.Input of.Output MemoryDisk) → used ≡ Some (Rehearsal film) → X
     none_rehearsed film is = let wrong : Some (Disk filmed) ≡ Some (Rehearsal film) = sym handed ∙ is in absurd cc
 
-    found : (task : Task) → AsksFor arguments task → (paths : Paths) → disk_path task ≡ Some paths.disk.now → ((p : Paths) → task ≡ Format p → ⊥) → (canton : Canton) → (first : D) → Begins (of.files.disk_at old.files paths.disk.now) (of.disks.history first)
+    found : (task : Task) → AsksFor arguments task → (paths : Paths) → disk_path task ≡ Some paths.disk.now → ((p : Paths) → task ≡ Format p → ⊥) → (canton : Canton) → (first : of.Disk) → Begins (of.files.disk_at old.files paths.disk.now) (of.disks.history first)
         → HasDone of task old new status canton (of.disks.history first) filmed → Promise of arguments old new status filmed
     found task asked paths on other canton first begins by = record {
       task = task;
@@ -89,7 +82,7 @@ module _ {I O E F T D R : Type 0} (of : Known I O E F T D R) where
 
     -- of a task whose disk is one that there is
     found_on : (task : Task) → AsksFor arguments task → (paths : Paths) → disk_path task ≡ Some paths.disk.now → ((p : Paths) → task ≡ Format p → ⊥) → ((canton : Canton) (first : History) → HasDone of task old after status canton first filmed → HasDone of task old new status canton first filmed)
-        → (DoesOn : Canton → World I O E F × D → World I O E F × D → Result (Unit {0}) TaskFault × Observed I O D T → Type 0)
+        → (DoesOn : Canton → WorldOf of × of.Disk → WorldOf of × of.Disk → Result (Unit {0}) TaskFault × ObservedOf of → Type 0)
         → ((uses : HasUsed (finding of.files of.disks) paths old after (λ canton before end film. DoesOn canton before end (result, film)) used) → IsCanton uses.canton → HasDone of task old after status uses.canton (of.disks.history uses.first) (record { disk = uses.last; observed = uses.observed }))
         → UsesFilm (finding of.files of.disks) paths old after DoesOn (ends result used) → Promise of arguments old new status filmed
     found_on task asked paths on other said_after DoesOn part by = ⊎_elim {B = HasUsed (finding of.files of.disks) paths old after (λ canton before end film. DoesOn canton before end (result, film)) used} {C = Promise of arguments old new status filmed}
@@ -102,21 +95,17 @@ module _ {I O E F T D R : Type 0} (of : Known I O E F T D R) where
 
     promise_said : (task : Task) → AsksFor arguments task → Does of task old after (ends result used) → Promise of arguments old new status filmed
     promise_said Rehearse asked by = none_rehearsed by.film by.used
-    promise_said (tasks.List setup table) asked by = none_early by.none
-    promise_said (tasks.SheetSeats setup sheet layout) asked by = none_early by.none
-    promise_said (tasks.Check paths) asked by = none_early by.none
+    promise_said (tasks.List setup table) asked by = none_early by.0
+    promise_said (tasks.SheetSeats setup sheet layout) asked by = none_early by.0
+    promise_said (tasks.Check paths) asked by = none_early by.0
     promise_said (Run paths) asked by = found_on (Run paths) asked paths refl (λ p is. absurd cc) (λ canton first here. record { exchanges = here.exchanges; opened = here.opened; due = here.due; told = here.told; kept = here.kept }) (Ran of)
         (λ uses limits. run_part of old after uses.files uses.first uses.last uses.observed uses.canton limits status result failed paths uses.does) by
     promise_said (Load paths csv) asked by = found_on (Load paths csv) asked paths refl (λ p is. absurd cc) (λ canton first here. record { exchanges = here.exchanges; opened = here.opened; due = here.due; told = here.told; kept = here.kept }) (HasLoaded of csv.now)
         (λ uses limits. load_part of old after uses.files uses.first uses.last uses.observed uses.canton limits status result failed paths csv uses.began.calls.texts uses.does) by
-    promise_said (tasks.DryRun paths csv) asked by = found_on (tasks.DryRun paths csv) asked paths refl (λ p is. absurd cc) (λ canton first here. record { exchanges = here.exchanges; opened = here.opened; due = here.due; told = here.told; kept = here.kept }) (unfilmed (HasDryRun of csv.now))
-        (λ uses limits. dry_part of old after uses.files uses.first uses.last uses.observed uses.canton limits status result failed paths csv uses.does) by
-    promise_said (Export paths) asked by = found_on (Export paths) asked paths refl (λ p is. absurd cc) (λ canton first here. record { exchanges = here.exchanges; opened = here.opened; due = here.due; told = here.told; kept = here.kept }) (unfilmed (HasShown of MayExport))
-        (λ uses limits. shown_part of old after uses.files uses.first uses.last uses.observed uses.canton limits status result failed (Export paths) (λ text_at talk. refl) (λ opened. refl) MayExport uses.does) by
-    promise_said (tasks.Status paths view) asked by = found_on (tasks.Status paths view) asked paths refl (λ p is. absurd cc) (λ canton first here. record { exchanges = here.exchanges; opened = here.opened; due = here.due; told = here.told; kept = here.kept }) (unfilmed (HasShown of (MayShowStatus view)))
-        (λ uses limits. shown_part of old after uses.files uses.first uses.last uses.observed uses.canton limits status result failed (tasks.Status paths view) (λ text_at talk. refl) (λ opened. refl) (MayShowStatus view) uses.does) by
-    promise_said (tasks.Seats paths is_final layout) asked by = found_on (tasks.Seats paths is_final layout) asked paths refl (λ p is. absurd cc) (λ canton first here. record { exchanges = here.exchanges; opened = here.opened; due = here.due; told = here.told; kept = here.kept }) (unfilmed (HasShown of (MayShowSeats (record { is_final = is_final; layout = layout }))))
-        (λ uses limits. shown_part of old after uses.files uses.first uses.last uses.observed uses.canton limits status result failed (tasks.Seats paths is_final layout) (λ text_at talk. refl) (λ opened. refl) (MayShowSeats (record { is_final = is_final; layout = layout })) uses.does) by
+    promise_said (tasks.DryRun paths csv) asked by = found_on (tasks.DryRun paths csv) asked paths refl (λ p is. absurd cc) (λ canton first here. record { exchanges = here.exchanges; opened = here.opened; due = here.due; told = here.told; kept = here.kept }) (unfilmed (MakesReading of (HasDryRun of csv.now)))
+        (λ uses limits. read_part of old after uses.files uses.first uses.last uses.observed uses.canton limits status result failed (tasks.DryRun paths csv) (λ text_at talk. refl) (λ opened. refl) (HasDryRun of csv.now) uses.does) by
+    promise_said (tasks.Show paths query) asked by = found_on (tasks.Show paths query) asked paths refl (λ p is. absurd cc) (λ canton first here. record { exchanges = here.exchanges; opened = here.opened; due = here.due; told = here.told; kept = here.kept }) (unfilmed (MakesReading of (λ tally. Shows of (MayShow query tally))))
+        (λ uses limits. read_part of old after uses.files uses.first uses.last uses.observed uses.canton limits status result failed (tasks.Show paths query) (λ text_at talk. refl) (λ opened. refl) (λ tally. Shows of (MayShow query tally)) uses.does) by
     promise_said (Format paths) asked by = ⊎_elim {B = HasUsed (making of.files of.disks) paths old after (λ canton before end film. Formatted of canton before end result) used} {C = Promise of arguments old new status filmed}
         (λ early. none_early early.none)
         (λ uses.
@@ -126,10 +115,10 @@ module _ {I O E F T D R : Type 0} (of : Known I O E F T D R) where
         let part = format_part of old after uses.files uses.first uses.last uses.observed uses.canton limits status result failed paths uses.does in
         let here = subst (HasDone of (Format paths) old after status uses.canton (of.disks.history uses.first)) this part in
         let empties : IsTrue (of.disks.history filmed.disk).honest → (bytes : List ℕ) → known ≡ Some bytes → MakesEmpty bytes status (of.disks.history filmed.disk).trail
-        = subst (λ (d : Filmed I O D T). IsTrue (of.disks.history d.disk).honest → (bytes : List ℕ) → known ≡ Some bytes → MakesEmpty bytes status (of.disks.history d.disk).trail) this
+        = subst (λ (d : FilmedOf of). IsTrue (of.disks.history d.disk).honest → (bytes : List ℕ) → known ≡ Some bytes → MakesEmpty bytes status (of.disks.history d.disk).trail) this
         (made_empty of old after uses.files uses.first uses.last uses.observed uses.canton limits status result failed uses.does known uses.began.begins) in
         let first_honest : IsTrue (of.disks.history filmed.disk).honest → IsTrue (of.disks.history uses.first).honest
-        = subst (λ (d : Filmed I O D T). IsTrue (of.disks.history d.disk).honest → IsTrue (of.disks.history uses.first).honest) this uses.does.call.kept in
+        = subst (λ (d : FilmedOf of). IsTrue (of.disks.history d.disk).honest → IsTrue (of.disks.history uses.first).honest) this uses.does.call.kept in
         record {
           task = Format paths;
           asked = asked_on (command_in arguments) (Format paths) paths.disk.now refl asked.1;
@@ -146,7 +135,7 @@ module _ {I O E F T D R : Type 0} (of : Known I O E F T D R) where
         by
 
   -- the promise of a task of which no more changed after it than what was said of it
-  pub promise_of : (arguments : List (List ℕ)) (old after new : World I O E F) → new ≡ record after { faults = new.faults; remark = new.remark } → (status : ℕ) (result : Result (Unit {0}) TaskFault)
-      → ((fault : TaskFault) → result ≡ Err fault → status ≢ 0) → (used : Option (Used I O D T)) (filmed : Filmed I O D T) → used ≡ Some (Disk filmed) → (task : Task) → AsksFor arguments task → Does of task old after (ends result used) → Promise of arguments old new status filmed
+  pub promise_of : (arguments : List (List ℕ)) (old after new : WorldOf of) → new ≡ record after { faults = new.faults; remark = new.remark } → (status : ℕ) (result : Result (Unit {0}) TaskFault)
+      → ((fault : TaskFault) → result ≡ Err fault → status ≢ 0) → (used : Option (UsedOf of)) (filmed : FilmedOf of) → used ≡ Some (Disk filmed) → (task : Task) → AsksFor arguments task → Does of task old after (ends result used) → Promise of arguments old new status filmed
   promise_of arguments old after new rest status result failed used filmed handed task asked by =
-      subst (λ (w : World I O E F). Promise of arguments old w status filmed) (sym rest) (promise_said arguments old after new.faults new.remark status result failed used filmed handed task asked by)
+      subst (λ (w : WorldOf of). Promise of arguments old w status filmed) (sym rest) (promise_said arguments old after new.faults new.remark status result failed used filmed handed task asked by)

@@ -1,6 +1,6 @@
 -- What a rehearsal has read and answered.
-use Rattle.std.proofs.Common.{◌≡◌, ◌≢◌, ◌∙◌, ℕ, List, [], map, Option, Some, None, Result, Ok, Err, ⊎_elim, refl, sym, ap, subst}
-use Rattle.zh_disk.specs.Disk.{Trail, fresh_trail}
+use Rattle.std.proofs.Common.{◌≡◌, ◌≢◌, ◌∙◌, ℕ, [], map, Option, Some, None, Result, Err, ⊎_elim, refl, sym, ap, subst}
+use Rattle.zh_disk.specs.Disk.{fresh_trail}
 use Rattle.zh_disk.specs.declared.memory.MemoryDisk.{MemoryDisk}
 use Rattle.zh_districts.specs.Canton.{Canton}
 use Rattle.zh_film.specs.Frames.{frame_of}
@@ -9,26 +9,20 @@ use Rattle.zh_film.specs.declared.film.Film.{Film}
 use Rattle.zh_arguments.specs.declared.arguments.Paths.{Paths}
 use Rattle.zh_arguments.specs.declared.arguments.Task.{Task}
 use Rattle.zh_arguments.specs.declared.arguments.Task.TheVariants as tasks
-use Rattle.zh_world.specs.declared.world.World.{World}
 use Rattle.zh_tasks.specs.DryRun.{HasDryRun}
-use Rattle.zh_tasks.specs.Export.{MayExport}
 use Rattle.zh_tasks.specs.Format.{Formatted}
 use Rattle.zh_tasks.specs.Load.{HasLoaded}
 use Rattle.zh_tasks.specs.OnDisk.{HasUsed, UsesFilm}
 use Rattle.zh_tasks.specs.Rehearse.{IsRehearsal, Rehearsed as HasRehearsed, Rehearses, in_memory, rehearsal_shown}
 use Rattle.zh_tasks.specs.Run.{Ran, Serves, Streams, streams_of}
-use Rattle.zh_tasks.specs.Seats.{MayShowSeats}
-use Rattle.zh_tasks.specs.Shown.{HasShown}
-use Rattle.zh_tasks.specs.Status.{MayShowStatus}
+use Rattle.zh_tasks.specs.Query.{MayShow}
+use Rattle.zh_tasks.specs.Reading.{MakesReading}
+use Rattle.zh_tasks.specs.Shown.{Shows}
 use Rattle.zh_tasks.specs.Tasks.{Does}
-use Rattle.zh_tasks.specs.World.{Known, Sight, finding, making}
+use Rattle.zh_tasks.specs.World.{FilmedOf, Known, ObservedOf, Sight, UsedOf, WorldOf, finding, making}
 use Rattle.zh_tasks.specs.declared.fault.TaskFault.{TaskFault}
 use Rattle.zh_tasks.specs.declared.fault.TaskFault.TheVariants as faults
-use Rattle.zh_tasks.specs.declared.used.Filmed.{Filmed}
-use Rattle.zh_tasks.specs.declared.used.Used.{Used}
 use Rattle.zh_tasks.specs.declared.used.Used.TheVariants.{Disk, Rehearsal}
-use Rattle.zh_tasks.specs.declared.used.Observed.{Observed}
-use Rattle.zh_office.specs.declared.service.ServeFault.TheVariants as serving
 use Rattle.zh_program.specs.Program.{ends}
 use Rattle.zh_program.specs.Promise.{RehearsalPromise}
 use Rattle.zh_program.proofs.OrderLemmas.{awaited_of, talking, told_none}
@@ -44,8 +38,8 @@ by_case nothing old new (Err faults.InUse) by none serves = none faults.InUse re
 by_case nothing old new (Err (faults.Open fault)) by none serves = none (faults.Open fault) refl by
 by_case nothing old new result by none serves = serves by
 
-module _ {I O E F T D R : Type 0} (of : Known I O E F T D R) where
-  rehearsed : (old after : World I O E F) (film : Film I O MemoryDisk) (status : ℕ) (result : Result (Unit {0}) TaskFault) → ((fault : TaskFault) → result ≡ Err fault → status ≢ 0)
+module _ (of : Known) where
+  rehearsed : (old after : WorldOf of) (film : Film of.Input of.Output MemoryDisk) (status : ℕ) (result : Result (Unit {0}) TaskFault) → ((fault : TaskFault) → result ≡ Err fault → status ≢ 0)
       → HasRehearsed ((after.input ≡ old.input) × (after.output ≡ old.output) × (scenes film ≡ [])) (streams_of of old []) (streams_of of after (rehearsal_shown of film)) result → RehearsalPromise of old after status film
   rehearsed old after film status result failed by =
       let before = streams_of of old [] in
@@ -74,14 +68,14 @@ module _ {I O E F T D R : Type 0} (of : Known I O E F T D R) where
       })
 
   -- only a rehearsal hands over such a film
-  module _ (old after : World I O E F) (status : ℕ) (result : Result (Unit {0}) TaskFault) (failed : (fault : TaskFault) → result ≡ Err fault → status ≢ 0) (used : Option (Used I O D T)) (film : Film I O MemoryDisk) (handed : used ≡ Some (Rehearsal film)) where
+  module _ (old after : WorldOf of) (status : ℕ) (result : Result (Unit {0}) TaskFault) (failed : (fault : TaskFault) → result ≡ Err fault → status ≢ 0) (used : Option (UsedOf of)) (film : Film of.Input of.Output MemoryDisk) (handed : used ≡ Some (Rehearsal film)) where
     none_other : {X : Type 0} → used ≡ None → X
     none_other is = let wrong : Some (Rehearsal film) ≡ None = sym handed ∙ is in absurd cc
 
-    none_filmed : {X : Type 0} (filmed : Filmed I O D T) → used ≡ Some (Disk filmed) → X
+    none_filmed : {X : Type 0} (filmed : FilmedOf of) → used ≡ Some (Disk filmed) → X
     none_filmed filmed is = let wrong : Some (Rehearsal film) ≡ Some (Disk filmed) = sym handed ∙ is in absurd cc
 
-    on_a_disk : {X : Type 0} (sight : Sight F T D R) (paths : Paths) (DoesOn : Canton → World I O E F × D → World I O E F × D → Result (Unit {0}) TaskFault × Observed I O D T → Type 0) → UsesFilm sight paths old after DoesOn (ends result used) → X
+    on_a_disk : {X : Type 0} (sight : Sight of.Folder of.Text of.Disk of.Right) (paths : Paths) (DoesOn : Canton → WorldOf of × of.Disk → WorldOf of × of.Disk → Result (Unit {0}) TaskFault × ObservedOf of → Type 0) → UsesFilm sight paths old after DoesOn (ends result used) → X
     on_a_disk {X} sight paths DoesOn by = ⊎_elim {B = HasUsed sight paths old after (λ canton before end film. DoesOn canton before end (result, film)) used} {C = X}
         (λ early. none_other early.none)
         (λ uses. none_filmed (record { disk = uses.last; observed = uses.observed }) uses.used)
@@ -94,19 +88,17 @@ module _ {I O E F T D R : Type 0} (of : Known I O E F T D R) where
 
     said : (task : Task) → Does of task old after (ends result used) → RehearsalPromise of old after status film
     said tasks.Rehearse by = rehearsed_after by
-    said (tasks.List setup table) by = none_other by.none
-    said (tasks.SheetSeats setup sheet layout) by = none_other by.none
-    said (tasks.Check paths) by = none_other by.none
+    said (tasks.List setup table) by = none_other by.0
+    said (tasks.SheetSeats setup sheet layout) by = none_other by.0
+    said (tasks.Check paths) by = none_other by.0
     said (tasks.Run paths) by = on_a_disk (finding of.files of.disks) paths (Ran of) by
     said (tasks.Load paths csv) by = on_a_disk (finding of.files of.disks) paths (HasLoaded of csv.now) by
-    said (tasks.DryRun paths csv) by = on_a_disk (finding of.files of.disks) paths (unfilmed (HasDryRun of csv.now)) by
-    said (tasks.Export paths) by = on_a_disk (finding of.files of.disks) paths (unfilmed (HasShown of MayExport)) by
-    said (tasks.Status paths view) by = on_a_disk (finding of.files of.disks) paths (unfilmed (HasShown of (MayShowStatus view))) by
-    said (tasks.Seats paths is_final layout) by = on_a_disk (finding of.files of.disks) paths (unfilmed (HasShown of (MayShowSeats (record { is_final = is_final; layout = layout })))) by
+    said (tasks.DryRun paths csv) by = on_a_disk (finding of.files of.disks) paths (unfilmed (MakesReading of (HasDryRun of csv.now))) by
+    said (tasks.Show paths query) by = on_a_disk (finding of.files of.disks) paths (unfilmed (MakesReading of (λ tally. Shows of (MayShow query tally)))) by
     said (tasks.Format paths) by = on_a_disk (making of.files of.disks) paths (unfilmed (Formatted of)) by
 
     -- and no more changed after it than what was said of it
-    pub rehearsed_of : (new : World I O E F) → new ≡ record after { faults = new.faults; remark = new.remark } → (task : Task) → Does of task old after (ends result used) → RehearsalPromise of old new status film
+    pub rehearsed_of : (new : WorldOf of) → new ≡ record after { faults = new.faults; remark = new.remark } → (task : Task) → Does of task old after (ends result used) → RehearsalPromise of old new status film
     rehearsed_of new rest task by =
         let here = said task by in
-        subst (λ (w : World I O E F). RehearsalPromise of old w status film) (sym rest) (record { exchanges = here.exchanges; opened = here.opened; last = here.last; due = here.due; awaited = here.awaited })
+        subst (λ (w : WorldOf of). RehearsalPromise of old w status film) (sym rest) (record { exchanges = here.exchanges; opened = here.opened; last = here.last; due = here.due; awaited = here.awaited })

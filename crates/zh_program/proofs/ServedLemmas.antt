@@ -8,11 +8,11 @@ use Rattle.zh_ledger.specs.Submissions.{Log, OnDisk}
 use Rattle.zh_office.specs.Office.{Office}
 use Rattle.zh_office.specs.Order.{ComesAfter, Step}
 use Rattle.zh_office.specs.Runs.{Runs}
-use Rattle.zh_office.specs.Served.{IsFilmed, frame_at, step_of, steps_broken, steps_of}
+use Rattle.zh_office.specs.Served.{IsFilmed, ServesEnded, ServesFront, frame_at, step_of, steps_broken, steps_of}
 use Rattle.zh_office.specs.Text.{ended_lines, lines_of}
 use Rattle.zh_office.specs.declared.service.ServeFault.TheVariants as serving
 use Rattle.zh_office.proofs.CallerLemmas.{turn_honest}
-use Rattle.zh_tasks.specs.Run.{Served, ServedEnded, ServedFront, Serves, Streams, beside}
+use Rattle.zh_tasks.specs.Run.{Served, Serves, ServesWhole, Streams, beside}
 use Rattle.zh_tasks.specs.declared.fault.TaskFault.{TaskFault}
 use Rattle.zh_tasks.specs.declared.fault.TaskFault.TheVariants as faults
 use Rattle.zh_program.specs.Due.{AnswerLines}
@@ -56,10 +56,11 @@ module _ (old new : Streams) (status : ℕ) (Spans : OnDisk Office → OnDisk Of
   told_by start end xs steps same filmed =
       subst (λ (s : List Step). InOrder (ComesAfter s (frame_at (beside old start))) (frame_at (beside old start)) new.film (frame_at (beside new end))) same filmed.follow
 
-  all_served : (faulted : Bool) → Served old new Spans faulted → HasServed
+  all_served : (faulted : Bool) → Served old new Spans (ServesWhole faulted) → HasServed
   all_served faulted by =
-      let answers = by.all.answers in
-      let lines = lines_of by.all.input in
+      let all = by.serving.1 in
+      let answers = all.answers in
+      let lines = lines_of all.input in
       let xs = exchanges_of by.start lines answers.out answers.log by.end answers.run in
       record {
         start = by.start;
@@ -67,22 +68,22 @@ module _ (old new : Streams) (status : ℕ) (Spans : OnDisk Office → OnDisk Of
         spans = by.spans;
         exchanges = xs;
         due = record {
-          input = by.all.input;
-          read = by.all.read;
+          input = all.input;
+          read = all.read;
           lines = lines;
-          due = inl (by.all.end, refl);
+          due = inl (all.end, refl);
           others = [];
           answered = sym (lines_are by.start lines answers.out answers.log by.end answers.run) ∙ sym (append-nil (map line_in_exchange xs));
           written = inl (refl, subst (Appends old.written new.written) (sym (texts_are by.start lines answers.out answers.log by.end answers.run)) answers.written);
         };
-        told = told_by by.start by.end xs (steps_of by.start lines answers.out answers.log by.end answers.run) (steps_are by.start lines answers.out answers.log by.end answers.run) by.all.order;
+        told = told_by by.start by.end xs (steps_of by.start lines answers.out answers.log by.end answers.run) (steps_are by.start lines answers.out answers.log by.end answers.run) all.order;
         goes = λ tally honest at. run_turns tally by.start.history.trail [] by.start lines answers.out answers.log by.end answers.run honest at;
       }
 
-  ended_served : status ≢ 0 → ServedEnded old new Spans → HasServed
+  ended_served : status ≢ 0 → Served old new Spans ServesEnded → HasServed
   ended_served failed by =
-      let answers = by.ended.answers in
-      let lines = ended_lines by.ended.input in
+      let answers = by.serving.answers in
+      let lines = ended_lines by.serving.input in
       let xs = exchanges_of by.start lines answers.out answers.log by.end answers.run in
       record {
         start = by.start;
@@ -90,21 +91,21 @@ module _ (old new : Streams) (status : ℕ) (Spans : OnDisk Office → OnDisk Of
         spans = by.spans;
         exchanges = xs;
         due = record {
-          input = by.ended.input;
-          read = by.ended.read;
+          input = by.serving.input;
+          read = by.serving.read;
           lines = lines;
           due = inr (failed, refl);
           others = [];
           answered = sym (lines_are by.start lines answers.out answers.log by.end answers.run) ∙ sym (append-nil (map line_in_exchange xs));
           written = inl (refl, subst (Appends old.written new.written) (sym (texts_are by.start lines answers.out answers.log by.end answers.run)) answers.written);
         };
-        told = told_by by.start by.end xs (steps_of by.start lines answers.out answers.log by.end answers.run) (steps_are by.start lines answers.out answers.log by.end answers.run) by.ended.order;
+        told = told_by by.start by.end xs (steps_of by.start lines answers.out answers.log by.end answers.run) (steps_are by.start lines answers.out answers.log by.end answers.run) by.serving.order;
         goes = λ tally honest at. run_turns tally by.start.history.trail [] by.start lines answers.out answers.log by.end answers.run honest at;
       }
 
-  front_served : status ≢ 0 → ServedFront old new Spans → HasServed
+  front_served : status ≢ 0 → Served old new Spans ServesFront → HasServed
   front_served failed by =
-      let breaks = by.front.breaks in
+      let breaks = by.serving.breaks in
       let whole = exchanges_of by.start breaks.answered breaks.out breaks.log breaks.mid breaks.run in
       let x = exchange_of breaks.mid breaks.last breaks.answer by.end breaks.turn in
       let lines = lines_are by.start breaks.answered breaks.out breaks.log breaks.mid breaks.run in
@@ -114,10 +115,10 @@ module _ (old new : Streams) (status : ℕ) (Spans : OnDisk Office → OnDisk Of
         spans = by.spans;
         exchanges = whole ++ x ∷ [];
         due = record {
-          input = by.front.input;
-          read = by.front.read;
-          lines = by.front.lines;
-          due = ⊎_elim (λ ended. inr (failed, ended)) (λ all. inl all) by.front.due;
+          input = by.serving.input;
+          read = by.serving.read;
+          lines = by.serving.lines;
+          due = ⊎_elim (λ ended. inr (failed, ended)) (λ all. inl all) by.serving.due;
           others = breaks.others;
           answered = ap (map Some) breaks.lines_are ∙ map-append Some breaks.answered (breaks.last ∷ breaks.others)
               ∙ ap (λ (l : List (Option (List ℕ))). l ++ Some breaks.last ∷ map Some breaks.others) (sym lines)
@@ -134,14 +135,14 @@ module _ (old new : Streams) (status : ℕ) (Spans : OnDisk Office → OnDisk Of
             },
           );
         };
-        told = told_by by.start by.end (whole ++ x ∷ []) (steps_broken by.front.lines (beside old by.start) (beside new by.end) breaks)
-            (ap (λ (l : List Step). l ++ step_of breaks.last breaks.answer by.end ∷ []) (steps_are by.start breaks.answered breaks.out breaks.log breaks.mid breaks.run) ∙ sym (steps-append whole (x ∷ []))) by.front.order;
+        told = told_by by.start by.end (whole ++ x ∷ []) (steps_broken by.serving.lines (beside old by.start) (beside new by.end) breaks)
+            (ap (λ (l : List Step). l ++ step_of breaks.last breaks.answer by.end ∷ []) (steps_are by.start breaks.answered breaks.out breaks.log breaks.mid breaks.run) ∙ sym (steps-append whole (x ∷ []))) by.serving.order;
         goes = λ tally honest at. goes tally honest at;
       }
     where
-      goes : GoesOnTo by.start (exchanges_of by.start by.front.breaks.answered by.front.breaks.out by.front.breaks.log by.front.breaks.mid by.front.breaks.run ++ exchange_of by.front.breaks.mid by.front.breaks.last by.front.breaks.answer by.end by.front.breaks.turn ∷ []) by.end
+      goes : GoesOnTo by.start (exchanges_of by.start by.serving.breaks.answered by.serving.breaks.out by.serving.breaks.log by.serving.breaks.mid by.serving.breaks.run ++ exchange_of by.serving.breaks.mid by.serving.breaks.last by.serving.breaks.answer by.end by.serving.breaks.turn ∷ []) by.end
       goes tally honest at =
-          let breaks = by.front.breaks in
+          let breaks = by.serving.breaks in
           let opened = by.start.history.trail in
           let whole = exchanges_of by.start breaks.answered breaks.out breaks.log breaks.mid breaks.run in
           let before = run_turns tally opened [] by.start breaks.answered breaks.out breaks.log breaks.mid breaks.run (turn_honest breaks.mid breaks.last breaks.answer by.end honest breaks.turn) at in

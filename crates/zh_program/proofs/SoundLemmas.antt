@@ -13,7 +13,7 @@ use Rattle.zh_returns.specs.declared.verdict.Verdict.{Verdict}
 use Rattle.zh_returns.specs.declared.verdict.Verdict.TheVariants as verdicts
 use Rattle.zh_ledger.specs.Images.{HasSome, KeepsOrSteps, LeavesBy, Stores}
 use Rattle.zh_ledger.specs.Ledger.{Becomes, Ledger, MayFollow, MayResult, MayResultWhere, MayStoreWhere, is_spent, stored}
-use Rattle.zh_ledger.specs.Stands.{Holds, IsKept}
+use Rattle.zh_ledger.specs.Stands.{Holds, HoldsLedger}
 use Rattle.zh_ledger.specs.Submissions.{Log, OnDisk, followed_by, logged, nothing}
 use Rattle.zh_ledger.specs.declared.outcome.Outcome.{Outcome}
 use Rattle.zh_ledger.specs.declared.outcome.Outcome.TheVariants.{Stored, Same, Device}
@@ -31,7 +31,7 @@ after-append t [] ds = refl
 after-append t (c ∷ cs) ds = after-append (step t c) cs ds
 
 -- an image that the ledger knows holds its count
-pub holds_kept : (s : Ledger) (c : List ℕ) → IsKept s c → Holds s.tally c
+pub holds_kept : (s : Ledger) (c : List ℕ) → HoldsLedger s c → Holds s.tally c
 holds_kept s c kept = record { content = kept.content; end = kept.end; format = s.format; clean = kept.clean; stands = kept.stands }
 
 -- after commands that are all there, one that has some of the others has them too
@@ -61,7 +61,7 @@ has_front tally cs ds least c some = record {
 -- while the device has not failed, all that is accepted is acknowledged, and each image is the one that the ledger knows
 pub record IsWhole (log : Log) (o : OnDisk Ledger) : Type 0 where
   pub all : log.acknowledged ≡ length log.accepted
-  pub images : (c : List ℕ) → IsImage o.history.trail.now c → IsKept o.holder c
+  pub images : (c : List ℕ) → IsImage o.history.trail.now c → HoldsLedger o.holder c
 
 -- the ledger has the count after those that were acknowledged, and each image that after the first of those accepted
 pub record IsSoundBy (tally : Tally) (log : Log) (o : OnDisk Ledger) : Type 0 where
@@ -82,7 +82,7 @@ quiet tally log old new sound holder trail = record {
     each = λ c image. sound.each c (subst (λ (t : Trail). IsImage t.now c) trail image);
     whole = λ still.
         let before = sound.whole (sym (ap (λ (s : Ledger). s.store.broken) holder) ∙ still) in
-        record { all = before.all; images = λ c image. subst (λ (s : Ledger). IsKept s c) (sym holder) (before.images c (subst (λ (t : Trail). IsImage t.now c) trail image)) };
+        record { all = before.all; images = λ c image. subst (λ (s : Ledger). HoldsLedger s c) (sym holder) (before.images c (subst (λ (t : Trail). IsImage t.now c) trail image)) };
   });
   moments = always_same (HasSome tally (log.accepted ++ []) log.acknowledged) old.history.trail new.history.trail trail
       (λ c image. subst (λ (cs : List Command). HasSome tally cs log.acknowledged c) (sym (append-nil log.accepted)) (sound.each c image));
@@ -117,7 +117,7 @@ module _ (tally : Tally) (log : Log) (old new : OnDisk Ledger) (command : Comman
 
   stored_on : new.holder ≡ stored old.holder command → Moves (Stores old.holder command) old.history.trail.now new.history.trail.now → GoesOnBy tally log (record { accepted = command ∷ []; acknowledged = 1 }) old new
   stored_on becomes moves =
-      let known : (c : List ℕ) → IsImage new.history.trail.now c → IsKept (stored old.holder command) c = λ c image. let from = moves c image in from.2 (whole.images from.0 from.1) in
+      let known : (c : List ℕ) → IsImage new.history.trail.now c → HoldsLedger (stored old.holder command) c = λ c image. let from = moves c image in from.2 (whole.images from.0 from.1) in
       record {
         sound = record {
           count = ap (λ (s : Ledger). s.tally) becomes ∙ ap (λ (t : Tally). step t command) counts_all ∙ sym (after-append tally log.accepted (command ∷ []))
@@ -125,7 +125,7 @@ module _ (tally : Tally) (log : Log) (old new : OnDisk Ledger) (command : Comman
           each = λ c image. has_more 1 c (has_one old.holder command c (holds_kept (stored old.holder command) c (known c image)));
           whole = λ still. record {
             all = omega (arith, whole.all, length-append log.accepted (command ∷ []));
-            images = λ c image. subst (λ (s : Ledger). IsKept s c) (sym becomes) (known c image);
+            images = λ c image. subst (λ (s : Ledger). HoldsLedger s c) (sym becomes) (known c image);
           };
         };
         moments = moments;

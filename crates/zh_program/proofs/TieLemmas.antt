@@ -9,8 +9,7 @@ use Rattle.zh_quorum.specs.Quorum.{AreParticipating}
 use Rattle.zh_totals.specs.Totals.{VoteTotals}
 use Rattle.zh_upper.specs.UpperSeats.{of_participants}
 use Rattle.zh_upper.specs.VoterNumbers.{AreVoterSums}
-use Rattle.zh_sheet.specs.Refusals.{IsTiedAbove}
-use Rattle.zh_program.specs.Sheets.{LeaveNoSeats}
+use Rattle.zh_sheet.specs.Refusals.{IsTiedAbove, LeaveNoSeats}
 
 weak_from_strict : (weights : List ℕ) (house : ℕ) (seats : List ℕ) → IsStrictFit weights house seats → IsFit weights house seats
 weak_from_strict weights house seats fit =

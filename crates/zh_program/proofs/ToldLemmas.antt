@@ -4,7 +4,7 @@ use Rattle.std.specs.Prelude.{flat_map}
 use Rattle.std.specs.Io.KnownBytes.{Appends, Consumes}
 use Rattle.std.proofs.Math.Seq.{take-add}
 use Rattle.std.proofs.lemmas.List.{append_cancel_left, append_cancel_right, take-append-drop}
-use Rattle.zh_disk.specs.Disk.{IsImage, Trail}
+use Rattle.zh_disk.specs.Disk.{Trail}
 use Rattle.zh_film.specs.Frames.{Frame, InOrder}
 use Rattle.zh_film.specs.declared.kind.FrameKind.TheVariants.{Asks}
 use Rattle.zh_records.specs.declared.command.Command.{Command}

@@ -1,8 +1,8 @@
 -- What a task touches of what stands somewhere.
-use Rattle.std.proofs.Common.{◌≡◌, ◌∙◌, List, ℕ, Option, Some, Result, ap, subst, sym, ⊎_elim}
+use Rattle.std.proofs.Common.{◌≡◌, ◌∙◌, Option, Some, Result, ap, subst, sym, ⊎_elim}
 use Rattle.zh_arguments.specs.declared.arguments.Paths.{Paths}
 use Rattle.zh_arguments.specs.declared.arguments.Task.{Task}
-use Rattle.zh_arguments.specs.declared.arguments.Task.TheVariants.{Rehearse, Format, Run, Load, Export, Check}
+use Rattle.zh_arguments.specs.declared.arguments.Task.TheVariants.{Rehearse, Format, Run, Load, Check}
 use Rattle.zh_arguments.specs.declared.arguments.Task.TheVariants as tasks
 use Rattle.zh_districts.specs.Canton.{Canton}
 use Rattle.zh_world.specs.Places.{Places, Touches, TouchesOnly}
@@ -10,16 +10,16 @@ use Rattle.zh_world.specs.declared.world.Ended.{Ended}
 use Rattle.zh_world.specs.declared.world.World.{World}
 use Rattle.zh_world.proofs.CallerLemmas.{before_stay}
 use Rattle.zh_tasks.specs.DryRun.{HasDryRun}
-use Rattle.zh_tasks.specs.Export.{MayExport}
 use Rattle.zh_tasks.specs.Format.{Formatted}
 use Rattle.zh_tasks.specs.Load.{HasLoaded}
 use Rattle.zh_tasks.specs.OnDisk.{UsesFilm}
 use Rattle.zh_tasks.specs.Run.{Ran}
-use Rattle.zh_tasks.specs.Seats.{MayShowSeats}
-use Rattle.zh_tasks.specs.Shown.{HasShown}
-use Rattle.zh_tasks.specs.Status.{MayShowStatus}
+use Rattle.zh_tasks.specs.Query.{MayShow}
+use Rattle.zh_tasks.specs.Reading.{MakesReading}
+use Rattle.zh_tasks.specs.Shown.{Shows}
 use Rattle.zh_tasks.specs.Tasks.{Does}
-use Rattle.zh_tasks.specs.World.{Known, Sight, finding, making}
+use Rattle.zh_tasks.specs.Texts.{UsesTexts}
+use Rattle.zh_tasks.specs.World.{EndOf, Known, Sight, WorldOf, finding, making}
 use Rattle.zh_tasks.specs.declared.fault.TaskFault.{TaskFault}
 use Rattle.zh_tasks.specs.declared.used.Used.{Used}
 use Rattle.zh_tasks.specs.declared.used.Observed.{Observed}
@@ -43,35 +43,34 @@ module _ {I O E F T D R : Type 0} where
       (stays uses.canton (record old { files = uses.files }, uses.first) (new, uses.last) uses.observed uses.does) uses.began.calls.touches)
       by
 
-  module _ (of : Known I O E F T D R) where
-    same_files : (old new : World I O E F) → new.files ≡ old.files → of.files.places new.files ≡ of.files.places old.files
-    same_files old new same = ap of.files.places same
+module _ (of : Known) where
+  same_files : (old new : WorldOf of) → new.files ≡ old.files → of.files.places new.files ≡ of.files.places old.files
+  same_files old new same = ap of.files.places same
 
-    pub does_touch : (task : Task) (old new : World I O E F) (ended : Ended (Result (Unit {0}) TaskFault) (Used I O D T)) → Does of task old new ended
-        → Touches (disk_path task) (of.files.places old.files) (of.files.places new.files)
-    does_touch Rehearse old new ended by = same_files old new (ap (λ (w : World I O E F). w.files) by.rest)
-    does_touch (Format paths) old new ended by = uses_touch (making of.files of.disks) paths old new (unfilmed (Formatted of)) ended
-        (λ canton before after film does. same_files before.0 after.0 (ap (λ (w : World I O E F). w.files) does.rest)) by
-    does_touch (Run paths) old new ended by = uses_touch (finding of.files of.disks) paths old new (Ran of) ended
-        (λ canton before after film does. same_files before.0 after.0 (ap (λ (w : World I O E F). w.files) does.rest)) by
-    does_touch (Load paths csv) old new ended by = uses_touch (finding of.files of.disks) paths old new (HasLoaded of csv.now) ended
-        (λ canton before after film does. does.stays) by
-    does_touch (tasks.DryRun paths csv) old new ended by = uses_touch (finding of.files of.disks) paths old new (unfilmed (HasDryRun of csv.now)) ended
-        (λ canton before after film does. does.stays) by
-    does_touch (Export paths) old new ended by = uses_touch (finding of.files of.disks) paths old new (unfilmed (HasShown of MayExport)) ended
-        (λ canton before after film does. same_files before.0 after.0 (ap (λ (w : World I O E F). w.files) does.rest)) by
-    does_touch (tasks.Status paths view) old new ended by = uses_touch (finding of.files of.disks) paths old new (unfilmed (HasShown of (MayShowStatus view))) ended
-        (λ canton before after film does. same_files before.0 after.0 (ap (λ (w : World I O E F). w.files) does.rest)) by
-    does_touch (tasks.List setup table) old new ended by = by.call.stays
-    does_touch (Check paths) old new ended by = by.calls.2.stays
-    does_touch (tasks.Seats paths is_final layout) old new ended by = uses_touch (finding of.files of.disks) paths old new (unfilmed (HasShown of (MayShowSeats (record { is_final = is_final; layout = layout })))) ended
-        (λ canton before after film does. same_files before.0 after.0 (ap (λ (w : World I O E F). w.files) does.rest)) by
-    does_touch (tasks.SheetSeats setup sheet layout) old new ended by =
-        ap of.files.places (ap (λ (w : World I O E F). w.files) by.rest) ∙ by.calls.2.stays
+  texts_stay : {X : Type 0} (Reads : of.Folder → of.Folder → Result X TaskFault → Type 0) (DoesWith : X → WorldOf of → WorldOf of → Result (Unit {0}) TaskFault → Type 0)
+      (old new : WorldOf of) (result : Result (Unit {0}) TaskFault) → UsesTexts of Reads DoesWith old new result → of.files.places new.files ≡ of.files.places old.files
+  texts_stay Reads DoesWith old new result by = ap of.files.places by.rest ∙ by.calls.2.stays
 
-    -- and what is said after it neither
-    pub touched_after : (task : Task) (old after new : World I O E F) (ended : Ended (Result (Unit {0}) TaskFault) (Used I O D T)) → Does of task old after ended
-        → new ≡ record after { faults = new.faults; remark = new.remark } → Touches (disk_path task) (of.files.places old.files) (of.files.places new.files)
-    touched_after task old after new ended does rest =
-        let same : of.files.places after.files ≡ of.files.places new.files = sym (ap of.files.places (ap (λ (w : World I O E F). w.files) rest)) in
-        subst (λ (known : Option Places). Touches (disk_path task) (of.files.places old.files) known) same (does_touch task old after ended does)
+  pub does_touch : (task : Task) (old new : WorldOf of) (ended : EndOf of) → Does of task old new ended
+      → Touches (disk_path task) (of.files.places old.files) (of.files.places new.files)
+  does_touch Rehearse old new ended by = same_files old new (ap (λ (w : WorldOf of). w.files) by.rest)
+  does_touch (Format paths) old new ended by = uses_touch (making of.files of.disks) paths old new (unfilmed (Formatted of)) ended
+      (λ canton before after film does. same_files before.0 after.0 (ap (λ (w : WorldOf of). w.files) does.rest)) by
+  does_touch (Run paths) old new ended by = uses_touch (finding of.files of.disks) paths old new (Ran of) ended
+      (λ canton before after film does. same_files before.0 after.0 (ap (λ (w : WorldOf of). w.files) does.rest)) by
+  does_touch (Load paths csv) old new ended by = uses_touch (finding of.files of.disks) paths old new (HasLoaded of csv.now) ended
+      (λ canton before after film does. does.stays) by
+  does_touch (tasks.DryRun paths csv) old new ended by = uses_touch (finding of.files of.disks) paths old new (unfilmed (MakesReading of (HasDryRun of csv.now))) ended
+      (λ canton before after film does. does.stays) by
+  does_touch (tasks.Show paths query) old new ended by = uses_touch (finding of.files of.disks) paths old new (unfilmed (MakesReading of (λ tally. Shows of (MayShow query tally)))) ended
+      (λ canton before after film does. does.stays) by
+  does_touch (tasks.List setup table) old new ended by = texts_stay _ _ old new ended.result by.1
+  does_touch (Check paths) old new ended by = texts_stay _ _ old new ended.result by.1
+  does_touch (tasks.SheetSeats setup sheet layout) old new ended by = texts_stay _ _ old new ended.result by.1
+
+  -- and what is said after it neither
+  pub touched_after : (task : Task) (old after new : WorldOf of) (ended : EndOf of) → Does of task old after ended
+      → new ≡ record after { faults = new.faults; remark = new.remark } → Touches (disk_path task) (of.files.places old.files) (of.files.places new.files)
+  touched_after task old after new ended does rest =
+      let same : of.files.places after.files ≡ of.files.places new.files = sym (ap of.files.places (ap (λ (w : WorldOf of). w.files) rest)) in
+      subst (λ (known : Option Places). Touches (disk_path task) (of.files.places old.files) known) same (does_touch task old after ended does)

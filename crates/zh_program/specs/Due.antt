@@ -9,9 +9,7 @@ use Rattle.zh_csv.specs.declared.fault.LoadFault.{LoadFault}
 use Rattle.zh_office.specs.Text.{ended_lines, lines_of}
 use Rattle.zh_arguments.specs.declared.arguments.Task.{Task}
 use Rattle.zh_arguments.specs.declared.arguments.Task.TheVariants.{Run, Load}
-use Rattle.zh_world.specs.declared.world.World.{World}
-use Rattle.zh_tasks.specs.World.{Known}
-use Rattle.zh_tasks.specs.declared.used.Filmed.{Filmed}
+use Rattle.zh_tasks.specs.World.{FilmedOf, Known, WorldOf}
 use Rattle.zh_program.specs.Exchanges.{Exchange, line_in, text_of}
 use Rattle.zh_program.specs.Exchanges.Given.{text}
 use Rattle.zh_program.specs.Order.{Conversation}
@@ -53,20 +51,19 @@ AreOfTask text_at (Run paths) talk status exchanges = AnswerLines talk status ex
 AreOfTask text_at (Load paths csv) talk status exchanges = AnswerText (text_at csv.now) talk status exchanges
 AreOfTask text_at task talk status exchanges = exchanges ≡ []
 
-module _ {I O E F T D R : Type 0} where
-  -- the conversation from the one world to the other, in which the disk went from the one trail to the other, and a film shows this;
-  -- no read comes just before or after it
-  abbrev pub conversation : Known I O E F T D R → World I O E F → World I O E F → Trail → Trail → List Frame → Conversation
-  conversation of old new opened last noted = record {
-    first = record { kind = Between; left = of.readers.remaining old.input; written = of.writers.contents old.output; disk = opened };
-    noted = noted;
-    last = record { kind = Between; left = of.readers.remaining new.input; written = of.writers.contents new.output; disk = last };
-  }
+-- the conversation from the one world to the other, in which the disk went from the one trail to the other, and a film shows this;
+-- no read comes just before or after it
+abbrev pub conversation : (of : Known) → WorldOf of → WorldOf of → Trail → Trail → List Frame → Conversation
+conversation of old new opened last noted = record {
+  first = record { kind = Between; left = of.readers.remaining old.input; written = of.writers.contents old.output; disk = opened };
+  noted = noted;
+  last = record { kind = Between; left = of.readers.remaining new.input; written = of.writers.contents new.output; disk = last };
+}
 
-  -- That of a task, once its disk was opened. One that answers no line and loads no text has none, whatever else it writes.
-  abbrev pub talk_of : Known I O E F T D R → Task → World I O E F → World I O E F → Trail → Filmed I O D T → Conversation
-  talk_of of (Run paths) old new opened used =
-      conversation of old new opened (of.disks.history used.disk).trail (frames of.readers of.writers of.disks used.observed.film)
-  talk_of of (Load paths csv) old new opened used =
-      conversation of old new opened (of.disks.history used.disk).trail (frames of.readers of.writers of.disks used.observed.film)
-  talk_of of task old new opened used = conversation of new new opened (of.disks.history used.disk).trail []
+-- That of a task, once its disk was opened. One that answers no line and loads no text has none, whatever else it writes.
+abbrev pub talk_of : (of : Known) → Task → WorldOf of → WorldOf of → Trail → FilmedOf of → Conversation
+talk_of of (Run paths) old new opened used =
+    conversation of old new opened (of.disks.history used.disk).trail (frames of.readers of.writers of.disks used.observed.film)
+talk_of of (Load paths csv) old new opened used =
+    conversation of old new opened (of.disks.history used.disk).trail (frames of.readers of.writers of.disks used.observed.film)
+talk_of of task old new opened used = conversation of new new opened (of.disks.history used.disk).trail []

@@ -13,8 +13,8 @@ use Rattle.zh_commands.specs.declared.lines.Line.{Line}
 use Rattle.zh_commands.specs.declared.lines.LineFault.{LineFault}
 use Rattle.zh_commands.specs.declared.replies.Reply.TheVariants.{Stored, Refused}
 use Rattle.zh_commands.specs.declared.replies.Refusal.TheVariants as refusals
-use Rattle.zh_csv.specs.Load.{AreLoaded, fields, names}
-use Rattle.zh_csv.specs.Records.{AreAll}
+use Rattle.zh_csv.specs.Load.{AreLoaded, fields}
+use Rattle.zh_csv.specs.Records.{AreAll, names}
 use Rattle.zh_csv.specs.declared.fault.LoadFault.{LoadFault}
 use Rattle.zh_ledger.specs.Submissions.{Log, nothing, followed_by}
 use Rattle.zh_answers.specs.Answers.{batch_of, command_of, held_after}

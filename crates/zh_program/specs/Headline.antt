@@ -9,12 +9,13 @@ use Rattle.zh_desks.specs.Batches.{no_batches}
 use Rattle.zh_commands.specs.declared.replies.Reply.TheVariants.{Stored, Same}
 use Rattle.zh_totals.specs.Counting.{totals_of}
 use Rattle.zh_sheet.specs.Distribution.{Distribution}
+use Rattle.zh_sheet.specs.Refusals.{LeaveNoSeats}
 use Rattle.zh_ledger.specs.Images.{HasSome}
 use Rattle.zh_ledger.specs.Stands.{Holds}
 use Rattle.zh_answers.specs.declared.answer.Answer.TheVariants.{Reply, Sheet}
 use Rattle.zh_program.specs.Exchanges.{EachIn, Exchange, IsReadRight, command_given, count_by, disk_by, held_by, log_by, log_of}
 use Rattle.zh_program.specs.Order.{AnswersBeforeReading, Conversation, KeepsWhatIsTold, Throughout}
-use Rattle.zh_program.specs.Sheets.{FollowsFrom, IsTie, LeaveNoSeats}
+use Rattle.zh_program.specs.Sheets.{FollowsFrom, IsTie}
 use Rattle.zh_program.specs.Stopped.{Always, OpensTo}
 
 -- Of an office that was opened where this count stood: stopped at any moment, even within a write or a sync, and reopened, it

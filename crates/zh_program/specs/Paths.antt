@@ -2,7 +2,7 @@
 use Rattle.std.specs.Prelude.{ℕ, List, length, min, Option, Some, None, option_and_then, option_map}
 use Rattle.zh_arguments.specs.declared.arguments.Paths.{Paths}
 use Rattle.zh_arguments.specs.declared.arguments.Task.{Task}
-use Rattle.zh_arguments.specs.declared.arguments.Task.TheVariants.{Rehearse, Format, Run, Load, Export, Check}
+use Rattle.zh_arguments.specs.declared.arguments.Task.TheVariants.{Rehearse, Format, Run, Load, Check}
 use Rattle.zh_arguments.specs.declared.arguments.Task.TheVariants as tasks
 use Rattle.zh_checks.specs.Reports.{safe_byte}
 use Rattle.zh_record_text.specs.Each.{each_to}
@@ -32,13 +32,11 @@ file_path (Load paths csv) files.Csv = Some csv.now
 file_path (Load paths csv) file = path_among paths file
 file_path (tasks.DryRun paths csv) files.Csv = Some csv.now
 file_path (tasks.DryRun paths csv) file = path_among paths file
-file_path (Export paths) file = path_among paths file
-file_path (tasks.Status paths view) file = path_among paths file
+file_path (tasks.Show paths query) file = path_among paths file
 file_path (tasks.List setup table) files.Setup = Some setup.now
 file_path (tasks.List setup table) file = None
 file_path (Check paths) files.Held = option_map (λ path. path.now) paths.held
 file_path (Check paths) file = path_stated paths.setup.now paths.sheet.now file
-file_path (tasks.Seats paths is_final layout) file = path_among paths file
 file_path (tasks.SheetSeats setup sheet layout) file = path_stated setup.now sheet.now file
 
 -- the path of the file that a fault of a task is of

@@ -1,15 +1,14 @@
 -- What the program says of a task.
 use Rattle.std.specs.Prelude.{◌≡◌, ◌≢◌, ℕ, List, Option, Some, None, Result, Err}
 use Rattle.zh_arguments.specs.declared.arguments.Task.{Task}
-use Rattle.zh_arguments.specs.declared.arguments.Task.TheVariants.{Format, Run, Load, Export}
+use Rattle.zh_arguments.specs.declared.arguments.Task.TheVariants.{Format, Run, Load}
 use Rattle.zh_arguments.specs.declared.arguments.Task.TheVariants as tasks
 use Rattle.zh_world.specs.declared.world.Ended.{Ended}
 use Rattle.zh_world.specs.declared.world.World.{World}
 use Rattle.zh_tasks.specs.Remarks.{BecameOf}
 use Rattle.zh_tasks.specs.Tasks.{Does}
-use Rattle.zh_tasks.specs.World.{Known}
+use Rattle.zh_tasks.specs.World.{Known, UsedOf, WorldOf}
 use Rattle.zh_tasks.specs.declared.fault.TaskFault.{TaskFault}
-use Rattle.zh_tasks.specs.declared.used.Used.{Used}
 use Rattle.zh_tasks.specs.declared.fault.TaskFault.TheVariants as faults
 use Rattle.zh_program.specs.Paths.{fault_path}
 use Rattle.zh_program.specs.Reports.{report_text}
@@ -24,22 +23,19 @@ disk_path (Format paths) = Some paths.disk.now
 disk_path (Run paths) = Some paths.disk.now
 disk_path (Load paths csv) = Some paths.disk.now
 disk_path (tasks.DryRun paths csv) = Some paths.disk.now
-disk_path (Export paths) = Some paths.disk.now
-disk_path (tasks.Status paths view) = Some paths.disk.now
-disk_path (tasks.Seats paths is_final layout) = Some paths.disk.now
+disk_path (tasks.Show paths query) = Some paths.disk.now
 disk_path task = None
 
-module _ {I O E F T D R : Type 0} where
-  -- A task met a fault, and then that is reported to standard error, whole or broken off as the world's remark says. Where it
-  -- was refused nothing is reported: the task has said why.
-  pub record MetFault (of : Known I O E F T D R) (task : Task) (old new : World I O E F) (used : Option (Used I O D T)) : Type 0 where
-    pub fault : TaskFault
-    pub after : World I O E F
-    pub does : Does of task old after (ends (Err fault) used)
-    pub rest : new ≡ record after { faults = new.faults; remark = new.remark }
-    pub reported : fault ≢ faults.Refused
-        → BecameOf new.remark (of.errors.contents after.faults) (of.errors.contents new.faults) (report_text (fault_path task fault) fault)
-    pub refused : fault ≡ faults.Refused → new ≡ after
+-- A task met a fault, and then that is reported to standard error, whole or broken off as the world's remark says. Where it
+-- was refused nothing is reported: the task has said why.
+pub record MetFault (of : Known) (task : Task) (old new : WorldOf of) (used : Option (UsedOf of)) : Type 0 where
+  pub fault : TaskFault
+  pub after : WorldOf of
+  pub does : Does of task old after (ends (Err fault) used)
+  pub rest : new ≡ record after { faults = new.faults; remark = new.remark }
+  pub reported : fault ≢ faults.Refused
+      → BecameOf new.remark (of.errors.contents after.faults) (of.errors.contents new.faults) (report_text (fault_path task fault) fault)
+  pub refused : fault ≡ faults.Refused → new ≡ after
 
 module _ {I O E F D : Type 0} where
   -- no file was read or opened, nothing was read from the input or written, and no disk is handed over

@@ -5,51 +5,48 @@ use Rattle.zh_districts.specs.Canton.{IsCanton}
 use Rattle.zh_film.specs.declared.film.Film.{Film}
 use Rattle.zh_disk.specs.declared.memory.MemoryDisk.{MemoryDisk}
 use Rattle.zh_returns.specs.Tally.{Tally}
-use Rattle.zh_ledger.specs.Stands.{Holds, Stands}
+use Rattle.zh_ledger.specs.Stands.{Holds, HoldsFramed}
 use Rattle.zh_arguments.specs.Arguments.{AsksOnDisk, command_in}
 use Rattle.zh_arguments.specs.Table.{path_in}
 use Rattle.zh_arguments.specs.declared.arguments.Paths.{Paths}
 use Rattle.zh_arguments.specs.declared.arguments.Task.{Task}
 use Rattle.zh_arguments.specs.declared.arguments.Task.TheVariants.{Format}
-use Rattle.zh_world.specs.declared.world.World.{World}
 use Rattle.zh_tasks.specs.Rehearse.{rehearsal_shown}
-use Rattle.zh_tasks.specs.World.{Known}
-use Rattle.zh_tasks.specs.declared.used.Filmed.{Filmed}
+use Rattle.zh_tasks.specs.World.{FilmedOf, Known, WorldOf}
 use Rattle.zh_program.specs.Due.{AnswerLines, AreOfTask, conversation, talk_of}
 use Rattle.zh_program.specs.Exchanges.{Exchange}
 use Rattle.zh_program.specs.Headline.{Headline}
 use Rattle.zh_program.specs.Order.{AnswersBeforeReading, Throughout}
 use Rattle.zh_program.specs.Stopped.{MakesEmpty}
 
-module _ {I O E F T D R : Type 0} where
-  -- What the program has done when it ends and hands over, that is returns, this disk and the film of its task. A stopped run
-  -- did a front of one.
-  pub record Promise (of : Known I O E F T D R) (arguments : List (List ℕ)) (old new : World I O E F) (status : ℕ)
-      (used : Filmed I O D T) : Type 0 where
-    pub task : Task
-    pub path : List ℕ
-    -- this path is given after `--disk`; `done` and `fault` say which view or which seats were asked for, and that nothing was
-    -- refused
-    pub asked : IsSomeAnd (command_in arguments) (λ given. AsksOnDisk given task × (path ≡ path_in (codes "disk") given.1))
-    pub exchanges : List Exchange
-    pub opened : Trail
-    pub due : AreOfTask (of.files.text_at old.files) task (talk_of of task old new opened used) status exchanges
-    -- the input is read only when all lines that are complete in what was read before are answered
-    pub awaited : Throughout (AnswersBeforeReading exchanges) (talk_of of task old new opened used)
-    -- if the disk was honest, and the bytes of its file, where these are known, held a count: the clean image of one within the limits
-    pub office : IsTrue (of.disks.history used.disk).honest → (bytes : List ℕ) → of.files.disk_at old.files path ≡ Some bytes
-        → (tally : Tally) → IsCanton tally.canton → Holds tally bytes
-        → Headline tally (fresh_trail bytes) (talk_of of task old new opened used) exchanges
-    -- if it was honest, and they held no such count, not even in an image that isn't clean: no answer; of such an image nothing is said
-    pub idle : IsTrue (of.disks.history used.disk).honest → (bytes : List ℕ) → of.files.disk_at old.files path ≡ Some bytes
-        → ((tally : Tally) → IsCanton tally.canton → ¬ Stands tally bytes) → exchanges ≡ []
-    pub formatted : (paths : Paths) → task ≡ Format paths → IsTrue (of.disks.history used.disk).honest
-        → (bytes : List ℕ) → of.files.disk_at old.files path ≡ Some bytes → MakesEmpty bytes status (of.disks.history used.disk).trail
+-- What the program has done when it ends and hands over, that is returns, this disk and the film of its task. A stopped run
+-- did a front of one.
+pub record Promise (of : Known) (arguments : List (List ℕ)) (old new : WorldOf of) (status : ℕ)
+    (used : FilmedOf of) : Type 0 where
+  pub task : Task
+  pub path : List ℕ
+  -- this path is given after `--disk`; `done` and `fault` say which view or which seats were asked for, and that nothing was
+  -- refused
+  pub asked : IsSomeAnd (command_in arguments) (λ given. AsksOnDisk given task × (path ≡ path_in (codes "disk") given.1))
+  pub exchanges : List Exchange
+  pub opened : Trail
+  pub due : AreOfTask (of.files.text_at old.files) task (talk_of of task old new opened used) status exchanges
+  -- the input is read only when all lines that are complete in what was read before are answered
+  pub awaited : Throughout (AnswersBeforeReading exchanges) (talk_of of task old new opened used)
+  -- if the disk was honest, and the bytes of its file, where these are known, held a count: the clean image of one within the limits
+  pub office : IsTrue (of.disks.history used.disk).honest → (bytes : List ℕ) → of.files.disk_at old.files path ≡ Some bytes
+      → (tally : Tally) → IsCanton tally.canton → Holds tally bytes
+      → Headline tally (fresh_trail bytes) (talk_of of task old new opened used) exchanges
+  -- if it was honest, and they held no such count, not even in an image that isn't clean: no answer; of such an image nothing is said
+  pub idle : IsTrue (of.disks.history used.disk).honest → (bytes : List ℕ) → of.files.disk_at old.files path ≡ Some bytes
+      → ((tally : Tally) → IsCanton tally.canton → ¬ HoldsFramed tally bytes) → exchanges ≡ []
+  pub formatted : (paths : Paths) → task ≡ Format paths → IsTrue (of.disks.history used.disk).honest
+      → (bytes : List ℕ) → of.files.disk_at old.files path ≡ Some bytes → MakesEmpty bytes status (of.disks.history used.disk).trail
 
-  -- What a rehearsal has read and answered when it hands over this film. Its disk was in memory.
-  pub record RehearsalPromise (of : Known I O E F T D R) (old new : World I O E F) (status : ℕ) (film : Film I O MemoryDisk) : Type 0 where
-    pub exchanges : List Exchange
-    pub opened : Trail
-    pub last : Trail
-    pub due : AnswerLines (conversation of old new opened last (rehearsal_shown of film)) status exchanges
-    pub awaited : Throughout (AnswersBeforeReading exchanges) (conversation of old new opened last (rehearsal_shown of film))
+-- What a rehearsal has read and answered when it hands over this film. Its disk was in memory.
+pub record RehearsalPromise (of : Known) (old new : WorldOf of) (status : ℕ) (film : Film of.Input of.Output MemoryDisk) : Type 0 where
+  pub exchanges : List Exchange
+  pub opened : Trail
+  pub last : Trail
+  pub due : AnswerLines (conversation of old new opened last (rehearsal_shown of film)) status exchanges
+  pub awaited : Throughout (AnswersBeforeReading exchanges) (conversation of old new opened last (rehearsal_shown of film))

@@ -1,11 +1,10 @@
 -- The sheets that are answered, and the answers that report a tie.
-use Rattle.std.specs.Prelude.{◌≡◌, ℕ, List}
+use Rattle.std.specs.Prelude.{◌≡◌}
 use Rattle.zh_commands.specs.declared.replies.Reply.TheVariants.{Refused}
 use Rattle.zh_commands.specs.declared.replies.Refusal.TheVariants as refusals
-use Rattle.zh_matrices.specs.Divisors.{Divisors}
-use Rattle.zh_matrices.specs.SeatMatrix.{IsStrict}
 use Rattle.zh_totals.specs.Totals.{VoteTotals}
-use Rattle.zh_sheet.specs.Distribution.{Distribution, IsDistribution, Targets, lower_question}
+use Rattle.zh_sheet.specs.Distribution.{Distribution, IsDistribution}
+use Rattle.zh_sheet.specs.declared.refusal.SheetRefusal.TheVariants as sheets
 use Rattle.zh_answers.specs.declared.answer.Answer.{Answer}
 use Rattle.zh_answers.specs.declared.answer.Answer.TheVariants.{Reply}
 
@@ -16,15 +15,9 @@ pub record FollowsFrom (totals : VoteTotals) (sheet : Distribution) : Type 0 whe
   pub votes : sheet.totals ≡ totals
   pub meets : IsDistribution sheet
 
--- No seats of the lists follow from these totals without a half, under any divisors, of any scale, whatever seats of the
--- constituencies and of the groups they are to add up to.
-abbrev pub LeaveNoSeats : VoteTotals → Type 0
-LeaveNoSeats totals = (targets : Targets totals) (divisors : Divisors) (seats : List ℕ) →
-    ¬ IsStrict (lower_question totals targets.seats targets.upper) divisors seats
-
 -- the answer reports a tie: of the constituencies' seats, of the groups', or of the lists'
 abbrev pub IsTie : Answer → Type 0
-IsTie (Reply (Refused refusals.TiedSeats)) = Unit {0}
-IsTie (Reply (Refused refusals.TiedUpper)) = Unit {0}
-IsTie (Reply (Refused (refusals.TiedLower constituency group))) = Unit {0}
+IsTie (Reply (Refused (refusals.Sheet sheets.TiedSeats))) = Unit {0}
+IsTie (Reply (Refused (refusals.Sheet sheets.TiedUpper))) = Unit {0}
+IsTie (Reply (Refused (refusals.Sheet (sheets.TiedLower constituency group)))) = Unit {0}
 IsTie answer = ⊥

@@ -4,7 +4,7 @@ use Rattle.zh_disk.specs.Disk.{Moment, Trail, IsImage, disk_length, fresh_trail}
 use Rattle.zh_districts.specs.Canton.{Canton, IsCanton}
 use Rattle.zh_returns.specs.Tally.{Tally, empty}
 use Rattle.zh_snapshot.specs.Image.{IsBlank}
-use Rattle.zh_ledger.specs.Stands.{Holds, Stands}
+use Rattle.zh_ledger.specs.Stands.{Holds, HoldsFramed}
 
 -- at each moment from that of the one trail to that of the other a stop leaves an image of this kind
 pub record Always (IsLeft : List ℕ → Type 0) (old new : Trail) : Type 0 where
@@ -15,8 +15,8 @@ pub record Always (IsLeft : List ℕ → Type 0) (old new : Trail) : Type 0 wher
 -- An image opens to this count: it stands for it, and for no other one of its set-up. The law `reopenings` says of each opening
 -- that there is then no cause to refuse it, memory and the device aside.
 pub record OpensTo (count : Tally) (c : List ℕ) : Type 0 where
-  pub stands : Stands count c
-  pub only : (other : Tally) → other.canton ≡ count.canton → Stands other c → other ≡ count
+  pub stands : HoldsFramed count c
+  pub only : (other : Tally) → other.canton ≡ count.canton → HoldsFramed other c → other ≡ count
 
 -- At each moment of a formatting a stop leaves what the disk began with or, if that was blank, a blank disk or the empty
 -- count of a set-up; with status 0 it ends with this count. That the set-up is the one at `--setup` is said by `done`. The

@@ -20,7 +20,7 @@ ghost use Rattle.zh_sheet.specs.Distribution.{Distribution, Targets, lower_quest
 ghost use Rattle.zh_ledger.specs.Ledger.{Ledger};
 ghost use Rattle.zh_ledger.specs.Night.{StopsWithin};
 ghost use Rattle.zh_ledger.specs.Opening.{IsCause, Opens};
-ghost use Rattle.zh_ledger.specs.Stands.{Holds, Stands};
+ghost use Rattle.zh_ledger.specs.Stands.{Holds, HoldsFramed};
 ghost use Rattle.zh_ledger.specs.declared.fault.OpenFault.{OpenFault};
 ghost use Rattle.zh_ledger.specs.declared.fault.OpenFault.TheVariants as faults;
 ghost use Rattle.zh_answers.specs.declared.answer.Answer.TheVariants as answers;
@@ -104,7 +104,7 @@ pub fn promise_excludes<I: Read, O: Write, E: Write, F: Files>()
         (x : Exchange) (rest : List Exchange)
         → (promise : Promise (known I.Read O.Write E.Write F.Files F.Disk.Disk) arguments old new status used)
         → IsTrue (F.Disk.history used.disk).honest → F.disk_at old.files promise.path ≡ Some bytes
-        → ((tally : Tally) → IsCanton tally.canton → ¬ Stands tally bytes) → promise.exchanges ≡ x ∷ rest → ⊥ }
+        → ((tally : Tally) → IsCanton tally.canton → ¬ HoldsFramed tally bytes) → promise.exchanges ≡ x ∷ rest → ⊥ }
 {}
 
 /// Each opening of an image that opens to a count gives that count, or is refused for memory or by the device.

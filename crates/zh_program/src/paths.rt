@@ -43,8 +43,7 @@ fn file_path<'a>(task: Task<'a>, file: TaskFile) -> Option<&'a str>
 {
     match task {
         Task::Rehearse => None,
-        Task::Format(paths) | Task::Run(paths) | Task::Export(paths) => path_among(paths, file),
-        Task::Status { paths, .. } | Task::Seats { paths, .. } => path_among(paths, file),
+        Task::Format(paths) | Task::Run(paths) | Task::Show(paths, _) => path_among(paths, file),
         Task::Load { paths, csv } | Task::DryRun { paths, csv } => match file {
             TaskFile::Csv => Some(csv),
             _ => path_among(paths, file),

@@ -1,5 +1,5 @@
 -- What a check reads, and what it answers.
-use Rattle.std.proofs.Common.{◌≡◌, ◌∙◌, ◌≤◌, ◌+◌, ℕ, List, length, take, Option, Some, None, Result, Ok, Err, IfErr, refl, arith}
+use Rattle.std.proofs.Common.{◌≡◌, ◌≤◌, ℕ, List, length, take, Option, Some, None, Result, Ok, Err, IfErr, refl, sym, subst, arith}
 use Rattle.std.proofs.lemmas.List.{length-take, take_all}
 use Rattle.zh_checks.specs.Checks.{Inputs, WritesCheck, check_text}
 use Rattle.zh_csv.specs.declared.fault.LoadFault.{LoadFault}
@@ -13,13 +13,12 @@ use Rattle.zh_verdicts.specs.declared.writer.VerdictFault.{VerdictFault}
 use Rattle.zh_verdicts.specs.declared.writer.VerdictFault.TheVariants as of_verdict
 use Rattle.zh_world.specs.declared.files.Files.{Ghosts as Files}
 use Rattle.zh_tasks.specs.World.{AreCalls}
-use Rattle.zh_tasks.specs.Check.{Answers, AreSumsAt, HeldFaultAs, IsOfHeld, IsOfHeldAt, IsOfSheet, LacksSheetFile, VerdictFaultAs, calls_if_named}
+use Rattle.zh_tasks.specs.Check.{Answers, AreSumsAt, HeldFaultAs, IsOfHeld, IsOfSheet, LacksSheetFile, ReadsHeld, VerdictFaultAs}
 use Rattle.zh_world.specs.declared.fault.FileFault.{FileFault}
-use Rattle.zh_world.specs.declared.fault.FileFault.TheVariants as of_files
-use Rattle.zh_tasks.specs.declared.file.TaskFile.TheVariants as files
 use Rattle.zh_tasks.specs.declared.fault.TaskFault.{TaskFault}
 use Rattle.zh_tasks.specs.declared.fault.TaskFault.TheVariants as faults
 use Rattle.zh_tasks.proofs.LoadLemmas.{writes_front}
+use Rattle.zh_tasks.proofs.TextLemmas.{no_calls}
 
 -- a fault of no record, and of no read
 pub other_fault : (why : LoadFault) → named why ≡ None → (why ≡ loads.Read → ⊥) → why ≡ loads.Memory
@@ -55,26 +54,6 @@ pub opened_result : {X : Type 0} (Met : FileFault → Type 0) (result : Result X
 opened_result Met (Ok text) is = tt
 opened_result Met (Err fault) is = opened_lacks Met fault is
 
--- the same of a fault that was met in another sight too
-pub sheet_as : (Met Also : FileFault → Type 0) → ((met : FileFault) → Met met → Also met) → (fault : TaskFault) → LacksSheetFile Met fault → LacksSheetFile Also fault
-sheet_as Met Also turn (faults.Unopened files.Sheet cause) by = turn (of_files.Device cause) by
-sheet_as Met Also turn faults.SheetFile by = tt
-sheet_as Met Also turn faults.Memory by = tt
-sheet_as Met Also turn fault by = absurd by
-
-held_file_as : (known : Option (List ℕ)) (canton : Canton) (Met Also : FileFault → Type 0) → ((met : FileFault) → Met met → Also met) → (fault : TaskFault)
-    → IsOfHeld known canton Met fault → IsOfHeld known canton Also fault
-held_file_as known canton Met Also turn (faults.Unopened files.Held cause) by = turn (of_files.Device cause) by
-held_file_as known canton Met Also turn faults.HeldFile by = tt
-held_file_as known canton Met Also turn faults.Memory by = tt
-held_file_as known canton Met Also turn (faults.Held fault) by = by
-held_file_as known canton Met Also turn fault by = absurd by
-
-pub held_as : (text_at : List ℕ → Option (List ℕ)) (canton : Canton) (Met Also : List ℕ → FileFault → Type 0) → ((path : List ℕ) (met : FileFault) → Met path met → Also path met)
-    → (path : Option (List ℕ)) (fault : TaskFault) → IsOfHeldAt text_at canton Met path fault → IsOfHeldAt text_at canton Also path fault
-held_as text_at canton Met Also turn None fault by = absurd by
-held_as text_at canton Met Also turn (Some path) fault by = held_file_as (text_at path) canton (Met path) (Also path) (turn path) fault by
-
 -- a verdict that is not written to its end
 pub not_written : (U : Type 0) (w w' : Option (List ℕ)) (inputs : Inputs) (fault : VerdictFault) (e : TaskFault)
     → VerdictFaultAs fault e → WritesCheck U w w' inputs (Err fault) → Answers U w w' inputs (Err e)
@@ -82,19 +61,13 @@ not_written U w w' inputs of_verdict.Memory e is written = rw is written
 not_written U w w' inputs of_verdict.Write e is (verdict, comes, part) =
     rw is (verdict, comes, writes_front w w' (check_text inputs verdict) (check_text inputs verdict) refl part)
 
--- calls after calls
-pub calls_after : {F T D R : Type 0} (files : Files F T D R) (n m : ℕ) (old mid new : F) → AreCalls files n old mid → AreCalls files m mid new → AreCalls files (n + m) old new
-calls_after files n m old mid new one other = record {
-  counted = omega (arith, one.counted, other.counted);
-  texts = other.texts ∙ one.texts;
-  disks = other.disks ∙ one.disks;
-  stays = other.stays ∙ one.stays;
-}
-
 -- an export is read in one call at most
-pub few_calls : (path : Option (List ℕ)) → calls_if_named path ≤ 1
-few_calls None = omega arith
-few_calls (Some path) = omega arith
+pub held_calls : {F T D R : Type 0} (files : Files F T D R) (canton : Canton) (path : Option (List ℕ)) (old new : F) (result : Result (Option HeldSums) TaskFault)
+    → ReadsHeld files canton path old new result → (n : ℕ) × (n ≤ 1) × AreCalls files n old new
+held_calls {F} files canton None old new result none = (0, omega arith, subst (λ (f : F). AreCalls files 0 old f) (sym none.0) (no_calls files old))
+held_calls files canton (Some path) old new (Ok None) by = absurd by
+held_calls files canton (Some path) old new (Ok (Some sums)) by = (1, omega arith, by.call)
+held_calls files canton (Some path) old new (Err fault) by = (1, omega arith, by.call)
 
 -- a front that is shorter than what was asked for is the whole
 pub front_is_whole : (text : List ℕ) → length (take 280065 text) ≤ 280064 → take 280065 text ≡ text

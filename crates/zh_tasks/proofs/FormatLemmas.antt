@@ -11,8 +11,7 @@ use Rattle.zh_snapshot.specs.declared.fault.OpenFault.TheVariants as opening
 use Rattle.zh_ledger.specs.Opening.{MakesNew}
 use Rattle.zh_tables.specs.Problems.{AreProblems, problem_count, problems_line}
 use Rattle.zh_tables.specs.declared.problems.SetupProblems.{SetupProblems}
-use Rattle.zh_tasks.specs.Format.{FormatsBlank, SaysProblems, format_fails}
-use Rattle.zh_tasks.specs.List.{SaysIf}
+use Rattle.zh_tasks.specs.Format.{FormatsBlank, SaysIf, SaysProblems, format_fails}
 use Rattle.zh_tasks.specs.declared.fault.TaskFault.TheVariants as formatting
 
 module _ (canton : Canton) {a b : History} where

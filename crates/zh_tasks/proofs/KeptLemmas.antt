@@ -11,7 +11,7 @@ use Rattle.zh_snapshot.specs.Image.{Content}
 use Rattle.zh_snapshot.proofs.CallerLemmas.{framed_alike}
 use Rattle.zh_ledger.specs.Images.{ComesToHave, HasSome}
 use Rattle.zh_ledger.specs.Opening.{MayLeave, Migrates, Opens}
-use Rattle.zh_ledger.specs.Stands.{Holds, Stands}
+use Rattle.zh_ledger.specs.Stands.{Holds, HoldsFramed}
 use Rattle.zh_ledger.specs.Submissions.{IsLogged, Log, OnDisk}
 use Rattle.zh_ledger.proofs.CallerLemmas.{found_count, has_none, migrated_holds, submits_logged}
 use Rattle.zh_commands.specs.declared.replies.Reply.{Reply}
@@ -32,7 +32,7 @@ module _ (canton : Canton) (first last : History) (start end : OnDisk Office) (l
   abbrev opens : Opens canton (Ok start.holder.ledger) first.trail start.history.trail
   opens = from.begun.opening.call.did (from.honest honest)
 
-  abbrev stood : Stands start.holder.ledger.tally first.trail.now.bytes
+  abbrev stood : HoldsFramed start.holder.ledger.tally first.trail.now.bytes
   stood = opens.opened.stood
 
   -- the set-up of the bytes is that of the office

@@ -6,9 +6,11 @@ mod KeptLemmas
 mod ListLemmas
 mod LoadLemmas
 mod OrderLemmas
+mod ReadingLemmas
 mod RehearseLemmas
 mod RunLemmas
 mod SetupLemmas
 mod ShownLemmas
 mod StartLemmas
+mod TextLemmas
 mod WorldLemmas

@@ -2,9 +2,8 @@
 use Rattle.std.proofs.Common.{◌≡◌, ℕ, List, [], ◌∷◌, ap, ◌∙◌, refl, Option}
 use Rattle.std.specs.Io.KnownBytes.{Appends}
 use Rattle.zh_commands.specs.declared.replies.Reply.{Reply}
-use Rattle.zh_disk.specs.History.{History}
 use Rattle.zh_film.specs.Frames.{Frame, now_at}
-use Rattle.zh_ledger.specs.Submissions.{OnDisk, on_disk}
+use Rattle.zh_ledger.specs.Submissions.{OnDisk}
 use Rattle.zh_office.specs.Office.{Office}
 use Rattle.zh_office.specs.Order.{Step}
 use Rattle.zh_office.specs.Served.{IsFilmed, Session, frame_at}

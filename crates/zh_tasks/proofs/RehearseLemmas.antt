@@ -8,7 +8,7 @@ use Rattle.zh_film.specs.Frames.{Frame}
 use Rattle.zh_returns.specs.Tally.{empty}
 use Rattle.zh_ledger.specs.Ledger.{Ledger}
 use Rattle.zh_ledger.specs.Opened.{IsNew, IsReady}
-use Rattle.zh_ledger.specs.Stands.{Stands}
+use Rattle.zh_ledger.specs.Stands.{HoldsFramed}
 use Rattle.zh_ledger.specs.Submissions.{OnDisk}
 use Rattle.zh_ledger.proofs.CallerLemmas.{one_count}
 use Rattle.zh_office.specs.Office.{Office}
@@ -22,7 +22,7 @@ use Rattle.zh_tasks.specs.declared.fault.TaskFault.TheVariants as faults
 use Rattle.zh_tasks.proofs.RunLemmas.{serves_as}
 
 -- an office that is opened on a new disk has an empty count
-pub opened_empty : (canton : Canton) (m : Moment) (s : Ledger) → ((c : List ℕ) → IsImage m c → IsNew canton c) → IsReady canton s → Stands s.tally m.bytes → s.tally ≡ empty canton
+pub opened_empty : (canton : Canton) (m : Moment) (s : Ledger) → ((c : List ℕ) → IsImage m c → IsNew canton c) → IsReady canton s → HoldsFramed s.tally m.bytes → s.tally ≡ empty canton
 opened_empty canton m s formatted ready stood =
     let new = formatted m.bytes (record { size = refl; same = λ k settled. refl }) in
     (one_count m.bytes stood.content new.content stood.end new.end stood.format new.format s.tally (empty canton) stood.framed new.clean.framed stood.stands new.stands ready.set_up).1
@@ -56,12 +56,12 @@ rehearsed nothing old new canton first last result is sure formatted by = at res
     turn start end from = rehearses canton first last start end is sure formatted from
 
     at : (result : Result (Unit {0}) TaskFault) → WithOffice canton first last nothing (Serves old new) result → Rehearsed nothing old new result
-    at (Ok done) by = serves_as old new (IsFrom canton first last) IsRehearsal (Ok done) turn by
+    at (Ok done) by = serves_as old new (IsFrom canton first last) IsRehearsal turn (Ok done) by
     at (Err (faults.Open fault)) by = by.0
-    at (Err faults.Faulted) by = serves_as old new (IsFrom canton first last) IsRehearsal (Err faults.Faulted) turn by
-    at (Err (faults.Serve serving.Read)) by = serves_as old new (IsFrom canton first last) IsRehearsal (Err (faults.Serve serving.Read)) turn by
-    at (Err (faults.Serve serving.Turns)) by = serves_as old new (IsFrom canton first last) IsRehearsal (Err (faults.Serve serving.Turns)) turn by
-    at (Err (faults.Serve serving.Write)) by = serves_as old new (IsFrom canton first last) IsRehearsal (Err (faults.Serve serving.Write)) turn by
+    at (Err faults.Faulted) by = serves_as old new (IsFrom canton first last) IsRehearsal turn (Err faults.Faulted) by
+    at (Err (faults.Serve serving.Read)) by = serves_as old new (IsFrom canton first last) IsRehearsal turn (Err (faults.Serve serving.Read)) by
+    at (Err (faults.Serve serving.Turns)) by = serves_as old new (IsFrom canton first last) IsRehearsal turn (Err (faults.Serve serving.Turns)) by
+    at (Err (faults.Serve serving.Write)) by = serves_as old new (IsFrom canton first last) IsRehearsal turn (Err (faults.Serve serving.Write)) by
     at (Err fault) by = absurd by
 
 -- on a film that showed nothing yet

@@ -1,16 +1,16 @@
 -- What serving has done, by how it ended.
-use Rattle.std.proofs.Common.{◌≡◌, ℕ, List, [], Option, Result, Ok, Err, IsErrOf, subst}
+use Rattle.std.proofs.Common.{◌≡◌, ℕ, List, [], Option, Result, Ok, Err, IsErrOf, subst, true, false}
 use Rattle.zh_districts.specs.Canton.{Canton}
 use Rattle.zh_disk.specs.History.{History}
 use Rattle.zh_film.specs.Frames.{Frame}
 use Rattle.zh_ledger.specs.declared.fault.OpenFault.{OpenFault}
 use Rattle.zh_ledger.specs.Submissions.{OnDisk}
 use Rattle.zh_office.specs.Office.{Office}
-use Rattle.zh_office.specs.Served.{ServesEnded, ServesFront, TakesFewerReads, TakesReads, TakesReadsUpTo}
+use Rattle.zh_office.specs.Served.{ServesEnded, ServesFront, Session, TakesFewerReads, TakesReads, TakesReadsUpTo}
 use Rattle.zh_office.specs.declared.service.ServeFault.{ServeFault}
 use Rattle.zh_office.specs.declared.service.ServeFault.TheVariants as serving
 use Rattle.zh_tasks.specs.Opened.{IsFrom, WithOffice}
-use Rattle.zh_tasks.specs.Run.{IsReadWithin, Serves, Streams, beside, streams}
+use Rattle.zh_tasks.specs.Run.{IsReadWithin, Served, Serves, ServesWhole, Streams, beside, streams}
 use Rattle.zh_tasks.specs.declared.fault.TaskFault.{TaskFault}
 use Rattle.zh_tasks.specs.declared.fault.TaskFault.TheVariants as faults
 
@@ -20,9 +20,9 @@ pub broke_off : (old new : Streams) (Spans : OnDisk Office → OnDisk Office →
     → (IsErrOf result serving.Write → ServesFront (beside old start) (beside new end))
     → (IsErrOf result serving.Turns → ServesEnded (beside old start) (beside new end))
     → Serves old new Spans (Err (faults.Serve fault))
-broke_off old new Spans start end result serving.Read begins is read write turns = record { start = start; end = end; spans = begins; ended = read is }
-broke_off old new Spans start end result serving.Write begins is read write turns = record { start = start; end = end; spans = begins; front = write is }
-broke_off old new Spans start end result serving.Turns begins is read write turns = record { start = start; end = end; spans = begins; ended = turns is }
+broke_off old new Spans start end result serving.Read begins is read write turns = record { start = start; end = end; spans = begins; serving = read is }
+broke_off old new Spans start end result serving.Write begins is read write turns = record { start = start; end = end; spans = begins; serving = write is }
+broke_off old new Spans start end result serving.Turns begins is read write turns = record { start = start; end = end; spans = begins; serving = turns is }
 
 -- and how many reads were made before it
 read_before : (r r' : Option (List ℕ)) (limit : ℕ) (result : Result ℕ ServeFault) (fault : ServeFault) → result ≡ Err fault
@@ -43,14 +43,17 @@ read_off r r' limit allowed result fault is same read write turns =
     subst (λ n. IsReadWithin r r' n (Err (faults.Serve fault))) same (read_before r r' allowed result fault is read write turns)
 
 -- the same of an office that began in another way too
-pub serves_as : (old new : Streams) (Spans Spans' : OnDisk Office → OnDisk Office → Type 0) (result : Result (Unit {0}) TaskFault) → ((start end : OnDisk Office) → Spans start end → Spans' start end)
-    → Serves old new Spans result → Serves old new Spans' result
-serves_as old new Spans Spans' (Ok done) turn by = record { start = by.start; end = by.end; count = by.count; spans = turn by.start by.end by.spans; all = by.all; device = by.device }
-serves_as old new Spans Spans' (Err faults.Faulted) turn by = record { start = by.start; end = by.end; count = by.count; spans = turn by.start by.end by.spans; all = by.all; device = by.device }
-serves_as old new Spans Spans' (Err (faults.Serve serving.Read)) turn by = record { start = by.start; end = by.end; spans = turn by.start by.end by.spans; ended = by.ended }
-serves_as old new Spans Spans' (Err (faults.Serve serving.Turns)) turn by = record { start = by.start; end = by.end; spans = turn by.start by.end by.spans; ended = by.ended }
-serves_as old new Spans Spans' (Err (faults.Serve serving.Write)) turn by = record { start = by.start; end = by.end; spans = turn by.start by.end by.spans; front = by.front }
-serves_as old new Spans Spans' (Err fault) turn by = absurd by
+module _ (old new : Streams) (Spans Spans' : OnDisk Office → OnDisk Office → Type 0) (turn : (start end : OnDisk Office) → Spans start end → Spans' start end) where
+  served_as : (Serving : Session → Session → Type 0) → Served old new Spans Serving → Served old new Spans' Serving
+  served_as Serving by = record { start = by.start; end = by.end; spans = turn by.start by.end by.spans; serving = by.serving }
+
+  pub serves_as : (result : Result (Unit {0}) TaskFault) → Serves old new Spans result → Serves old new Spans' result
+  serves_as (Ok done) by = served_as (ServesWhole false) by
+  serves_as (Err faults.Faulted) by = served_as (ServesWhole true) by
+  serves_as (Err (faults.Serve serving.Read)) by = served_as ServesEnded by
+  serves_as (Err (faults.Serve serving.Turns)) by = served_as ServesEnded by
+  serves_as (Err (faults.Serve serving.Write)) by = served_as ServesFront by
+  serves_as (Err fault) by = absurd by
 
 -- what was done with an office, where its fault is not one of opening it
 pub with_office : (canton : Canton) (first last : History) (nothing : Type 0) (Does : (OnDisk Office → OnDisk Office → Type 0) → Result (Unit {0}) TaskFault → Type 0) (result : Result (Unit {0}) TaskFault)

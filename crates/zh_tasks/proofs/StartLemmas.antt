@@ -9,7 +9,7 @@ use Rattle.zh_snapshot.proofs.CallerLemmas.{framed_alike}
 use Rattle.zh_ledger.specs.Faults.{open_fails}
 use Rattle.zh_ledger.specs.Ledger.{Ledger}
 use Rattle.zh_ledger.specs.Opening.{Opening}
-use Rattle.zh_ledger.specs.Stands.{Holds, Stands, StandsFor}
+use Rattle.zh_ledger.specs.Stands.{Holds, HoldsFramed, StandsFor}
 use Rattle.zh_ledger.proofs.CallerLemmas.{knows_images}
 use Rattle.zh_ledger.specs.Submissions.{OnDisk}
 use Rattle.zh_ledger.specs.declared.fault.OpenFault.{OpenFault}
@@ -20,7 +20,7 @@ use Rattle.zh_tasks.specs.declared.fault.TaskFault.{TaskFault}
 use Rattle.zh_tasks.specs.declared.fault.TaskFault.TheVariants as faults
 
 -- clean bytes that stand for a count hold it
-held_by : (bytes : List ℕ) (tally : Tally) → Stands tally bytes → (x : Content) (j : ℕ) → IsClean x j bytes → Holds tally bytes
+held_by : (bytes : List ℕ) (tally : Tally) → HoldsFramed tally bytes → (x : Content) (j : ℕ) → IsClean x j bytes → Holds tally bytes
 held_by bytes tally stood x j clean =
     let alike = framed_alike stood.content x stood.end j bytes stood.framed clean.framed in
     record { content = x; end = j; format = stood.format; clean = clean; stands = subst (λ (y : Content). StandsFor stood.format y tally) alike.0 stood.stands }

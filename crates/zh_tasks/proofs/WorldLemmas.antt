@@ -10,20 +10,8 @@ use Rattle.zh_world.specs.declared.fault.FileFault.TheVariants as of_files
 use Rattle.zh_tasks.specs.OnDisk.{FoundAs, IsEarly}
 use Rattle.zh_world.specs.Causes.{IsFaultIn}
 use Rattle.zh_world.specs.Places.{Places}
-use Rattle.zh_tasks.specs.World.{AreCalls, AsksForDisk, IsMetAt}
+use Rattle.zh_tasks.specs.World.{AsksForDisk, IsMetAt}
 use Rattle.zh_tasks.specs.declared.fault.TaskFault.{TaskFault}
-
-pub one_call : {F T D R : Type 0} (files : Files F T D R) (old new : F) → IsReadOfFiles files.text_at files.disk_at files.places files.calls old new → AreCalls files 1 old new
-one_call files old new one = record { counted = one.counted; texts = one.texts; disks = one.disks; stays = one.stays }
-
--- two calls, one after the other
-pub two_calls : {F T D R : Type 0} (files : Files F T D R) (old mid new : F) → IsReadOfFiles files.text_at files.disk_at files.places files.calls old mid → IsReadOfFiles files.text_at files.disk_at files.places files.calls mid new → AreCalls files 2 old new
-two_calls files old mid new one other = record {
-  counted = omega (arith, one.counted, other.counted);
-  texts = other.texts ∙ one.texts;
-  disks = other.disks ∙ one.disks;
-  stays = other.stays ∙ one.stays;
-}
 
 -- a text, and then the disk at this path
 pub disk_after : {F T D R : Type 0} (files : Files F T D R) (path : List ℕ) (old mid new : F) → IsReadOfFiles files.text_at files.disk_at files.places files.calls old mid

@@ -1,5 +1,5 @@
 -- What the check of a published sheet does.
-use Rattle.std.specs.Prelude.{◌≡◌, ◌≤◌, ◌+◌, ℕ, List, take, Option, Some, None, Result, Ok, Err, IsErrAnd, option_map, ◌⊎◌}
+use Rattle.std.specs.Prelude.{◌≡◌, ℕ, List, take, Option, Some, None, Result, Ok, Err, option_map}
 use Rattle.std.specs.Io.KnownBytes.{Appends}
 use Rattle.zh_arguments.specs.declared.check.CheckPaths.{CheckPaths}
 use Rattle.zh_check.specs.declared.checked.RightSheet.{RightSheet}
@@ -16,14 +16,12 @@ use Rattle.zh_held.specs.declared.held_reader.HeldSums.{HeldSums}
 use Rattle.zh_held.specs.declared.row.HeldRow.{HeldRow}
 use Rattle.zh_verdicts.specs.declared.writer.VerdictFault.{VerdictFault}
 use Rattle.zh_verdicts.specs.declared.writer.VerdictFault.TheVariants as of_verdict
-use Rattle.zh_world.specs.declared.world.Ended.{Ended}
-use Rattle.zh_tasks.specs.declared.used.Used.{Used}
-use Rattle.zh_world.specs.declared.world.World.{World}
+use Rattle.zh_world.specs.declared.files.Files.{Ghosts as Files}
 use Rattle.zh_world.specs.declared.fault.FileFault.{FileFault}
 use Rattle.zh_world.specs.declared.fault.FileFault.TheVariants as of_files
-use Rattle.zh_tasks.specs.World.{AreCalls, IsMetAt, IsSetupAt, Known}
 use Rattle.zh_tasks.specs.Load.{WritesPart}
-use Rattle.zh_tasks.specs.OnDisk.{IsOfSetup}
+use Rattle.zh_tasks.specs.Texts.{ReadsNoMore, ReadsText, ReadsThen, TextKind, UsesTexts, a_setup}
+use Rattle.zh_tasks.specs.World.{Known, WorldOf}
 use Rattle.zh_tasks.specs.declared.file.TaskFile.TheVariants as files
 use Rattle.zh_tasks.specs.declared.fault.TaskFault.{TaskFault}
 use Rattle.zh_tasks.specs.declared.fault.TaskFault.TheVariants as faults
@@ -74,61 +72,29 @@ IsOfHeld known canton Met faults.Memory = Unit {0}
 IsOfHeld known canton Met (faults.Held fault) = IsBadRecordAt known canton fault
 IsOfHeld known canton Met fault = ⊥
 
--- the sums that were read are those of the export at this path, or none where there is none
-abbrev pub AreSumsIfNamed : (List ℕ → Option (List ℕ)) → Canton → Option (List ℕ) → Option HeldSums → Type 0
-AreSumsIfNamed text_at canton None None = Unit {0}
-AreSumsIfNamed text_at canton (Some path) (Some sums) = AreSumsAt (text_at path) canton sums
-AreSumsIfNamed text_at canton path held = ⊥
+-- a sheet
+abbrev pub a_sheet : TextKind (List ℕ)
+a_sheet = record { Gives = IsSheetAt; Lacks = λ known. LacksSheetFile }
 
--- the file of the export, where there is one, gives no sums
-abbrev pub IsOfHeldAt : (List ℕ → Option (List ℕ)) → Canton → (List ℕ → FileFault → Type 0) → Option (List ℕ) → TaskFault → Type 0
-IsOfHeldAt text_at canton Met None fault = ⊥
-IsOfHeldAt text_at canton Met (Some path) fault = IsOfHeld (text_at path) canton (Met path) fault
+-- an export, of which the sums are taken
+abbrev pub an_export : Canton → TextKind HeldSums
+an_export canton = record { Gives = λ known. AreSumsAt known canton; Lacks = λ known. IsOfHeld known canton }
 
--- the path of an export, where one is named
-abbrev pub held_path : CheckPaths → Option (List ℕ)
-held_path paths = option_map (λ path. path.now) paths.held
+module _ {F T D R : Type 0} where
+  -- the export at this path, which may be left out, is read
+  abbrev pub ReadsHeld : Files F T D R → Canton → Option (List ℕ) → F → F → Result (Option HeldSums) TaskFault → Type 0
+  ReadsHeld files canton None old new result = ReadsNoMore None old new result
+  ReadsHeld files canton (Some path) old new (Ok None) = ⊥
+  ReadsHeld files canton (Some path) old new (Ok (Some sums)) = ReadsText files (an_export canton) path old new (Ok sums)
+  ReadsHeld files canton (Some path) old new (Err fault) = ReadsText files (an_export canton) path old new (Err fault)
 
--- they were read from the texts at these paths
-pub record AreInputs (text_at : List ℕ → Option (List ℕ)) (paths : CheckPaths) (inputs : Inputs) : Type 0 where
-  pub setup : IsSetupAt (text_at paths.setup.now) inputs.canton
-  pub sheet : IsSheetAt (text_at paths.sheet.now) inputs.sheet
-  pub held : AreSumsIfNamed text_at inputs.canton (held_path paths) inputs.held
-
--- the set-up was read, and the file of the sheet gives none
-pub record LacksSheet (text_at : List ℕ → Option (List ℕ)) (Met : List ℕ → FileFault → Type 0) (paths : CheckPaths)
-    (fault : TaskFault) : Type 0 where
-  pub canton : Canton
-  pub setup : IsSetupAt (text_at paths.setup.now) canton
-  pub none : LacksSheetFile (Met paths.sheet.now) fault
-
--- the set-up and the sheet were read, and the file of the export gives no sums
-pub record LacksSums (text_at : List ℕ → Option (List ℕ)) (Met : List ℕ → FileFault → Type 0) (paths : CheckPaths)
-    (fault : TaskFault) : Type 0 where
-  pub canton : Canton
-  pub sheet : List ℕ
-  pub setup : IsSetupAt (text_at paths.setup.now) canton
-  pub front : IsSheetAt (text_at paths.sheet.now) sheet
-  pub none : IsOfHeldAt text_at canton Met (held_path paths) fault
-
--- how many calls the reading of an export takes, which may be none
-abbrev pub calls_if_named : Option (List ℕ) → ℕ
-calls_if_named None = 0
-calls_if_named (Some path) = 1
-
--- how many calls the reading of all of them takes
-abbrev pub calls_for : CheckPaths → ℕ
-calls_for paths = 2 + calls_if_named (held_path paths)
-
--- all was read, in so many calls
-abbrev pub ReadsInputs : (ℕ → Type 0) → (List ℕ → Option (List ℕ)) → CheckPaths → Inputs → Type 0
-ReadsInputs IsAfter text_at paths inputs = IsAfter (calls_for paths) × AreInputs text_at paths inputs
-
--- The first of the texts that gives nothing, with this fault. The set-up is read in the first call, the sheet in the second
--- and the export in the third. The last of these calls may have met the fault.
-abbrev pub LacksInputs : (ℕ → Type 0) → (List ℕ → Option (List ℕ)) → (List ℕ → FileFault → Type 0) → CheckPaths → TaskFault → Type 0
-LacksInputs IsAfter text_at Met paths fault = (IsAfter 1 × IsOfSetup (text_at paths.setup.now) (Met paths.setup.now) fault)
-    ⊎ ((IsAfter 2 × LacksSheet text_at Met paths fault) ⊎ (IsAfter (calls_for paths) × LacksSums text_at Met paths fault))
+  -- the set-up is read, then the sheet, and then the export, where one is named
+  abbrev pub ReadsInputs : Files F T D R → CheckPaths → F → F → Result Inputs TaskFault → Type 0
+  ReadsInputs files paths =
+      ReadsThen (ReadsText files a_setup paths.setup.now) (λ canton.
+      ReadsThen (ReadsText files a_sheet paths.sheet.now) (λ sheet.
+      ReadsThen (ReadsHeld files canton (option_map (λ path. path.now) paths.held)) (λ held.
+      ReadsNoMore (record { canton = canton; sheet = sheet; held = held }))))
 
 -- a check that ended so has written the verdict on what it was given: all of it, a front of it, or nothing
 abbrev pub Answers : Type 0 → Option (List ℕ) → Option (List ℕ) → Inputs → Result (Unit {0}) TaskFault → Type 0
@@ -141,21 +107,8 @@ Answers unwritten w w' inputs (Err faults.Write) =
 Answers unwritten w w' inputs (Err faults.Memory) = unwritten
 Answers unwritten w w' inputs (Err fault) = ⊥
 
--- all was read and this was answered; or something was not read, and nothing was written
-abbrev pub Checks : Type 0 → (Inputs → Type 0) → (Inputs → Type 0) → Type 0 → Type 0
-Checks unwritten Is Answered Unread = ((inputs : Inputs) × Is inputs × Answered inputs) ⊎ (unwritten × Unread)
-
-module _ {I O E F T D R : Type 0} where
-  -- The check of the sheet at a path: the texts at the paths of its arguments are read, a call of the files for each, and
-  -- nothing else is. Then the verdict is written. No disk is used.
-  pub record Checked (of : Known I O E F T D R) (paths : CheckPaths) (old new : World I O E F)
-      (ended : Ended (Result (Unit {0}) TaskFault) (Used I O D T)) : Type 0 where
-    pub none : ended.used ≡ None
-    pub rest : new ≡ record old { output = new.output; files = new.files }
-    pub calls : (n : ℕ) × (n ≤ 3) × AreCalls of.files n old.files new.files
-    pub checks : Checks (new.output ≡ old.output)
-        (ReadsInputs (λ n. AreCalls of.files n old.files new.files) (of.files.text_at old.files) paths)
-        (λ inputs. Answers (new.output ≡ old.output) (of.writers.contents old.output) (of.writers.contents new.output) inputs
-        ended.result)
-        (IsErrAnd ended.result (LacksInputs (λ n. AreCalls of.files n old.files new.files) (of.files.text_at old.files)
-        (λ path. IsMetAt of.files path old.files new.files) paths))
+-- the sheet at a path is checked, and the verdict is written, and nothing else
+abbrev pub Checked : (of : Known) → CheckPaths → WorldOf of → WorldOf of → Result (Unit {0}) TaskFault → Type 0
+Checked of paths = UsesTexts of (ReadsInputs of.files paths) (λ inputs old new result.
+    (new ≡ record old { output = new.output })
+    × Answers (new.output ≡ old.output) (of.writers.contents old.output) (of.writers.contents new.output) inputs result)

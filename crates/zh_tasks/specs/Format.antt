@@ -15,10 +15,8 @@ use Rattle.zh_snapshot.specs.declared.fault.FormatFault.TheVariants as of_store
 use Rattle.zh_ledger.specs.Opened.{IsNew}
 use Rattle.zh_tables.specs.Problems.{AreProblems, problem_count, problems_line}
 use Rattle.zh_tables.specs.declared.problems.SetupProblems.{SetupProblems}
-use Rattle.zh_world.specs.declared.world.World.{World}
-use Rattle.zh_tasks.specs.List.{SaysIf}
 use Rattle.zh_tasks.specs.Remarks.{BecameOf}
-use Rattle.zh_tasks.specs.World.{Known}
+use Rattle.zh_tasks.specs.World.{Known, WorldOf}
 use Rattle.zh_tasks.specs.declared.fault.TaskFault.{TaskFault}
 use Rattle.zh_tasks.specs.declared.fault.TaskFault.TheVariants as faults
 
@@ -50,18 +48,22 @@ pub record FormatsBlank (canton : Canton) (result : Result (Unit {0}) TaskFault)
   pub settled : OnOk result (new.now.pending ≡ [])
   pub in_use : IsErrOf result faults.InUse → IsBlank old.now.bytes → ⊥
 
+-- one thing or the other
+abbrev pub SaysIf : Bool → Type 0 → Type 0 → Type 0
+SaysIf true said unsaid = said
+SaysIf false said unsaid = unsaid
+
 -- what is said where a disk was made: how many problems keep the set-up from giving seats, and nothing where there are none
 abbrev pub SaysProblems : Canton → (List ℕ → Type 0) → Type 0 → Result (Unit {0}) TaskFault → Type 0
 SaysProblems canton Said unsaid (Ok done) = (problems : SetupProblems) × AreProblems canton problems
     × SaysIf (nat_lt 0 (problem_count problems)) (Said (problems_line (problem_count problems))) unsaid
 SaysProblems canton Said unsaid (Err fault) = unsaid
 
-module _ {I O E F T D R : Type 0} where
-  -- a formatting of a disk, and what it says: nothing else is touched
-  pub record Formatted (of : Known I O E F T D R) (canton : Canton) (before after : World I O E F × D)
-      (result : Result (Unit {0}) TaskFault) : Type 0 where
-    pub rest : after.0 ≡ record before.0 { faults = after.0.faults; remark = after.0.remark }
-    pub said : SaysProblems canton (BecameOf after.0.remark (of.errors.contents before.0.faults) (of.errors.contents after.0.faults))
-        ((after.0.faults ≡ before.0.faults) × (after.0.remark ≡ before.0.remark)) result
-    pub call : Call format_fails (FormatsBlank canton) (of.disks.history before.1) (of.disks.history after.1) result
-    pub fault : IfErr result IsOfFormat
+-- a formatting of a disk, and what it says: nothing else is touched
+pub record Formatted (of : Known) (canton : Canton) (before after : WorldOf of × of.Disk)
+    (result : Result (Unit {0}) TaskFault) : Type 0 where
+  pub rest : after.0 ≡ record before.0 { faults = after.0.faults; remark = after.0.remark }
+  pub said : SaysProblems canton (BecameOf after.0.remark (of.errors.contents before.0.faults) (of.errors.contents after.0.faults))
+      ((after.0.faults ≡ before.0.faults) × (after.0.remark ≡ before.0.remark)) result
+  pub call : Call format_fails (FormatsBlank canton) (of.disks.history before.1) (of.disks.history after.1) result
+  pub fault : IfErr result IsOfFormat

@@ -8,12 +8,13 @@ pub mod Format
 pub mod Run
 pub mod Load
 pub mod DryRun
-pub mod Export
 pub mod Remarks
 pub mod Rehearse
 pub mod Tasks
 pub mod List
 pub mod Shown
-pub mod Status
+pub mod Texts
+pub mod Query
+pub mod Reading
 pub mod Seats
 pub mod SheetSeats

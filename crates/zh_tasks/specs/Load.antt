@@ -17,16 +17,14 @@ use Rattle.zh_office.specs.Office.{Office}
 use Rattle.zh_office.specs.Order.{Step}
 use Rattle.zh_office.specs.Served.{IsFilmed}
 use Rattle.zh_office.specs.Runs.{its_ledger}
-use Rattle.zh_world.specs.declared.world.World.{World}
 use Rattle.zh_world.specs.declared.fault.FileFault.{FileFault}
 use Rattle.zh_world.specs.declared.fault.FileFault.TheVariants as of_files
-use Rattle.zh_tasks.specs.World.{IsMetAt, Known}
+use Rattle.zh_tasks.specs.World.{IsMetAt, Known, ObservedOf, WorldOf}
 use Rattle.zh_tasks.specs.Opened.{IsOnlyOpened, LeavesDisk, WithOffice}
 use Rattle.zh_tasks.specs.Run.{Streams, beside, streams_of}
 use Rattle.zh_tasks.specs.declared.file.TaskFile.TheVariants as files
 use Rattle.zh_tasks.specs.declared.fault.TaskFault.{TaskFault}
 use Rattle.zh_tasks.specs.declared.fault.TaskFault.TheVariants as faults
-use Rattle.zh_tasks.specs.declared.used.Observed.{Observed}
 
 -- a reply as it is printed: without a desk, and ended by LF, which is 10
 abbrev pub printed : Reply → List ℕ
@@ -109,19 +107,18 @@ abbrev pub text_calls : Result (Unit {0}) TaskFault → ℕ
 text_calls (Err (faults.Open fault)) = 0
 text_calls result = 1
 
-module _ {I O E F T D R : Type 0} where
-  -- The loading of the CSV file at this path into the office that stands on a disk, its film, and the reader of the text: that file
-  -- is looked for once the office is opened, and no other one is. It is the text that is loaded, where its bytes are known.
-  pub record HasLoaded (of : Known I O E F T D R) (csv : List ℕ) (canton : Canton) (before after : World I O E F × D)
-      (done : Result (Unit {0}) TaskFault × Observed I O D T) : Type 0 where
-    pub rest : after.0 ≡ record before.0 { output = after.0.output; files = after.0.files }
-    pub counted : of.files.calls after.0.files ≡ of.files.calls before.0.files + text_calls done.0
-    pub stays : of.files.places after.0.files ≡ of.files.places before.0.files
-    pub text : GivenText
-    pub read : Keeps (of.files.text_at before.0.files csv) text.bytes
-    pub noted : text.failed ≡ failed_of done.1.text
-    pub loaded : WithOffice canton (of.disks.history before.1) (of.disks.history after.1)
-        ((after.0 ≡ before.0) × (scenes done.1.film ≡ []))
-        (LoadsFile (IsMetAt of.files csv before.0.files after.0.files) ((after.0.output ≡ before.0.output) × (scenes done.1.film ≡ []))
-        (LoadsText text (streams_of of before.0 []) (streams_of of after.0 (frames of.readers of.writers of.disks done.1.film)))) done.0
-    pub disk : LeavesDisk (of.disks.history before.1) (of.disks.history after.1) done.0
+-- The loading of the CSV file at this path into the office that stands on a disk, its film, and the reader of the text: that file
+-- is looked for once the office is opened, and no other one is. It is the text that is loaded, where its bytes are known.
+pub record HasLoaded (of : Known) (csv : List ℕ) (canton : Canton) (before after : WorldOf of × of.Disk)
+    (done : Result (Unit {0}) TaskFault × ObservedOf of) : Type 0 where
+  pub rest : after.0 ≡ record before.0 { output = after.0.output; files = after.0.files }
+  pub counted : of.files.calls after.0.files ≡ of.files.calls before.0.files + text_calls done.0
+  pub stays : of.files.places after.0.files ≡ of.files.places before.0.files
+  pub text : GivenText
+  pub read : Keeps (of.files.text_at before.0.files csv) text.bytes
+  pub noted : text.failed ≡ failed_of done.1.text
+  pub loaded : WithOffice canton (of.disks.history before.1) (of.disks.history after.1)
+      ((after.0 ≡ before.0) × (scenes done.1.film ≡ []))
+      (LoadsFile (IsMetAt of.files csv before.0.files after.0.files) ((after.0.output ≡ before.0.output) × (scenes done.1.film ≡ []))
+      (LoadsText text (streams_of of before.0 []) (streams_of of after.0 (frames of.readers of.writers of.disks done.1.film)))) done.0
+  pub disk : LeavesDisk (of.disks.history before.1) (of.disks.history after.1) done.0

@@ -8,7 +8,7 @@ use Rattle.zh_disk.specs.History.{History, HasRisen}
 use Rattle.zh_snapshot.specs.Image.{Content, IsClean}
 use Rattle.zh_ledger.specs.Opening.{Opening}
 use Rattle.zh_ledger.specs.Images.{HasSome}
-use Rattle.zh_ledger.specs.Stands.{IsKept}
+use Rattle.zh_ledger.specs.Stands.{HoldsLedger}
 use Rattle.zh_ledger.specs.Submissions.{Log, OnDisk}
 use Rattle.zh_ledger.specs.declared.fault.OpenFault.TheVariants as opening
 use Rattle.zh_office.specs.Office.{Office}
@@ -21,7 +21,7 @@ pub record IsStart (canton : Canton) (first : History) (start : OnDisk Office) :
   pub held : start.holder.held ≡ no_batches
   -- where those bytes were clean, as a formatting and each run leave them, it knows each image of its disk
   pub kept : IsTrue start.history.honest → (x : Content) (j : ℕ) → IsClean x j first.trail.now.bytes
-      → (c : List ℕ) → IsImage start.history.trail.now c → IsKept start.holder.ledger c
+      → (c : List ℕ) → IsImage start.history.trail.now c → HoldsLedger start.holder.ledger c
 
 -- it began there, and at the end its disk has this history, which is honest only if it was so at the start
 pub record IsFrom (canton : Canton) (first last : History) (start end : OnDisk Office) : Type 0 where

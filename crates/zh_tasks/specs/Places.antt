@@ -1,10 +1,9 @@
 -- Where a task met its fault, or why, and the file that it is of.
-use Rattle.std.specs.Prelude.{ℕ, Option, Some, None, option_map}
+use Rattle.std.specs.Prelude.{Option, Some, None, option_map}
 use Rattle.zh_ledger.specs.declared.fault.OpenFault.TheVariants as opening
 use Rattle.zh_setups.specs.declared.fault.SetupFault.TheVariants as of_setup
 use Rattle.zh_setups.specs.declared.fault.SetupFault.{SetupFault}
 use Rattle.zh_setups.specs.declared.place.FaultPlace.{FaultPlace}
-use Rattle.zh_setups.specs.declared.fault.SetupRefusal.{SetupRefusal}
 use Rattle.zh_tasks.specs.declared.fault.TaskFault.{TaskFault}
 use Rattle.zh_tasks.specs.declared.fault.TaskFault.TheVariants as faults
 use Rattle.zh_tasks.specs.declared.file.TaskFile.{TaskFile}

@@ -12,12 +12,9 @@ use Rattle.zh_film.specs.Scenes.{scenes}
 use Rattle.zh_film.specs.declared.film.Film.{Film}
 use Rattle.zh_ledger.specs.Submissions.{OnDisk}
 use Rattle.zh_office.specs.Office.{Office}
-use Rattle.zh_world.specs.declared.world.World.{World}
-use Rattle.zh_tasks.specs.World.{Known}
+use Rattle.zh_tasks.specs.World.{EndOf, Known, WorldOf}
 use Rattle.zh_tasks.specs.Remarks.{BecameOf}
 use Rattle.zh_tasks.specs.Run.{Serves, Streams, streams_of}
-use Rattle.zh_world.specs.declared.world.Ended.{Ended}
-use Rattle.zh_tasks.specs.declared.used.Used.{Used}
 use Rattle.zh_tasks.specs.declared.used.Used.TheVariants.{Rehearsal}
 use Rattle.zh_tasks.specs.declared.fault.TaskFault.{TaskFault}
 use Rattle.zh_tasks.specs.declared.fault.TaskFault.TheVariants as faults
@@ -45,17 +42,16 @@ Rehearsed nothing old new result = Serves old new IsRehearsal result
 abbrev pub in_memory : Disks MemoryDisk
 in_memory = record { history = memory_history; leaves = λ d. IsImage (memory_trail d).now }
 
-module _ {I O E F T D R : Type 0} where
-  -- what the film of a rehearsal shows, the latest first
-  abbrev pub rehearsal_shown : Known I O E F T D R → Film I O MemoryDisk → List Frame
-  rehearsal_shown of film = frames of.readers of.writers in_memory film
+-- what the film of a rehearsal shows, the latest first
+abbrev pub rehearsal_shown : (of : Known) → Film of.Input of.Output MemoryDisk → List Frame
+rehearsal_shown of film = frames of.readers of.writers in_memory film
 
-  -- a rehearsal, which says so first; its disk is in memory, its film is handed over, and no file is touched
-  pub record Rehearses (of : Known I O E F T D R) (old new : World I O E F)
-      (ended : Ended (Result (Unit {0}) TaskFault) (Used I O D T)) : Type 0 where
-    pub film : Film I O MemoryDisk
-    pub used : ended.used ≡ Some (Rehearsal film)
-    pub rest : new ≡ record old { input = new.input; output = new.output; faults = new.faults; remark = new.remark }
-    pub said : BecameOf new.remark (of.errors.contents old.faults) (of.errors.contents new.faults) announcement
-    pub served : Rehearsed ((new.input ≡ old.input) × (new.output ≡ old.output) × (scenes film ≡ []))
-        (streams_of of old []) (streams_of of new (rehearsal_shown of film)) ended.result
+-- a rehearsal, which says so first; its disk is in memory, its film is handed over, and no file is touched
+pub record Rehearses (of : Known) (old new : WorldOf of)
+    (ended : EndOf of) : Type 0 where
+  pub film : Film of.Input of.Output MemoryDisk
+  pub used : ended.used ≡ Some (Rehearsal film)
+  pub rest : new ≡ record old { input = new.input; output = new.output; faults = new.faults; remark = new.remark }
+  pub said : BecameOf new.remark (of.errors.contents old.faults) (of.errors.contents new.faults) announcement
+  pub served : Rehearsed ((new.input ≡ old.input) × (new.output ≡ old.output) × (scenes film ≡ []))
+      (streams_of of old []) (streams_of of new (rehearsal_shown of film)) ended.result

@@ -7,12 +7,10 @@ use Rattle.zh_ledger.specs.Submissions.{OnDisk}
 use Rattle.zh_office.specs.Office.{Office}
 use Rattle.zh_office.specs.Served.{Session, ServesAll, ServesEnded, ServesFront, TakesFewerReads, TakesReads, TakesReadsUpTo}
 use Rattle.zh_office.specs.declared.service.ServeFault.TheVariants as serving
-use Rattle.zh_world.specs.declared.world.World.{World}
-use Rattle.zh_tasks.specs.World.{Known}
+use Rattle.zh_tasks.specs.World.{Known, ObservedOf, WorldOf}
 use Rattle.zh_tasks.specs.Opened.{LeavesDisk, WithOffice}
 use Rattle.zh_tasks.specs.declared.fault.TaskFault.{TaskFault}
 use Rattle.zh_tasks.specs.declared.fault.TaskFault.TheVariants as faults
-use Rattle.zh_tasks.specs.declared.used.Observed.{Observed}
 
 -- what the input has left, and what is written of the answers, where that is known; and what a film shows
 pub record Streams : Type 0 where
@@ -27,36 +25,25 @@ streams left written film = record { left = left; written = written; film = film
 abbrev pub beside : Streams → OnDisk Office → Session
 beside s office = record { written = s.written; office = office; left = s.left; film = s.film }
 
--- all lines of the input were answered by an office that began so, and the device failed under it or not
-pub record Served (old new : Streams) (Spans : OnDisk Office → OnDisk Office → Type 0) (faulted : Bool) : Type 0 where
-  pub start : OnDisk Office
-  pub end : OnDisk Office
-  pub count : ℕ
-  pub spans : Spans start end
-  pub all : ServesAll (beside old start) (beside new end) count
-  pub device : end.holder.ledger.store.broken ≡ faulted
+-- all lines of the input were answered, and the device failed under it or not
+abbrev pub ServesWhole : Bool → Session → Session → Type 0
+ServesWhole faulted old new = (count : ℕ) × ServesAll old new count × (new.office.holder.ledger.store.broken ≡ faulted)
 
--- the input was not read to its end, and the lines that were ended are answered
-pub record ServedEnded (old new : Streams) (Spans : OnDisk Office → OnDisk Office → Type 0) : Type 0 where
+-- an office that began so served the input like this
+pub record Served (old new : Streams) (Spans : OnDisk Office → OnDisk Office → Type 0) (Serving : Session → Session → Type 0) : Type 0 where
   pub start : OnDisk Office
   pub end : OnDisk Office
   pub spans : Spans start end
-  pub ended : ServesEnded (beside old start) (beside new end)
+  pub serving : Serving (beside old start) (beside new end)
 
--- the writer failed, and a front of the answers is written
-pub record ServedFront (old new : Streams) (Spans : OnDisk Office → OnDisk Office → Type 0) : Type 0 where
-  pub start : OnDisk Office
-  pub end : OnDisk Office
-  pub spans : Spans start end
-  pub front : ServesFront (beside old start) (beside new end)
-
--- what serving with this result has done
+-- What serving with this result has done: all lines were answered; or the input was not read to its end, and the lines that were
+-- ended are answered; or the writer failed, and a front of the answers is written.
 abbrev pub Serves : Streams → Streams → (OnDisk Office → OnDisk Office → Type 0) → Result (Unit {0}) TaskFault → Type 0
-Serves old new Spans (Ok done) = Served old new Spans false
-Serves old new Spans (Err faults.Faulted) = Served old new Spans true
-Serves old new Spans (Err (faults.Serve serving.Read)) = ServedEnded old new Spans
-Serves old new Spans (Err (faults.Serve serving.Turns)) = ServedEnded old new Spans
-Serves old new Spans (Err (faults.Serve serving.Write)) = ServedFront old new Spans
+Serves old new Spans (Ok done) = Served old new Spans (ServesWhole false)
+Serves old new Spans (Err faults.Faulted) = Served old new Spans (ServesWhole true)
+Serves old new Spans (Err (faults.Serve serving.Read)) = Served old new Spans ServesEnded
+Serves old new Spans (Err (faults.Serve serving.Turns)) = Served old new Spans ServesEnded
+Serves old new Spans (Err (faults.Serve serving.Write)) = Served old new Spans ServesFront
 Serves old new Spans (Err fault) = ⊥
 
 -- a run takes no more of its input than so many reads can, and ends with `turns` only after what so many can have taken
@@ -66,17 +53,16 @@ IsReadWithin left left' limit (Err (faults.Serve serving.Write)) = TakesReadsUpT
 IsReadWithin left left' limit (Err (faults.Serve serving.Turns)) = TakesReads left left' limit
 IsReadWithin left left' limit result = TakesFewerReads left left' limit
 
-module _ {I O E F T D R : Type 0} where
-  -- the streams of a world
-  abbrev pub streams_of : Known I O E F T D R → World I O E F → List Frame → Streams
-  streams_of of world film = streams (of.readers.remaining world.input) (of.writers.contents world.output) film
+-- the streams of a world
+abbrev pub streams_of : (of : Known) → WorldOf of → List Frame → Streams
+streams_of of world film = streams (of.readers.remaining world.input) (of.writers.contents world.output) film
 
-  -- a run on a disk, and its film: the lines of the input are served by the office that stands there, and nothing else is touched
-  pub record Ran (of : Known I O E F T D R) (canton : Canton) (before after : World I O E F × D)
-      (done : Result (Unit {0}) TaskFault × Observed I O D T) : Type 0 where
-    pub rest : after.0 ≡ record before.0 { input = after.0.input; output = after.0.output }
-    pub served : WithOffice canton (of.disks.history before.1) (of.disks.history after.1)
-        ((after.0.input ≡ before.0.input) × (after.0.output ≡ before.0.output) × (scenes done.1.film ≡ []))
-        (Serves (streams_of of before.0 []) (streams_of of after.0 (frames of.readers of.writers of.disks done.1.film))) done.0
-    pub reads : IsReadWithin (of.readers.remaining before.0.input) (of.readers.remaining after.0.input) (2 ^ 32) done.0
-    pub disk : LeavesDisk (of.disks.history before.1) (of.disks.history after.1) done.0
+-- a run on a disk, and its film: the lines of the input are served by the office that stands there, and nothing else is touched
+pub record Ran (of : Known) (canton : Canton) (before after : WorldOf of × of.Disk)
+    (done : Result (Unit {0}) TaskFault × ObservedOf of) : Type 0 where
+  pub rest : after.0 ≡ record before.0 { input = after.0.input; output = after.0.output }
+  pub served : WithOffice canton (of.disks.history before.1) (of.disks.history after.1)
+      ((after.0.input ≡ before.0.input) × (after.0.output ≡ before.0.output) × (scenes done.1.film ≡ []))
+      (Serves (streams_of of before.0 []) (streams_of of after.0 (frames of.readers of.writers of.disks done.1.film))) done.0
+  pub reads : IsReadWithin (of.readers.remaining before.0.input) (of.readers.remaining after.0.input) (2 ^ 32) done.0
+  pub disk : LeavesDisk (of.disks.history before.1) (of.disks.history after.1) done.0

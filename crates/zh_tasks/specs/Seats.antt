@@ -12,7 +12,6 @@ use Rattle.zh_results.specs.Results.{IsReasonFor, MayAnswerAs, answer_of}
 use Rattle.zh_results.specs.Texts.{refusal_text}
 use Rattle.zh_results.specs.declared.outcome.MarkedSheet.{MarkedSheet}
 use Rattle.zh_results.specs.declared.outcome.NoSeats.{NoSeats}
-use Rattle.zh_tasks.specs.declared.seats.Seats.{Seats}
 use Rattle.zh_tasks.specs.declared.shown.Shown.{Shown}
 use Rattle.zh_tasks.specs.declared.shown.Shown.TheVariants.{Text, Nothing}
 
@@ -38,8 +37,3 @@ pub record AreSeatsOf (tally : Tally) (is_final : Bool) (seats : Result MarkedSh
   pub answer : MayAnswerAs tally is_final (answer_of seats)
   pub mark : IfOk seats (λ shown. shown.mark ≡ record { is_final = is_final; accepted = tally.accepted; source = sources.Count })
   pub reason : IfErr seats (IsReasonFor (totals_of tally))
-
--- what may be shown of a count
-abbrev pub MayShowSeats : Seats → Tally → Shown → Type 0
-MayShowSeats task tally shown = (seats : Result MarkedSheet NoSeats) × AreSeatsOf tally task.is_final seats
-    × AreShownSeats tally.canton task.layout seats shown

@@ -1,5 +1,5 @@
 -- What the writing of the seats of a published sheet does.
-use Rattle.std.specs.Prelude.{◌≡◌, ◌⊎◌, ◌≤◌, ℕ, List, Option, None, Result, IsErrAnd}
+use Rattle.std.specs.Prelude.{◌≡◌, ◌⊎◌, ℕ, List, None, Result}
 use Rattle.zh_districts.specs.Canton.{Canton}
 use Rattle.zh_arguments.specs.declared.seats.Layout.{Layout}
 use Rattle.zh_check.specs.Verdicts.{IsRight}
@@ -9,15 +9,12 @@ use Rattle.zh_verdicts.specs.Right.{unchecked_line}
 use Rattle.zh_results.specs.Results.{IsNoSheetOf}
 use Rattle.zh_results.specs.declared.outcome.MarkedSheet.{MarkedSheet}
 use Rattle.zh_results.specs.declared.outcome.NoSeats.{NoSeats}
-use Rattle.zh_world.specs.declared.world.Ended.{Ended}
-use Rattle.zh_tasks.specs.declared.used.Used.{Used}
-use Rattle.zh_world.specs.declared.world.World.{World}
-use Rattle.zh_tasks.specs.Check.{IsSheetAt, LacksSheetFile}
-use Rattle.zh_tasks.specs.OnDisk.{IsOfSetup}
+use Rattle.zh_world.specs.declared.files.Files.{Ghosts as Files}
+use Rattle.zh_tasks.specs.Check.{a_sheet}
 use Rattle.zh_tasks.specs.Seats.{IsShownReason, laid_out}
 use Rattle.zh_tasks.specs.Shown.{Shows}
-use Rattle.zh_world.specs.declared.fault.FileFault.{FileFault}
-use Rattle.zh_tasks.specs.World.{AreCalls, IsMetAt, IsSetupAt, Known}
+use Rattle.zh_tasks.specs.Texts.{ReadsNoMore, ReadsText, ReadsThen, UsesTexts, a_setup}
+use Rattle.zh_tasks.specs.World.{Known, WorldOf}
 use Rattle.zh_tasks.specs.declared.fault.TaskFault.{TaskFault}
 use Rattle.zh_tasks.specs.declared.sheet_seats.SheetPaths.{SheetPaths}
 use Rattle.zh_tasks.specs.declared.shown.Shown.{Shown}
@@ -42,33 +39,13 @@ MayShowSheet canton bytes layout shown =
     ((right : RightSheet) × IsRight canton None bytes right × AreStated layout right shown)
     ⊎ ((why : NoSeats) × IsNoSheetOf canton bytes why × IsShownReason canton why shown)
 
--- the file of the set-up gives none, or it was read and that of the sheet gives none
-abbrev pub FindsNoSheet : (List ℕ → Option (List ℕ)) → (List ℕ → FileFault → Type 0) → SheetPaths → TaskFault → Type 0
-FindsNoSheet text_at Met paths fault = IsOfSetup (text_at paths.setup.now) (Met paths.setup.now) fault
-    ⊎ ((canton : Canton) × IsSetupAt (text_at paths.setup.now) canton × LacksSheetFile (Met paths.sheet.now) fault)
+module _ {F T D R : Type 0} where
+  -- the set-up is read, and then the sheet
+  abbrev pub ReadsBoth : Files F T D R → SheetPaths → F → F → Result (Canton × List ℕ) TaskFault → Type 0
+  ReadsBoth files paths =
+      ReadsThen (ReadsText files a_setup paths.setup.now) (λ canton.
+      ReadsThen (ReadsText files a_sheet paths.sheet.now) (λ sheet. ReadsNoMore (canton, sheet)))
 
--- this set-up and these bytes were read
-pub record AreBothRead (text_at : List ℕ → Option (List ℕ)) (paths : SheetPaths) (canton : Canton) (bytes : List ℕ) : Type 0 where
-  pub setup : IsSetupAt (text_at paths.setup.now) canton
-  pub sheet : IsSheetAt (text_at paths.sheet.now) bytes
-
-module _ {I O E F T D R : Type 0} where
-  -- both were read, and the seats of the sheet, or why there are none, are written; nothing else is read
-  pub record ShowsSheet (of : Known I O E F T D R) (paths : SheetPaths) (old : World I O E F) (files : F) (new : World I O E F)
-      (result : Result (Unit {0}) TaskFault) : Type 0 where
-    pub canton : Canton
-    pub bytes : List ℕ
-    pub read : AreBothRead (of.files.text_at old.files) paths canton bytes
-    pub shown : Shows of (record old { files = files }) new (MayShowSheet canton bytes paths.layout) result
-
-  -- The seats of the sheet at a path are written: the texts at both paths are read, a call of the files for each, and nothing
-  -- else is. No disk is opened.
-  pub record HasShownSheet (of : Known I O E F T D R) (paths : SheetPaths) (old new : World I O E F)
-      (ended : Ended (Result (Unit {0}) TaskFault) (Used I O D T)) : Type 0 where
-    pub none : ended.used ≡ None
-    pub files : F
-    pub calls : (n : ℕ) × (n ≤ 2) × AreCalls of.files n old.files files
-    pub rest : new ≡ record old { output = new.output; faults = new.faults; remark = new.remark; files = files }
-    pub shown : (IsErrAnd ended.result (FindsNoSheet (of.files.text_at old.files) (λ path. IsMetAt of.files path old.files files) paths)
-        × (new ≡ record old { files = files }))
-        ⊎ ShowsSheet of paths old files new ended.result
+-- the seats of the sheet at a path are written, or why there are none
+abbrev pub HasShownSheet : (of : Known) → SheetPaths → WorldOf of → WorldOf of → Result (Unit {0}) TaskFault → Type 0
+HasShownSheet of paths = UsesTexts of (ReadsBoth of.files paths) (λ both. Shows of (MayShowSheet both.0 both.1 paths.layout))

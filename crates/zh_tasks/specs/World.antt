@@ -1,5 +1,5 @@
 -- What is known of a world, and of the files in it.
-use Rattle.std.specs.Prelude.{◌≡◌, ◌+◌, ℕ, List, take, Option, Some, None, Ok}
+use Rattle.std.specs.Prelude.{◌≡◌, ◌+◌, ℕ, List, take, Option, Some, None, Result, Ok}
 use Rattle.std.specs.declared.io.traits.Read.{Ghosts as Readers}
 use Rattle.std.specs.declared.io.traits.Write.{Ghosts as Writers}
 use Rattle.zh_disk.specs.History.{History}
@@ -10,20 +10,63 @@ use Rattle.zh_world.specs.Files as opened
 use Rattle.zh_world.specs.Causes.{IsFaultIn}
 use Rattle.zh_world.specs.Places.{Touches}
 use Rattle.zh_world.specs.declared.fault.FileFault.{FileFault}
+use Rattle.zh_world.specs.declared.world.Ended.{Ended}
+use Rattle.zh_world.specs.declared.world.World.{World}
+use Rattle.zh_tasks.specs.declared.fault.TaskFault.{TaskFault}
+use Rattle.zh_tasks.specs.declared.used.Filmed.{Filmed}
+use Rattle.zh_tasks.specs.declared.used.Observed.{Observed}
+use Rattle.zh_tasks.specs.declared.used.Used.{Used}
 use Rattle.zh_world.specs.declared.files.Files.{Ghosts as Files}
 
-module _ (I O E F T D R : Type 0) where
-  -- what is known of the parts of a world
-  pub record Known : Type 1 where
-    pub readers : Readers I
-    pub writers : Writers O
-    pub errors : Writers E
-    pub files : Files F T D R
-    pub disks : Disks D
+-- what is known of the world of a task: the types of its parts, and of each what is known
+pub record Known : Type 1 where
+  pub Input : Type 0
+  pub Output : Type 0
+  pub Errors : Type 0
+  pub Folder : Type 0
+  pub Text : Type 0
+  pub Disk : Type 0
+  pub Right : Type 0
+  pub readers : Readers Input
+  pub writers : Writers Output
+  pub errors : Writers Errors
+  pub files : Files Folder Text Disk Right
+  pub disks : Disks Disk
 
 module _ {I O E F T D R : Type 0} where
-  abbrev pub known : Readers I → Writers O → Writers E → Files F T D R → Disks D → Known I O E F T D R
-  known readers writers errors files disks = record { readers = readers; writers = writers; errors = errors; files = files; disks = disks }
+  abbrev pub known : Readers I → Writers O → Writers E → Files F T D R → Disks D → Known
+  known readers writers errors files disks = record {
+    Input = I;
+    Output = O;
+    Errors = E;
+    Folder = F;
+    Text = T;
+    Disk = D;
+    Right = R;
+    readers = readers;
+    writers = writers;
+    errors = errors;
+    files = files;
+    disks = disks;
+  }
+
+-- a world of these parts
+abbrev pub WorldOf : Known → Type 0
+WorldOf of = World of.Input of.Output of.Errors of.Folder
+
+-- what is to be seen of a task in it, with its disk, and what the task hands over
+abbrev pub ObservedOf : Known → Type 0
+ObservedOf of = Observed of.Input of.Output of.Disk of.Text
+
+abbrev pub FilmedOf : Known → Type 0
+FilmedOf of = Filmed of.Input of.Output of.Disk of.Text
+
+abbrev pub UsedOf : Known → Type 0
+UsedOf of = Used of.Input of.Output of.Disk of.Text
+
+-- how a task ended, and what it hands over
+abbrev pub EndOf : Known → Type 0
+EndOf of = Ended (Result (Unit {0}) TaskFault) (UsedOf of)
 
 -- what is known of files, of a disk, and of how a disk begins that is opened where these bytes are
 pub record Sight (F T D R : Type 0) : Type 1 where

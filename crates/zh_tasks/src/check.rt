@@ -1,17 +1,15 @@
 //! Checking a published sheet.
 
-ghost use Rattle.std.specs.Prelude.{◌≡◌, ◌≤◌, ℕ, IfErr, IfOk, IsErrAnd, option_map};
+ghost use Rattle.std.specs.Prelude.{◌≡◌, IfErr, IfOk, option_map};
 ghost use Rattle.std.specs.Option.{option_copied};
 ghost use Rattle.zh_world.specs.Files.{IsReadOfFiles};
-ghost use Rattle.zh_tasks.specs.Check.{Answers, AreSumsAt, AreSumsIfNamed, Checked, Checks, HeldFaultAs};
-ghost use Rattle.zh_tasks.specs.Check.{IsOfHeld, IsOfHeldAt, IsSheetAt, LacksInputs, LacksSheetFile, ReadsInputs, calls_if_named};
-ghost use Rattle.zh_tasks.specs.World.{AreCalls, IsMetAt, known};
+ghost use Rattle.zh_tasks.specs.Check.{Answers, AreSumsAt, Checked, HeldFaultAs, IsOfHeld, IsSheetAt, LacksSheetFile, ReadsHeld};
+ghost use Rattle.zh_tasks.specs.World.{IsMetAt, known};
 
 use crate::fault::TaskFault;
 use crate::file::TaskFile;
 use crate::front::read_front;
 use crate::setup::setup_at;
-use crate::used::Used;
 use std::alloc::Global;
 use std::io::{Read, Write};
 use zh_arguments::CheckPaths;
@@ -19,7 +17,7 @@ use zh_checks::write_check;
 use zh_csv::{LoadFault, NotedReader};
 use zh_districts::Setup;
 use zh_held::{HeldFault, HeldSums, read_held};
-use zh_world::{Ended, FileFault, Files, World};
+use zh_world::{FileFault, Files, World};
 
 /// The front of the sheet at this path.
 pub(crate) fn sheet_at<F: Files>(
@@ -81,10 +79,7 @@ fn held_if_named<'s, F: Files>(
     setup: &'s Setup,
     path: Option<&str>,
 ) -> Result<Option<HeldSums<'s>>, TaskFault>
-    ensures calls { AreCalls F.Files (calls_if_named (option_map (λ p. p.now) path.entry)) files.old files.new }
-    ensures held { IfOk result (AreSumsIfNamed (F.text_at files.old) setup.now (option_map (λ p. p.now) path.entry)) }
-    ensures fault { IfErr result (IsOfHeldAt (F.text_at files.old) setup.now
-        (λ at. IsMetAt F.Files at files.old files.new) (option_map (λ p. p.now) path.entry)) }
+    ensures { ReadsHeld F.Files setup.now (option_map (λ p. p.now) path.entry) files.old files.new result }
 {
     match path {
         Some(path) => {
@@ -114,36 +109,16 @@ fn answer<O: Write>(
     }
 }
 
-/// Reads the files, and then checks and answers.
-fn check_files<O: Write, F: Files>(
-    alloc: Global,
-    paths: CheckPaths<'_>,
-    files: &mut F,
-    out: &mut O,
-) -> Result<(), TaskFault>
-    ensures calls { (n : ℕ) × (n ≤ 3) × AreCalls F.Files n files.old files.new }
-    ensures checks { Checks (out.new ≡ out.old)
-        (ReadsInputs (λ n. AreCalls F.Files n files.old files.new) (F.text_at files.old) paths.entry)
-        (λ inputs. Answers (out.new ≡ out.old) (O.contents out.old) (O.contents out.new) inputs result)
-        (IsErrAnd result (LacksInputs (λ n. AreCalls F.Files n files.old files.new) (F.text_at files.old)
-        (λ path. IsMetAt F.Files path files.old files.new) paths.entry)) }
-{
-    let setup = setup_at(alloc, files, paths.setup)?;
-    let sheet = sheet_at(alloc, files, paths.sheet)?;
-    let held = held_if_named(alloc, files, &setup, paths.held)?;
-    answer(alloc, &setup, &sheet, held.as_ref(), out)
-}
-
-/// Checks the sheet at a path, and uses no disk.
-pub(crate) fn check_sheet<I: Read, O: Write, E: Write, F: Files>(
+/// Checks the sheet at a path: reads the files, and then checks and answers.
+pub(crate) fn check_files<I: Read, O: Write, E: Write, F: Files>(
     alloc: Global,
     paths: CheckPaths<'_>,
     world: &mut World<I, O, E, F>,
-) -> Ended<Result<(), TaskFault>, Used<I, O, F::Disk, F::Text>>
+) -> Result<(), TaskFault>
     ensures { Checked (known I.Read O.Write E.Write F.Files F.Disk.Disk) paths.entry world.old world.new result }
 {
-    Ended {
-        result: check_files(alloc, paths, &mut world.files, &mut world.output),
-        used: None,
-    }
+    let setup = setup_at(alloc, &mut world.files, paths.setup)?;
+    let sheet = sheet_at(alloc, &mut world.files, paths.sheet)?;
+    let held = held_if_named(alloc, &mut world.files, &setup, paths.held)?;
+    answer(alloc, &setup, &sheet, held.as_ref(), &mut world.output)
 }

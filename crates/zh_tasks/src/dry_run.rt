@@ -1,19 +1,17 @@
 //! Saying what a load would do.
 
-ghost use Rattle.std.specs.Prelude.{◌≡◌, IsErrOf, true};
+ghost use Rattle.std.specs.Prelude.{◌≡◌, IsErrOf, Some, true};
 ghost use Rattle.zh_csv.specs.Noted.{has_failed, inner_reader};
-ghost use Rattle.zh_ledger.specs.Submissions.{OnDisk};
-ghost use Rattle.zh_office.specs.Office as offices;
+ghost use Rattle.zh_judgements.specs.Judged.{Judges};
 ghost use Rattle.zh_tasks.specs.DryRun.{DryRuns, HasDryRun};
+ghost use Rattle.zh_tasks.specs.Reading.{IsReading};
 ghost use Rattle.zh_tasks.specs.World.{known};
 
 use crate::fault::TaskFault;
 use crate::load::text_at;
-use crate::on_disk::Middle;
+use crate::reading::Reading;
 use std::alloc::Global;
 use std::io::{Read, Write};
-use zh_disk::Disk;
-use zh_districts::Setup;
 use zh_judgements::{Forecast, JudgementFault, write_judgement};
 use zh_office::{NotedReader, Office, ServeFault};
 use zh_world::{Files, World};
@@ -40,8 +38,8 @@ fn judge_text<R: Read, O: Write>(
     text: &mut NotedReader<R>,
     out: &mut O,
 ) -> Result<(), TaskFault>
-    ensures runs { (start : OnDisk offices.Office) → start.holder ≡ office.now → DryRuns (λ _. ⊥) (R.remaining (inner_reader text.old))
-        (O.contents out.old) (O.contents out.new) (λ first last. (first ≡ start) × (last ≡ start)) result }
+    ensures runs { DryRuns (λ _. ⊥) (Judges office.now.ledger.tally (λ bytes. R.remaining (inner_reader text.old) ≡ Some bytes)
+        (O.contents out.old) (O.contents out.new)) result }
     ensures read { IsErrOf result TaskFault.CsvFile → has_failed text.new ≡ true }
 {
     let forecast = write_judgement(alloc, office.count(), text, out)?;
@@ -51,21 +49,19 @@ fn judge_text<R: Read, O: Write>(
     }
 }
 
-/// Opens the office on the disk, judges the text at this path against it, and writes what comes of it.
-fn dry_run_from<I: Read, O: Write, E: Write, F: Files>(
+/// Judges the text at this path against what an office holds, and writes what comes of it.
+fn dry_run<I: Read, O: Write, E: Write, F: Files>(
     alloc: Global,
-    setup: &Setup,
-    world: &mut World<I, O, E, F>,
-    disk: &mut F::Disk,
+    office: &Office<'_>,
     csv: &str,
+    world: &mut World<I, O, E, F>,
 ) -> Result<(), TaskFault>
-    ensures { HasDryRun (known I.Read O.Write E.Write F.Files F.Disk.Disk) csv.now setup.now
-        (world.old, disk.old) (world.new, disk.new) result }
+    ensures { IsReading F.Files (HasDryRun (known I.Read O.Write E.Write F.Files F.Disk.Disk) csv.now office.now.ledger.tally)
+        world.old world.new result }
 {
-    let office = Office::open(alloc, setup, disk)?;
     let text = text_at(alloc, &mut world.files, csv)?;
     let mut reader = NotedReader::new(text);
-    judge_text(alloc, &office, &mut reader, &mut world.output)
+    judge_text(alloc, office, &mut reader, &mut world.output)
 }
 
 /// Says what a load of the CSV file at a path would do, and stores nothing.
@@ -74,16 +70,15 @@ pub struct DryRun<'a> {
     pub csv: &'a str,
 }
 
-impl<'a, I: Read, O: Write, E: Write, F: Files> Middle<World<I, O, E, F>, F::Disk> for DryRun<'a> {
-    ghost does = { λ task. HasDryRun (known I.Read O.Write E.Write F.Files F.Disk.Disk) task.csv.now };
+impl<'a, I: Read, O: Write, E: Write, F: Files> Reading<I, O, E, F> for DryRun<'a> {
+    ghost reads = { λ task. HasDryRun (known I.Read O.Write E.Write F.Files F.Disk.Disk) task.csv.now };
 
-    fn on(
+    fn read(
         &self,
         alloc: Global,
-        setup: &Setup,
+        office: &Office<'_>,
         world: &mut World<I, O, E, F>,
-        disk: &mut F::Disk,
     ) -> Result<(), TaskFault> {
-        dry_run_from(alloc, setup, world, disk, self.csv)
+        dry_run(alloc, office, self.csv, world)
     }
 }

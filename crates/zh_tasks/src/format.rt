@@ -2,8 +2,7 @@
 
 ghost use Rattle.std.specs.Prelude.{◌≡◌, nat_lt, IfErr};
 ghost use Rattle.zh_disk.specs.History.{Call};
-ghost use Rattle.zh_tasks.specs.Format.{Formatted, FormatsBlank, IsOfFormat, format_fails};
-ghost use Rattle.zh_tasks.specs.List.{SaysIf};
+ghost use Rattle.zh_tasks.specs.Format.{Formatted, FormatsBlank, IsOfFormat, SaysIf, format_fails};
 ghost use Rattle.zh_tasks.specs.Remarks.{BecameOf};
 ghost use Rattle.zh_tasks.specs.World.{known};
 

@@ -16,6 +16,11 @@ const LONGEST_READ: usize = 280_065;
 /// How many bytes are read at once.
 const PIECE: usize = 4096;
 
+/// Room for so many bytes.
+fn room<const N: usize>() -> [u8; N] {
+    [0; N]
+}
+
 /// The fault of a read, as the task's.
 fn read_fault(error: Error) -> TaskFault
     ensures { IsOfSheet result }
@@ -38,9 +43,9 @@ fn read_piece<R: Read>(file: &mut NotedReader<R>, text: &mut Vec<u8>) -> Result<
     ensures unfailed { IfOk result (λ _. has_failed file.new ≡ false) }
     ensures fault { IfErr result IsOfSheet }
 {
-    let mut piece = [0; PIECE];
-    let room = PIECE.min(LONGEST_READ - text.len());
-    match file.read(&mut piece[..room]) {
+    let mut piece = room::<PIECE>();
+    let most = PIECE.min(LONGEST_READ - text.len());
+    match file.read(&mut piece[..most]) {
         Ok(0) => Ok(false),
         Ok(length) => {
             text.extend_from_slice(&piece[..length])?;

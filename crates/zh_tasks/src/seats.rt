@@ -1,18 +1,16 @@
-//! Writing the seats of the count that is held.
+//! Seats, as they are shown.
 
 ghost use Rattle.std.specs.Prelude.{◌≡◌, IfErr, IfOk};
-ghost use Rattle.zh_tasks.specs.Seats.{AreShownSeats, IsShownReason, MayShowSeats, laid_out};
+ghost use Rattle.zh_tasks.specs.Seats.{AreShownSeats, IsShownReason, laid_out};
 ghost use Rattle.zh_tasks.specs.Shown.{GivesShown};
 ghost use Rattle.zh_tasks.specs.declared.fault.TaskFault.TheVariants as faults;
 
 use crate::fault::TaskFault;
-use crate::reading::Reading;
 use crate::shown::Shown;
 use std::alloc::Global;
 use zh_arguments::Layout;
 use zh_districts::Setup;
-use zh_office::Office;
-use zh_results::{MarkedSheet, NoSeats, refusal_text, seats_by_count};
+use zh_results::{MarkedSheet, NoSeats, refusal_text};
 use zh_seats::{seat_table, write_seats};
 
 /// The text of seats in a form.
@@ -44,7 +42,7 @@ pub(crate) fn shown_reason(alloc: Global, setup: &Setup, why: &NoSeats) -> Resul
 }
 
 /// Seats, or why there are none.
-fn shown_seats(
+pub(crate) fn shown_seats(
     alloc: Global,
     setup: &Setup,
     seats: Result<MarkedSheet<'_>, NoSeats>,
@@ -55,22 +53,5 @@ fn shown_seats(
     match seats {
         Ok(seats) => Ok(Shown::Text(text_of(alloc, &seats, layout)?)),
         Err(why) => shown_reason(alloc, setup, &why),
-    }
-}
-
-/// Writes the seats of the count that the office on the disk holds.
-#[derive(Clone, Copy)]
-pub struct Seats {
-    pub is_final: bool,
-    pub layout: Layout,
-}
-
-impl Reading for Seats {
-    ghost may_show = { MayShowSeats };
-
-    fn shown(&self, alloc: Global, office: &Office<'_>) -> Result<Shown, TaskFault> {
-        let count = office.count();
-        let seats = seats_by_count(alloc, count, self.is_final);
-        shown_seats(alloc, count.setup(), seats, self.layout)
     }
 }

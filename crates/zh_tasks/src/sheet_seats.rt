@@ -1,16 +1,15 @@
 //! Writing the seats of a published sheet.
 
-ghost use Rattle.std.specs.Prelude.{◌≡◌, ◌≤◌, ℕ, IfErr, IfOk};
-ghost use Rattle.zh_tasks.specs.SheetSeats.{AreBothRead, AreStated, FindsNoSheet, HasShownSheet, MayShowSheet, stated};
+ghost use Rattle.std.specs.Prelude.{◌≡◌, ◌≤◌, ℕ, Err, MatchResult, Ok};
+ghost use Rattle.zh_tasks.specs.SheetSeats.{AreStated, HasShownSheet, MayShowSheet, ReadsBoth, stated};
 ghost use Rattle.zh_tasks.specs.Shown.{GivesShown, Shows};
-ghost use Rattle.zh_tasks.specs.World.{AreCalls, IsMetAt, known};
+ghost use Rattle.zh_tasks.specs.World.{AreCalls, known};
 
 use crate::check::sheet_at;
 use crate::fault::TaskFault;
 use crate::seats::{shown_reason, text_of};
 use crate::setup::setup_at;
 use crate::shown::{Shown, write_shown};
-use crate::used::Used;
 use std::alloc::Global;
 use std::io::{Read, Write};
 use zh_arguments::Layout;
@@ -19,7 +18,7 @@ use zh_districts::Setup;
 use zh_results::{MarkedSheet, seats_by_sheet};
 use zh_seats::{Mark, Source};
 use zh_verdicts::unchecked_line;
-use zh_world::{Ended, Files, World};
+use zh_world::{Files, World};
 
 /// The files of a set-up and of a published sheet, and the form in which its seats are shown.
 #[derive(Clone, Copy)]
@@ -36,8 +35,8 @@ fn read_both<F: Files>(
     files: &mut F,
 ) -> Result<(Setup, Vec<u8>), TaskFault>
     ensures calls { (n : ℕ) × (n ≤ 2) × AreCalls F.Files n files.old files.new }
-    ensures read { IfOk result (λ both. AreBothRead (F.text_at files.old) paths.entry both.0 both.1.items) }
-    ensures fault { IfErr result (FindsNoSheet (F.text_at files.old) (λ path. IsMetAt F.Files path files.old files.new) paths.entry) }
+    ensures read { MatchResult result (λ both. ReadsBoth F.Files paths.entry files.old files.new (Ok (both.0, both.1.items)))
+        (λ fault. ReadsBoth F.Files paths.entry files.old files.new (Err fault)) }
 {
     let setup = setup_at(alloc, files, paths.setup)?;
     let text = sheet_at(alloc, files, paths.sheet)?;
@@ -86,30 +85,21 @@ fn show_text<I: Read, O: Write, E: Write, F: Files>(
     layout: Layout,
     world: &mut World<I, O, E, F>,
 ) -> Result<(), TaskFault>
-    ensures rest { world.new ≡ record world.old { output = world.new.output; faults = world.new.faults; remark = world.new.remark } }
-    ensures shown { Shows (known I.Read O.Write E.Write F.Files F.Disk.Disk) world.old world.new
-        (MayShowSheet setup.now text.now layout) result }
+    ensures { Shows (known I.Read O.Write E.Write F.Files F.Disk.Disk) (MayShowSheet setup.now text.now layout)
+        world.old world.new result }
 {
     let shown = shown_of(alloc, setup, text, layout)?;
     write_shown(&shown, world)
 }
 
-/// Writes the seats of a published sheet, if it is right. No disk is opened.
+/// Writes the seats of a published sheet, if it is right.
 pub(crate) fn sheet_seats<I: Read, O: Write, E: Write, F: Files>(
     alloc: Global,
     paths: SheetPaths<'_>,
     world: &mut World<I, O, E, F>,
-) -> Ended<Result<(), TaskFault>, Used<I, O, F::Disk, F::Text>>
+) -> Result<(), TaskFault>
     ensures { HasShownSheet (known I.Read O.Write E.Write F.Files F.Disk.Disk) paths.entry world.old world.new result }
 {
-    match read_both(alloc, paths, &mut world.files) {
-        Ok((setup, text)) => Ended {
-            result: show_text(alloc, &setup, &text, paths.layout, world),
-            used: None,
-        },
-        Err(fault) => Ended {
-            result: Err(fault),
-            used: None,
-        },
-    }
+    let (setup, text) = read_both(alloc, paths, &mut world.files)?;
+    show_text(alloc, &setup, &text, paths.layout, world)
 }

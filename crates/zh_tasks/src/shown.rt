@@ -1,7 +1,6 @@
 //! What a task shows, and the writing of it.
 
-ghost use Rattle.std.specs.Prelude.{◌≡◌};
-ghost use Rattle.zh_tasks.specs.Shown.{WritesShown};
+ghost use Rattle.zh_tasks.specs.Shown.{OnlyWrites, WritesShown};
 ghost use Rattle.zh_tasks.specs.World.{known};
 
 use crate::fault::TaskFault;
@@ -27,7 +26,7 @@ pub(crate) fn write_shown<I: Read, O: Write, E: Write, F: Files>(
     shown: &Shown,
     world: &mut World<I, O, E, F>,
 ) -> Result<(), TaskFault>
-    ensures rest { world.new ≡ record world.old { output = world.new.output; faults = world.new.faults; remark = world.new.remark } }
+    ensures rest { OnlyWrites world.old world.new }
     ensures written { WritesShown (known I.Read O.Write E.Write F.Files F.Disk.Disk) world.old world.new shown.now result }
 {
     match shown {

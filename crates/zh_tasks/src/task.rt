@@ -3,20 +3,17 @@
 ghost use Rattle.zh_tasks.specs.Tasks.{Does};
 ghost use Rattle.zh_tasks.specs.World.{known};
 
-use crate::check::check_sheet;
+use crate::check::check_files;
 use crate::dry_run::DryRun;
-use crate::export::Export;
 use crate::fault::TaskFault;
 use crate::format::FormatDisk;
-use crate::list::list;
+use crate::list::list_at;
 use crate::load::Load;
 use crate::on_disk::{on_disk, on_filmed_disk, on_made_disk};
-use crate::reading::Showing;
+use crate::reading::ReadingOf;
 use crate::rehearse::rehearse;
 use crate::run::Run;
-use crate::seats::Seats;
 use crate::sheet_seats::{SheetPaths, sheet_seats};
-use crate::status::Status;
 use crate::used::Used;
 use std::alloc::Global;
 use std::io::{Read, Write};
@@ -39,32 +36,19 @@ pub fn carry_out<I: Read, O: Write, E: Write, F: Files>(
         Task::Format(paths) => on_made_disk(alloc, paths, right, world, &FormatDisk),
         Task::Run(paths) => on_filmed_disk(alloc, paths, right, world, &Run),
         Task::Load { paths, csv } => on_filmed_disk(alloc, paths, right, world, &Load { csv }),
-        Task::DryRun { paths, csv } => on_disk(alloc, paths, right, world, &DryRun { csv }),
-        Task::Export(paths) => on_disk(alloc, paths, right, world, &Showing { task: &Export }),
-        Task::Status { paths, view } => on_disk(
-            alloc,
-            paths,
-            right,
-            world,
-            &Showing {
-                task: &Status { view },
-            },
-        ),
-        Task::List { setup, table } => list(alloc, setup, table, world),
-        Task::Check(paths) => check_sheet(alloc, paths, world),
-        Task::Seats {
-            paths,
-            is_final,
-            layout,
-        } => on_disk(
-            alloc,
-            paths,
-            right,
-            world,
-            &Showing {
-                task: &Seats { is_final, layout },
-            },
-        ),
+        Task::DryRun { paths, csv } => {
+            let task = DryRun { csv };
+            on_disk(alloc, paths, right, world, &ReadingOf(&task))
+        }
+        Task::Show(paths, query) => on_disk(alloc, paths, right, world, &ReadingOf(&query)),
+        Task::List { setup, table } => Ended {
+            result: list_at(alloc, setup, table, world),
+            used: None,
+        },
+        Task::Check(paths) => Ended {
+            result: check_files(alloc, paths, world),
+            used: None,
+        },
         Task::SheetSeats {
             setup,
             sheet,
@@ -75,7 +59,10 @@ pub fn carry_out<I: Read, O: Write, E: Write, F: Files>(
                 sheet,
                 layout,
             };
-            sheet_seats(alloc, paths, world)
+            Ended {
+                result: sheet_seats(alloc, paths, world),
+                used: None,
+            }
         }
     }
 }

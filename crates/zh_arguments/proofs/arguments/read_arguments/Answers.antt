@@ -21,7 +21,8 @@ returns-in-Ok c =
     let arguments = map string_bytes c.args.arguments.now in
     let app = app_of c.in_ok-zhcount.field-0 in
     let read = command_read app arguments c.in_ok-matches.matches c.in_ok-zhcount.ensures c.in_ok-matches.ensures.matches in
-    let given = parts (λ p. p.0.now) (λ p. rows_of (found_of p.1.now)) c.subcommand.result (subcommand_rows_of c.in_ok-matches.matches) (c.subcommand.ensures.name ∙ named c.in_ok-matches.matches) c.subcommand.ensures.rows in
+    let given = parts (λ p. p.0.now) (λ p. rows_of (found_of p.1.now)) c.subcommand.result (subcommand_rows_of c.in_ok-matches.matches)
+    (c.subcommand.ensures.name ∙ named c.in_ok-matches.matches) c.subcommand.ensures.rows in
     asked app arguments c.in-Ok.task c.in_ok-zhcount.ensures c.in_ok-matches.ensures.kinds
     (subst (λ (o : Option (Text × List Row)). Names o c.in-Ok.task) (given ∙ read) c.in-Ok.ensures)
 
@@ -30,6 +31,7 @@ returns c =
     let arguments = map string_bytes c.args.arguments.now in
     let app = app_of c.in_ok-zhcount.field-0 in
     let read = command_read app arguments c.in_ok-matches.matches c.in_ok-zhcount.ensures c.in_ok-matches.ensures.matches in
-    let given = parts (λ p. p.0.now) (λ p. rows_of (found_of p.1.now)) c.subcommand.result (subcommand_rows_of c.in_ok-matches.matches) (c.subcommand.ensures.name ∙ named c.in_ok-matches.matches) c.subcommand.ensures.rows in
+    let given = parts (λ p. p.0.now) (λ p. rows_of (found_of p.1.now)) c.subcommand.result (subcommand_rows_of c.in_ok-matches.matches)
+    (c.subcommand.ensures.name ∙ named c.in_ok-matches.matches) c.subcommand.ensures.rows in
     refused_misuse app arguments c.in_ok-refusal-in-Err.field-0 c.in-Err.misuse c.in_ok-zhcount.ensures c.in_ok-matches.ensures.kinds
     (subst (λ (o : Option (Text × List Row)). IsMisuse o c.in-Err.misuse) (given ∙ read) c.in-Err.ensures) c.in_ok-refusal-in-Err.ensures

@@ -8,10 +8,13 @@ use Rattle.zh_arguments.proofs.table.table_in.Goals as goal
 pub returns-in_err-part : goal.returns-in_err-part
 returns-in_err-part c =
     let found = found_of c.args.given.now in
-    no_part (rows_of found) _ _ c.from_residual.result (c.get_str.ensures ∙ first_value-rows found (codes "municipality")) (c.get_str-2.ensures ∙ first_value-rows found (codes "constituency")) c.in_err-part.ensures c.from_residual.ensures
+    no_part (rows_of found) _ _ c.from_residual.result (c.get_str.ensures ∙ first_value-rows found (codes "municipality"))
+    (c.get_str-2.ensures ∙ first_value-rows found (codes "constituency")) c.in_err-part.ensures c.from_residual.ensures
 
 pub returns : goal.returns
 returns c =
     let found = found_of c.args.given.now in
     let name = path_found c.get_str-3.result _ c.unwrap_or.result found (codes "of") c.get_str-3.ensures refl c.unwrap_or.ensures in
-    table_read (rows_of found) _ _ c.unwrap_or.result.now c.in_ok-part.part c.table_named.result (c.get_str.ensures ∙ first_value-rows found (codes "municipality")) (c.get_str-2.ensures ∙ first_value-rows found (codes "constituency")) name c.in_ok-part.ensures c.table_named.ensures
+    table_read (rows_of found) _ _ c.unwrap_or.result.now c.in_ok-part.part c.table_named.result
+    (c.get_str.ensures ∙ first_value-rows found (codes "municipality"))
+    (c.get_str-2.ensures ∙ first_value-rows found (codes "constituency")) name c.in_ok-part.ensures c.table_named.ensures

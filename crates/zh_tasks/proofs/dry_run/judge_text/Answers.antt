@@ -1,38 +1,29 @@
-use Rattle.std.proofs.Common.{rules, refl, sym, ap, ◌≡◌, ◌∙◌, subst, Err, Ok, Some}
+use Rattle.std.proofs.Common.{rules, ap, ◌≡◌, Err, Ok, Some}
 use Rattle.std.proofs.lemmas.Result.{err_from_is_err_and}
-use Rattle.zh_returns.specs.Tally.{Tally}
 use Rattle.zh_csv.specs.Noted.{inner_reader}
 use Rattle.zh_judgements.specs.Judged.{Judges}
 use Rattle.zh_judgements.specs.declared.judgement.Forecast.TheVariants as forecasts
 use Rattle.zh_tasks.specs.declared.fault.TaskFault.TheVariants as faults
-use Rattle.zh_tasks.proofs.DryRunLemmas.{broken_runs, forecasts_of, read_failed}
+use Rattle.zh_tasks.proofs.DryRunLemmas.{broken_off, read_failed}
 use Rattle.zh_tasks.proofs.dry_run.judge_text.Goals as goal
 
 pub returns-in_err-forecast-clause-runs : goal.returns-in_err-forecast-clause-runs
-returns-in_err-forecast-clause-runs g c start is =
-    let w = g.O.Write.contents c.args.out.now in
-    let w' = g.O.Write.contents c.write_judgement.new.out in
-    let tally : c.count.result.now ≡ start.holder.ledger.tally = c.count.ensures ∙ ap (λ o. o.ledger.tally) (sym is) in
-    let judged = subst (λ (t : Tally). Judges t (λ bytes. g.R.Read.remaining (inner_reader c.args.text.now) ≡ Some bytes) w w' c.write_judgement.result) tally c.write_judgement.ensures.judges in
+returns-in_err-forecast-clause-runs g c =
+    let Judged = Judges c.args.office.now.ledger.tally (λ bytes. g.R.Read.remaining (inner_reader c.args.text.now) ≡ Some bytes) (g.O.Write.contents c.args.out.now) (g.O.Write.contents c.write_judgement.new.out) in
+    let judged : Judged c.write_judgement.result = rw c.count.ensures at c.write_judgement.ensures.judges in
     let p = err_from_is_err_and c.from_residual.result c.from_residual.ensures.1 in
-    rw p.1 (broken_runs (λ met. ⊥) (g.R.Read.remaining (inner_reader c.args.text.now)) w w' (λ first last. (first ≡ start) × (last ≡ start)) start (refl, refl) c.in_err-forecast.field-0.0 p.0 p.2 (rw c.in_err-forecast.was at judged))
+    rw p.1 (broken_off (λ met. ⊥) Judged c.in_err-forecast.field-0.0 p.0 p.2 (rw c.in_err-forecast.was at judged))
 
 pub returns-in-Refused-clause-runs : goal.returns-in-Refused-clause-runs
-returns-in-Refused-clause-runs g c start is =
-    let w = g.O.Write.contents c.args.out.now in
-    let w' = g.O.Write.contents c.write_judgement.new.out in
-    let tally : c.count.result.now ≡ start.holder.ledger.tally = c.count.ensures ∙ ap (λ o. o.ledger.tally) (sym is) in
-    let judged = subst (λ (t : Tally). Judges t (λ bytes. g.R.Read.remaining (inner_reader c.args.text.now) ≡ Some bytes) w w' c.write_judgement.result) tally c.write_judgement.ensures.judges in
+returns-in-Refused-clause-runs g c =
+    let judged = rw c.count.ensures at c.write_judgement.ensures.judges in
     let whole : c.write_judgement.result ≡ Ok (forecasts.Refused c.in-Refused.refused c.in-Refused.records) = search rules in
-    (c.in-Refused.refused, c.in-Refused.records, forecasts_of (λ met. ⊥) (g.R.Read.remaining (inner_reader c.args.text.now)) w w' (λ first last. (first ≡ start) × (last ≡ start)) start (refl, refl) (forecasts.Refused c.in-Refused.refused c.in-Refused.records) (rw whole at judged))
+    (c.in-Refused.refused, c.in-Refused.records, rw whole at judged)
 
 pub returns-in_default-clause-runs : goal.returns-in_default-clause-runs
-returns-in_default-clause-runs g c start is =
-    let w = g.O.Write.contents c.args.out.now in
-    let w' = g.O.Write.contents c.write_judgement.new.out in
-    let tally : c.count.result.now ≡ start.holder.ledger.tally = c.count.ensures ∙ ap (λ o. o.ledger.tally) (sym is) in
-    let judged = subst (λ (t : Tally). Judges t (λ bytes. g.R.Read.remaining (inner_reader c.args.text.now) ≡ Some bytes) w w' c.write_judgement.result) tally c.write_judgement.ensures.judges in
-    (c.in_ok-forecast.forecast, c.in_default.not-Refused, forecasts_of (λ met. ⊥) (g.R.Read.remaining (inner_reader c.args.text.now)) w w' (λ first last. (first ≡ start) × (last ≡ start)) start (refl, refl) c.in_ok-forecast.forecast (rw c.in_ok-forecast.was at judged))
+returns-in_default-clause-runs g c =
+    let judged = rw c.count.ensures at c.write_judgement.ensures.judges in
+    (c.in_ok-forecast.forecast, c.in_default.not-Refused, rw c.in_ok-forecast.was at judged)
 
 pub returns-in_err-forecast-clause-read : goal.returns-in_err-forecast-clause-read
 returns-in_err-forecast-clause-read g c =

@@ -1,4 +1,4 @@
-use Rattle.std.proofs.Common.{rules, ◌≡◌, ap, map, Err, false, subst, Option, List, ℕ}
+use Rattle.std.proofs.Common.{rules, ◌≡◌, ap, map, Err, false, subst}
 use Rattle.zh_commands.specs.declared.replies.Reply.{Reply}
 use Rattle.zh_commands.specs.declared.replies.Reply.TheVariants as replies
 use Rattle.zh_csv.specs.Noted.{has_failed, inner_reader}

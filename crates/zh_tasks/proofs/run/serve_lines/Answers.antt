@@ -31,20 +31,16 @@ pub returns-then-faulted-clause-served : goal.returns-then-faulted-clause-served
 returns-then-faulted-clause-served g c = record {
   start = on_disk c.args.office.now (g.D.Disk.history c.args.disk.now);
   end = on_disk c.serve.new.self (g.D.Disk.history c.serve.new.disk);
-  count = c.in_ok-serve.field-0;
   spans = (refl, refl);
-  all = c.in_ok-serve.ensures.ok;
-  device = search rules;
+  serving = (c.in_ok-serve.field-0, c.in_ok-serve.ensures.ok, search rules);
 }
 
 pub returns-clause-served : goal.returns-clause-served
 returns-clause-served g c = record {
   start = on_disk c.args.office.now (g.D.Disk.history c.args.disk.now);
   end = on_disk c.serve.new.self (g.D.Disk.history c.serve.new.disk);
-  count = c.in_ok-serve.field-0;
   spans = (refl, refl);
-  all = c.in_ok-serve.ensures.ok;
-  device = search rules;
+  serving = (c.in_ok-serve.field-0, c.in_ok-serve.ensures.ok, search rules);
 }
 
 pub returns-in_err-serve-clause-reads : goal.returns-in_err-serve-clause-reads

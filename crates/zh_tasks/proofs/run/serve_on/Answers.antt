@@ -27,7 +27,7 @@ returns g c =
     let old = streams (g.I.Read.remaining c.args.input.now) (g.O.Write.contents c.args.out.now) (shown c.args.film.now) in
     let new = streams (g.I.Read.remaining c.serve_lines.new.input) (g.O.Write.contents c.serve_lines.new.out) (shown c.serve_lines.new.film) in
     let begins = begun_at canton first last start (starts canton first start c.in_ok-office.ensures.opening c.in_ok-office.ensures.held) c.serve_lines.ensures.disk.kept in
-    let serves = serves_as old new (IsThis start last) (IsFrom canton first last) c.serve_lines.result begins c.serve_lines.ensures.served in
+    let serves = serves_as old new (IsThis start last) (IsFrom canton first last) begins c.serve_lines.result c.serve_lines.ensures.served in
     record {
       served = with_office canton first last _ (Serves old new) c.serve_lines.result (λ fault none. none) serves;
       reads = c.serve_lines.ensures.reads;

@@ -1,29 +1,28 @@
-use Rattle.std.proofs.Common.{List, inl, inr, refl, subst, sym, ℕ}
-use Rattle.zh_tasks.specs.SheetSeats.{AreBothRead}
+use Rattle.std.proofs.Common.{◌≡◌, Err, Ok, List, ℕ, inl, inr, refl, rules, subst, sym, arith}
+use Rattle.zh_tasks.specs.SheetSeats.{MayShowSheet, ReadsBoth}
+use Rattle.zh_tasks.specs.World.{known}
+use Rattle.zh_tasks.proofs.ShownLemmas.{shows_stay}
 use Rattle.zh_tasks.proofs.sheet_seats.sheet_seats.Goals as goal
 
-pub returns-in-Ok : goal.returns-in-Ok
-returns-in-Ok g c =
-    let at = g.F.Files.text_at c.args.world.now.files in
-    let canton = c.in-Ok.setup in
-    record {
-      none = refl;
+pub returns-in_err-setup : goal.returns-in_err-setup
+returns-in_err-setup g c =
+    let is : c.from_residual.result ≡ Err c.in_err-setup.field-0.0 = search rules in
+    let calls = c.read_both.ensures.calls in
+    rw is (record {
       files = c.read_both.new.files;
-      calls = c.read_both.ensures.calls;
-      rest = c.show_text.ensures.rest;
-      shown = inr (record {
-        canton = canton;
-        bytes = c.deref.result.now;
-        read = subst (λ (bytes : List ℕ). AreBothRead at c.args.paths canton bytes) (sym c.deref.ensures.value) c.in-Ok.ensures.read;
-        shown = c.show_text.ensures.shown;
-      });
-    }
+      rest = refl;
+      calls = (calls.0, omega (arith, calls.1), calls.2);
+      done = inl (c.in_err-setup.ensures.read, refl);
+    })
 
-pub returns-in-Err : goal.returns-in-Err
-returns-in-Err g c = record {
-  none = refl;
-  files = c.read_both.new.files;
-  calls = c.read_both.ensures.calls;
-  rest = refl;
-  shown = inl (c.in-Err.ensures.fault, refl);
-}
+pub returns : goal.returns
+returns g c =
+    let calls = c.read_both.ensures.calls in
+    let canton = c.in_ok-setup.setup in
+    let read = subst (λ (bytes : List ℕ). ReadsBoth g.F.Files c.args.paths c.args.world.now.files c.read_both.new.files (Ok (canton, bytes))) (sym c.deref.ensures.value) c.in_ok-setup.ensures.read in
+    record {
+      files = c.read_both.new.files;
+      rest = shows_stay (known g.I.Read g.O.Write g.E.Write g.F.Files g.F.Disk.Disk) _ _ (MayShowSheet canton c.deref.result.now c.args.paths.layout) c.show_text.result c.show_text.ensures;
+      calls = (calls.0, omega (arith, calls.1), calls.2);
+      done = inr ((canton, c.deref.result.now), read, c.show_text.ensures);
+    }
