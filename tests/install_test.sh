@@ -77,16 +77,17 @@ expect "the unit names what was installed" grep -q '^ExecStart=/usr/local/bin/zh
     "$room/there/share/examples/zhcount/zhcount-office.service"
 expect "a line has its part" follows '\fBD return M L N V\fR' "a return: list L has V votes"
 expect "an answer" follows '\fBstored K\fR' "a command was accepted, the K\\-th"
-expect "a refusal" follows '\fBgap\fR' "a number above the next"
+expect "a refusal" follows '\fBgap\fR' "The number is higher than the next one"
 expect "each task has its part" says ".SS format"
 expect "its arguments are named" follows '\fB\-\-setup <FILE>\fR' "The set\\-up of the election, in TOML"
 expect "how it is called" says '.B zhcount load \-\-setup <FILE> \-\-disk <FILE>'
 expect "a status" follows '\fB2\fR' "the arguments ask for no task"
-expect "a fault" follows '\fBdisk busy\fR' "another program has D open"
-expect "faults of one row" follows '\fBdisk blank, disk damaged, disk differs\fR' "is of another set\\-up"
-while read -r fault; do
-    expect "the fault $fault" grep -qxE -- "\\\\fB(.*, )?$fault(, .*)?\\\\fR" "$man"
-done < <(sed -n '/^The text of a fault/,/^Faults are/p' docs/FORMATS.md | grep -o '^| [^|]*' | grep -o '`[^`]*`' | tr -d '`')
+expect "a fault" follows '\fBdisk busy\fR' "Another program is using the disk"
+expect "faults of one row" follows '\fBsheet file, held file\fR' "can't be opened or read"
+while read -r what; do
+    name=${what#*: }
+    expect "the $what" grep -qxE -- "\\\\fB(.*, )?${name//-/.-}( [A-Za-z ]+)?(, .*)?\\\\fR" "$man"
+done < <(tests/owed | sed -nE 's/^(fault|refusal|refusal of a sheet): /\1, /p' | awk -F', ' '{ for (i = 2; i <= NF; i++) print $1 ": " $i }')
 expect "make install again, which shows the sum of the page" shows_sum
 expect "make uninstall" make -s uninstall PREFIX="$room/there"
 expect "nothing is left" only ""

@@ -13,7 +13,7 @@ owed() {
     mkdir "$room/tests"
     cp tests/owed "$room/tests"
     cp -r docs "$room"
-    for crate in arguments commands disk held journal ledger office records returns setups sheet_text snapshot tables tasks; do
+    for crate in arguments commands csv disk journal ledger office records returns setups sheet sheet_text snapshot tables tasks; do
         mkdir -p "$room/crates/zh_$crate"
         cp -r "crates/zh_$crate/src" "$room/crates/zh_$crate"
     done
@@ -40,20 +40,28 @@ owed "a refusal without a row" 1 'docs/MANUAL.md has no row of `batchopen` (refu
 sed -i '/^| `batchopen` |/d' docs/MANUAL.md
 END
 
-owed "a refusal without an item" 1 'docs/FORMATS.md has no row of `batchopen` (refusal)' << 'END'
-sed -i '/^[0-9]*[.] `batchopen`:/d' docs/FORMATS.md
+owed "a refusal that has no place in the order" 1 'docs/FORMATS.md does not say `batchopen` (refusal)' << 'END'
+sed -i 's/`batchopen`/then/' docs/FORMATS.md
 END
 
-owed "a refusal that is new" 1 'docs/FORMATS.md has no row of `muddle` (refusal)' << 'END'
-sed -i 's/b"stale"/b"muddle"/' crates/zh_commands/src/reply_writer.rt
+owed "a refusal that is new" 1 'docs/MANUAL.md has no row of `muddle` (refusal)' << 'END'
+sed -i 's/"stale"/"muddle"/' crates/zh_commands/src/reply_writer.rt
+END
+
+owed "a refusal of a sheet that is new" 1 'docs/MANUAL.md has no row of `muddle` (refusal of a sheet)' << 'END'
+sed -i 's/"nogroup"/"muddle"/' crates/zh_sheet/src/refusal.rt
 END
 
 owed "a reply that is not said" 1 'docs/FORMATS.md does not say `dropped` (reply)' << 'END'
 sed -i 's/dropped J/gone J/g' docs/FORMATS.md
 END
 
-owed "a fault without a row" 1 'docs/FORMATS.md has no row of `disk inuse` (fault)' << 'END'
-sed -i '/^| `disk inuse` |/d' docs/FORMATS.md
+owed "a fault without a row" 1 'docs/MANUAL.md has no row of `disk inuse` (fault)' << 'END'
+sed -i '/^| `disk inuse` |/d' docs/MANUAL.md
+END
+
+owed "a fault that has no place in the order" 1 'docs/FORMATS.md does not say `disk inuse` (fault)' << 'END'
+sed -i 's/`disk inuse`/then/' docs/FORMATS.md
 END
 
 owed "a fault of rows held without a row" 1 'docs/MANUAL.md has no row of `held twice` (fault)' << 'END'
@@ -72,12 +80,12 @@ owed "an argument that is not said" 1 'docs/FORMATS.md does not say `--csv` (arg
 sed -i 's/--csv/--text/g' docs/FORMATS.md
 END
 
-owed "a table that is not said" 1 'docs/MANUAL.md does not say `municipalities` (table)' << 'END'
-sed -i 's/municipalities/places/g' docs/MANUAL.md
+owed "a table that is not said" 1 'docs/FORMATS.md does not say `municipalities` (table)' << 'END'
+sed -i 's/municipalities/places/g' docs/FORMATS.md
 END
 
-owed "a key that is not said" 1 'docs/MANUAL.md does not say `stands` (key of a set-up)' << 'END'
-sed -i 's/\bstands\b/runs/g' docs/MANUAL.md
+owed "a key that is not said" 1 'docs/FORMATS.md does not say `stands` (key of a set-up)' << 'END'
+sed -i 's/\bstands\b/runs/g' docs/FORMATS.md
 END
 
 owed "a limit that changed" 1 "docs/MANUAL.md does not say 130 in 'Limits', LONGEST of zh_commands/src/parser.rt" << 'END'

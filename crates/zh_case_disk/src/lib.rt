@@ -5,6 +5,6 @@ mod device;
 mod disk;
 mod image;
 
-pub use device::{CountingDisk, Device};
+pub use device::Device;
 pub use disk::CaseDisk;
 pub use image::{disk_of, image_of};

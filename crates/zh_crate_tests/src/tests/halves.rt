@@ -3,7 +3,7 @@ ghost use Rattle.std.specs.Prelude.{◌≡◌, ◌≤◌, ◌*◌, ◌^◌, All,
 ghost use Rattle.zh_matrices.specs.Divisors.{AreWithin};
 
 use std::test::Fail;
-use zh_lower::{Matrix, is_strict, is_weak};
+use zh_matrices::{Matrix, Rounding, follows};
 
 const ONE: u64 = 1_000_000;
 
@@ -22,8 +22,9 @@ fn is_weak_alone(
     requires row_divisors { AreWithin matrix.now.rows (10 ^ 18) of_rows.now }
     requires column_divisors { AreWithin matrix.now.columns (10 ^ 12) of_columns.now }
 {
-    is_weak(matrix, totals, totals, seats, of_rows, of_columns)
-        && !is_strict(matrix, totals, totals, seats, of_rows, of_columns)
+    let question = matrix.question(totals, totals);
+    follows(Rounding::Weak, &question, of_rows, of_columns, seats)
+        && !follows(Rounding::Strict, &question, of_rows, of_columns, seats)
 }
 
 #[test]

@@ -1,13 +1,16 @@
 //! Replies that no case has. How lines are read and answered are cases of `zh_cases`.
 
-use zh_commands::{Refusal, Reply, write_reply};
+use zh_commands::{Refusal, Reply, SheetRefusal, write_reply};
 
 // Memory is not refused to a case, and no tie begins in the last column.
 #[test]
 fn rare_refusals_have_their_names(rt: HostRuntime) {
     let rows: [(Refusal, &[u8]); 2] = [
         (Refusal::Memory, b"3 refused memory\n"),
-        (Refusal::TiedLower(1, 32), b"3 refused tied lower 1 32\n"),
+        (
+            Refusal::Sheet(SheetRefusal::TiedLower(1, 32)),
+            b"3 refused tied lower 1 32\n",
+        ),
     ];
     for (refusal, text) in rows {
         let mut out = [0; 64];
