@@ -1,21 +1,14 @@
 -- Sums of the seats of lists, by constituency and by group.
-use Rattle.std.proofs.Common.{◌≡◌, ◌≢◌, ℕ, ◌+◌, ◌*◌, ◌<◌, ◌≤◌, All, Bool, List, [], ◌∷◌, length, get_or, map, Option, Some, None, Err, refl, inl, inr, sym, ap, ◌∙◌, arith}
+use Rattle.std.proofs.Common.{◌≡◌, ℕ, ◌+◌, ◌*◌, ◌<◌, ◌≤◌, All, List, [], ◌∷◌, length, get_or, map, Option, Some, None, inr, sym, ap, ◌∙◌, arith}
 use Rattle.std.proofs.lemmas.List.Elements.{All-cons, All-nil}
 use Rattle.std.proofs.Math.Nat.{mul-le-mul_right}
 use Rattle.zh_districts.specs.Canton.{Canton}
 use Rattle.zh_divisors.proofs.CallerLemmas.{sum_to-ext}
-use Rattle.zh_divisors.specs.Shares.{Apportionment}
-use Rattle.zh_quorum.specs.Quorum.{AreParticipating}
 use Rattle.zh_sheet_text.specs.Layout.{sheet_lines}
-use Rattle.zh_totals.specs.Totals.{VoteTotals}
-use Rattle.zh_upper.specs.UpperSeats.{AreTied, HasNoGroup, HasNoVoters, IsReportedWhere}
-use Rattle.zh_upper.specs.VoterNumbers.{AreVoterSums}
-use Rattle.zh_upper.specs.declared.fault.UpperFault.{UpperFault}
-use Rattle.zh_upper.specs.declared.fault.UpperFault.TheVariants as faults
 use Rattle.zh_sheet_text.specs.declared.part.SheetPart.TheVariants.{ListSeats}
 use Rattle.zh_check.specs.Lines.{after_lines, first_line}
 use Rattle.zh_check.specs.Reading.{is_like, lines_above, seats_of_word, seats_read, totals_read, words_at}
-use Rattle.zh_check.specs.Totals.{AreConstituencySeats, AreGroupSeats, AreMet, FindsOffAmong, FindsOffTotal, HaveNoGroupSeats, IsOffAmong, IsSaid, IsUnmet, constituency_sum, group_sum, spaced_sum}
+use Rattle.zh_check.specs.Totals.{AreConstituencySeats, AreGroupSeats, AreMet, FindsOffAmong, FindsOffTotal, IsOffAmong, IsSaid, IsUnmet, constituency_sum, group_sum, spaced_sum}
 use Rattle.zh_check.specs.declared.checked.OffTotal.{OffTotal}
 use Rattle.zh_check.specs.declared.totals.Unmet.{Unmet}
 
@@ -73,19 +66,6 @@ off_among sum their totals text before line unmet off same is at said = record {
     total = said.total;
   };
 }
-
--- why no seats of the groups follow
-pub no_group_seats : (totals : VoteTotals) (seats : List ℕ) (taking : List Bool) (voters : List ℕ) (fault : UpperFault) → AreParticipating totals taking →
-    AreVoterSums totals seats voters → fault ≢ faults.Memory → IsReportedWhere {Seats = Apportionment} (Err fault) faults.NoGroup (HasNoGroup taking) →
-    IsReportedWhere {Seats = Apportionment} (Err fault) faults.NoVoters (HasNoVoters voters taking) →
-    IsReportedWhere {Seats = Apportionment} (Err fault) faults.Tied (AreTied voters taking totals.canton.house) → HaveNoGroupSeats totals seats
-no_group_seats totals seats taking voters faults.Memory part sums other group some tied = absurd (other refl)
-no_group_seats totals seats taking voters faults.NoGroup part sums other group some tied =
-    record { taking = taking; voters = voters; participation = part; sums = sums; reason = inl (group.only refl) }
-no_group_seats totals seats taking voters faults.NoVoters part sums other group some tied =
-    record { taking = taking; voters = voters; participation = part; sums = sums; reason = inr (inl (some.only refl)) }
-no_group_seats totals seats taking voters faults.Tied part sums other group some tied =
-    record { taking = taking; voters = voters; participation = part; sums = sums; reason = inr (inr (tied.only refl)) }
 
 -- the totals of the constituencies are met, and then those of the groups or not
 pub groups_found : (canton : Canton) (text rows upper : List ℕ) (found : Option OffTotal) → AreConstituencySeats canton rows →

@@ -14,7 +14,8 @@ use Rattle.std.proofs.lemmas.List.Elements.{All-append, All-cons, All-head, All-
 use Rattle.std.proofs.lemmas.Str.Parse.{digit_from_value}
 use Rattle.std.proofs.Math.Nat.{div-add-mod', mod-lt}
 use Rattle.zh_districts.specs.Canton.{is_name, is_printable}
-use Rattle.zh_sheet_text.specs.SheetText.{divisor_text, six_digits}
+use Rattle.zh_sheet_text.specs.SheetText.{divisor_text}
+use Rattle.zh_text.specs.Numbers.{padded}
 use Rattle.zh_check.specs.Lines.{digits_after}
 use Rattle.zh_check.proofs.DigitLemmas.{after_append}
 use Rattle.zh_check.proofs.SeamLemmas.{IsPlain, IsWord}
@@ -110,19 +111,19 @@ length-zeros (suc k) ds = omega (arith, length-zeros k ds)
 -- a divisor is a word, and its digits write it
 pub divisor_word : (m : ℕ) → IsWord (divisor_text m)
 divisor_word m =
-    All-append (λ b. 33 ≤ b) (decimal (m / 1000000) ++ codes ".") (six_digits (m % 1000000))
+    All-append (λ b. 33 ≤ b) (decimal (m / 1000000) ++ codes ".") (padded 6 (m % 1000000))
     (All-append (λ b. 33 ≤ b) (decimal (m / 1000000)) (codes ".") (decimal_word (m / 1000000)) (All-cons (λ b. 33 ≤ b) 46 [] (omega arith) (All-nil (λ b. 33 ≤ b))))
     (All-append (λ b. 33 ≤ b) (replicate (6 - length (decimal (m % 1000000))) 48) (decimal (m % 1000000)) (zeros_word (6 - length (decimal (m % 1000000)))) (decimal_word (m % 1000000)))
 
-six_after : (f n : ℕ) → f < 1000000 → digits_after n (six_digits f) ≡ n * 1000000 + f
+six_after : (f n : ℕ) → f < 1000000 → digits_after n (padded 6 f) ≡ n * 1000000 + f
 six_after f n small =
     let ds : List ℕ = decimal f in
     let is = decimal_is_IsNumeral f (omega arith) in
     let short : length ds ≤ 6 = length-decimal-le 6 f (omega arith) small (omega arith) in
-    let six : length (six_digits f) ≡ 6 = omega (arith, length-zeros (6 - length ds) ds) in
-    let value : digits_after 0 (six_digits f) ≡ f = zeros_after (6 - length ds) ds ∙ read-decimal f (omega arith) in
-    let worth : places (length (six_digits f)) ≡ 1000000 = ap places six in
-    after_places (six_digits f) n (zeros_digits (6 - length ds) ds is.0.1) ∙ rw (worth, value) refl
+    let six : length (padded 6 f) ≡ 6 = omega (arith, length-zeros (6 - length ds) ds) in
+    let value : digits_after 0 (padded 6 f) ≡ f = zeros_after (6 - length ds) ds ∙ read-decimal f (omega arith) in
+    let worth : places (length (padded 6 f)) ≡ 1000000 = ap places six in
+    after_places (padded 6 f) n (zeros_digits (6 - length ds) ds is.0.1) ∙ rw (worth, value) refl
 
 pub read-divisor : (m : ℕ) → m < 2 ^ 64 → digits_after 0 (divisor_text m) ≡ m
 read-divisor m small =
@@ -131,7 +132,7 @@ read-divisor m small =
     let below : f < 1000000 = mod-lt m (omega arith) in
     let whole : w * 1000000 + f ≡ m = div-add-mod' m 1000000 in
     let front : digits_after 0 (decimal w ++ codes ".") ≡ w = after_append (decimal w) (codes ".") 0 ∙ read-decimal w (omega arith) in
-    after_append (decimal w ++ codes ".") (six_digits f) 0 ∙ ap (λ n. digits_after n (six_digits f)) front ∙ six_after f w below ∙ whole
+    after_append (decimal w ++ codes ".") (padded 6 f) 0 ∙ ap (λ n. digits_after n (padded 6 f)) front ∙ six_after f w below ∙ whole
 
 -- a dash is a word
 pub dash_word : IsWord (codes "-")

@@ -7,9 +7,11 @@ use Rattle.zh_divisors.specs.Shares.{Apportionment}
 use Rattle.zh_divisors.specs.Sums.{sum_to}
 use Rattle.zh_quorum.specs.Quorum.{AreParticipating}
 use Rattle.zh_totals.specs.Totals.{AreTotals, VoteTotals}
-use Rattle.zh_upper.specs.UpperSeats.{AreTied, AreUpperSeats, HasNoGroup, HasNoVoters}
+use Rattle.zh_upper.specs.UpperSeats.{AreUpperSeats}
 use Rattle.zh_upper.specs.VoterNumbers.{AreVoterSums}
+use Rattle.zh_upper.specs.declared.refusal.UpperRefusal.{UpperRefusal}
 use Rattle.zh_sheet.specs.Distribution.{HaveSeats, Targets}
+use Rattle.zh_sheet.specs.Refusals.{IsRefusedAbove}
 use Rattle.zh_check.specs.Lines.{after_lines, first_line}
 use Rattle.zh_check.specs.Reading.{lines_above, seats_read, totals_read}
 use Rattle.zh_check.specs.declared.checked.OffTotal.{OffTotal}
@@ -102,16 +104,13 @@ pub record AreGroupSeats (totals : VoteTotals) (seats upper : List ℕ) : Type 0
   pub sums : AreVoterSums totals seats voters
   pub groups : AreUpperSeats voters taking totals.canton.house upper
 
--- no seats of the groups follow: none takes part, none of them has voters, or they are tied
-pub record HaveNoGroupSeats (totals : VoteTotals) (seats : List ℕ) : Type 0 where
-  pub taking : List Bool
-  pub voters : List ℕ
-  pub participation : AreParticipating totals taking
-  pub sums : AreVoterSums totals seats voters
-  pub reason : HasNoGroup taking ⊎ HasNoVoters voters taking ⊎ AreTied voters taking totals.canton.house
+-- no seats of the groups follow, for one of the reasons
+pub record HaveNoGroupSeats (totals : VoteTotals) : Type 0 where
+  pub refusal : UpperRefusal
+  pub refused : IsRefusedAbove totals refusal
 
 abbrev pub FindsGroupSeats : VoteTotals → List ℕ → Option (List ℕ) → Type 0
-FindsGroupSeats totals seats found = MatchOption found (HaveNoGroupSeats totals seats) (AreGroupSeats totals seats)
+FindsGroupSeats totals seats found = MatchOption found (HaveNoGroupSeats totals) (AreGroupSeats totals seats)
 
 -- the lists of each group have its seats
 pub record MeetsGroups (canton : Canton) (text seats : List ℕ) : Type 0 where
@@ -124,7 +123,7 @@ pub record MeetsTotals (canton : Canton) (text : List ℕ) : Type 0 where
   pub seats : List ℕ
   pub follow : AreConstituencySeats canton seats
   pub met : AreMet (constituency_sum canton text) seats
-  pub groups : ¬ AreTotals (totals_read canton text) ⊎ HaveNoGroupSeats (totals_read canton text) seats ⊎ MeetsGroups canton text seats
+  pub groups : ¬ AreTotals (totals_read canton text) ⊎ HaveNoGroupSeats (totals_read canton text) ⊎ MeetsGroups canton text seats
 
 -- no total that follows is missed
 abbrev pub IsNoneOff : Canton → List ℕ → Type 0

@@ -47,9 +47,7 @@ pub(crate) fn group_seats(
     let voters = voters(alloc, totals, seats)?;
     match upper(alloc, &voters, &taking, setup.house()) {
         Ok(upper) => Ok(Some(each_seats(alloc, &upper, setup.groups())?)),
-        Err(fault) => match fault {
-            UpperFault::Memory => Err(AllocError),
-            _ => Ok(None),
-        },
+        Err(UpperFault::Memory) => Err(AllocError),
+        Err(UpperFault::Refused(_)) => Ok(None),
     }
 }

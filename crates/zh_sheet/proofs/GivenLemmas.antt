@@ -1,5 +1,5 @@
 -- A distribution with given lists: where it is open, no refusal before the lists holds, and it is the only one.
-use Rattle.std.proofs.Common.{◌≡◌, ◌≢◌, ℕ, ◌+◌, ◌-◌, ◌*◌, ◌/◌, ◌%◌, ◌<◌, ◌≤◌, List, length, get_or, Option, Ok, Err, Some, None, refl, inl, inr, ap, sym, ◌∙◌, subst, arith}
+use Rattle.std.proofs.Common.{◌≡◌, ◌≢◌, ℕ, ◌+◌, ◌*◌, ◌/◌, ◌%◌, ◌<◌, ◌≤◌, List, get_or, Option, Ok, Err, Some, None, refl, inl, inr, ap, sym, ◌∙◌, subst, arith}
 use Rattle.zh_divisors.specs.Shares.{Apportionment}
 use Rattle.zh_divisors.proofs.CallerLemmas.{term-le-sum_to}
 use Rattle.std.specs.Prelude.{◌↔◌, Bool, IsTrue, false}
@@ -10,42 +10,19 @@ use Rattle.zh_matrices.proofs.CallerLemmas.{column_of, only_seats, row_of, weake
 use Rattle.zh_sheet.specs.Made.{IsMade}
 use Rattle.zh_matrices.specs.Question.{AreSeatTotals, Question, cell}
 use Rattle.zh_matrices.specs.SeatMatrix.{IsStrict, SeatMatrix}
-use Rattle.zh_districts.specs.Canton.{IsCanton}
 use Rattle.zh_totals.specs.Totals as sums
 use Rattle.zh_totals.specs.Hidden.{NoneHidden}
 use Rattle.zh_totals.specs.Totals.{VoteTotals}
-use Rattle.zh_sheet.specs.Distribution.{Distribution, IsDistribution, Targets, lower_question, question_of, seated_groups}
+use Rattle.zh_sheet.specs.Distribution.{Distribution, HaveSeats, IsDistribution, Targets, lower_question, question_of}
 use Rattle.zh_sheet.specs.Given.{DoFit, DoFollow, HaveSameSeats, IsGiven, IsPublished}
-use Rattle.zh_sheet.specs.Refusals.{HaveNoVoters, IfRefused, IsAnswer, IsBeforeLists, IsCaseOf, IsFirstCase, NoneTakesPart}
+use Rattle.zh_sheet.specs.Refusals.{IfRefused, IsAnswer, IsBeforeLists, IsCaseOf, NoneOf}
 use Rattle.zh_sheet.specs.Stages.{StandAbove}
 use Rattle.zh_sheet.specs.declared.fault.SheetFault.{SheetFault}
 use Rattle.zh_sheet.specs.declared.fault.SheetFault.TheVariants.{Memory, Refused}
-use Rattle.zh_sheet.specs.declared.refusal.SheetRefusal.{SheetRefusal}
 use Rattle.zh_sheet.specs.declared.refusal.SheetRefusal.TheVariants as refusals
-use Rattle.zh_sheet.proofs.AskedLemmas.{seated_takes, some_seated}
-use Rattle.zh_sheet.proofs.DistributionLemmas.{no_voters_first, none_before_lists}
 use Rattle.zh_sheet.proofs.OneSheetLemmas.{AreSameAbove, same_above, same_asked, same_parts}
-use Rattle.zh_sheet.proofs.SeatedLemmas.{IsSeated, seated_are}
-use Rattle.zh_sheet.proofs.SheetLemmas.{targets}
+use Rattle.zh_sheet.proofs.RefusalLemmas.{none_above_lists, none_seated}
 use Rattle.zh_sheet.proofs.TargetLemmas.{same_question}
-
--- a group with seats takes part
-some_takes : (t : VoteTotals) (a : Targets t) → IsCanton t.canton → ¬ NoneTakesPart t
-some_takes t a canton none =
-    let some : 0 < length (seated_groups a.upper) = omega (arith, some_seated t a canton.house.0) in
-    let is : IsSeated a.upper (get_or (seated_groups a.upper) 0 0) = seated_are a.upper 0 0 some in
-    let g : ℕ = get_or (seated_groups a.upper) 0 0 in
-    let there : g ≤ length t.canton.groups = omega (arith, is.there, a.groups.one_each, a.sums.one_each) in
-    none g is.from_one there
-    ((a.participation.each g is.from_one there).0 (seated_takes t a (g - 1) (omega (arith, is.from_one, is.there)) is.seated))
-
--- no refusal before the lists holds
-not_refused : (totals : VoteTotals) (refusal : SheetRefusal) → IsFirstCase totals refusal → IsBeforeLists refusal →
-    (x : Distribution) → IsPublished x → ¬ (x.totals ≡ totals)
-not_refused totals refusal first early x is same =
-    let a : Targets x.totals = targets x is.distribution in
-    none_before_lists x.totals a (some_takes x.totals a is.distribution.totals.canton) is.voters refusal early
-    (subst (λ t. IsCaseOf t refusal) (sym same) first.holds)
 
 -- a distribution asks the question that the seats above leave
 asked_above : (totals : VoteTotals) (a : Targets totals) (x : Distribution) → IsDistribution x → x.totals ≡ totals →
@@ -96,7 +73,7 @@ none_above totals lists (Refused refusal) answer early other = record {
   votes = tt;
   seats = tt;
   meets = tt;
-  every = λ x is same lower. absurd (not_refused totals refusal answer.refused early x is same);
+  every = λ x is same lower. absurd (is.none refusal early (subst (λ t. IsCaseOf t refusal) (sym same) answer.refused.holds));
 }
 
 -- the distribution of the seats above and the lists
@@ -128,15 +105,15 @@ meets_with totals seats taking voters upper lists limits above follow in_million
 }
 
 -- it is the only one
-pub one_given : (totals : VoteTotals) (lists : SeatMatrix) (x : Distribution) → IsDistribution x → NoneHidden totals → ¬ HaveNoVoters totals →
+pub one_given : (totals : VoteTotals) (lists : SeatMatrix) (x : Distribution) → IsDistribution x → NoneHidden totals → NoneOf IsBeforeLists totals →
     x.totals ≡ totals → x.lower ≡ lists → IsGiven totals lists (Some x)
-one_given totals lists x is hidden voters same lower = record {
+one_given totals lists x is hidden none same lower = record {
   votes = same;
   seats = lower;
   meets = record {
     distribution = is;
     votes = subst (λ t. NoneHidden t) (sym same) hidden;
-    voters = subst (λ t. ¬ HaveNoVoters t) (sym same) voters;
+    none = subst (λ t. NoneOf IsBeforeLists t) (sym same) none;
   };
   every = λ y Y votes seats.
       let totals_same : y.totals ≡ x.totals = votes ∙ sym same in
@@ -167,20 +144,17 @@ few_given q lists totals follow = record {
 pub made_open : (totals : VoteTotals) (x : Distribution) → IsMade totals (Ok x) → NoneHidden totals → IsPublished x
 made_open totals x made hidden =
     let same : x.totals ≡ totals = made.sheet.votes in
-    let is : IsDistribution x = made.sheet.meets in
-    let a : Targets x.totals = targets x is in
-    let some : ¬ NoneTakesPart x.totals = some_takes x.totals a is.totals.canton in
-    let first : HaveNoVoters totals → IsFirstCase totals refusals.NoVoters
-    = subst (λ t. HaveNoVoters t → IsFirstCase t refusals.NoVoters) same (no_voters_first x.totals a.seats a.constituencies some) in
-    let voters : ¬ HaveNoVoters totals
-    = λ none. elim (made.refused.exactly refusals.NoVoters (omega arith) (first none)) [
+    let have : HaveSeats totals x.seats.seats = subst (λ t. HaveSeats t x.seats.seats) same made.sheet.meets.seats in
+    let none : NoneOf IsBeforeLists totals
+    = none_above_lists totals x.seats.seats have (λ u holds.
+    elim (made.refused.exactly (refusals.NoUpperSeats u) (omega arith) (record { holds = holds; first = none_seated totals x.seats.seats u have })) [
       | inl refused ↦ absurd (cc)
       | inr refused ↦ absurd (cc)
-    ] in
+    ]) in
     record {
-      distribution = is;
+      distribution = made.sheet.meets;
       votes = subst (λ t. NoneHidden t) (sym same) hidden;
-      voters = subst (λ t. ¬ HaveNoVoters t) (sym same) voters;
+      none = subst (λ t. NoneOf IsBeforeLists t) (sym same) none;
     }
 
 -- and its own seats and divisors give it again

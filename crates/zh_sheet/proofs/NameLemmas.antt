@@ -1,11 +1,14 @@
 -- A refusal is read back from its name.
-use Rattle.std.proofs.Common.{◌≡◌, ◌==◌, ℕ, ◌+◌, ◌<◌, ◌^◌, true, not, cond, Option, Some, List, [], ◌∷◌, ◌++◌, length, take, drop, decimal, codes, refl, ap, sym, ◌∙◌, arith, rules, tests, append_assoc, length-append}
+use Rattle.std.proofs.Common.{◌≡◌, ◌==◌, ℕ, ◌+◌, ◌<◌, ◌^◌, true, not, cond, Option, None, Some, List, [], ◌∷◌, ◌++◌, length, take, drop, decimal, codes, refl, ap, sym, ◌∙◌, arith, rules, tests, append_assoc, length-append}
 use Rattle.std.specs.List.{after_first, before_first, find, position_or_len}
 use Rattle.std.specs.Str.{bytes_eq}
 use Rattle.std.specs.Str.Parse.{AllDigits, digits_value}
 use Rattle.std.proofs.lemmas.Fmt.{decimal_is_IsNumeral}
 use Rattle.std.proofs.lemmas.List.{drop_at, take_at}
 use Rattle.std.proofs.lemmas.Str.Parse.{digit_from_value}
+use Rattle.zh_upper.specs.Refusals.{upper_refusal_name}
+use Rattle.zh_upper.specs.declared.refusal.UpperRefusal.{UpperRefusal}
+use Rattle.zh_upper.proofs.CallerLemmas.{upper_named, upper_read_back}
 use Rattle.zh_sheet.specs.Refusals.{IsSheetRefusal, refusal_name}
 use Rattle.zh_sheet.specs.declared.refusal.SheetRefusal.{SheetRefusal}
 use Rattle.zh_sheet.specs.declared.refusal.SheetRefusal.TheVariants as refusals
@@ -20,17 +23,22 @@ first_number numerals = number_of (before_first (λ byte. byte == 32) numerals)
 abbrev pub second_number : List ℕ → ℕ
 second_number numerals = number_of (after_first (λ byte. byte == 32) numerals)
 
--- the refusals without numbers
+-- the refusals without numbers, but those of the groups
 abbrev pub plain : List SheetRefusal
-plain = refusals.TiedSeats ∷ refusals.NoGroup ∷ refusals.NoVoters ∷ refusals.TiedUpper ∷ refusals.Exhausted ∷ []
+plain = refusals.TiedSeats ∷ refusals.Exhausted ∷ []
 
--- the refusal that has this name
-abbrev pub refusal_named : List ℕ → Option SheetRefusal
-refusal_named bytes =
+-- the refusal of this name, which may be one of the groups
+abbrev pub named_or : Option UpperRefusal → List ℕ → Option SheetRefusal
+named_or (Some refusal) bytes = Some (refusals.NoUpperSeats refusal)
+named_or None bytes =
     cond (bytes_eq (take 7 bytes) (codes "noseat ")) (Some (refusals.NoSeat (number_of (drop 7 bytes))))
     (cond (bytes_eq (take 8 bytes) (codes "novotes ")) (Some (refusals.NoVotes (number_of (drop 8 bytes))))
     (cond (bytes_eq (take 11 bytes) (codes "tied lower ")) (Some (refusals.TiedLower (first_number (drop 11 bytes)) (second_number (drop 11 bytes))))
     (find (λ refusal. bytes_eq (refusal_name refusal) bytes) plain)))
+
+-- the refusal that has this name
+abbrev pub refusal_named : List ℕ → Option SheetRefusal
+refusal_named bytes = named_or (upper_named bytes) bytes
 
 number_of-decimal : (n : ℕ) → n < 2 ^ 32 → number_of (decimal n) ≡ n
 number_of-decimal n small = (decimal_is_IsNumeral n (omega (arith, small))).1
@@ -66,5 +74,6 @@ read_back (refusals.NoVotes d) is = ap (λ (n : ℕ). Some (refusals.NoVotes n))
 read_back (refusals.TiedLower d g) is =
     ap (λ (n : ℕ). Some (refusals.TiedLower n (second_number (decimal d ++ 32 ∷ decimal g)))) (first_is d g is.0)
     ∙ ap (λ (n : ℕ). Some (refusals.TiedLower d n)) (second_is d g is.0 is.1)
+read_back (refusals.NoUpperSeats refusal) is = ap (λ found. named_or found (upper_refusal_name refusal)) (upper_read_back refusal)
 read_back refusals.TiedSeats is = refl
 read_back _ is = refl

@@ -11,9 +11,12 @@ use Rattle.zh_matrices.specs.Question.{IsFirstWithoutVotes, Question}
 use Rattle.zh_quorum.specs.Quorum.{AreParticipating}
 use Rattle.zh_totals.specs.Totals.{VoteTotals}
 use Rattle.zh_upper.specs.UpperSeats.{AreUpperSeats, of_participants}
+use Rattle.zh_upper.specs.Refusals.{HaveNoUpperSeats}
 use Rattle.zh_upper.specs.VoterNumbers.{AreVoterSums}
+use Rattle.zh_upper.specs.declared.refusal.UpperRefusal.{UpperRefusal}
+use Rattle.zh_upper.proofs.CallerLemmas.{one_upper_refusal}
 use Rattle.zh_sheet.specs.Distribution.{HaveSeats, Targets, lower_question}
-use Rattle.zh_sheet.specs.Refusals.{GetsNoSeat, HasNoVotes, IsTiedAbove}
+use Rattle.zh_sheet.specs.Refusals.{GetsNoSeat, HasNoVotes, IsRefusedAbove}
 
 weak_from_strict : (weights : List ℕ) (house : ℕ) (seats : List ℕ) → IsStrictFit weights house seats → IsFit weights house seats
 weak_from_strict weights house seats fit =
@@ -140,12 +143,24 @@ same_row totals c d one other =
     let first : IsFirstWithoutVotes (lower_question totals one.targets.seats one.targets.upper) d = subst (λ q. IsFirstWithoutVotes q d) e other.first in
     first_row (lower_question totals one.targets.seats one.targets.upper) c d one.first first
 
--- the upper apportionment is not tied
-pub not_tied_above : (totals : VoteTotals) → Targets totals → ¬ IsTiedAbove totals
-not_tied_above totals a tied =
-    let seats : tied.seats ≡ a.seats = same_seats totals a.seats tied.seats a.constituencies.in_proportion tied.constituencies.in_proportion in
-    let taking : tied.taking ≡ a.taking = same_taking totals tied.taking a.taking tied.participation a.participation in
-    let sums : AreVoterSums totals a.seats tied.voters = rw (← seats) tied.sums in
-    let voters : tied.voters ≡ a.voters = same_sums totals a.seats tied.voters a.voters sums a.sums in
-    let here : fits.IsTied (of_participants a.voters a.taking) totals.canton.house = rw (← voters, ← taking) tied.tied in
-    no_strict_fit (of_participants a.voters a.taking) totals.canton.house (of_participants a.upper a.taking) here a.groups.in_proportion
+-- the seats of the constituencies, who takes part, and the voter sums
+pub record IsBasis (t : VoteTotals) (seats : List ℕ) (taking : List Bool) (voters : List ℕ) : Type 0 where
+  pub constituencies : HaveSeats t seats
+  pub participation : AreParticipating t taking
+  pub sums : AreVoterSums t seats voters
+
+-- the reason why the groups get no seats stands by them
+pub reason_above : (totals : VoteTotals) (seats : List ℕ) (taking : List Bool) (voters : List ℕ) → IsBasis totals seats taking voters →
+    (refusal : UpperRefusal) → IsRefusedAbove totals refusal → HaveNoUpperSeats voters taking totals.canton.house refusal
+reason_above totals seats taking voters is refusal above =
+    let same : above.seats ≡ seats = same_seats totals seats above.seats is.constituencies.in_proportion above.constituencies.in_proportion in
+    let part : above.taking ≡ taking = same_taking totals above.taking taking above.participation is.participation in
+    let own : AreVoterSums totals seats above.voters = rw (← same) above.sums in
+    let sums : above.voters ≡ voters = same_sums totals seats above.voters voters own is.sums in
+    rw (← sums, ← part) above.reason
+
+-- it is one
+pub same_refused : (totals : VoteTotals) (one other : UpperRefusal) → IsRefusedAbove totals one → IsRefusedAbove totals other → one ≡ other
+same_refused totals one other a b =
+    let is : IsBasis totals a.seats a.taking a.voters = record { constituencies = a.constituencies; participation = a.participation; sums = a.sums } in
+    one_upper_refusal a.voters a.taking totals.canton.house one other a.reason (reason_above totals a.seats a.taking a.voters is other b)

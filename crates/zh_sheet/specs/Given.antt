@@ -6,13 +6,13 @@ use Rattle.zh_matrices.specs.SeatMatrix.{IsStrict, SeatMatrix}
 use Rattle.zh_totals.specs.Hidden.{NoneHidden}
 use Rattle.zh_totals.specs.Totals.{VoteTotals}
 use Rattle.zh_sheet.specs.Distribution.{Distribution, IsDistribution}
-use Rattle.zh_sheet.specs.Refusals.{HaveNoVoters}
+use Rattle.zh_sheet.specs.Refusals.{IsBeforeLists, NoneOf}
 
--- a distribution as it may be published: a sheet shows all of its votes, and some group that takes part has voters
+-- a distribution as it may be published: a sheet shows all of its votes, and none is refused before the lists
 pub record IsPublished (x : Distribution) : Type 0 where
   pub distribution : IsDistribution x
   pub votes : NoneHidden x.totals
-  pub voters : ¬ HaveNoVoters x.totals
+  pub none : NoneOf IsBeforeLists x.totals
 
 -- seats of the lists, row by row, with divisors in millionths
 abbrev pub given_lists : List ℕ → List ℕ → List ℕ → SeatMatrix

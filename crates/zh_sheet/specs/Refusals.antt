@@ -8,10 +8,11 @@ use Rattle.zh_decided.specs.Boxes.{NoneGiven}
 use Rattle.zh_search.specs.Outcomes.{ComesToTie, NoneBefore}
 use Rattle.zh_matrices.specs.Question.{IsFirstWithoutVotes}
 use Rattle.zh_matrices.specs.SeatMatrix.{IsStrict}
-use Rattle.zh_quorum.specs.Quorum.{AreParticipating, TakesPart}
+use Rattle.zh_quorum.specs.Quorum.{AreParticipating}
 use Rattle.zh_totals.specs.Totals.{VoteTotals}
-use Rattle.zh_upper.specs.UpperSeats.{of_participants}
-use Rattle.zh_upper.specs.VoterNumbers.{AreVoterSums, voter_sum}
+use Rattle.zh_upper.specs.Refusals.{HaveNoUpperSeats, upper_refusal_name}
+use Rattle.zh_upper.specs.VoterNumbers.{AreVoterSums}
+use Rattle.zh_upper.specs.declared.refusal.UpperRefusal.{UpperRefusal}
 use Rattle.zh_sheet.specs.Distribution.{HaveSeats, Targets, lower_question, seated_groups}
 use Rattle.zh_sheet.specs.declared.fault.SheetFault.{SheetFault}
 use Rattle.zh_sheet.specs.declared.fault.SheetFault.TheVariants.{Memory, Refused}
@@ -24,25 +25,15 @@ pub record GetsNoSeat (totals : VoteTotals) (d : ℕ) : Type 0 where
   pub in_proportion : AreSeats totals.canton seats
   pub first : IsFirstWithout seats d
 
--- no group takes part
-abbrev pub NoneTakesPart : VoteTotals → Type 0
-NoneTakesPart totals = (g : ℕ) → 1 ≤ g → g ≤ length totals.canton.groups → ¬ TakesPart totals g
-
--- every group that takes part has the voter sum 0
-pub record HaveNoVoters (totals : VoteTotals) : Type 0 where
-  pub seats : List ℕ
-  pub constituencies : HaveSeats totals seats
-  pub none : (g : ℕ) → 1 ≤ g → g ≤ length totals.canton.groups → TakesPart totals g → voter_sum totals seats g ≡ 0
-
--- a seat of the house is worth as much to two groups that take part
-pub record IsTiedAbove (totals : VoteTotals) : Type 0 where
+-- the groups get no seats, for this reason
+pub record IsRefusedAbove (totals : VoteTotals) (refusal : UpperRefusal) : Type 0 where
   pub seats : List ℕ
   pub constituencies : HaveSeats totals seats
   pub taking : List Bool
   pub participation : AreParticipating totals taking
   pub voters : List ℕ
   pub sums : AreVoterSums totals seats voters
-  pub tied : fits.IsTied (of_participants voters taking) totals.canton.house
+  pub reason : HaveNoUpperSeats voters taking totals.canton.house refusal
 
 -- the seated groups have no votes in this constituency, the first such
 pub record HasNoVotes (totals : VoteTotals) (d : ℕ) : Type 0 where
@@ -68,9 +59,7 @@ pub record IsExhausted (totals : VoteTotals) : Type 0 where
 abbrev pub IsCaseOf : VoteTotals → SheetRefusal → Type 0
 IsCaseOf totals refusals.TiedSeats = fits.IsTied (persons totals.canton) totals.canton.house
 IsCaseOf totals (refusals.NoSeat d) = GetsNoSeat totals d
-IsCaseOf totals refusals.NoGroup = NoneTakesPart totals
-IsCaseOf totals refusals.NoVoters = HaveNoVoters totals
-IsCaseOf totals refusals.TiedUpper = IsTiedAbove totals
+IsCaseOf totals (refusals.NoUpperSeats refusal) = IsRefusedAbove totals refusal
 IsCaseOf totals (refusals.NoVotes d) = HasNoVotes totals d
 IsCaseOf totals (refusals.TiedLower d g) = IsTiedBelow totals d g
 IsCaseOf totals refusals.Exhausted = IsExhausted totals
@@ -79,20 +68,16 @@ IsCaseOf totals refusals.Exhausted = IsExhausted totals
 abbrev pub place_in_order : SheetRefusal → ℕ
 place_in_order refusals.TiedSeats = 1
 place_in_order (refusals.NoSeat d) = 2
-place_in_order refusals.NoGroup = 3
-place_in_order refusals.NoVoters = 4
-place_in_order refusals.TiedUpper = 5
-place_in_order (refusals.NoVotes d) = 6
-place_in_order (refusals.TiedLower d g) = 7
-place_in_order refusals.Exhausted = 7
+place_in_order (refusals.NoUpperSeats refusal) = 3
+place_in_order (refusals.NoVotes d) = 4
+place_in_order (refusals.TiedLower d g) = 5
+place_in_order refusals.Exhausted = 5
 
 -- the name of each; 32 is the space
 abbrev pub refusal_name : SheetRefusal → List ℕ
 refusal_name refusals.TiedSeats = codes "tied seats"
 refusal_name (refusals.NoSeat constituency) = codes "noseat " ++ decimal constituency
-refusal_name refusals.NoGroup = codes "nogroup"
-refusal_name refusals.NoVoters = codes "novoters"
-refusal_name refusals.TiedUpper = codes "tied upper"
+refusal_name (refusals.NoUpperSeats refusal) = upper_refusal_name refusal
 refusal_name (refusals.NoVotes constituency) = codes "novotes " ++ decimal constituency
 refusal_name (refusals.TiedLower constituency group) = codes "tied lower " ++ decimal constituency ++ 32 ∷ decimal group
 refusal_name refusals.Exhausted = codes "exhausted"
@@ -104,18 +89,22 @@ IsSheetRefusal (refusals.NoVotes constituency) = constituency < 2 ^ 32
 IsSheetRefusal (refusals.TiedLower constituency group) = (constituency < 2 ^ 32) × (group < 2 ^ 32)
 IsSheetRefusal refusal = Unit {0}
 
--- it comes before those of the lists
+-- it comes before those of the lists, the first of which is for a constituency without votes, whatever its number
 abbrev pub IsBeforeLists : SheetRefusal → Type 0
-IsBeforeLists refusal = place_in_order refusal ≤ 5
+IsBeforeLists refusal = place_in_order refusal < place_in_order (refusals.NoVotes 0)
 
--- none of the first n cases holds
-abbrev pub NoneOf : ℕ → VoteTotals → Type 0
-NoneOf n totals = (refusal : SheetRefusal) → place_in_order refusal ≤ n → ¬ IsCaseOf totals refusal
+-- it comes before those of the search
+abbrev pub IsBeforeSearch : SheetRefusal → Type 0
+IsBeforeSearch refusal = place_in_order refusal < place_in_order refusals.Exhausted
+
+-- the case of none of these holds
+abbrev pub NoneOf : (SheetRefusal → Type 0) → VoteTotals → Type 0
+NoneOf Of totals = (refusal : SheetRefusal) → Of refusal → ¬ IsCaseOf totals refusal
 
 -- the case of this refusal is the first that holds
 pub record IsFirstCase (totals : VoteTotals) (refusal : SheetRefusal) : Type 0 where
   pub holds : IsCaseOf totals refusal
-  pub first : NoneOf (place_in_order refusal - 1) totals
+  pub first : NoneOf (λ other. place_in_order other < place_in_order refusal) totals
 
 -- No seats of the lists follow from these totals without a half, under any divisors, of any scale, whatever seats of the
 -- constituencies and of the groups they are to add up to.
@@ -128,10 +117,10 @@ abbrev pub IfRefused : SheetFault → (SheetRefusal → Type 0) → Type 0
 IfRefused Memory P = Unit {0}
 IfRefused (Refused refusal) P = P refusal
 
--- the refusals of the first six places come exactly where their case is the first that holds, memory aside; a tie of the
+-- the refusals before those of the search come exactly where their case is the first that holds, memory aside; a tie of the
 -- lower apportionment leaves no seats that could be right
 pub record IsAnswer {Sheet : Type 0} (totals : VoteTotals) (result : Result Sheet SheetFault) : Type 0 where
   pub refused : IfErr result (λ fault. IfRefused fault (IsFirstCase totals))
-  pub exactly : (refusal : SheetRefusal) → place_in_order refusal ≤ 6 → IsFirstCase totals refusal →
+  pub exactly : (refusal : SheetRefusal) → IsBeforeSearch refusal → IsFirstCase totals refusal →
       IsErrOf result (Refused refusal) ⊎ IsErrOf result Memory
   pub tied : (d g : ℕ) → IsErrOf result (Refused (refusals.TiedLower d g)) → LeaveNoSeats totals

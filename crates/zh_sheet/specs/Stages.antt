@@ -28,11 +28,9 @@ of_seats (seat_faults.NoSeat d) = Refused (refusals.NoSeat d)
 
 abbrev pub of_upper : UpperFault → SheetFault
 of_upper upper_faults.Memory = Memory
-of_upper upper_faults.NoGroup = Refused refusals.NoGroup
-of_upper upper_faults.NoVoters = Refused refusals.NoVoters
-of_upper upper_faults.Tied = Refused refusals.TiedUpper
+of_upper (upper_faults.Refused refusal) = Refused (refusals.NoUpperSeats refusal)
 
--- the seats of the constituencies and of the groups, and what they follow from; no case before a tie of the groups holds
+-- the seats of the constituencies and of the groups, and what they follow from; no case before those of the lists holds
 pub record StandAbove (totals : VoteTotals) (seats : Apportionment) (taking : List Bool) (voters : List ℕ)
     (upper : Apportionment) : Type 0 where
   pub constituencies : HaveSeats totals seats.seats
@@ -41,7 +39,7 @@ pub record StandAbove (totals : VoteTotals) (seats : Apportionment) (taking : Li
   pub sums : AreVoterSums totals seats.seats voters
   pub groups : AreUpperSeats voters taking totals.canton.house upper.seats
   pub upper_key : HasDivisor (of_participants voters taking) (shares_of_participants upper taking)
-  pub none : NoneOf 4 totals
+  pub none : NoneOf IsBeforeLists totals
 
 -- they stand, or this is why there is no sheet: a case before those of the lists
 pub record IsAboveLists (totals : VoteTotals) (result : Result Above SheetFault) : Type 0 where

@@ -50,9 +50,9 @@ impl From<UpperFault> for SheetFault {
     fn from(fault: UpperFault) -> SheetFault {
         match fault {
             UpperFault::Memory => SheetFault::Memory,
-            UpperFault::NoGroup => SheetFault::Refused(SheetRefusal::NoGroup),
-            UpperFault::NoVoters => SheetFault::Refused(SheetRefusal::NoVoters),
-            UpperFault::Tied => SheetFault::Refused(SheetRefusal::TiedUpper),
+            UpperFault::Refused(refusal) => {
+                SheetFault::Refused(SheetRefusal::NoUpperSeats(refusal))
+            }
         }
     }
 }

@@ -24,3 +24,4 @@ pub use name::Name;
 pub use reason::{ExhaustedReason, explain};
 pub use refusal::SheetRefusal;
 pub use sheet::Sheet;
+pub use zh_upper::UpperRefusal;

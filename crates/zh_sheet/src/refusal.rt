@@ -1,5 +1,6 @@
 use crate::name::Name;
 use std::fmt;
+use zh_upper::UpperRefusal;
 
 /// Why there is no sheet, in the order in which the cases are looked for (docs/FORMATS.md, "Replies").
 /// Constituencies and groups are numbered from 1 as in the set-up.
@@ -9,12 +10,8 @@ pub enum SheetRefusal {
     TiedSeats,
     /// This constituency, the first such, gets no seat.
     NoSeat(u32),
-    /// No group takes part.
-    NoGroup,
-    /// The voter sums of all groups that take part are 0.
-    NoVoters,
-    /// A seat of the house is worth as much to two groups.
-    TiedUpper,
+    /// The groups get no seats, for this reason.
+    NoUpperSeats(UpperRefusal),
     /// The groups with seats have no votes in this constituency, the first such.
     NoVotes(u32),
     /// Some divisors lead to two different distributions; the first quotient on a half is that of this constituency and
@@ -35,9 +32,7 @@ impl SheetRefusal {
         match self {
             SheetRefusal::TiedSeats => Name::Words("tied seats"),
             SheetRefusal::NoSeat(constituency) => Name::Number("noseat", constituency),
-            SheetRefusal::NoGroup => Name::Words("nogroup"),
-            SheetRefusal::NoVoters => Name::Words("novoters"),
-            SheetRefusal::TiedUpper => Name::Words("tied upper"),
+            SheetRefusal::NoUpperSeats(refusal) => Name::Words(refusal.name()),
             SheetRefusal::NoVotes(constituency) => Name::Number("novotes", constituency),
             SheetRefusal::TiedLower(constituency, group) => {
                 Name::Pair("tied lower", constituency, group)

@@ -1,5 +1,5 @@
 pub mod CallerLemmas
-mod FaultLemmas
 mod ParticipantLemmas
+mod RefusalLemmas
 mod SpreadLemmas
 mod VoterSumLemmas

@@ -1,11 +1,11 @@
 ghost use Rattle.std.specs.Prelude.{◌≡◌, ◌^◌, ◌<◌, ◌≤◌, All, Any, IfOk, MatchBool, length};
-ghost use Rattle.zh_divisors.specs.Fit.{IsStrictFit, IsTied};
-ghost use Rattle.zh_divisors.specs.Shares.{HasDivisor, RoundsEach};
-ghost use Rattle.zh_upper.specs.UpperSeats.{AreTied, AreUpperSeats, FromShares, HasNoGroup, HasNoVoters, IsReportedWhere};
-ghost use Rattle.zh_upper.specs.UpperSeats.{of_participants, shares_of_participants};
+ghost use Rattle.zh_divisors.specs.Shares.{Apportions, HasDivisor, RoundsEach};
+ghost use Rattle.zh_upper.specs.Refusals.{HaveNoUpperSeats, IsRefusedExactly};
+ghost use Rattle.zh_upper.specs.UpperSeats.{AreUpperSeats, of_participants, shares_of_participants};
 
 use crate::fault::UpperFault;
 use crate::participants::{of_participants, spread};
+use crate::refusal::UpperRefusal;
 use crate::seats::Upper;
 use std::alloc::Global;
 use zh_divisors::{ShareFault, Shares, Weights, apportion};
@@ -18,23 +18,16 @@ fn has_voters(sums: &[u64]) -> bool
 }
 
 /// The seats of the house in proportion to these sums, one of them not 0, with the divisor.
-fn shares_of(alloc: Global, sums: &[u64], house: u32) -> Result<Shares, UpperFault>
+fn shares_of(alloc: Global, sums: &[u64], house: u32) -> Result<Shares, ShareFault>
     requires some_voters { Any (λ v. 0 < v) sums.now }
     requires at_most_32 { length sums.now ≤ 32 }
     requires each_small { All (λ v. v ≤ 10 ^ 14) sums.now }
     requires at_least_one { 1 ≤ house }
     requires at_most_400 { house ≤ 400 }
-    ensures seats { IfOk result (λ shares. IsStrictFit sums.now house shares.seats) }
-    ensures divisor { IfOk result (HasDivisor sums.now) }
-    ensures rounds { IfOk result (RoundsEach sums.now) }
-    ensures faults { FromShares (IsTied sums.now house) result }
+    ensures { Apportions sums.now house result }
 {
     let weights = Weights::new(alloc, sums)?;
-    match apportion(alloc, &weights, house) {
-        Ok(shares) => Ok(shares),
-        Err(ShareFault::Memory) => Err(UpperFault::Memory),
-        Err(ShareFault::Tied) => Err(UpperFault::Tied),
-    }
+    apportion(alloc, &weights, house)
 }
 
 /// The seats of the house for each group, in proportion to the voter sums of the groups that take part (GPR
@@ -55,17 +48,14 @@ pub fn upper(
         (shares_of_participants upper taking.now)) }
     ensures rounds { IfOk result (λ upper. RoundsEach (of_participants voters.now taking.now)
         (shares_of_participants upper taking.now)) }
-
-    ensures no_group { IsReportedWhere result UpperFault.NoGroup (HasNoGroup taking.now) }
-    ensures no_voters { IsReportedWhere result UpperFault.NoVoters (HasNoVoters voters.now taking.now) }
-    ensures tied { IsReportedWhere result UpperFault.Tied (AreTied voters.now taking.now house) }
+    ensures refused { IsRefusedExactly (HaveNoUpperSeats voters.now taking.now house) result }
 {
     if !taking.contains(&true) {
-        return Err(UpperFault::NoGroup);
+        return Err(UpperFault::Refused(UpperRefusal::NoGroup));
     }
     let sums = of_participants(alloc, voters, taking)?;
     if !has_voters(&sums) {
-        return Err(UpperFault::NoVoters);
+        return Err(UpperFault::Refused(UpperRefusal::NoVoters));
     }
     let shares = shares_of(alloc, &sums, house)?;
     let seats = spread(alloc, shares.seats(), taking)?;

@@ -1,24 +1,20 @@
 ghost use Rattle.std.specs.Prelude.{◌≡◌};
 ghost use Rattle.zh_upper.specs.declared.fault.UpperFault.TheVariants.{Memory};
 
+use crate::refusal::UpperRefusal;
 use std::alloc::AllocError;
 use thiserror::Error;
+use zh_divisors::ShareFault;
 
-/// Why the groups get no seats.
+/// Why the groups get no seats, memory among the reasons.
 #[derive(Clone, Copy, Debug, PartialEq, Eq, Error)]
 pub enum UpperFault {
     /// Memory was refused.
     #[error("out of memory")]
     Memory,
-    /// No group takes part.
-    #[error("no group takes part")]
-    NoGroup,
-    /// The voter sums of all groups that take part are 0.
-    #[error("no voters")]
-    NoVoters,
-    /// A seat is worth as much to two groups that take part.
-    #[error("the seats are tied")]
-    Tied,
+    /// There are no seats, for this reason.
+    #[error("the groups get no seats")]
+    Refused(UpperRefusal),
 }
 
 impl From<AllocError> for UpperFault {
@@ -26,5 +22,18 @@ impl From<AllocError> for UpperFault {
 
     fn from(_error: AllocError) -> UpperFault {
         UpperFault::Memory
+    }
+}
+
+impl From<ShareFault> for UpperFault {
+    ghost use Rattle.zh_upper.specs.Refusals.{of_share_fault};
+
+    ghost from_gives = { λ shares fault. fault ≡ of_share_fault shares };
+
+    fn from(fault: ShareFault) -> UpperFault {
+        match fault {
+            ShareFault::Memory => UpperFault::Memory,
+            ShareFault::Tied => UpperFault::Refused(UpperRefusal::Tied),
+        }
     }
 }

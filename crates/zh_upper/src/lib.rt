@@ -9,6 +9,7 @@ pub use apportionment::upper;
 pub use fault::UpperFault;
 pub use laws::one_voter_number;
 pub use number::voter_number;
+pub use refusal::UpperRefusal;
 pub use seats::Upper;
 pub use sums::voters;
 
@@ -17,5 +18,6 @@ mod fault;
 mod laws;
 mod number;
 mod participants;
+mod refusal;
 mod seats;
 mod sums;

@@ -1,17 +1,13 @@
-use Rattle.std.proofs.Common.{◌≡◌, Bool, true, false, not, rules, arith, refl, sym, ◌∙◌}
-use Rattle.std.proofs.lemmas.Bool.{false≢true}
+use Rattle.std.proofs.Common.{◌≡◌, true, rules, arith, sym, ◌∙◌}
+use Rattle.std.proofs.lemmas.Bool.{false≢true, not-false}
 use Rattle.zh_matrices.specs.Asked.{asked}
 use Rattle.zh_matrices.specs.Divisors.{millionths}
 use Rattle.zh_lower.proofs.SecondLemmas.{follow-false, none-middle, none-strict, on-true, only_strict, within-of}
 use Rattle.zh_lower.proofs.second.find_within.Goals as goal
 
-not_false : (b : Bool) → not b ≡ false → b ≡ true
-not_false true e = refl
-not_false false e = cc
-
 pub gives_from-requires-clause-only : goal.gives_from-requires-clause-only
 gives_from-requires-clause-only c =
-    let passed : c.follows.result ≡ true = first_of (search (rules, not_false), grind arith, cc) in
+    let passed : c.follows.result ≡ true = first_of (search (rules, not-false), grind arith, cc) in
     only_strict (asked c.args.question.now) (millionths c.settle.new.of_rows c.settle.new.of_columns) c.args.seats.now (c.follows.ensures.0 passed)
 
 pub returns-then-not-settle-clause-none : goal.returns-then-not-settle-clause-none
@@ -24,7 +20,7 @@ returns-then-not-follows-clause-none c =
 
 pub returns-clause-second : goal.returns-clause-second
 returns-clause-second c =
-    let passed : c.follows.result ≡ true = first_of (search (rules, not_false), grind arith, cc) in
+    let passed : c.follows.result ≡ true = first_of (search (rules, not-false), grind arith, cc) in
     on-true c.gives_from.result _ (λ gives.
     within-of (asked c.args.question.now) c.args.top c.args.seats.now c.settle.new.of_rows c.settle.new.of_columns
     (millionths c.gives_from.new.of_rows c.gives_from.new.of_columns) c.settle.ensures.enclose c.settle.ensures.rows c.settle.ensures.columns

@@ -3,8 +3,9 @@ use Rattle.std.proofs.lemmas.List.{length-map}
 use Rattle.std.proofs.lemmas.Result.{err_from_is_err_and}
 use Rattle.zh_sheet.specs.Distribution.{HaveSeats}
 use Rattle.zh_sheet.proofs.AskedLemmas.{each_seated}
-use Rattle.zh_sheet.proofs.DistributionLemmas.{IsBasis, seats_refused, upper_given, upper_refused}
+use Rattle.zh_sheet.proofs.DistributionLemmas.{seats_refused, upper_given, upper_refused}
 use Rattle.zh_sheet.proofs.RefusalLemmas.{no_memory_above, not_above, seats_early, upper_early}
+use Rattle.zh_sheet.proofs.TargetLemmas.{IsBasis}
 use Rattle.zh_sheet.proofs.above.seats_above.Goals as goal
 
 pub returns-in_err-seats : goal.returns-in_err-seats
@@ -27,13 +28,11 @@ returns-in_err-upper c =
     let sums = rw c.seats-3.ensures at c.in_ok-voters.ensures.sums in
     let basis : IsBasis c.args.totals.now c.in_ok-seats.seats.seats c.in_ok-taking.taking.items c.in_ok-voters.voters.items
     = record { constituencies = have; participation = c.in_ok-taking.ensures; sums = sums } in
-    let no_group = rw c.deref-2.ensures.value at c.in_err-upper.ensures.no_group in
-    let no_voters = rw (c.deref.ensures.value, c.deref-2.ensures.value) at c.in_err-upper.ensures.no_voters in
-    let tied = rw (c.deref.ensures.value, c.deref-2.ensures.value, c.house.ensures.house, c.setup-setup.ensures.setup) at c.in_err-upper.ensures.tied in
+    let refused = rw (c.deref.ensures.value, c.deref-2.ensures.value, c.house.ensures.house, c.setup-setup.ensures.setup) at c.in_err-upper.ensures.refused in
     let p = err_from_is_err_and c.from_residual-in_err-upper.result c.from_residual-in_err-upper.ensures.1 in
     rw (p.1, p.2)
     (not_above c.args.totals.now _ (upper_early _)
-    (upper_refused c.args.totals.now c.in_ok-seats.seats.seats c.in_ok-taking.taking.items c.in_ok-voters.voters.items basis _ no_group no_voters tied))
+    (upper_refused c.args.totals.now c.in_ok-seats.seats.seats c.in_ok-taking.taking.items c.in_ok-voters.voters.items basis _ refused))
 
 pub returns : goal.returns
 returns c =
@@ -42,8 +41,7 @@ returns c =
     let sums = rw c.seats-3.ensures at c.in_ok-voters.ensures.sums in
     let basis : IsBasis c.args.totals.now c.in_ok-seats.seats.seats c.in_ok-taking.taking.items c.in_ok-voters.voters.items
     = record { constituencies = have; participation = c.in_ok-taking.ensures; sums = sums } in
-    let no_group = rw c.deref-2.ensures.value at c.in_ok-upper.ensures.no_group in
-    let no_voters = rw (c.deref.ensures.value, c.deref-2.ensures.value) at c.in_ok-upper.ensures.no_voters in
+    let refused = rw (c.deref.ensures.value, c.deref-2.ensures.value, c.house.ensures.house, c.setup-setup.ensures.setup) at c.in_ok-upper.ensures.refused in
     record {
       given = record {
         constituencies = have;
@@ -52,7 +50,7 @@ returns c =
         sums = sums;
         groups = rw (c.deref.ensures.value, c.deref-2.ensures.value, c.house.ensures.house, c.setup-setup.ensures.setup) at c.in_ok-upper.ensures.seats;
         upper_key = rw (c.deref.ensures.value, c.deref-2.ensures.value) at c.in_ok-upper.ensures.divisor;
-        none = upper_given c.args.totals.now c.in_ok-seats.seats.seats c.in_ok-taking.taking.items c.in_ok-voters.voters.items basis c.in_ok-upper.upper no_group no_voters;
+        none = upper_given c.args.totals.now c.in_ok-seats.seats.seats c.in_ok-taking.taking.items c.in_ok-voters.voters.items basis c.in_ok-upper.upper refused;
       };
       refused = tt;
       early = tt;

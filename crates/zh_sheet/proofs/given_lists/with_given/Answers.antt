@@ -1,7 +1,6 @@
-use Rattle.std.proofs.Common.{arith, refl}
+use Rattle.std.proofs.Common.{refl}
 use Rattle.zh_sheet.specs.Distribution.{Distribution, IsDistribution}
 use Rattle.zh_sheet.specs.Given.{given_lists}
-use Rattle.zh_sheet.specs.declared.refusal.SheetRefusal.TheVariants.{NoVoters}
 use Rattle.zh_sheet.proofs.DistributionLemmas.{targets_above}
 use Rattle.zh_sheet.proofs.GivenLemmas.{distribution_with, meets_with, none_given, one_given}
 use Rattle.zh_sheet.proofs.given_lists.with_given.Goals as goal
@@ -27,4 +26,4 @@ returns c =
     let is : IsDistribution x = rw (c.in_ok-totals.ensures, c.new.ensures)
     (meets_with c.args.totals.now c.args.above.seats c.args.above.taking.items c.args.above.voters.items c.args.above.upper (given_lists c.args.seats.items c.args.row_divisors.items c.args.column_divisors.items)
     c.setup.ensures.limits c.requires.above (known.0 c.if-not-branch.false) refl) in
-    one_given c.args.totals.now (given_lists c.args.seats.items c.args.row_divisors.items c.args.column_divisors.items) x is c.requires.votes (c.requires.above.none NoVoters (omega arith)) c.in_ok-totals.ensures c.new.ensures
+    one_given c.args.totals.now (given_lists c.args.seats.items c.args.row_divisors.items c.args.column_divisors.items) x is c.requires.votes c.requires.above.none c.in_ok-totals.ensures c.new.ensures
