@@ -16,7 +16,7 @@ use Rattle.zh_returns.specs.Payload.{payload_spelling, format_byte, IsPayload}
 use Rattle.zh_returns.specs.Tally.{Tally, empty}
 use Rattle.zh_snapshot.specs.Calls.{ComparesSetup}
 use Rattle.zh_snapshot.specs.Format.{Formats, IsFormatted}
-use Rattle.zh_returns.proofs.CallerLemmas.{tally_once, one_format, format_at, format_said, desks_said}
+use Rattle.zh_returns.proofs.CallerLemmas.{tally_once, one_format, format_at, format_said, said_in_two}
 use Rattle.zh_snapshot.specs.Image.{Content, IsBlank, IsFramed, IsClean}
 use Rattle.zh_snapshot.specs.Slots.{IsInUse}
 use Rattle.zh_snapshot.specs.Store.{State, Fits}
@@ -54,7 +54,7 @@ new_stands canton setup first same_setup same_first limits = record {
   start = empty canton;
   canton = refl;
   limits = limits;
-  snapshot = record { desks = desks_said (empty canton) limits; spelling = sym same_first };
+  snapshot = record { said = said_in_two (empty canton) limits; spelling = sym same_first };
   replays = replays_none (empty canton);
 }
 
@@ -154,7 +154,7 @@ pub wrong_snapshot : (canton : Canton) (x : Content) (payload : List ℕ) → Is
 wrong_snapshot canton x payload read none = record {
   own = read.own;
   nothing = λ format tally same stands.
-      none format stands.start (stands.canton ∙ same) stands.limits (record { desks = stands.snapshot.desks; spelling = stands.snapshot.spelling ∙ sym read.snapshot });
+      none format stands.start (stands.canton ∙ same) stands.limits (record { said = stands.snapshot.said; spelling = stands.snapshot.spelling ∙ sym read.snapshot });
 }
 
 -- the snapshot says a format, and is that of a count
@@ -186,6 +186,6 @@ module _ (canton : Canton) (x : Content) (payload : List ℕ) (read : IsRead can
     start = start;
     canton = sym same;
     limits = counted.limits;
-    snapshot = subst (λ (f : Format). IsPayload f start x.snapshot) same_format (record { desks = counted.spelled.1.desks; spelling = counted.spelled.1.spelling ∙ read.snapshot });
+    snapshot = subst (λ (f : Format). IsPayload f start x.snapshot) same_format (record { said = counted.spelled.1.said; spelling = counted.spelled.1.spelling ∙ read.snapshot });
     replays = replays;
   }

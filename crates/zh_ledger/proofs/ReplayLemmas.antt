@@ -97,9 +97,6 @@ pub record Remains (format : Format) (pages : List ℕ) (page end : ℕ) (start 
   pub leads : (tally : Tally) → Replays format now rest tally → Replays format start records tally
   pub led : (tally : Tally) → Replays format start records tally → Replays format now rest tally
 
-pub remains_all : {format : Format} (pages : List ℕ) (page end : ℕ) (start : Tally) (records : List (List ℕ)) → Frames 0 pages page records end → Remains format pages page end start records start
-remains_all {format} pages page end start records framed = record { rest = records; framed = framed; leads = λ tally replays. replays; led = λ tally replays. replays }
-
 -- at the last page nothing is left
 pub remains_nothing : {format : Format} (pages : List ℕ) (page end : ℕ) (start : Tally) (records : List (List ℕ)) (now : Tally) → page ≡ end
     → Remains format pages page end start records now → Replays format start records now

@@ -6,7 +6,7 @@ use Rattle.zh_disk.proofs.CallerLemmas.{leaves_weaken}
 use Rattle.zh_returns.specs.Limits.{IsTally}
 use Rattle.zh_returns.specs.Payload.{payload_spelling}
 use Rattle.zh_returns.specs.Tally.{Tally}
-use Rattle.zh_returns.proofs.CallerLemmas.{desks_said}
+use Rattle.zh_returns.proofs.CallerLemmas.{said_in_two}
 use Rattle.zh_records.specs.declared.command.Command.{Command}
 use Rattle.zh_records.specs.declared.format.Format.{Format}
 use Rattle.zh_records.specs.declared.format.Format.TheVariants.{Two}
@@ -37,7 +37,7 @@ stands_anew format x tally by limits = record {
   start = tally;
   canton = refl;
   limits = limits;
-  snapshot = record { desks = desks_said tally limits; spelling = refl };
+  snapshot = record { said = said_in_two tally limits; spelling = refl };
   replays = replays_none tally;
 }
 

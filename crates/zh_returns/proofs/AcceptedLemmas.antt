@@ -1,5 +1,5 @@
 -- What an accepted command says fits its bytes.
-use Rattle.std.proofs.Common.{◌≡◌, ◌≤◌, ◌<◌, ◌^◌, ◌∙◌, ℕ, Bool, true, false, not, cond, List, map, Option, Some, None, get_or, sym, ap, refl, arith}
+use Rattle.std.proofs.Common.{◌≡◌, ◌<◌, ◌^◌, ◌∙◌, ℕ, Bool, true, false, not, cond, List, map, Option, Some, None, get_or, sym, ap, refl, arith}
 use Rattle.std.specs.Prelude.{All}
 use Rattle.std.specs.FinSet as set
 use Rattle.std.proofs.lemmas.Bool.{ltb-false}
@@ -15,12 +15,13 @@ use Rattle.zh_returns.specs.declared.verdict.Reason.TheVariants as reasons
 use Rattle.zh_returns.specs.Judgement.{judge, judge_row, is_refusal, of_all}
 use Rattle.zh_returns.specs.Limits.{IsTally}
 use Rattle.zh_records.specs.Rows.{FitsRow}
-use Rattle.zh_records.specs.Spelling.{FitsCommand, HasNumbers, IsSpeakable, last_desk}
+use Rattle.zh_records.specs.Spelling.{FitsCommand, HasNumbers, IsSpeakable}
 use Rattle.zh_records.specs.declared.format.Format.TheVariants.{Two}
-use Rattle.zh_returns.specs.Step.{named_desk}
+use Rattle.zh_returns.specs.Origin.{IsOriginOf, origin_of}
 use Rattle.zh_returns.specs.Tally.{Tally}
 use Rattle.zh_returns.proofs.JudgementLemmas.{Passes, passes}
 use Rattle.zh_districts.proofs.CallerLemmas.{municipality_within, list_within, placed}
+use Rattle.zh_returns.proofs.OriginLemmas.{origin_named}
 use Rattle.zh_returns.proofs.VerdictLemmas.{none_refused}
 
 municipality_fits : (tally : Tally) (municipality : ℕ) → IsTally tally → has_municipality tally.canton municipality ≡ true → municipality < 2 ^ 16
@@ -53,35 +54,27 @@ rows_fit tally rows d limits accepted =
     ∙ All-get_or (λ v. is_refusal v ≡ false) (map (judge_row tally) rows) i Accept (omega (arith, length-map rows (judge_row tally))) (none_refused (map (judge_row tally) rows) accepted)
     ))
 
-pub fits : (tally : Tally) (command : Command) → IsTally tally → named_desk command ≤ last_desk Two → judge tally command ≡ Accept → FitsCommand command
-fits tally (commands.Return desk row) limits named accepted = (named, row_fits tally row limits (ap is_refusal accepted))
+pub fits : (tally : Tally) (command : Command) → IsTally tally → IsOriginOf Two (origin_of command) → judge tally command ≡ Accept → FitsCommand command
+fits tally (commands.Return desk row) limits named accepted = (named.desk, row_fits tally row limits (ap is_refusal accepted))
 fits tally (commands.Withdraw desk municipality list number) limits named accepted =
     let p = passes tally municipality list number None (ap is_refusal accepted) in
-    (named, municipality_fits tally municipality limits (placed tally.canton municipality list p.place).0, list_fits tally municipality list None limits p)
+    (named.desk, municipality_fits tally municipality limits (placed tally.canton municipality list p.place).0, list_fits tally municipality list None limits p)
 fits tally (commands.Close municipality) limits named accepted =
     municipality_fits tally municipality limits (there_if (has_municipality tally.canton municipality) (cond (set.contains tally.closed municipality) Same Accept) accepted)
 fits tally (commands.Reopen municipality) limits named accepted =
     municipality_fits tally municipality limits
     (there_if (has_municipality tally.canton municipality)
     (cond (set.contains tally.closed municipality) Accept (Refused (reasons.NotClosed municipality))) accepted)
-fits tally (commands.Batch desk rows) limits named accepted = (named, rows_fit tally rows (record { municipality = 0; list = 0; number = 0; votes = 0 }) limits accepted)
-
--- the numbers of a command have a desk up to the last
-pub desk_named : (command : Command) → HasNumbers command → named_desk command ≤ last_desk Two
-desk_named (commands.Return desk row) numbers = numbers.0
-desk_named (commands.Withdraw desk municipality list number) numbers = numbers.0
-desk_named (commands.Close municipality) numbers = omega arith
-desk_named (commands.Reopen municipality) numbers = omega arith
-desk_named (commands.Batch desk rows) numbers = numbers.0
+fits tally (commands.Batch desk rows) limits named accepted = (named.desk, rows_fit tally rows (record { municipality = 0; list = 0; number = 0; votes = 0 }) limits accepted)
 
 pub speakable : (tally : Tally) (command : Command) → IsTally tally → HasNumbers command → judge tally command ≡ Accept → IsSpeakable Two command
 speakable tally (commands.Return desk row) limits numbers accepted =
-    let f = fits tally (commands.Return desk row) limits numbers.0 accepted in
+    let f = fits tally (commands.Return desk row) limits (origin_named (commands.Return desk row) numbers) accepted in
     let p = passes tally row.municipality row.list row.number (Some row.votes) (ap is_refusal accepted) in
     (numbers.0, record { municipality = f.1.0; list = f.1.1; number = (numbers.1, numbers.2); votes = omega (arith, ltb-false 1000000000 row.votes p.enough) })
 speakable tally (commands.Withdraw desk municipality list number) limits numbers accepted =
-    let f = fits tally (commands.Withdraw desk municipality list number) limits numbers.0 accepted in
+    let f = fits tally (commands.Withdraw desk municipality list number) limits (origin_named (commands.Withdraw desk municipality list number) numbers) accepted in
     (numbers.0, (f.1, f.2, numbers.1, numbers.2))
-speakable tally (commands.Close municipality) limits numbers accepted = fits tally (commands.Close municipality) limits (omega arith) accepted
-speakable tally (commands.Reopen municipality) limits numbers accepted = fits tally (commands.Reopen municipality) limits (omega arith) accepted
+speakable tally (commands.Close municipality) limits numbers accepted = fits tally (commands.Close municipality) limits (origin_named (commands.Close municipality) numbers) accepted
+speakable tally (commands.Reopen municipality) limits numbers accepted = fits tally (commands.Reopen municipality) limits (origin_named (commands.Reopen municipality) numbers) accepted
 speakable tally (commands.Batch desk rows) limits numbers accepted = numbers

@@ -20,56 +20,57 @@ use Rattle.zh_returns.specs.declared.verdict.Verdict.TheVariants.{Refused}
 use Rattle.zh_returns.specs.declared.verdict.Reason.TheVariants as reasons
 use Rattle.zh_returns.specs.Judgement.{judge_row, is_accept, unless_misplaced, too_many, against}
 use Rattle.zh_returns.specs.Step.{entry_of, with_rows, accepted_rows}
+use Rattle.zh_returns.specs.declared.origin.Origin.{Origin}
 use Rattle.zh_returns.specs.Tally.{Tally, held}
 use Rattle.zh_returns.proofs.VerdictLemmas.{rows_more}
 
-abbrev pub upto : ℕ → Tally → List Row → ℕ → Tally
-upto desk tally rows i = record tally { entries = with_rows desk tally.entries (accepted_rows tally (take i rows)) }
+abbrev pub upto : Origin → Tally → List Row → ℕ → Tally
+upto origin tally rows i = record tally { entries = with_rows origin tally.entries (accepted_rows tally (take i rows)) }
 
 -- a count with the entry of a row put over what it holds
-abbrev pub with_row : ℕ → Tally → Row → Tally
-with_row desk tally row = record tally { entries = map_of.insert tally.entries (row_key row) (entry_of desk row) }
+abbrev pub with_row : Origin → Tally → Row → Tally
+with_row origin tally row = record tally { entries = map_of.insert tally.entries (row_key row) (entry_of origin row) }
 
 -- of a key that no row has, whichever rows are put, the entry stays
-put_or_not : (desk : ℕ) (accepted : Bool) (entries : map_of.FinMap key_cmp Entry) (row : Row) (rows : List Row) (key : ℕ × ℕ) → eq_by_cmp key_cmp key (row_key row) ≡ false →
-    ((other : map_of.FinMap key_cmp Entry) → map_of.get (with_rows desk other rows) key ≡ map_of.get other key) →
-    map_of.get (with_rows desk entries (cond accepted (row ∷ rows) rows)) key ≡ map_of.get entries key
-put_or_not desk true entries row rows key another rest =
-    rest (map_of.insert entries (row_key row) (entry_of desk row))
-    ∙ map_of.get-insert keys_total entries (row_key row) (entry_of desk row) key
-    ∙ ap (λ b. cond b (Some (entry_of desk row)) (map_of.get entries key)) another
-put_or_not desk false entries row rows key another rest = rest entries
+put_or_not : (origin : Origin) (accepted : Bool) (entries : map_of.FinMap key_cmp Entry) (row : Row) (rows : List Row) (key : ℕ × ℕ) → eq_by_cmp key_cmp key (row_key row) ≡ false →
+    ((other : map_of.FinMap key_cmp Entry) → map_of.get (with_rows origin other rows) key ≡ map_of.get other key) →
+    map_of.get (with_rows origin entries (cond accepted (row ∷ rows) rows)) key ≡ map_of.get entries key
+put_or_not origin true entries row rows key another rest =
+    rest (map_of.insert entries (row_key row) (entry_of origin row))
+    ∙ map_of.get-insert keys_total entries (row_key row) (entry_of origin row) key
+    ∙ ap (λ b. cond b (Some (entry_of origin row)) (map_of.get entries key)) another
+put_or_not origin false entries row rows key another rest = rest entries
 
-pub other_rows : (desk : ℕ) (p : Row → Bool) (entries : map_of.FinMap key_cmp Entry) (rows : List Row) (key : ℕ × ℕ) → list_any (eq_by_cmp key_cmp key) (map row_key rows) ≡ false →
-    map_of.get (with_rows desk entries (filter p rows)) key ≡ map_of.get entries key
-other_rows desk p entries [] key fresh = refl
-other_rows desk p entries (row ∷ rows) key fresh =
+pub other_rows : (origin : Origin) (p : Row → Bool) (entries : map_of.FinMap key_cmp Entry) (rows : List Row) (key : ℕ × ℕ) → list_any (eq_by_cmp key_cmp key) (map row_key rows) ≡ false →
+    map_of.get (with_rows origin entries (filter p rows)) key ≡ map_of.get entries key
+other_rows origin p entries [] key fresh = refl
+other_rows origin p entries (row ∷ rows) key fresh =
     let parts = or_parts (eq_by_cmp key_cmp key (row_key row)) (list_any (eq_by_cmp key_cmp key) (map row_key rows)) fresh in
-    put_or_not desk (p row) entries row (filter p rows) key parts.0 (λ other. other_rows desk p other rows key parts.1)
+    put_or_not origin (p row) entries row (filter p rows) key parts.0 (λ other. other_rows origin p other rows key parts.1)
 
 -- the key of a row holds what it held before the batch, since the rows before it have others
-pub held_still : (desk : ℕ) (tally : Tally) (rows : List Row) (i : ℕ) (row : Row) → IsBatch rows → slice_get rows i ≡ Some row
-    → held (upto desk tally rows i) row.municipality row.list ≡ held tally row.municipality row.list
-held_still desk tally rows i row batch is =
+pub held_still : (origin : Origin) (tally : Tally) (rows : List Row) (i : ℕ) (row : Row) → IsBatch rows → slice_get rows i ≡ Some row
+    → held (upto origin tally rows i) row.municipality row.list ≡ held tally row.municipality row.list
+held_still origin tally rows i row batch is =
     let within = slice_get_within rows i row is in
     let key : get_or (map row_key rows) i (row_key row) ≡ row_key row = get_or-map row_key rows i row (row_key row) within ∙ ap row_key (get_or_from_slice_get rows i row row is) in
-    other_rows desk (λ r. is_accept (judge_row tally r)) tally.entries (take i rows) (row_key row) (
+    other_rows origin (λ r. is_accept (judge_row tally r)) tally.entries (take i rows) (row_key row) (
     ap (λ k. list_any (eq_by_cmp key_cmp k) (map row_key (take i rows))) (sym key)
     ∙ ap (list_any (eq_by_cmp key_cmp (get_or (map row_key rows) i (row_key row)))) (sym (take-map row_key i rows))
     ∙ fresh_from_distinct (map row_key rows) i (row_key row) batch.are_rows.keys (omega (arith, length-map rows row_key)))
 
 -- so the verdict on it is that before the batch
-pub judged_still : (desk : ℕ) (tally : Tally) (rows : List Row) (i : ℕ) (row : Row) → IsBatch rows → slice_get rows i ≡ Some row → judge_row (upto desk tally rows i) row ≡ judge_row tally row
-judged_still desk tally rows i row batch is =
+pub judged_still : (origin : Origin) (tally : Tally) (rows : List Row) (i : ℕ) (row : Row) → IsBatch rows → slice_get rows i ≡ Some row → judge_row (upto origin tally rows i) row ≡ judge_row tally row
+judged_still origin tally rows i row batch is =
     ap (λ entry.
     unless_misplaced (misplaced tally.canton row.municipality row.list) (
     cond (too_many (Some row.votes)) (Refused reasons.Votes) (cond (set.contains tally.closed row.municipality) (Refused reasons.Closed) (against entry row.number (Some row.votes))))) (
-    held_still desk tally rows i row batch is)
+    held_still origin tally rows i row batch is)
 
-accepted_before : (desk : ℕ) (before now : Tally) (rows : List Row) (i : ℕ) (row : Row) (accepted : Bool) → IsBatch rows → slice_get rows i
-    ≡ Some row → now ≡ upto desk before rows i → accepted ≡ is_accept (judge_row now row) → is_accept (judge_row before row) ≡ accepted
-accepted_before desk before now rows i row accepted batch is so_far judged =
-    ap is_accept (sym (judged_still desk before rows i row batch is) ∙ ap (λ (t : Tally). judge_row t row) (sym so_far)) ∙ sym judged
+accepted_before : (origin : Origin) (before now : Tally) (rows : List Row) (i : ℕ) (row : Row) (accepted : Bool) → IsBatch rows → slice_get rows i
+    ≡ Some row → now ≡ upto origin before rows i → accepted ≡ is_accept (judge_row now row) → is_accept (judge_row before row) ≡ accepted
+accepted_before origin before now rows i row accepted batch is so_far judged =
+    ap is_accept (sym (judged_still origin before rows i row batch is) ∙ ap (λ (t : Tally). judge_row t row) (sym so_far)) ∙ sym judged
 
 -- one row more that is accepted is one entry more
 more_rows : (tally : Tally) (rows : List Row) (i : ℕ) (row : Row) → slice_get rows i ≡ Some row → accepted_rows tally (take (i + 1) rows)
@@ -78,31 +79,31 @@ more_rows tally rows i row is =
     ap (accepted_rows tally) (rows_more rows i row is)
     ∙ filter-append (λ r. is_accept (judge_row tally r)) (take i rows) (row ∷ [])
 
-with_more : (desk : ℕ) (tally : Tally) (rows more : List Row) (i : ℕ) (row : Row) → slice_get rows i ≡ Some row → cond (is_accept (judge_row tally row)) (row ∷ []) [] ≡ more →
-    upto desk tally rows (i + 1) ≡ record (upto desk tally rows i) { entries = with_rows desk (upto desk tally rows i).entries more }
-with_more desk tally rows more i row is more_is =
+with_more : (origin : Origin) (tally : Tally) (rows more : List Row) (i : ℕ) (row : Row) → slice_get rows i ≡ Some row → cond (is_accept (judge_row tally row)) (row ∷ []) [] ≡ more →
+    upto origin tally rows (i + 1) ≡ record (upto origin tally rows i) { entries = with_rows origin (upto origin tally rows i).entries more }
+with_more origin tally rows more i row is more_is =
     ap (λ entries. record tally { entries = entries }) (
-    ap (with_rows desk tally.entries) (more_rows tally rows i row is ∙ ap (λ m. accepted_rows tally (take i rows) ++ m) more_is)
-    ∙ fold-append (λ entries (r : Row). map_of.insert entries (row_key r) (entry_of desk r)) tally.entries (accepted_rows tally (take i rows)) more)
+    ap (with_rows origin tally.entries) (more_rows tally rows i row is ∙ ap (λ m. accepted_rows tally (take i rows) ++ m) more_is)
+    ∙ fold-append (λ entries (r : Row). map_of.insert entries (row_key r) (entry_of origin r)) tally.entries (accepted_rows tally (take i rows)) more)
 
-pub next_row : (desk : ℕ) (tally : Tally) (rows : List Row) (i : ℕ) (row : Row) → slice_get rows i ≡ Some row
-    → is_accept (judge_row tally row) ≡ true → upto desk tally rows (i + 1) ≡ with_row desk (upto desk tally rows i) row
-next_row desk tally rows i row is accepted = with_more desk tally rows (row ∷ []) i row is (ap (λ b. cond b (row ∷ []) []) accepted)
+pub next_row : (origin : Origin) (tally : Tally) (rows : List Row) (i : ℕ) (row : Row) → slice_get rows i ≡ Some row
+    → is_accept (judge_row tally row) ≡ true → upto origin tally rows (i + 1) ≡ with_row origin (upto origin tally rows i) row
+next_row origin tally rows i row is accepted = with_more origin tally rows (row ∷ []) i row is (ap (λ b. cond b (row ∷ []) []) accepted)
 
 -- one that is not accepted changes nothing
-pub passed_row : (desk : ℕ) (tally : Tally) (rows : List Row) (i : ℕ) (row : Row) → slice_get rows i ≡ Some row
-    → is_accept (judge_row tally row) ≡ false → upto desk tally rows (i + 1) ≡ upto desk tally rows i
-passed_row desk tally rows i row is passed = with_more desk tally rows [] i row is (ap (λ b. cond b (row ∷ []) []) passed)
+pub passed_row : (origin : Origin) (tally : Tally) (rows : List Row) (i : ℕ) (row : Row) → slice_get rows i ≡ Some row
+    → is_accept (judge_row tally row) ≡ false → upto origin tally rows (i + 1) ≡ upto origin tally rows i
+passed_row origin tally rows i row is passed = with_more origin tally rows [] i row is (ap (λ b. cond b (row ∷ []) []) passed)
 
 -- so a count that has the rows before this one has this one too after it is put, if it is accepted
-pub row_put : (desk : ℕ) (before now after : Tally) (rows : List Row) (i : ℕ) (row : Row) (accepted : Bool) → IsBatch rows
-    → slice_get rows i ≡ Some row → now ≡ upto desk before rows i → accepted ≡ is_accept (judge_row now row) → accepted ≡ true → after
-    ≡ with_row desk now row → after ≡ upto desk before rows (i + 1)
-row_put desk before now after rows i row accepted batch is so_far judged accepts put =
-    put ∙ ap (λ (t : Tally). with_row desk t row) so_far ∙ sym (next_row desk before rows i row is (accepted_before desk before now rows i row accepted batch is so_far judged ∙ accepts))
+pub row_put : (origin : Origin) (before now after : Tally) (rows : List Row) (i : ℕ) (row : Row) (accepted : Bool) → IsBatch rows
+    → slice_get rows i ≡ Some row → now ≡ upto origin before rows i → accepted ≡ is_accept (judge_row now row) → accepted ≡ true → after
+    ≡ with_row origin now row → after ≡ upto origin before rows (i + 1)
+row_put origin before now after rows i row accepted batch is so_far judged accepts put =
+    put ∙ ap (λ (t : Tally). with_row origin t row) so_far ∙ sym (next_row origin before rows i row is (accepted_before origin before now rows i row accepted batch is so_far judged ∙ accepts))
 
 -- and else as it is
-pub row_passed : (desk : ℕ) (before now : Tally) (rows : List Row) (i : ℕ) (row : Row) (accepted : Bool) → IsBatch rows → slice_get rows i
-    ≡ Some row → now ≡ upto desk before rows i → accepted ≡ is_accept (judge_row now row) → accepted ≡ false → now ≡ upto desk before rows (i + 1)
-row_passed desk before now rows i row accepted batch is so_far judged passes =
-    so_far ∙ sym (passed_row desk before rows i row is (accepted_before desk before now rows i row accepted batch is so_far judged ∙ passes))
+pub row_passed : (origin : Origin) (before now : Tally) (rows : List Row) (i : ℕ) (row : Row) (accepted : Bool) → IsBatch rows → slice_get rows i
+    ≡ Some row → now ≡ upto origin before rows i → accepted ≡ is_accept (judge_row now row) → accepted ≡ false → now ≡ upto origin before rows (i + 1)
+row_passed origin before now rows i row accepted batch is so_far judged passes =
+    so_far ∙ sym (passed_row origin before rows i row is (accepted_before origin before now rows i row accepted batch is so_far judged ∙ passes))

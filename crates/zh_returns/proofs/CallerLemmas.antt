@@ -1,7 +1,8 @@
 -- What the crates above may use.
-pub use Rattle.zh_returns.proofs.AcceptedLemmas.{fits, desk_named, speakable}
-pub use Rattle.zh_returns.proofs.OnePayloadLemmas.{tally_once, one_format, format_at, format_said, desks_said}
-pub use Rattle.zh_returns.proofs.LimitsLemmas.{IsTally-empty, IsTally-insert}
+pub use Rattle.zh_returns.proofs.AcceptedLemmas.{fits, speakable}
+pub use Rattle.zh_returns.proofs.OnePayloadLemmas.{tally_once, one_format, format_at, format_said, said_in_two}
+pub use Rattle.zh_returns.proofs.OriginLemmas.{no_desk_said, origin_named}
+pub use Rattle.zh_returns.proofs.LimitsLemmas.{IsTally-empty, IsTally-insert, entry_said}
 pub use Rattle.zh_returns.proofs.NumbersLemmas.{length-numbers, get_or-numbers}
 pub use Rattle.zh_returns.proofs.JudgementLemmas.{passes, IsHeld, row_held, row_unrefused, rows_kept}
 pub use Rattle.zh_returns.proofs.VerdictLemmas.{rows_more}

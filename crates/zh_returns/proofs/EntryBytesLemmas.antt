@@ -1,27 +1,80 @@
 -- The bytes of entries.
-use Rattle.std.proofs.Common.{◌≡◌, ◌<◌, ◌+◌, ◌-◌, ◌*◌, ◌∙◌, ℕ, List, length, get_or, take, drop, set, Option, Some, None, sym, ap, subst, refl, arith, inl, inr}
-use Rattle.std.specs.Prelude.{IfSome}
+use Rattle.std.proofs.Common.{◌≡◌, ◌<◌, ◌≤◌, ◌+◌, ◌-◌, ◌*◌, ◌^◌, ◌∙◌, ℕ, lit<, cond, List, length, get_or, take, drop, set, Option, Some, None, sym, ap, subst, refl, arith, inl, inr}
+use Rattle.std.specs.Prelude.{IfSome, is_some, unwrap_or}
+use Rattle.std.specs.Int.{w32, from_be_bytes, to_be_bytes}
 use Rattle.std.specs.List.{flat_map}
 use Rattle.std.proofs.lemmas.Bool.{cases_lt}
+use Rattle.std.proofs.lemmas.Nat.{from_be_bytes-to_be_bytes_4}
 use Rattle.std.proofs.lemmas.List.{get_or-set_same, get_or-set_other}
 use Rattle.zh_districts.specs.Canton.{Canton}
 use Rattle.zh_records.specs.declared.format.Format.{Format}
 use Rattle.zh_returns.specs.declared.entry.Entry.{Entry}
-use Rattle.zh_returns.specs.Payload.{entry_spelling, content_spelling}
+use Rattle.zh_returns.specs.declared.entry_bytes.EntryFields.{EntryFields}
+use Rattle.zh_returns.specs.EntryBytes.{entry_spelling, fields_of, fields_spelling}
+use Rattle.zh_returns.specs.Limits.{IsEntryOf, most_votes}
 use Rattle.zh_returns.specs.Tables.{IsHeldAt, IsTable, key_of}
 use Rattle.zh_records.proofs.CallerLemmas.{HasWidth, block_at}
-
-content_length : (desk number : ℕ) (votes : Option ℕ) → length (content_spelling desk number votes) ≡ 16
-content_length desk number None = refl
-content_length desk number (Some votes) = refl
-
-entry_length : (held : Option Entry) → length (entry_spelling held) ≡ 16
-entry_length None = refl
-entry_length (Some entry) = content_length entry.desk entry.number entry.votes
+use Rattle.zh_returns.proofs.OriginLemmas.{origin_once}
 
 -- an entry takes sixteen bytes
 pub entries_wide : HasWidth entry_spelling 16
-entries_wide = record { at = entry_length }
+unfolding entry_spelling
+entries_wide = record { at = λ held. refl }
+
+number_once : (n m : ℕ) → n < 2 ^ 32 → m < 2 ^ 32 → to_be_bytes w32 n ≡ to_be_bytes w32 m → n ≡ m
+number_once n m small_n small_m same =
+    sym (from_be_bytes-to_be_bytes_4 n small_n) ∙ ap (from_be_bytes w32) same ∙ from_be_bytes-to_be_bytes_4 m small_m
+
+-- numbers of four bytes
+record HasRoom (fields : EntryFields) : Type 0 where
+  number : fields.number < 2 ^ 32
+  votes : fields.votes < 2 ^ 32
+
+-- fields with the same bytes are the same
+fields_once : (f g : EntryFields) → HasRoom f → HasRoom g → fields_spelling f ≡ fields_spelling g → f ≡ g
+fields_once f g room_f room_g same =
+    let state = ap (λ (bytes : List ℕ). get_or bytes 0 0) same in
+    let origin = origin_once f.origin g.origin (ap (λ (bytes : List ℕ). take 3 (drop 1 bytes)) same) in
+    let number = number_once f.number g.number room_f.number room_g.number (ap (λ (bytes : List ℕ). take 4 (drop 4 bytes)) same) in
+    let votes = number_once f.votes g.votes room_f.votes room_g.votes (ap (λ (bytes : List ℕ). take 4 (drop 8 bytes)) same) in
+    λ i. record { state = state i; origin = origin i; number = number i; votes = votes i }
+
+abbrev state_of : Option ℕ → ℕ
+state_of votes = cond (is_some votes) 1 2
+
+-- the state and the votes of an entry say what it has
+votes_once : (a b : Option ℕ) → state_of a ≡ state_of b → unwrap_or a 0 ≡ unwrap_or b 0 → a ≡ b
+votes_once None None state votes = refl
+votes_once None (Some w) state votes = absurd (omega arith)
+votes_once (Some v) None state votes = absurd (omega arith)
+votes_once (Some v) (Some w) state votes = ap Some votes
+
+no_state : (votes : Option ℕ) → 0 ≡ state_of votes → ⊥
+no_state None is = omega arith
+no_state (Some v) is = omega arith
+
+held_once : (h k : Option Entry) → fields_of h ≡ fields_of k → h ≡ k
+held_once None None same = refl
+held_once None (Some entry) same = absurd (no_state entry.votes (ap (λ (f : EntryFields). f.state) same))
+held_once (Some entry) None same = absurd (no_state entry.votes (sym (ap (λ (f : EntryFields). f.state) same)))
+held_once (Some entry) (Some other) same =
+    let votes = votes_once entry.votes other.votes (ap (λ (f : EntryFields). f.state) same) (ap (λ (f : EntryFields). f.votes) same) in
+    λ i. Some (record { origin = (same i).origin; number = (same i).number; votes = votes i })
+
+-- the numbers of an entry within its limits have four bytes
+entry_room : (format : Format) (held : Option Entry) → IfSome held (IsEntryOf format) → HasRoom (fields_of held)
+entry_room format None limits = record { number = lit< tt; votes = lit< tt }
+entry_room format (Some entry) limits = record { number = limits.number.1; votes = small entry.votes limits.votes }
+  where
+    small : (votes : Option ℕ) → IfSome votes (λ v. v ≤ most_votes) → unwrap_or votes 0 < 2 ^ 32
+    small None few = omega arith
+    small (Some v) few = omega arith
+
+-- so entries within their limits that have the same bytes are the same
+pub entry_once : (format : Format) (h k : Option Entry) → IfSome h (IsEntryOf format) → IfSome k (IsEntryOf format) → entry_spelling h ≡ entry_spelling k → h ≡ k
+unfolding entry_spelling
+entry_once format h k limits_h limits_k same =
+    held_once h k (fields_once (fields_of h) (fields_of k) (entry_room format h limits_h) (entry_room format k limits_k) same)
 
 -- what is held at the places so far, with one more
 pub held_more : (format : Format) (canton : Canton) (table : List (Option Entry)) (i : ℕ) (held : Option Entry) → i < length table → IfSome held (IsHeldAt format canton (key_of i)) →

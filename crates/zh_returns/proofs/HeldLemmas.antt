@@ -18,32 +18,34 @@ use Rattle.zh_returns.specs.declared.verdict.Verdict.{Verdict}
 use Rattle.zh_returns.specs.declared.verdict.Verdict.TheVariants.{Accept, Same, Refused}
 use Rattle.zh_returns.specs.Judgement.{judge, judge_row, is_accept, is_refusal}
 use Rattle.zh_returns.specs.Step.{entry_of, with_rows, changed}
+use Rattle.zh_returns.specs.declared.origin.Origin.{Origin}
+use Rattle.zh_returns.specs.Origin.{origin_of}
 use Rattle.zh_returns.specs.Tally.{Tally, held}
 use Rattle.zh_returns.proofs.JudgementLemmas.{row_held, row_unrefused}
 use Rattle.zh_returns.proofs.BatchLemmas.{other_rows}
 
 -- the entries after a row that is put or not
-abbrev put_if : ℕ → Bool → map_of.FinMap key_cmp Entry → Row → map_of.FinMap key_cmp Entry
-put_if desk accepted entries row = cond accepted (map_of.insert entries (row_key row) (entry_of desk row)) entries
+abbrev put_if : Origin → Bool → map_of.FinMap key_cmp Entry → Row → map_of.FinMap key_cmp Entry
+put_if origin accepted entries row = cond accepted (map_of.insert entries (row_key row) (entry_of origin row)) entries
 
-first_put : (desk : ℕ) (accepted : Bool) (entries : map_of.FinMap key_cmp Entry) (row : Row) (rows : List Row)
-    → with_rows desk entries (cond accepted (row ∷ rows) rows) ≡ with_rows desk (put_if desk accepted entries row) rows
-first_put desk true entries row rows = refl
-first_put desk false entries row rows = refl
+first_put : (origin : Origin) (accepted : Bool) (entries : map_of.FinMap key_cmp Entry) (row : Row) (rows : List Row)
+    → with_rows origin entries (cond accepted (row ∷ rows) rows) ≡ with_rows origin (put_if origin accepted entries row) rows
+first_put origin true entries row rows = refl
+first_put origin false entries row rows = refl
 
-here_put : (desk : ℕ) (accepted : Bool) (entries : map_of.FinMap key_cmp Entry) (row : Row) → map_of.get (put_if desk accepted entries row)
-    (row_key row) ≡ cond accepted (Some (entry_of desk row)) (map_of.get entries (row_key row))
-here_put desk true entries row =
-    map_of.get-insert keys_total entries (row_key row) (entry_of desk row) (row_key row)
-    ∙ ap (λ b. cond b (Some (entry_of desk row)) (map_of.get entries (row_key row))) (same_key (row_key row))
-here_put desk false entries row = refl
+here_put : (origin : Origin) (accepted : Bool) (entries : map_of.FinMap key_cmp Entry) (row : Row) → map_of.get (put_if origin accepted entries row)
+    (row_key row) ≡ cond accepted (Some (entry_of origin row)) (map_of.get entries (row_key row))
+here_put origin true entries row =
+    map_of.get-insert keys_total entries (row_key row) (entry_of origin row) (row_key row)
+    ∙ ap (λ b. cond b (Some (entry_of origin row)) (map_of.get entries (row_key row))) (same_key (row_key row))
+here_put origin false entries row = refl
 
-there_put : (desk : ℕ) (accepted : Bool) (entries : map_of.FinMap key_cmp Entry) (row : Row) (key : ℕ × ℕ)
-    → eq_by_cmp key_cmp key (row_key row) ≡ false → map_of.get (put_if desk accepted entries row) key ≡ map_of.get entries key
-there_put desk true entries row key other =
-    map_of.get-insert keys_total entries (row_key row) (entry_of desk row) key
-    ∙ ap (λ b. cond b (Some (entry_of desk row)) (map_of.get entries key)) other
-there_put desk false entries row key other = refl
+there_put : (origin : Origin) (accepted : Bool) (entries : map_of.FinMap key_cmp Entry) (row : Row) (key : ℕ × ℕ)
+    → eq_by_cmp key_cmp key (row_key row) ≡ false → map_of.get (put_if origin accepted entries row) key ≡ map_of.get entries key
+there_put origin true entries row key other =
+    map_of.get-insert keys_total entries (row_key row) (entry_of origin row) key
+    ∙ ap (λ b. cond b (Some (entry_of origin row)) (map_of.get entries key)) other
+there_put origin false entries row key other = refl
 
 -- keys that differ from one
 none_alike : (key : ℕ × ℕ) (keys : List (ℕ × ℕ)) → AllByRecursion (λ other. eq_by_cmp key_cmp key other ≡ false) keys → list_any (eq_by_cmp key_cmp key) keys ≡ false
@@ -57,33 +59,33 @@ one_differs key (other ∷ rows) zero row all is = ap (λ r. eq_by_cmp key_cmp k
 one_differs key (other ∷ rows) (suc i) row all is = one_differs key rows i row all.1 is
 
 -- of rows with keys of their own, one that is put is held, and the key of one that is not holds what it held
-rows_put : (desk : ℕ) (p : Row → Bool) (entries : map_of.FinMap key_cmp Entry) (rows : List Row) (i : ℕ) (row : Row) → IsDistinct (eq_by_cmp key_cmp) (map row_key rows) → slice_get rows i ≡ Some row →
-    map_of.get (with_rows desk entries (filter p rows)) (row_key row) ≡ cond (p row) (Some (entry_of desk row)) (map_of.get entries (row_key row))
-rows_put desk p entries [] i row distinct is = absurd (cc)
-rows_put desk p entries (first ∷ rows) zero row distinct is =
+rows_put : (origin : Origin) (p : Row → Bool) (entries : map_of.FinMap key_cmp Entry) (rows : List Row) (i : ℕ) (row : Row) → IsDistinct (eq_by_cmp key_cmp) (map row_key rows) → slice_get rows i ≡ Some row →
+    map_of.get (with_rows origin entries (filter p rows)) (row_key row) ≡ cond (p row) (Some (entry_of origin row)) (map_of.get entries (row_key row))
+rows_put origin p entries [] i row distinct is = absurd (cc)
+rows_put origin p entries (first ∷ rows) zero row distinct is =
     let same = sym (same_Some first row is) in
-    ap (λ r. map_of.get (with_rows desk entries (filter p (first ∷ rows))) (row_key r)) same
-    ∙ ap (λ m. map_of.get m (row_key first)) (first_put desk (p first) entries first (filter p rows))
-    ∙ other_rows desk p (put_if desk (p first) entries first) rows (row_key first)
+    ap (λ r. map_of.get (with_rows origin entries (filter p (first ∷ rows))) (row_key r)) same
+    ∙ ap (λ m. map_of.get m (row_key first)) (first_put origin (p first) entries first (filter p rows))
+    ∙ other_rows origin p (put_if origin (p first) entries first) rows (row_key first)
     (none_alike (row_key first) (map row_key rows) (IsDistinct-head (eq_by_cmp key_cmp) (row_key first) (map row_key rows) distinct))
-    ∙ here_put desk (p first) entries first
-    ∙ sym (ap (λ r. cond (p r) (Some (entry_of desk r)) (map_of.get entries (row_key r))) same)
-rows_put desk p entries (first ∷ rows) (suc i) row distinct is =
-    ap (λ m. map_of.get m (row_key row)) (first_put desk (p first) entries first (filter p rows))
-    ∙ rows_put desk p (put_if desk (p first) entries first) rows i row (IsDistinct-tail (eq_by_cmp key_cmp) (row_key first) (map row_key rows) distinct) is
-    ∙ ap (cond (p row) (Some (entry_of desk row))) (
-    there_put desk (p first) entries first (row_key row) (keys_alike.symm (row_key row) (row_key first) ∙ one_differs (row_key first) rows i
+    ∙ here_put origin (p first) entries first
+    ∙ sym (ap (λ r. cond (p r) (Some (entry_of origin r)) (map_of.get entries (row_key r))) same)
+rows_put origin p entries (first ∷ rows) (suc i) row distinct is =
+    ap (λ m. map_of.get m (row_key row)) (first_put origin (p first) entries first (filter p rows))
+    ∙ rows_put origin p (put_if origin (p first) entries first) rows i row (IsDistinct-tail (eq_by_cmp key_cmp) (row_key first) (map row_key rows) distinct) is
+    ∙ ap (cond (p row) (Some (entry_of origin row))) (
+    there_put origin (p first) entries first (row_key row) (keys_alike.symm (row_key row) (row_key first) ∙ one_differs (row_key first) rows i
     row (IsDistinct-head (eq_by_cmp key_cmp) (row_key first) (map row_key rows) distinct) is))
 
 -- a row of a batch is held after it as the row is judged
 judged_held : (tally : Tally) (desk : ℕ) (rows : List Row) (i : ℕ) (row : Row) (verdict : Verdict) → IsBatch rows → slice_get rows i ≡ Some row → judge_row tally row ≡ verdict →
-    held (changed tally (commands.Batch desk rows)) row.municipality row.list ≡ cond (is_accept verdict) (Some (entry_of desk row)) (held tally row.municipality row.list)
+    held (changed tally (commands.Batch desk rows)) row.municipality row.list ≡ cond (is_accept verdict) (Some (entry_of (origin_of (commands.Batch desk rows)) row)) (held tally row.municipality row.list)
 judged_held tally desk rows i row verdict batch is judged =
-    rows_put desk (λ r. is_accept (judge_row tally r)) tally.entries rows i row batch.are_rows.keys is
-    ∙ ap (λ v. cond (is_accept v) (Some (entry_of desk row)) (held tally row.municipality row.list)) judged
+    rows_put (origin_of (commands.Batch desk rows)) (λ r. is_accept (judge_row tally r)) tally.entries rows i row batch.are_rows.keys is
+    ∙ ap (λ v. cond (is_accept v) (Some (entry_of (origin_of (commands.Batch desk rows)) row)) (held tally row.municipality row.list)) judged
 
 pub accepted_held : (tally : Tally) (desk : ℕ) (rows : List Row) (i : ℕ) (row : Row) → IsBatch rows → slice_get rows i ≡ Some row → judge_row tally row ≡ Accept →
-    held (changed tally (commands.Batch desk rows)) row.municipality row.list ≡ Some (entry_of desk row)
+    held (changed tally (commands.Batch desk rows)) row.municipality row.list ≡ Some (entry_of (origin_of (commands.Batch desk rows)) row)
 accepted_held tally desk rows i row batch is judged = judged_held tally desk rows i row Accept batch is judged
 
 pub same_held : (tally : Tally) (desk : ℕ) (rows : List Row) (i : ℕ) (row : Row) → IsBatch rows → slice_get rows i ≡ Some row → judge_row tally row ≡ Same →
@@ -111,4 +113,4 @@ rows_held tally desk rows i row batch accepted is = by_verdict tally desk rows i
 -- a key that no row has holds what it held
 pub others_held : (tally : Tally) (desk : ℕ) (rows : List Row) (municipality list : ℕ) → has_key rows (municipality, list) ≡ false
     → held (changed tally (commands.Batch desk rows)) municipality list ≡ held tally municipality list
-others_held tally desk rows municipality list fresh = other_rows desk (λ r. is_accept (judge_row tally r)) tally.entries rows (municipality, list) fresh
+others_held tally desk rows municipality list fresh = other_rows (origin_of (commands.Batch desk rows)) (λ r. is_accept (judge_row tally r)) tally.entries rows (municipality, list) fresh

@@ -12,6 +12,7 @@ mod JudgementLemmas
 mod LimitsLemmas
 mod NumbersLemmas
 mod OnePayloadLemmas
+mod OriginLemmas
 mod PayloadLemmas
 mod PlaceLemmas
 mod TableWriteLemmas

@@ -1,5 +1,5 @@
 -- The limits of a count are kept.
-use Rattle.std.proofs.Common.{◌≡◌, ◌∙◌, ℕ, true, false, not, cond, Some, sym, subst, refl, lit<, inl, inr}
+use Rattle.std.proofs.Common.{◌≡◌, ◌≤◌, ◌<◌, ◌^◌, ◌∙◌, ℕ, true, false, not, cond, Some, sym, subst, refl, lit<, inl, inr}
 use Rattle.std.proofs.lemmas.Bool.{false≢true, or_cases, and_parts}
 use Rattle.std.proofs.lemmas.Map.Lookups.{exact_unsigned}
 use Rattle.std.specs.Cmp.{nat_cmp_total, Equal-is}
@@ -8,9 +8,14 @@ use Rattle.std.specs.Ordering.{eq_by_cmp, nat_cmp}
 use Rattle.std.specs.FinMap as map
 use Rattle.std.specs.FinSet as set
 use Rattle.zh_districts.specs.Canton.{Canton, IsCanton, has_municipality, stands, constituency_of}
+use Rattle.zh_records.specs.declared.format.Format.TheVariants.{Two}
+use Rattle.zh_records.specs.declared.row.Row.{Row}
 use Rattle.zh_returns.specs.declared.entry.Entry.{Entry}
-use Rattle.zh_returns.specs.Limits.{IsTally, IsEntry}
+use Rattle.zh_returns.specs.Limits.{IsTally, IsEntry, most_votes}
 use Rattle.zh_records.specs.Keys.{key_cmp}
+use Rattle.zh_returns.specs.declared.origin.Origin.{Origin}
+use Rattle.zh_returns.specs.Origin.{IsOriginOf}
+use Rattle.zh_returns.specs.Step.{entry_of}
 use Rattle.zh_returns.specs.Tally.{Tally, empty}
 use Rattle.zh_records.proofs.CallerLemmas.{keys_total, keys_equal}
 
@@ -38,6 +43,10 @@ each_with P entries at entry new key old =
       | false ↦ λ is. old
     ] refl
     )
+
+-- the entry of a row
+pub entry_said : (origin : Origin) (row : Row) → IsOriginOf Two origin → (1 ≤ row.number) × (row.number < 2 ^ 32) → row.votes ≤ most_votes → IsEntry (entry_of origin row)
+entry_said origin row said number votes = record { origin = said; number = number; votes = votes }
 
 pub IsTally-insert : (tally : Tally) (municipality list : ℕ) (entry : Entry) → IsTally tally → has_municipality tally.canton municipality
     ≡ true → stands tally.canton (constituency_of tally.canton municipality) list ≡ true → IsEntry entry →

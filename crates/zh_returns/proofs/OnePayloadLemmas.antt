@@ -1,8 +1,8 @@
 -- Two counts for one set-up with the same bytes are the same count.
-use Rattle.std.proofs.Common.{◌≡◌, ◌<◌, ◌≤◌, ◌+◌, ◌*◌, ◌/◌, ◌%◌, ◌^◌, ◌∙◌, ◌==◌, ◌⊎◌, ℕ, zero, suc, true, false, cond, List, ◌∷◌, length}
+use Rattle.std.proofs.Common.{◌≡◌, ◌<◌, ◌≤◌, ◌+◌, ◌*◌, ◌/◌, ◌%◌, ◌∙◌, ◌⊎◌, ℕ, zero, suc, true, false, List, ◌∷◌, length}
 use Rattle.std.proofs.Common.{get_or, take, drop, map, Option, Some, None, sym, ap, refl, arith, inl, inr}
 use Rattle.std.specs.Prelude.{IfSome}
-use Rattle.std.specs.Int.{w32, w64, from_be_bytes, to_be_bytes}
+use Rattle.std.specs.Int.{w64, from_be_bytes}
 use Rattle.std.specs.List.{flat_map, slice_index, slice_get}
 use Rattle.std.specs.Cmp.{nat_cmp_total}
 use Rattle.std.specs.FinMap as map_of
@@ -11,46 +11,24 @@ use Rattle.std.proofs.lemmas.Bool.{cases_lt}
 use Rattle.std.proofs.lemmas.List.{get_or-drop, get_or-take}
 use Rattle.std.proofs.lemmas.Option.{slice_get-get_or}
 use Rattle.std.proofs.lemmas.Map.Lookups.{exact_unsigned}
-use Rattle.std.proofs.lemmas.Nat.{from_be_bytes-to_be_bytes_4, from_be_bytes-to_be_bytes_8}
+use Rattle.std.proofs.lemmas.Nat.{from_be_bytes-to_be_bytes_8}
 use Rattle.zh_districts.specs.Canton.{Canton, IsCanton, has_municipality, stands, constituency_of}
 use Rattle.zh_records.specs.declared.format.Format.{Format}
 use Rattle.zh_records.specs.declared.format.Format.TheVariants.{One, Two}
-use Rattle.zh_records.specs.Spelling.{last_desk}
 use Rattle.zh_returns.specs.declared.entry.Entry.{Entry}
-use Rattle.zh_returns.specs.Limits.{IsTally, IsEntry}
-use Rattle.zh_returns.specs.Payload.{payload_spelling, entry_spelling, content_spelling, format_byte, zeros, closed_byte, numbers, table_of, IsPayload}
+use Rattle.zh_returns.specs.Limits.{IsTally, IsEntry, IsSaidIn}
+use Rattle.zh_returns.specs.EntryBytes.{entry_spelling}
+use Rattle.zh_returns.specs.Origin.{IsOriginOf}
+use Rattle.zh_returns.specs.Payload.{payload_spelling, format_byte, zeros, closed_byte, numbers, table_of, IsPayload}
 use Rattle.zh_returns.specs.Tables.{place_of, bit_of}
 use Rattle.zh_returns.specs.Tally.{Tally, held}
 use Rattle.zh_records.proofs.CallerLemmas.{block_at, exact_keys, keys_total}
 use Rattle.zh_returns.proofs.ClosedBytesLemmas.{closed_bit, never}
-use Rattle.zh_returns.proofs.EntryBytesLemmas.{entries_wide}
+use Rattle.zh_returns.proofs.EntryBytesLemmas.{entries_wide, entry_once}
 use Rattle.zh_returns.proofs.PlaceLemmas.{key_of-place_of}
-use Rattle.zh_returns.proofs.TallyTableLemmas.{HasDesksOf, length-table_of, at_table_of}
+use Rattle.zh_returns.proofs.TallyTableLemmas.{length-table_of, at_table_of, if_weaker}
 use Rattle.zh_returns.proofs.PayloadLemmas.{parts}
 use Rattle.zh_districts.proofs.CallerLemmas.{municipality_within, list_within}
-
-abbrev entry_of : ℕ → ℕ → Option ℕ → Option Entry
-entry_of desk number votes = Some (record { desk = desk; number = number; votes = votes })
-
--- what sixteen bytes are read as, where they are those of nothing or of an entry
-abbrev entry_from : List ℕ → Option Entry
-entry_from bytes =
-    cond (get_or bytes 0 0 == 0) None (
-    entry_of (get_or bytes 1 0) (from_be_bytes w32 (take 4 (drop 4 bytes))) (cond (get_or bytes 0 0 == 1) (Some (from_be_bytes w32 (take 4 (drop 8 bytes)))) None)
-    )
-
-content_back : (desk number : ℕ) (votes : Option ℕ) → number < 2 ^ 32 → IfSome votes (λ v. v ≤ 1000000000) → entry_from (content_spelling desk number votes) ≡ entry_of desk number votes
-content_back desk number None small few = ap (λ (n : ℕ). entry_of desk n None) (from_be_bytes-to_be_bytes_4 number small)
-content_back desk number (Some votes) small few =
-    ap (λ (n : ℕ). entry_of desk n (Some (from_be_bytes w32 (to_be_bytes w32 votes)))) (from_be_bytes-to_be_bytes_4 number small)
-    ∙ ap (λ (v : ℕ). entry_of desk number (Some v)) (from_be_bytes-to_be_bytes_4 votes (omega arith))
-
-entry_back : (h : Option Entry) → IfSome h IsEntry → entry_from (entry_spelling h) ≡ h
-entry_back None limits = refl
-entry_back (Some entry) limits = content_back entry.desk entry.number entry.votes limits.number.1 limits.votes
-
-entry_once : (h k : Option Entry) → IfSome h IsEntry → IfSome k IsEntry → entry_spelling h ≡ entry_spelling k → h ≡ k
-entry_once h k limits_h limits_k same = sym (entry_back h limits_h) ∙ ap entry_from same ∙ entry_back k limits_k
 
 -- a key that has a place in the table
 record HasPlace (municipality list : ℕ) : Type 0 where
@@ -103,7 +81,7 @@ spelled_at tally m l place =
 same_held : (a b : Tally) → IsTally a → IsTally b → flat_map entry_spelling (table_of a 512) ≡ flat_map entry_spelling (table_of b 512) → (m l : ℕ) → held a m l ≡ held b m l
 same_held a b limits_a limits_b same m l = elim (has_place m l) [
   | inl place ↦
-      entry_once (held a m l) (held b m l) (limits_a.entries m l) (limits_b.entries m l) (
+      entry_once Two (held a m l) (held b m l) (limits_a.entries m l) (limits_b.entries m l) (
       sym (spelled_at a m l place) ∙ ap (λ (all : List ℕ). take 16 (drop (16 * place_of m l) all)) same ∙ spelled_at b m l place
       )
   | inr outside ↦ none_held a m l limits_a outside ∙ sym (none_held b m l limits_b outside)
@@ -159,13 +137,9 @@ tally_once f g a b limits_a limits_b canton same =
     in
     λ i. record { canton = canton i; entries = entries i; closed = closed i; accepted = accepted i }
 
-if_desk : (h : Option Entry) → IfSome h IsEntry → IfSome h (λ entry. entry.desk ≤ last_desk Two)
-if_desk None is = tt
-if_desk (Some entry) is = is.desk
-
--- the desks of a count within its limits are ones that format Two can say
-pub desks_said : (tally : Tally) → IsTally tally → HasDesksOf Two tally
-desks_said tally limits m l = if_desk (held tally m l) (limits.entries m l)
+-- format Two can say a count within its limits
+pub said_in_two : (tally : Tally) → IsTally tally → IsSaidIn Two tally
+said_in_two tally limits m l = if_weaker IsEntry (λ entry. IsOriginOf Two entry.origin) (held tally m l) (λ entry is. is.origin) (limits.entries m l)
 
 byte_once : (f g : Format) → format_byte f ≡ format_byte g → f ≡ g
 byte_once One One same = refl

@@ -8,19 +8,21 @@ use Rattle.std.proofs.lemmas.Bool.{false≢true, cases_lt}
 use Rattle.std.proofs.lemmas.List.{take_at, drop_at, take-append-drop, length-map, get_or-drop}
 use Rattle.zh_districts.specs.Canton.{Canton, IsCanton, has_municipality, stands, constituency_of}
 use Rattle.zh_districts.proofs.CallerLemmas.{placed}
-use Rattle.zh_records.specs.Spelling.{last_desk}
 use Rattle.zh_records.specs.declared.format.Format.{Format}
 use Rattle.zh_records.specs.declared.format.Format.TheVariants.{One, Two}
 use Rattle.zh_returns.specs.declared.entry.Entry.{Entry}
-use Rattle.zh_returns.specs.Limits.{IsTally, IsEntry, IsEntryOf}
-use Rattle.zh_returns.specs.Payload.{payload_spelling, payload_length, entry_spelling, format_byte, zeros, closed_byte, numbers, table_of}
+use Rattle.zh_returns.specs.Limits.{IsTally, IsEntry, IsEntryOf, IsSaidIn}
+use Rattle.zh_returns.specs.EntryBytes.{entry_spelling}
+use Rattle.zh_returns.specs.Origin.{IsOriginOf}
+use Rattle.zh_returns.specs.Payload.{payload_spelling, payload_length, format_byte, zeros, closed_byte, numbers, table_of}
 use Rattle.zh_returns.specs.Tables.{tally_from, closed_of, key_of, IsTable, IsHeldAt}
 use Rattle.zh_returns.specs.Tally.{Tally}
 use Rattle.zh_records.proofs.CallerLemmas.{length-blocks}
 use Rattle.zh_returns.proofs.ClosedBytesLemmas.{none_set-at}
 use Rattle.zh_returns.proofs.EntryBytesLemmas.{entries_wide}
 use Rattle.zh_returns.proofs.FlagLemmas.{contains-closed_of, closed_from_one}
-use Rattle.zh_returns.proofs.TallyTableLemmas.{HasDesksOf, length-table_of, each_key, if_weaker}
+use Rattle.zh_returns.proofs.TallyTableLemmas.{length-table_of, each_key, if_weaker}
+use Rattle.zh_returns.proofs.OriginLemmas.{origin_within}
 use Rattle.zh_returns.proofs.NumbersLemmas.{length-numbers}
 use Rattle.zh_returns.proofs.ZeroLemmas.{length-zeros}
 
@@ -87,8 +89,7 @@ is_there canton m from_one within = search (rules, tests)
 
 -- an entry within the limits of a format is one within those of format Two
 entry_within : (format : Format) (entry : Entry) → IsEntryOf format entry → IsEntry entry
-entry_within One entry is = record { desk = let none = is.desk in omega arith; number = is.number; votes = is.votes }
-entry_within Two entry is = is
+entry_within format entry is = record { origin = origin_within format entry.origin is.origin; number = is.number; votes = is.votes }
 
 -- tables within their limits stand for a count within its limits
 pub tables_within : (format : Format) (canton : Canton) (table : List (Option Entry)) (flags : List Bool) (accepted : ℕ) → IsCanton canton → IsTable format canton table →
@@ -121,10 +122,10 @@ tables_within format canton table flags accepted limits held none small = record
               ))
         ]
 
--- and their desks are ones that the format can say
+-- and the format can say it
 pub tables_said : (format : Format) (canton : Canton) (table : List (Option Entry)) (flags : List Bool) (accepted : ℕ)
-    → IsTable format canton table → HasDesksOf format (tally_from canton table flags accepted)
+    → IsTable format canton table → IsSaidIn format (tally_from canton table flags accepted)
 tables_said format canton table flags accepted held m l =
-    each_key (λ _ entry. entry.desk ≤ last_desk format) table
-    (λ i. if_weaker (IsHeldAt format canton (key_of i)) (λ entry. entry.desk ≤ last_desk format) (get_or table i None)
-    (λ entry is. is.limits.desk) (held i)) (m, l)
+    each_key (λ _ entry. IsOriginOf format entry.origin) table
+    (λ i. if_weaker (IsHeldAt format canton (key_of i)) (λ entry. IsOriginOf format entry.origin) (get_or table i None)
+    (λ entry is. is.limits.origin) (held i)) (m, l)

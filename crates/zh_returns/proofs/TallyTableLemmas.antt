@@ -8,8 +8,8 @@ use Rattle.std.proofs.lemmas.List.{ext_get_or, length-map, get_or-map, get_or_pa
 use Rattle.zh_districts.specs.Canton.{has_municipality, stands, constituency_of}
 use Rattle.zh_districts.proofs.CallerLemmas.{not_misplaced}
 use Rattle.zh_returns.specs.declared.entry.Entry.{Entry}
-use Rattle.zh_returns.specs.Limits.{IsTally, IsEntry}
-use Rattle.zh_records.specs.Spelling.{last_desk}
+use Rattle.zh_returns.specs.Limits.{IsTally, IsEntry, IsSaidIn}
+use Rattle.zh_returns.specs.Origin.{IsOriginOf}
 use Rattle.zh_records.specs.declared.format.Format.{Format}
 use Rattle.zh_returns.specs.Payload.{numbers, table_of}
 use Rattle.zh_returns.specs.Tables.{IsHeldAt, IsTable, key_of, entries_of, entries_from}
@@ -80,29 +80,25 @@ pub if_weaker : (P Q : Entry → Type 0) (h : Option Entry) → ((entry : Entry)
 if_weaker P Q None weaker is = tt
 if_weaker P Q (Some entry) weaker is = weaker entry is
 
--- the desks of the entries are ones that the format can say
-abbrev pub HasDesksOf : Format → Tally → Type 0
-HasDesksOf format tally = (municipality list : ℕ) → IfSome (held tally municipality list) (λ entry. entry.desk ≤ last_desk format)
-
-if_held : (format : Format) (tally : Tally) (key : ℕ × ℕ) (h : Option Entry) → IfSome h IsEntry → IfSome h (λ entry. entry.desk ≤ last_desk format) →
+if_held : (format : Format) (tally : Tally) (key : ℕ × ℕ) (h : Option Entry) → IfSome h IsEntry → IfSome h (λ entry. IsOriginOf format entry.origin) →
     IfSome h (λ _. stands tally.canton (constituency_of tally.canton key.0) key.1 ≡ true) →
     IfSome h (λ _. has_municipality tally.canton key.0 ≡ true) → IfSome h (IsHeldAt format tally.canton key)
-if_held format tally key None limits desk list municipality = tt
-if_held format tally key (Some entry) limits desk list municipality =
+if_held format tally key None limits said list municipality = tt
+if_held format tally key (Some entry) limits said list municipality =
     record {
-      limits = record { desk = desk; number = limits.number; votes = limits.votes };
+      limits = record { origin = said; number = limits.number; votes = limits.votes };
       place = not_misplaced tally.canton key.0 key.1
           municipality list;
     }
 
 -- the table of a count within its limits is within its limits
-pub table_within : (format : Format) (tally : Tally) (n : ℕ) → IsTally tally → HasDesksOf format tally → IsTable format tally.canton (table_of tally n)
-table_within format tally n limits desks = λ place. elim (cases_lt place (32 * n)) [
+pub table_within : (format : Format) (tally : Tally) (n : ℕ) → IsTally tally → IsSaidIn format tally → IsTable format tally.canton (table_of tally n)
+table_within format tally n limits said = λ place. elim (cases_lt place (32 * n)) [
   | inl inside ↦
       subst (λ h. IfSome h (IsHeldAt format tally.canton (key_of place))) (sym (at_table_of tally n place inside)) (
       let m = place / 32 + 1 in
       let l = place % 32 + 1 in
-      if_held format tally (m, l) (held tally m l) (limits.entries m l) (desks m l) (limits.lists m l) (limits.municipalities m l)
+      if_held format tally (m, l) (held tally m l) (limits.entries m l) (said m l) (limits.lists m l) (limits.municipalities m l)
       )
   | inr outside ↦
       let past : length (table_of tally n) ≤ place = omega (arith, length-table_of tally n) in

@@ -29,11 +29,7 @@ unfolding zeros
 all_zeros zero = refl
 all_zeros (suc n) = all_zeros n
 
--- two and four of them
-pub two_zeros : (bytes : List ℕ) → length bytes ≡ 2 → list_all (λ byte. byte == 0) bytes ≡ true → bytes ≡ 0 ∷ 0 ∷ []
-unfolding zeros
-two_zeros bytes len all = zeros_from_all bytes all ∙ ap zeros len
-
+-- four of them
 pub four_zeros : (bytes : List ℕ) → length bytes ≡ 4 → list_all (λ byte. byte == 0) bytes ≡ true → bytes ≡ 0 ∷ 0 ∷ 0 ∷ 0 ∷ []
 unfolding zeros
 four_zeros bytes len all = zeros_from_all bytes all ∙ ap zeros len

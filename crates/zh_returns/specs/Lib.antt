@@ -1,3 +1,4 @@
+pub mod Origin
 pub mod Tally
 pub mod Limits
 pub mod Judgement
@@ -5,4 +6,5 @@ pub mod Step
 pub mod Code
 pub mod Tables
 pub mod Inside
+pub mod EntryBytes
 pub mod Payload

@@ -2,25 +2,29 @@
 use Rattle.std.specs.Prelude.{◌≡◌, ℕ, ◌≤◌, ◌<◌, ◌^◌, true, IfSome}
 use Rattle.std.specs.FinSet as set
 use Rattle.zh_districts.specs.Canton.{IsCanton, has_municipality, stands, constituency_of}
-use Rattle.zh_records.specs.Spelling.{last_desk}
 use Rattle.zh_records.specs.declared.format.Format.{Format}
 use Rattle.zh_records.specs.declared.format.Format.TheVariants.{Two}
 use Rattle.zh_returns.specs.declared.entry.Entry.{Entry}
+use Rattle.zh_returns.specs.Origin.{IsOriginOf}
 use Rattle.zh_returns.specs.Tally.{Tally, held}
 
 -- the most votes of a return
 abbrev pub most_votes : ℕ
 most_votes = 1000000000
 
--- a desk that the format can say, a replacement number from 1, and no more votes than a return may have
+-- an origin that the format can say, a replacement number from 1, and no more votes than a return may have
 pub record IsEntryOf (format : Format) (entry : Entry) : Type 0 where
-  pub desk : entry.desk ≤ last_desk format
+  pub origin : IsOriginOf format entry.origin
   pub number : (1 ≤ entry.number) × (entry.number < 2 ^ 32)
   pub votes : IfSome entry.votes (λ votes. votes ≤ most_votes)
 
 -- the same of the format that is written
 abbrev pub IsEntry : Entry → Type 0
 IsEntry = IsEntryOf Two
+
+-- a count whose entries have origins that the format can say
+abbrev pub IsSaidIn : Format → Tally → Type 0
+IsSaidIn format tally = (municipality list : ℕ) → IfSome (held tally municipality list) (λ entry. IsOriginOf format entry.origin)
 
 -- entries within their limits, only of lists that stand in municipalities of the set-up; closed are only municipalities of the set-up
 pub record IsTally (tally : Tally) : Type 0 where

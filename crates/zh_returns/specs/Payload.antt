@@ -1,14 +1,14 @@
 -- The bytes of a count. Numbers are big endian.
-use Rattle.std.specs.Prelude.{◌≡◌, ◌≤◌, ℕ, zero, suc, ◌+◌, ◌*◌, Bool, true, false, Option, Some, None, List, [], ◌∷◌, ◌++◌, map, IfSome}
-use Rattle.std.specs.Int.{w32, w64, to_be_bytes}
+use Rattle.std.specs.Prelude.{◌≡◌, ℕ, zero, suc, ◌+◌, ◌*◌, Bool, true, false, Option, List, [], ◌∷◌, ◌++◌, map}
+use Rattle.std.specs.Int.{w64, to_be_bytes}
 use Rattle.std.specs.List.{flat_map}
 use Rattle.std.specs.FinSet as set
 use Rattle.zh_districts.specs.Spelling.{mask_of}
-use Rattle.zh_records.specs.Spelling.{last_desk}
 use Rattle.zh_records.specs.declared.format.Format.{Format}
 use Rattle.zh_records.specs.declared.format.Format.TheVariants.{One, Two}
 use Rattle.zh_returns.specs.declared.entry.Entry.{Entry}
-use Rattle.zh_returns.specs.Limits.{IsTally}
+use Rattle.zh_returns.specs.EntryBytes.{entry_spelling}
+use Rattle.zh_returns.specs.Limits.{IsTally, IsSaidIn}
 use Rattle.zh_returns.specs.Tally.{Tally, empty, held}
 
 -- so many numbers in a row, from the first on
@@ -20,20 +20,6 @@ numbers first (suc n) = first ∷ numbers (first + 1) n
 unfoldable pub zeros : ℕ → List ℕ
 zeros zero = []
 zeros (suc n) = 0 ∷ zeros n
-
--- the state, the desk, two zero bytes, the replacement number, the votes, four zero bytes
-abbrev pub fields_spelling : ℕ → ℕ → ℕ → ℕ → List ℕ
-fields_spelling state desk number votes = state ∷ desk ∷ 0 ∷ 0 ∷ (to_be_bytes w32 number ++ (to_be_bytes w32 votes ++ (0 ∷ 0 ∷ 0 ∷ 0 ∷ [])))
-
--- votes, or none for a withdrawn list
-abbrev pub content_spelling : ℕ → ℕ → Option ℕ → List ℕ
-content_spelling desk number (Some votes) = fields_spelling 1 desk number votes
-content_spelling desk number None = fields_spelling 2 desk number 0
-
--- nothing, or an entry
-abbrev pub entry_spelling : Option Entry → List ℕ
-entry_spelling None = fields_spelling 0 0 0 0
-entry_spelling (Some entry) = content_spelling entry.desk entry.number entry.votes
 
 -- what is held, municipality by municipality, and in each list by list
 abbrev pub table_of : Tally → ℕ → List (Option Entry)
@@ -58,9 +44,9 @@ payload_spelling format tally =
     to_be_bytes w64 tally.accepted
     ++ (map (closed_byte tally) (numbers 0 64) ++ ((format_byte format ∷ zeros 174) ++ flat_map entry_spelling (table_of tally 512)))
 
--- these are the bytes of the count in this format, which can say the desks of its entries
+-- these are the bytes of the count in this format, which can say the origins of its entries
 pub record IsPayload (format : Format) (tally : Tally) (bytes : List ℕ) : Type 0 where
-  pub desks : (municipality list : ℕ) → IfSome (held tally municipality list) (λ entry. entry.desk ≤ last_desk format)
+  pub said : IsSaidIn format tally
   pub spelling : payload_spelling format tally ≡ bytes
 
 -- A count becomes the one that has these bytes in one of the formats; or there is none, and it is the count before the

@@ -1,5 +1,5 @@
 -- What an accepted command does to the count.
-use Rattle.std.specs.Prelude.{ℕ, ◌≡◌, ◌+◌, ◌≤◌, List, [], ◌∷◌, Some, None, fold, filter}
+use Rattle.std.specs.Prelude.{◌≡◌, ◌+◌, ◌≤◌, List, [], ◌∷◌, Some, None, fold, filter}
 use Rattle.std.specs.Ordering.{nat_cmp}
 use Rattle.std.specs.FinMap as map
 use Rattle.std.specs.FinSet as set
@@ -12,39 +12,33 @@ use Rattle.zh_records.specs.declared.row.Row.{Row}
 use Rattle.zh_returns.specs.declared.verdict.Verdict.{Verdict}
 use Rattle.zh_returns.specs.declared.verdict.Verdict.TheVariants.{Accept, Same, Refused}
 use Rattle.zh_records.specs.Keys.{key_cmp}
+use Rattle.zh_returns.specs.declared.origin.Origin.{Origin}
+use Rattle.zh_returns.specs.Origin.{origin_of}
 use Rattle.zh_returns.specs.Tally.{Tally}
 use Rattle.zh_returns.specs.Judgement.{judge, judge_row, is_accept}
 use Rattle.zh_returns.specs.Limits.{most_votes}
 use Rattle.zh_records.specs.Rows.{row_key}
 
--- the desk that a command names
-abbrev pub named_desk : Command → ℕ
-named_desk (commands.Return desk row) = desk
-named_desk (commands.Withdraw desk municipality list number) = desk
-named_desk (commands.Close municipality) = 0
-named_desk (commands.Reopen municipality) = 0
-named_desk (commands.Batch desk rows) = desk
+-- what is held after a return
+abbrev pub entry_of : Origin → Row → Entry
+entry_of origin row = record { origin = origin; number = row.number; votes = Some row.votes }
 
--- what is held after a desk's return
-abbrev pub entry_of : ℕ → Row → Entry
-entry_of desk row = record { desk = desk; number = row.number; votes = Some row.votes }
+-- the entries of rows, put over those that are held
+abbrev pub with_rows : Origin → map.FinMap key_cmp Entry → List Row → map.FinMap key_cmp Entry
+with_rows origin = fold (λ entries row. map.insert entries (row_key row) (entry_of origin row))
 
--- the entries of a desk's rows, put over those that are held
-abbrev pub with_rows : ℕ → map.FinMap key_cmp Entry → List Row → map.FinMap key_cmp Entry
-with_rows desk = fold (λ entries row. map.insert entries (row_key row) (entry_of desk row))
-
--- of a batch, the rows that are accepted: of an accepted batch the others are held already, and their entries keep their desks
+-- of a batch, the rows that are accepted: of an accepted batch the others are held already, and their entries keep their origins
 abbrev pub accepted_rows : Tally → List Row → List Row
 accepted_rows tally = filter (λ row. is_accept (judge_row tally row))
 
--- what is held after a command
-abbrev pub entries_after : Tally → Command → map.FinMap key_cmp Entry
-entries_after tally (commands.Return desk row) = map.insert tally.entries (row_key row) (entry_of desk row)
-entries_after tally (commands.Withdraw desk municipality list number) =
-    map.insert tally.entries (municipality, list) (record { desk = desk; number = number; votes = None })
-entries_after tally (commands.Close municipality) = tally.entries
-entries_after tally (commands.Reopen municipality) = tally.entries
-entries_after tally (commands.Batch desk rows) = with_rows desk tally.entries (accepted_rows tally rows)
+-- what is held after a command, if what it puts comes from there
+abbrev pub entries_after : Origin → Tally → Command → map.FinMap key_cmp Entry
+entries_after origin tally (commands.Return desk row) = map.insert tally.entries (row_key row) (entry_of origin row)
+entries_after origin tally (commands.Withdraw desk municipality list number) =
+    map.insert tally.entries (municipality, list) (record { origin = origin; number = number; votes = None })
+entries_after origin tally (commands.Close municipality) = tally.entries
+entries_after origin tally (commands.Reopen municipality) = tally.entries
+entries_after origin tally (commands.Batch desk rows) = with_rows origin tally.entries (accepted_rows tally rows)
 
 -- the closed municipalities after a command
 abbrev pub closed_after : Tally → Command → set.FinSet nat_cmp
@@ -58,7 +52,7 @@ closed_after tally (commands.Batch desk rows) = tally.closed
 abbrev pub changed : Tally → Command → Tally
 changed tally command = record {
   canton = tally.canton;
-  entries = entries_after tally command;
+  entries = entries_after (origin_of command) tally command;
   closed = closed_after tally command;
   accepted = tally.accepted + 1;
 }

@@ -1,6 +1,6 @@
 -- What the tables of a count stand for: a place for each key, and a flag for each municipality.
 use Rattle.std.specs.Prelude.{◌≡◌, ℕ, ◌+◌, ◌*◌, ◌-◌, ◌/◌, ◌%◌, ◌^◌, ◌==◌, Bool, true, false}
-use Rattle.std.specs.Prelude.{Option, Some, None, IfSome, List, [], ◌∷◌, All, length, get_or}
+use Rattle.std.specs.Prelude.{Option, Some, None, IfSome, List, [], ◌∷◌, get_or}
 use Rattle.std.specs.Ordering.{nat_cmp}
 use Rattle.std.specs.FinMap as map
 use Rattle.std.specs.FinSet as set
@@ -55,8 +55,3 @@ IsTable format canton table = (place : ℕ) → IfSome (get_or table place None)
 -- whether a bit of a number is set, where bit 0 is the lowest
 abbrev pub bit_of : ℕ → ℕ → Bool
 bit_of number bit = number / 2 ^ bit % 2 == 1
-
--- a table as long as before, with this in each place
-pub record IsWiped {A : Type 0} (nothing : A) (old new : List A) : Type 0 where
-  pub length : length new ≡ length old
-  pub blank : All (λ x. x ≡ nothing) new

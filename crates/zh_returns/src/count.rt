@@ -6,7 +6,7 @@ ghost use Rattle.std.specs.FinSet as set;
 ghost use Rattle.zh_returns.specs.Limits.{IsTally, IsEntry};
 ghost use Rattle.zh_records.specs.declared.format.Format.{Format};
 ghost use Rattle.zh_returns.specs.Payload.{TakesPayload, payload_spelling};
-ghost use Rattle.zh_returns.specs.Tables.{IsWiped, place_of};
+ghost use Rattle.zh_returns.specs.Tables.{place_of};
 ghost use Rattle.zh_returns.specs.Tally.{Tally, empty, held};
 ghost use Rattle.zh_districts.specs.Canton.{has_municipality};
 ghost use Rattle.zh_districts.specs.Misplaced.{misplaced};
@@ -73,13 +73,15 @@ fn unset(alloc: Global, places: usize) -> Result<Vec<bool>, AllocError>
 }
 
 fn clear_entries(table: &mut [Option<Entry>])
-    ensures { IsWiped None table.old table.new }
+    ensures length { length table.new ≡ length table.old }
+    ensures blank { All (λ entry. entry ≡ None) table.new }
 {
     table.fill(None);
 }
 
 fn clear_flags(flags: &mut [bool])
-    ensures { IsWiped false flags.old flags.new }
+    ensures length { length flags.new ≡ length flags.old }
+    ensures blank { All (λ flag. flag ≡ false) flags.new }
 {
     flags.fill(false);
 }

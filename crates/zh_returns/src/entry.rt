@@ -1,8 +1,10 @@
-/// What the count holds under a key: the desk that set it, a replacement number from 1, and the votes, or none where the
-/// list was withdrawn. Desks are 1 to 8; desk 0 stands for a load, and for what was stored before desks were.
+use crate::origin::Origin;
+
+/// What the count holds under a key: where it came from, a replacement number from 1, and the votes, or none where the list
+/// was withdrawn.
 #[derive(Clone, Copy)]
 pub struct Entry {
-    pub desk: u8,
+    pub origin: Origin,
     pub number: u32,
     pub votes: Option<u32>,
 }

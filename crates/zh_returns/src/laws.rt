@@ -1,18 +1,19 @@
 //! Laws about counts and accepted commands. The functions do nothing: their contracts are the laws.
 
-ghost use Rattle.std.specs.Prelude.{◌≡◌, ◌≤◌, ℕ, false, IfSome, List, Some, length, slice_get};
+ghost use Rattle.std.specs.Prelude.{◌≡◌, ℕ, false, List, Some, length, slice_get};
 ghost use Rattle.std.specs.Option.{IsSomeAnd};
 ghost use Rattle.zh_records.specs.declared.command.Command.{Command};
 ghost use Rattle.zh_records.specs.declared.command.Command.TheVariants as commands;
 ghost use Rattle.zh_records.specs.declared.format.Format.{Format};
 ghost use Rattle.zh_records.specs.declared.row.Row.{Row};
 ghost use Rattle.zh_records.specs.Rows.{IsBatch, has_key};
-ghost use Rattle.zh_records.specs.Spelling.{FitsCommand, HasNumbers, IsSpeakable, last_desk};
+ghost use Rattle.zh_records.specs.Spelling.{FitsCommand, HasNumbers, IsSpeakable};
 ghost use Rattle.zh_returns.specs.declared.verdict.Verdict.TheVariants.{Accept, Same};
 ghost use Rattle.zh_returns.specs.Judgement.{judge, judge_row};
-ghost use Rattle.zh_returns.specs.Limits.{IsTally};
+ghost use Rattle.zh_returns.specs.Limits.{IsTally, IsSaidIn};
+ghost use Rattle.zh_returns.specs.Origin.{IsOriginOf, origin_of};
 ghost use Rattle.zh_returns.specs.Payload.{payload_spelling, payload_length, format_byte};
-ghost use Rattle.zh_returns.specs.Step.{changed, named_desk, entry_of};
+ghost use Rattle.zh_returns.specs.Step.{changed, entry_of};
 ghost use Rattle.zh_returns.specs.Tally.{Tally, held};
 
 /// Two counts for one set-up with the same bytes are the same count, in the same format; each count has as many bytes,
@@ -23,13 +24,12 @@ pub fn one_payload()
     ensures same { (f g : Format) (a b : Tally) → IsTally a → IsTally b → a.canton ≡ b.canton
         → payload_spelling f a ≡ payload_spelling g b → a ≡ b }
     ensures one_format { (f g : Format) (a b : Tally) → payload_spelling f a ≡ payload_spelling g b → f ≡ g }
-    ensures desks { (tally : Tally) → IsTally tally
-        → (municipality list : ℕ) → IfSome (held tally municipality list) (λ entry. entry.desk ≤ last_desk Format.Two) }
+    ensures said { (tally : Tally) → IsTally tally → IsSaidIn Format.Two tally }
 {}
 
-/// The numbers of an accepted command have room in its bytes, if its desk is one that they can say.
+/// The numbers of an accepted command have room in its bytes, if its origin is one that they can say.
 pub fn accepted_fits()
-    ensures { (tally : Tally) (command : Command) → IsTally tally → named_desk command ≤ last_desk Format.Two
+    ensures { (tally : Tally) (command : Command) → IsTally tally → IsOriginOf Format.Two (origin_of command)
         → judge tally command ≡ Accept → FitsCommand command }
 {}
 
@@ -40,7 +40,7 @@ pub fn accepted_is_speakable()
         → IsSpeakable Format.Two command }
 {}
 
-/// After an accepted batch each of its rows is held: one that was accepted names the batch's desk, one that was judged the
+/// After an accepted batch each of its rows is held: one that was accepted has the batch's origin, one that was judged the
 /// same keeps what was held. A key that no row has holds what it held.
 pub fn batch_is_held()
     ensures rows { (tally : Tally) (desk : ℕ) (rows : List Row) (i : ℕ) (row : Row) → IsBatch rows
@@ -49,7 +49,8 @@ pub fn batch_is_held()
         (λ entry. (entry.number ≡ row.number) × (entry.votes ≡ Some row.votes)) }
     ensures accepted { (tally : Tally) (desk : ℕ) (rows : List Row) (i : ℕ) (row : Row) → IsBatch rows
         → slice_get rows i ≡ Some row → judge_row tally row ≡ Accept
-        → held (changed tally (commands.Batch desk rows)) row.municipality row.list ≡ Some (entry_of desk row) }
+        → held (changed tally (commands.Batch desk rows)) row.municipality row.list
+        ≡ Some (entry_of (origin_of (commands.Batch desk rows)) row) }
     ensures same { (tally : Tally) (desk : ℕ) (rows : List Row) (i : ℕ) (row : Row) → IsBatch rows
         → slice_get rows i ≡ Some row → judge_row tally row ≡ Same
         → held (changed tally (commands.Batch desk rows)) row.municipality row.list ≡ held tally row.municipality row.list }

@@ -11,8 +11,9 @@ ghost use Rattle.zh_returns.specs.Tally.{Tally};
 use crate::closed_bytes::{none_set, read_flags, write_flags};
 use crate::count::{MUNICIPALITIES, PLACES};
 use crate::entry::Entry;
-use crate::entry_bytes::{ENTRY_LENGTH, is_zero};
+use crate::entry_bytes::ENTRY_LENGTH;
 use crate::table_bytes::{read_entries, write_entries};
+use crate::zero_bytes::{is_zero, write_zeros};
 use byteorder::{BigEndian, ByteOrder};
 use zh_districts::Setup;
 use zh_records::Format;
@@ -44,12 +45,6 @@ pub const PAYLOAD_LENGTH: usize = 262_391;
 const _: () = prove!(
     PAYLOAD_LENGTH == ACCEPTED_LENGTH + CLOSED_LENGTH + FORMAT_LENGTH + ENTRIES_LENGTH
 );
-
-fn write_zeros(out: &mut [u8])
-    ensures { out.new ≡ zeros (length out.old) }
-{
-    out.fill(0);
-}
 
 /// Writes that the bytes are those of format Two.
 fn write_format(out: &mut [u8])

@@ -7,21 +7,22 @@ ghost use Rattle.zh_returns.specs.declared.verdict.Verdict.TheVariants.{Accept};
 ghost use Rattle.zh_returns.specs.Judgement.{judge, judge_row, of_all};
 ghost use Rattle.zh_returns.specs.Limits.{IsEntry};
 ghost use Rattle.zh_records.specs.Rows.{row_key};
-ghost use Rattle.zh_records.specs.Spelling.{last_desk};
 ghost use Rattle.zh_records.specs.declared.format.Format.{Format};
-ghost use Rattle.zh_returns.specs.Step.{step, changed, named_desk, entry_of, with_rows, accepted_rows};
+ghost use Rattle.zh_returns.specs.Origin.{IsOriginOf, origin_of};
+ghost use Rattle.zh_returns.specs.Step.{step, changed, entry_of, with_rows, accepted_rows};
 ghost use Rattle.zh_returns.specs.Step.{MayStand, PutsFollowed, Steps};
 
 use crate::count::Count;
 use crate::entry::Entry;
 use crate::follower::Follower;
+use crate::origin::Origin;
 use zh_records::{Command, Row, Rows};
 
 impl<'s> Count<'s> {
     /// Applies a command, which has been judged and is accepted, to the count, and counts it. What is then held under its
-    /// keys names its desk; of a batch only the rows that are accepted do.
+    /// keys has its origin; of a batch only the rows that are accepted do.
     pub fn apply(&mut self, command: &Command<'_>)
-        requires desk { named_desk command.now ≤ last_desk Format.Two }
+        requires origin { IsOriginOf Format.Two (origin_of command.now) }
         requires accept { judge self.old command.now ≡ Accept }
         requires room { self.old.accepted < 2 ^ 64 - 1 }
         ensures { Steps self.old command.now self.new }
@@ -31,7 +32,7 @@ impl<'s> Count<'s> {
 
     /// Applies a command as `apply` does, and keeps a follower of the count up to date, entry by entry.
     pub fn apply_followed<F: Follower>(&mut self, command: &Command<'_>, follower: &mut F)
-        requires desk { named_desk command.now ≤ last_desk Format.Two }
+        requires origin { IsOriginOf Format.Two (origin_of command.now) }
         requires accept { judge self.old command.now ≡ Accept }
         requires room { self.old.accepted < 2 ^ 64 - 1 }
         requires follows { F.follows follower.old self.old.canton self.old.entries }
@@ -39,16 +40,17 @@ impl<'s> Count<'s> {
         ensures changed { self.new ≡ changed self.old command.now }
         ensures follows { F.follows follower.new self.new.canton self.new.entries }
     {
+        let origin = Origin::of(command);
         match command {
-            Command::Return { desk, row } => self.put_row(*desk, *row, follower),
+            Command::Return { row, .. } => self.put_row(origin, *row, follower),
             Command::Withdraw {
-                desk,
                 municipality,
                 list,
                 number,
+                ..
             } => {
                 let withdrawn = Entry {
-                    desk: *desk,
+                    origin,
                     number: *number,
                     votes: None,
                 };
@@ -56,38 +58,38 @@ impl<'s> Count<'s> {
             }
             Command::Close { municipality } => self.close(*municipality),
             Command::Reopen { municipality } => self.reopen(*municipality),
-            Command::Batch { desk, rows } => self.put_rows(*desk, rows, follower),
+            Command::Batch { rows, .. } => self.put_rows(origin, rows, follower),
         }
         self.count_accepted();
     }
 
-    /// Puts the entries of a desk's rows that are accepted over what is held. The others are held already.
-    fn put_rows<F: Follower>(&mut self, desk: u8, rows: &Rows<'_>, follower: &mut F)
-        requires desk { desk ≤ last_desk Format.Two }
+    /// Puts the entries of rows that are accepted over what is held. The others are held already.
+    fn put_rows<F: Follower>(&mut self, origin: Origin, rows: &Rows<'_>, follower: &mut F)
+        requires origin { IsOriginOf Format.Two origin }
         requires accept { of_all (map (judge_row self.old) rows.now) ≡ Accept }
         requires follows { F.follows follower.old self.old.canton self.old.entries }
         ensures { PutsFollowed (F.follows follower.new)
-            (with_rows desk self.old.entries (accepted_rows self.old rows.now)) self.old self.new }
+            (with_rows origin self.old.entries (accepted_rows self.old rows.now)) self.old self.new }
     {
         for i in 0..rows.len() {
             let row = rows.get(i);
             // The verdict is that against the count before the batch, since each row has a key of its own.
             if self.accepts(row) {
-                self.put_row(desk, row, follower);
+                self.put_row(origin, row, follower);
             }
         }
     }
 
-    /// Puts the entry of a desk's row over what is held.
-    fn put_row<F: Follower>(&mut self, desk: u8, row: Row, follower: &mut F)
-        requires desk { desk ≤ last_desk Format.Two }
+    /// Puts the entry of a row over what is held.
+    fn put_row<F: Follower>(&mut self, origin: Origin, row: Row, follower: &mut F)
+        requires origin { IsOriginOf Format.Two origin }
         requires stand { MayStand self.old.canton row }
         requires follows { F.follows follower.old self.old.canton self.old.entries }
         ensures { PutsFollowed (F.follows follower.new)
-            (map_of.insert self.old.entries (row_key row) (entry_of desk row)) self.old self.new }
+            (map_of.insert self.old.entries (row_key row) (entry_of origin row)) self.old self.new }
     {
         let entry = Entry {
-            desk,
+            origin,
             number: row.number,
             votes: Some(row.votes),
         };

@@ -4,7 +4,7 @@ ghost use Rattle.std.specs.Prelude.{◌≡◌, ◌*◌, ◌≤◌, ◌<◌, Opti
 ghost use Rattle.std.specs.List.{flat_map};
 ghost use Rattle.zh_records.specs.Decoding.{Decodes};
 ghost use Rattle.zh_returns.specs.declared.entry.Entry.{Entry};
-ghost use Rattle.zh_returns.specs.Payload.{entry_spelling};
+ghost use Rattle.zh_returns.specs.EntryBytes.{entry_spelling};
 ghost use Rattle.zh_returns.specs.Tables.{IsHeldAt, IsTable, key_of};
 
 use crate::count::PLACES;

@@ -2,10 +2,14 @@
 use Rattle.std.proofs.Common.{◌≡◌, ◌∙◌, ℕ, ◌+◌, ◌≤◌, true, None, Some, IfSome, sym, ap, subst, arith}
 use Rattle.zh_districts.specs.Canton.{has_municipality, stands, constituency_of}
 use Rattle.zh_districts.specs.Misplaced.{misplaced}
+use Rattle.zh_records.specs.declared.format.Format.TheVariants.{Two}
+use Rattle.zh_records.specs.declared.row.Row.{Row}
 use Rattle.zh_returns.specs.declared.entry.Entry.{Entry}
 use Rattle.zh_returns.specs.Limits.{IsTally, IsEntry}
+use Rattle.zh_returns.specs.Origin.{no_desk}
+use Rattle.zh_returns.specs.Step.{entry_of}
 use Rattle.zh_returns.specs.Tally.{Tally, held}
-use Rattle.zh_returns.proofs.CallerLemmas.{IsTally-insert}
+use Rattle.zh_returns.proofs.CallerLemmas.{IsTally-insert, entry_said, no_desk_said}
 use Rattle.zh_districts.proofs.CallerLemmas.{list_within, placed}
 use Rattle.zh_totals.specs.declared.change.Change.{Change}
 use Rattle.zh_totals.specs.Totals.{VoteTotals, all_votes}
@@ -27,9 +31,10 @@ pub votes_can : (tally : Tally) (m l votes : ℕ) → IsTally tally → has_muni
     IsChange (totals_of tally) (change_to tally m l votes)
 votes_can tally m l votes limits there standing enough =
     let key = standing_there tally m l limits there standing in
-    let entry : Entry = record { desk = 0; number = 1; votes = Some votes } in
+    let row : Row = record { municipality = m; list = l; number = 1; votes = votes } in
+    let entry = entry_of no_desk row in
     let can = can_note_entry tally m l votes key in
-    let most = few_votes (with_entry tally m l entry) (IsTally-insert tally m l entry limits there standing (record { desk = omega arith; number = (omega arith, omega arith); votes = enough })) in
+    let most = few_votes (with_entry tally m l entry) (IsTally-insert tally m l entry limits there standing (entry_said no_desk row (no_desk_said Two) (omega arith, omega arith) enough)) in
     let same : all_votes (totals_of (with_entry tally m l entry)) ≡ all_votes (noted (totals_of tally) (change_to tally m l votes)) = ap all_votes (noted_entry tally m l entry key) in
     record { constituency = key.constituency; list = key.list; before = can.before; after = enough; most = omega arith }
 

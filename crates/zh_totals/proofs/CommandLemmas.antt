@@ -19,12 +19,14 @@ use Rattle.zh_returns.specs.declared.verdict.Verdict.TheVariants.{Accept, Same, 
 use Rattle.zh_returns.specs.Judgement.{judge, judge_row, judge_content, is_refusal, is_accept, of_all}
 use Rattle.zh_returns.specs.Limits.{IsTally}
 use Rattle.zh_records.specs.Rows.{IsBatch, IsSpeakableRow}
-use Rattle.zh_records.specs.Spelling.{HasNumbers, last_desk}
+use Rattle.zh_records.specs.Spelling.{HasNumbers}
 use Rattle.zh_records.specs.declared.format.Format.TheVariants.{Two}
 use Rattle.zh_returns.specs.Step.{entry_of, with_rows, accepted_rows, changed, MayStand}
+use Rattle.zh_returns.specs.declared.origin.Origin.{Origin}
+use Rattle.zh_returns.specs.Origin.{IsOriginOf, origin_of}
 use Rattle.zh_returns.specs.Tally.{Tally, held}
 use Rattle.zh_records.specs.Keys.{key_cmp}
-use Rattle.zh_returns.proofs.CallerLemmas.{passes, row_held, row_unrefused, rows_kept, IsHeld, IsTally-insert, rows_more, upto, with_row, held_still, next_row, passed_row}
+use Rattle.zh_returns.proofs.CallerLemmas.{passes, row_held, row_unrefused, rows_kept, IsHeld, IsTally-insert, entry_said, origin_named, rows_more, upto, with_row, held_still, next_row, passed_row}
 use Rattle.zh_districts.proofs.CallerLemmas.{placed}
 use Rattle.zh_records.proofs.CallerLemmas.{keys_total, keys_equal}
 use Rattle.zh_totals.specs.Totals.{VoteTotals}
@@ -47,42 +49,42 @@ held_put tally m l entry is =
     ∙ get_put tally m l entry key (eq_by_cmp key_cmp key (m, l)) is refl)
 
 -- a row changes against the rows before it what it changes against the count before the batch
-row_change_still : (desk : ℕ) (tally : Tally) (rows : List Row) (i : ℕ) (row : Row) → IsBatch rows → slice_get rows i ≡ Some row
-    → change_to (upto desk tally rows i) row.municipality row.list row.votes ≡ row_change tally row
-row_change_still desk tally rows i row batch is =
+row_change_still : (origin : Origin) (tally : Tally) (rows : List Row) (i : ℕ) (row : Row) → IsBatch rows → slice_get rows i ≡ Some row
+    → change_to (upto origin tally rows i) row.municipality row.list row.votes ≡ row_change tally row
+row_change_still origin tally rows i row batch is =
     ap (λ h. record {
       constituency = constituency_of tally.canton row.municipality;
       list = row.list;
       before = option_map_or votes_of h 0;
       after = row.votes;
-    }) (held_still desk tally rows i row batch is)
+    }) (held_still origin tally rows i row batch is)
 
 -- an entry of a row that may stand, put over what is held, leaves the count within its limits
-with_row_limits : (desk : ℕ) (tally : Tally) (row : Row) → desk ≤ last_desk Two → IsTally tally → IsSpeakableRow row → MayStand tally.canton row → IsTally (with_row desk tally row)
-with_row_limits desk tally row named limits speakable may =
+with_row_limits : (origin : Origin) (tally : Tally) (row : Row) → IsOriginOf Two origin → IsTally tally → IsSpeakableRow row → MayStand tally.canton row → IsTally (with_row origin tally row)
+with_row_limits origin tally row named limits speakable may =
     let there = placed tally.canton row.municipality row.list may.place in
-    IsTally-insert tally row.municipality row.list (entry_of desk row) limits there.0 there.1 (record { desk = named; number = speakable.number; votes = may.votes })
+    IsTally-insert tally row.municipality row.list (entry_of origin row) limits there.0 there.1 (entry_said origin row named speakable.number may.votes)
 
 -- rows that a count accepts leave it within its limits
-more_limits : (desk : ℕ) (tally : Tally) (rows : List Row) (i : ℕ) (row : Row) (accepted : Bool) → is_accept (judge_row tally row)
-    ≡ accepted → slice_get rows i ≡ Some row → desk ≤ last_desk Two → IsSpeakableRow row → MayStand tally.canton row
-    → IsTally (upto desk tally rows i) → IsTally (upto desk tally rows (i + 1))
-more_limits desk tally rows i row true judged is named speakable may before = subst IsTally (sym (next_row desk tally rows i row is judged))
-    (with_row_limits desk (upto desk tally rows i) row named before speakable may)
-more_limits desk tally rows i row false judged is named speakable may before = subst IsTally (sym (passed_row desk tally rows i row is judged)) before
+more_limits : (origin : Origin) (tally : Tally) (rows : List Row) (i : ℕ) (row : Row) (accepted : Bool) → is_accept (judge_row tally row)
+    ≡ accepted → slice_get rows i ≡ Some row → IsOriginOf Two origin → IsSpeakableRow row → MayStand tally.canton row
+    → IsTally (upto origin tally rows i) → IsTally (upto origin tally rows (i + 1))
+more_limits origin tally rows i row true judged is named speakable may before = subst IsTally (sym (next_row origin tally rows i row is judged))
+    (with_row_limits origin (upto origin tally rows i) row named before speakable may)
+more_limits origin tally rows i row false judged is named speakable may before = subst IsTally (sym (passed_row origin tally rows i row is judged)) before
 
-IsTally-upto : (desk : ℕ) (tally : Tally) (rows : List Row) (i : ℕ) → desk ≤ last_desk Two → IsTally tally → IsBatch rows
-    → of_all (map (judge_row tally) rows) ≡ Accept → i ≤ length rows → IsTally (upto desk tally rows i)
-IsTally-upto desk tally rows zero named limits batch accepted within = limits
-IsTally-upto desk tally rows (suc i) named limits batch accepted within =
+IsTally-upto : (origin : Origin) (tally : Tally) (rows : List Row) (i : ℕ) → IsOriginOf Two origin → IsTally tally → IsBatch rows
+    → of_all (map (judge_row tally) rows) ≡ Accept → i ≤ length rows → IsTally (upto origin tally rows i)
+IsTally-upto origin tally rows zero named limits batch accepted within = limits
+IsTally-upto origin tally rows (suc i) named limits batch accepted within =
     let next : suc i ≡ i + 1 = omega arith in
     elim (slice_get_cases rows i).1 [
       | inl found ↦
           let row = found.0 in
           let speakable : IsSpeakableRow row = subst IsSpeakableRow found.3 (All-get_or IsSpeakableRow rows i row found.1 batch.are_rows.speakable) in
-          subst IsTally (sym (ap (upto desk tally rows) next)) (
-          more_limits desk tally rows i row (is_accept (judge_row tally row)) refl found.2 named speakable
-          (rows_kept tally rows i row batch accepted found.2) (IsTally-upto desk tally rows i named limits batch accepted (omega arith)))
+          subst IsTally (sym (ap (upto origin tally rows) next)) (
+          more_limits origin tally rows i row (is_accept (judge_row tally row)) refl found.2 named speakable
+          (rows_kept tally rows i row batch accepted found.2) (IsTally-upto origin tally rows i named limits batch accepted (omega arith)))
       | inr past ↦ absurd (omega arith)
     ]
 
@@ -96,39 +98,39 @@ held_noted tally row limits may same =
     ∙ ap (λ content. noted (totals_of tally) (change_to tally row.municipality row.list (unwrap_or content 0))) same.votes_are
 
 -- the totals with one row more of a batch are those before it with its change noted
-row_judged : (desk : ℕ) (tally : Tally) (rows : List Row) (i : ℕ) (row : Row) (verdict : Verdict) → IsTally (upto desk tally rows i)
+row_judged : (origin : Origin) (tally : Tally) (rows : List Row) (i : ℕ) (row : Row) (verdict : Verdict) → IsTally (upto origin tally rows i)
     → IsBatch rows → slice_get rows i ≡ Some row → MayStand tally.canton row → judge_row tally row ≡ verdict → is_refusal verdict ≡ false →
-    totals_of (upto desk tally rows (i + 1)) ≡ noted (totals_of (upto desk tally rows i)) (row_change (upto desk tally rows i) row)
-row_judged desk tally rows i row Accept limits batch is may judged fine =
+    totals_of (upto origin tally rows (i + 1)) ≡ noted (totals_of (upto origin tally rows i)) (row_change (upto origin tally rows i) row)
+row_judged origin tally rows i row Accept limits batch is may judged fine =
     let there = placed tally.canton row.municipality row.list may.place in
-    ap totals_of (next_row desk tally rows i row is (ap is_accept judged))
-    ∙ entry_noted (upto desk tally rows i) row.municipality row.list (entry_of desk row) limits there.0 there.1
-row_judged desk tally rows i row Same limits batch is may judged fine =
-    ap totals_of (passed_row desk tally rows i row is (ap is_accept judged))
-    ∙ held_noted (upto desk tally rows i) row limits may (
-    subst (λ entry. IsHeld entry row.number row.votes) (sym (held_still desk tally rows i row batch is)) (row_held tally row judged))
-row_judged desk tally rows i row (Refused reason) limits batch is may judged fine = absurd (true≢false fine)
+    ap totals_of (next_row origin tally rows i row is (ap is_accept judged))
+    ∙ entry_noted (upto origin tally rows i) row.municipality row.list (entry_of origin row) limits there.0 there.1
+row_judged origin tally rows i row Same limits batch is may judged fine =
+    ap totals_of (passed_row origin tally rows i row is (ap is_accept judged))
+    ∙ held_noted (upto origin tally rows i) row limits may (
+    subst (λ entry. IsHeld entry row.number row.votes) (sym (held_still origin tally rows i row batch is)) (row_held tally row judged))
+row_judged origin tally rows i row (Refused reason) limits batch is may judged fine = absurd (true≢false fine)
 
-pub row_noted : (desk : ℕ) (tally : Tally) (rows : List Row) (i : ℕ) (row : Row) → desk ≤ last_desk Two → IsTally tally → IsBatch rows
-    → of_all (map (judge_row tally) rows) ≡ Accept → slice_get rows i ≡ Some row → totals_of (upto desk tally rows (i + 1))
-    ≡ noted (totals_of (upto desk tally rows i)) (row_change tally row)
-row_noted desk tally rows i row named limits batch accepted is =
+pub row_noted : (origin : Origin) (tally : Tally) (rows : List Row) (i : ℕ) (row : Row) → IsOriginOf Two origin → IsTally tally → IsBatch rows
+    → of_all (map (judge_row tally) rows) ≡ Accept → slice_get rows i ≡ Some row → totals_of (upto origin tally rows (i + 1))
+    ≡ noted (totals_of (upto origin tally rows i)) (row_change tally row)
+row_noted origin tally rows i row named limits batch accepted is =
     let within = slice_get_within rows i row is in
-    row_judged desk tally rows i row (judge_row tally row) (IsTally-upto desk tally rows i named limits batch accepted (omega arith))
+    row_judged origin tally rows i row (judge_row tally row) (IsTally-upto origin tally rows i named limits batch accepted (omega arith))
     batch is (rows_kept tally rows i row batch accepted is) refl (row_unrefused tally rows i row accepted is)
-    ∙ ap (noted (totals_of (upto desk tally rows i))) (row_change_still desk tally rows i row batch is)
+    ∙ ap (noted (totals_of (upto origin tally rows i))) (row_change_still origin tally rows i row batch is)
 
-rows_noted : (desk : ℕ) (tally : Tally) (rows : List Row) (i : ℕ) → desk ≤ last_desk Two → IsTally tally → IsBatch rows → of_all (map (judge_row tally) rows) ≡ Accept → i ≤ length rows →
-    totals_of (upto desk tally rows i) ≡ all_noted (totals_of tally) (map (row_change tally) (take i rows))
-rows_noted desk tally rows zero named limits batch accepted within = refl
-rows_noted desk tally rows (suc i) named limits batch accepted within =
+rows_noted : (origin : Origin) (tally : Tally) (rows : List Row) (i : ℕ) → IsOriginOf Two origin → IsTally tally → IsBatch rows → of_all (map (judge_row tally) rows) ≡ Accept → i ≤ length rows →
+    totals_of (upto origin tally rows i) ≡ all_noted (totals_of tally) (map (row_change tally) (take i rows))
+rows_noted origin tally rows zero named limits batch accepted within = refl
+rows_noted origin tally rows (suc i) named limits batch accepted within =
     let next : suc i ≡ i + 1 = omega arith in
     elim (slice_get_cases rows i).1 [
       | inl found ↦
           let row = found.0 in
-          ap (λ n. totals_of (upto desk tally rows n)) next
-          ∙ row_noted desk tally rows i row named limits batch accepted found.2
-          ∙ ap (λ (t : VoteTotals). noted t (row_change tally row)) (rows_noted desk tally rows i named limits batch accepted (omega arith))
+          ap (λ n. totals_of (upto origin tally rows n)) next
+          ∙ row_noted origin tally rows i row named limits batch accepted found.2
+          ∙ ap (λ (t : VoteTotals). noted t (row_change tally row)) (rows_noted origin tally rows i named limits batch accepted (omega arith))
           ∙ sym (fold-append noted (totals_of tally) (map (row_change tally) (take i rows)) (row_change tally row ∷ []))
           ∙ ap (all_noted (totals_of tally)) (sym (map-append (row_change tally) (take i rows) (row ∷ []))
           ∙ ap (map (row_change tally)) (sym (rows_more rows i row found.2)) ∙ ap (λ n. map (row_change tally) (take n rows)) (sym next))
@@ -139,14 +141,14 @@ pub return_noted : (desk : ℕ) (tally : Tally) (row : Row) → IsTally tally �
     → totals_of (changed tally (commands.Return desk row)) ≡ noted (totals_of tally) (row_change tally row)
 return_noted desk tally row limits accepted =
     let p = passes tally row.municipality row.list row.number (Some row.votes) (ap is_refusal accepted) in
-    entry_noted tally row.municipality row.list (entry_of desk row) limits (placed tally.canton row.municipality row.list p.place).0 (placed tally.canton row.municipality row.list p.place).1
+    entry_noted tally row.municipality row.list (entry_of (origin_of (commands.Return desk row)) row) limits (placed tally.canton row.municipality row.list p.place).0 (placed tally.canton row.municipality row.list p.place).1
 
 pub withdrawal_noted : (desk : ℕ) (tally : Tally) (municipality list number : ℕ) → IsTally tally → judge_content tally municipality list
     number None ≡ Accept → totals_of (changed tally (commands.Withdraw desk municipality list number))
     ≡ noted (totals_of tally) (change_to tally municipality list 0)
 withdrawal_noted desk tally municipality list number limits accepted =
     let p = passes tally municipality list number None (ap is_refusal accepted) in
-    entry_noted tally municipality list (record { desk = desk; number = number; votes = None }) limits
+    entry_noted tally municipality list (record { origin = origin_of (commands.Withdraw desk municipality list number); number = number; votes = None }) limits
     (placed tally.canton municipality list p.place).0 (placed tally.canton municipality list p.place).1
 
 -- after an accepted command the totals are those before it with each of its changes noted
@@ -157,7 +159,8 @@ command_noted tally (commands.Withdraw desk municipality list number) limits num
 command_noted tally (commands.Close municipality) limits numbers accepted = refl
 command_noted tally (commands.Reopen municipality) limits numbers accepted = refl
 command_noted tally (commands.Batch desk rows) limits numbers accepted =
+    let origin = origin_of (commands.Batch desk rows) in
     let all : take (length rows) rows ≡ rows = take_all (length rows) rows (omega arith) in
-    ap (λ rs. totals_of (record tally { entries = with_rows desk tally.entries (accepted_rows tally rs) })) (sym all)
-    ∙ rows_noted desk tally rows (length rows) numbers.0 limits numbers.1 accepted (omega arith)
+    ap (λ rs. totals_of (record tally { entries = with_rows origin tally.entries (accepted_rows tally rs) })) (sym all)
+    ∙ rows_noted origin tally rows (length rows) (origin_named (commands.Batch desk rows) numbers) limits numbers.1 accepted (omega arith)
     ∙ ap (λ rs. all_noted (totals_of tally) (map (row_change tally) rs)) all

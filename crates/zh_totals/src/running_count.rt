@@ -3,10 +3,10 @@
 ghost use Rattle.std.specs.Prelude.{◌≡◌, ◌-◌, ◌≤◌, ◌<◌, ◌^◌, IfOk};
 ghost use Rattle.zh_returns.specs.declared.verdict.Verdict.TheVariants.{Accept};
 ghost use Rattle.zh_returns.specs.Judgement.{judge};
-ghost use Rattle.zh_records.specs.Spelling.{last_desk};
 ghost use Rattle.zh_records.specs.declared.format.Format.{Format};
+ghost use Rattle.zh_returns.specs.Origin.{IsOriginOf, origin_of};
 ghost use Rattle.zh_returns.specs.Payload.{TakesPayload};
-ghost use Rattle.zh_returns.specs.Step.{step, named_desk};
+ghost use Rattle.zh_returns.specs.Step.{step};
 ghost use Rattle.zh_returns.specs.Tally.{Tally, empty};
 ghost use Rattle.zh_totals.specs.Counting.{totals_of};
 
@@ -81,7 +81,7 @@ impl<'s> RunningCount<'s> {
 
     /// Applies a command, which has been judged and is accepted, to the count and its totals, and counts it.
     pub fn apply(&mut self, command: &Command<'_>)
-        requires desk { named_desk command.now ≤ last_desk Format.Two }
+        requires origin { IsOriginOf Format.Two (origin_of command.now) }
         requires accept { judge self.old command.now ≡ Accept }
         requires room { self.old.accepted < 2 ^ 64 - 1 }
         ensures { self.new ≡ step self.old command.now }

@@ -1,7 +1,7 @@
 //! What no line of a desk and no disk shows of a count. All else are cases of `zh_cases`.
 
 ghost use Rattle.std.specs.Prelude.{◌≡◌};
-ghost use Rattle.zh_returns.specs.Step.{named_desk};
+ghost use Rattle.zh_returns.specs.Origin.{origin_of};
 
 use std::process::Abort;
 use std::test::Fail;
@@ -9,7 +9,7 @@ use zh_returns::{Command, Count, Format, Reason, Row, Verdict, decode_command};
 use zh_setups::rehearsal;
 
 fn returned(number: u32, votes: u32) -> Command<'static>
-    ensures { named_desk result ≡ 1 }
+    ensures { (origin_of result).desk ≡ 1 }
 {
     let row = Row {
         municipality: 1,

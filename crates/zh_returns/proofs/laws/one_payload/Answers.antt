@@ -1,6 +1,6 @@
 use Rattle.std.proofs.Common.{refl}
 use Rattle.zh_returns.specs.Payload.{payload_spelling}
-use Rattle.zh_returns.proofs.OnePayloadLemmas.{tally_once, one_format, format_at, desks_said}
+use Rattle.zh_returns.proofs.OnePayloadLemmas.{tally_once, one_format, format_at, said_in_two}
 use Rattle.zh_returns.proofs.PayloadLemmas.{parts}
 use Rattle.zh_returns.proofs.laws.one_payload.Goals as goal
 
@@ -13,8 +13,8 @@ returns-clause-format c = format_at
 pub returns-clause-one_format : goal.returns-clause-one_format
 returns-clause-one_format c = one_format
 
-pub returns-clause-desks : goal.returns-clause-desks
-returns-clause-desks c = desks_said
+pub returns-clause-said : goal.returns-clause-said
+returns-clause-said c = said_in_two
 
 pub returns-clause-same : goal.returns-clause-same
 returns-clause-same c = tally_once

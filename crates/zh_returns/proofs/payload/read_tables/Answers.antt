@@ -3,7 +3,8 @@ use Rattle.std.specs.List.{list_all, flat_map, slice_index}
 use Rattle.std.proofs.lemmas.Bool.{false≢true}
 use Rattle.std.proofs.lemmas.List.{take_rest, take_all, length-take, get_or-drop}
 use Rattle.zh_districts.specs.Canton.{Canton}
-use Rattle.zh_returns.specs.Payload.{entry_spelling, table_of, closed_byte, numbers}
+use Rattle.zh_returns.specs.EntryBytes.{entry_spelling}
+use Rattle.zh_returns.specs.Payload.{table_of, closed_byte, numbers}
 use Rattle.zh_returns.specs.Tables.{IsTable, tally_from, bit_of}
 use Rattle.zh_returns.proofs.ClosedBytesLemmas.{none_above, packed, unpacked}
 use Rattle.zh_returns.proofs.OnePayloadLemmas.{format_once}
@@ -49,7 +50,7 @@ returns-then-not-none_set-clause-refused c = λ format tally canton limits paylo
           w.read_entries.ensures.refused w.if-not-read_entries.true (table_of tally 512)
           (length-table_of tally 512 ∙ sym c.requires.entries)
           (subst (λ f. IsTable f c.args.setup.now (table_of tally 512)) (sym one_format)
-          (subst (λ s. IsTable format s (table_of tally 512)) canton (table_within format tally 512 limits payload.desks)))
+          (subst (λ s. IsTable format s (table_of tally 512)) canton (table_within format tally 512 limits payload.said)))
           (sym p.entries ∙ sym (c.split_at-3.ensures.back ∙ ap (drop 175) (c.split_at-2.ensures.back ∙ ap (drop 64) first)))
     ]
 
@@ -88,7 +89,7 @@ returns-clause-read c =
     let entries = c.read_entries.ensures.read c.if-not-read_entries.false in (
       format,
       record {
-        desks = tables_said format canton table flags c.read_u64.result entries.1;
+        said = tables_said format canton table flags c.read_u64.result entries.1;
         spelling =
             parts_read format tally bytes
             (accepted ∙ ap (take 8) c.split_at.ensures.front ∙ take_all 8 (take 8 bytes) (omega (arith, length-take 8 bytes)))

@@ -1,5 +1,5 @@
 use Rattle.std.proofs.Common.{◌≡◌, ◌<◌, ◌+◌, ◌-◌, ◌*◌, ◌∙◌, ℕ, length, take, drop, ap, arith}
-use Rattle.zh_returns.specs.Payload.{entry_spelling}
+use Rattle.zh_returns.specs.EntryBytes.{entry_spelling}
 use Rattle.zh_records.proofs.CallerLemmas.{blocks_more}
 use Rattle.zh_returns.proofs.EntryBytesLemmas.{held_more, place_refused}
 use Rattle.zh_returns.proofs.table_bytes.read_entries.Goals as goal

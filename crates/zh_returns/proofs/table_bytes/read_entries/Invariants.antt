@@ -1,7 +1,7 @@
 use Rattle.std.proofs.Common.{◌≡◌, ◌*◌, ◌<◌, ℕ, None, take, get_or}
 use Rattle.std.specs.Prelude.{IfSome}
 use Rattle.std.specs.List.{flat_map}
-use Rattle.zh_returns.specs.Payload.{entry_spelling}
+use Rattle.zh_returns.specs.EntryBytes.{entry_spelling}
 use Rattle.zh_returns.specs.Tables.{IsHeldAt, key_of}
 use Rattle.zh_returns.proofs.table_bytes.read_entries.Given as goal
 

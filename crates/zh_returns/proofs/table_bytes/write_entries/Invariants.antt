@@ -1,6 +1,6 @@
 use Rattle.std.proofs.Common.{◌≡◌, ◌*◌, take}
 use Rattle.std.specs.List.{flat_map}
-use Rattle.zh_returns.specs.Payload.{entry_spelling}
+use Rattle.zh_returns.specs.EntryBytes.{entry_spelling}
 use Rattle.zh_returns.proofs.table_bytes.write_entries.Given as goal
 
 abbrev pub invariant-loop-place : goal.invariant-loop-place

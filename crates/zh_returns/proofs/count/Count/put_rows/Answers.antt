@@ -26,12 +26,12 @@ loop-i-preserved g c =
     let batch = c.len-i-end.ensures.batch in
     elim c.if-accepts.branch [
       | then-accepts w ↦ record {
-        put = w.self-is ∙ row_put c.args.desk before now w.put_row.new.self rows c.loop-i.i row c.accepts.result batch c.get-row.ensures
+        put = w.self-is ∙ row_put c.args.origin before now w.put_row.new.self rows c.loop-i.i row c.accepts.result batch c.get-row.ensures
             c.loop-i.invariant.put c.accepts.ensures w.if-accepts.true w.put_row.ensures.put;
         follows = still c.if-accepts.follower w.put_row.new.follower c.if-accepts.self w.put_row.new.self w.follower-is w.self-is w.put_row.ensures.follows;
       }
       | else-accepts w ↦ record {
-        put = w.self-is ∙ row_passed c.args.desk before now rows c.loop-i.i row c.accepts.result batch c.get-row.ensures c.loop-i.invariant.put c.accepts.ensures w.if-accepts.false;
+        put = w.self-is ∙ row_passed c.args.origin before now rows c.loop-i.i row c.accepts.result batch c.get-row.ensures c.loop-i.invariant.put c.accepts.ensures w.if-accepts.false;
         follows = still c.if-accepts.follower c.loop-i.follower c.if-accepts.self now w.follower-is w.self-is c.loop-i.invariant.follows;
       }
     ]

@@ -1,0 +1,27 @@
+-- Where an entry came from, and its three bytes.
+use Rattle.std.specs.Prelude.{◌≤◌, ℕ, List, [], ◌∷◌}
+use Rattle.zh_records.specs.Spelling.{last_desk}
+use Rattle.zh_records.specs.declared.command.Command.{Command}
+use Rattle.zh_records.specs.declared.command.Command.TheVariants as commands
+use Rattle.zh_records.specs.declared.format.Format.{Format}
+use Rattle.zh_returns.specs.declared.origin.Origin.{Origin}
+
+-- no desk, or none that is known
+abbrev pub no_desk : Origin
+no_desk = record { desk = 0 }
+
+-- where what a command puts comes from
+abbrev pub origin_of : Command → Origin
+origin_of (commands.Return desk row) = record { desk = desk }
+origin_of (commands.Withdraw desk municipality list number) = record { desk = desk }
+origin_of (commands.Close municipality) = no_desk
+origin_of (commands.Reopen municipality) = no_desk
+origin_of (commands.Batch desk rows) = record { desk = desk }
+
+-- one that the format can say
+pub record IsOriginOf (format : Format) (origin : Origin) : Type 0 where
+  pub desk : origin.desk ≤ last_desk format
+
+-- the desk, two zero bytes
+abbrev pub origin_spelling : Origin → List ℕ
+origin_spelling origin = origin.desk ∷ 0 ∷ 0 ∷ []
