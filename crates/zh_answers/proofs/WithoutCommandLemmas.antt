@@ -1,9 +1,8 @@
 -- The answers to a line that gives no command are plain replies, `memory` to a row, and those with a sheet.
-use Rattle.std.proofs.Common.{◌≡◌, ⊎_elim, ℕ, Bool, true, false, List, Option, Some, None, refl, sym, ap, subst}
-use Rattle.zh_districts.specs.Misplaced.{misplaced}
+use Rattle.std.proofs.Common.{◌≡◌, ⊎_elim, ℕ, Bool, true, false, List, Option, Some, None, refl, sym, ap, subst, rules}
 use Rattle.zh_districts.specs.declared.misplaced.Misplaced.{Misplaced}
 use Rattle.zh_records.specs.declared.row.Row.{Row}
-use Rattle.zh_returns.specs.Tally.{Tally, held}
+use Rattle.zh_returns.specs.Tally.{Tally}
 use Rattle.zh_returns.specs.declared.entry.Entry.{Entry}
 use Rattle.zh_returns.specs.declared.verdict.Reason.{Reason}
 use Rattle.zh_desks.specs.Batches as desks
@@ -20,7 +19,7 @@ use Rattle.zh_commands.specs.declared.lines.Request.TheVariants as requests
 use Rattle.zh_commands.specs.declared.replies.Reply.{Reply}
 use Rattle.zh_commands.specs.declared.replies.Reply.TheVariants.{Stored, Refused}
 use Rattle.zh_commands.specs.declared.replies.Refusal.TheVariants as refusals
-use Rattle.zh_answers.specs.Answers.{MayAdd, MayAnswerQuery, MayAnswerRow, MayAnswerTo, MayHold, MayReplyToStep, answer_to_commit, answer_to_drop, answer_to_open, reply_by_place, shown, shown_content, shown_desk}
+use Rattle.zh_answers.specs.Answers.{MayAdd, MayAnswerQuery, MayAnswerRow, MayAnswerTo, MayHold, MayReplyToStep, answer_to_commit, reply_by_place, shown, shown_content, shown_desk}
 use Rattle.zh_answers.specs.Sheets.{MayGive}
 use Rattle.zh_answers.specs.declared.answer.Answer.{Answer}
 use Rattle.zh_answers.specs.declared.answer.Answer.TheVariants as answers
@@ -41,14 +40,6 @@ pub record HoldsWithoutCommand (tally : Tally) (P : Request → Answer → Type 
   pub memory : (row : Row) → P (requests.Batch (steps.Row row)) (answers.Reply (Refused refusals.Memory))
   pub sheet : (answer : Answer) → MayGive tally false answer → P (requests.Query queries.Sheet) answer
   pub final : (answer : Answer) → MayGive tally true answer → P (requests.Query queries.Final) answer
-
-opened : (rows : Option (List Row)) → is_plain (answer_to_open rows) ≡ true
-opened None = refl
-opened (Some rows) = refl
-
-dropped : (rows : Option (List Row)) → is_plain (answer_to_drop rows) ≡ true
-dropped None = refl
-dropped (Some rows) = refl
 
 committed : (rows : Option (List Row)) → is_plain (answer_to_commit rows) ≡ true
 committed None = refl
@@ -90,15 +81,14 @@ module _ (tally : Tally) (P : Request → Answer → Type 0) (holds : HoldsWitho
   row_answered (Some rows) row reply may = row_added (unfit tally.canton row) rows row reply may
 
   step_taken : (rows : Option (List Row)) (step : BatchStep) (reply : Reply) → MayReplyToStep tally rows step reply → P (requests.Batch step) (answers.Reply reply)
-  step_taken rows steps.Open reply is = plainly _ _ _ (ap answers.Reply is) (opened rows)
   step_taken rows (steps.Row row) reply may = row_answered rows row reply may
-  step_taken rows steps.Drop reply is = plainly _ _ _ (ap answers.Reply is) (dropped rows)
+  step_taken None step reply is = plainly _ _ _ (ap answers.Reply is) (search rules)
+  step_taken (Some rows) step reply is = plainly _ _ _ (ap answers.Reply is) (search rules)
 
   query_answered : (query : DeskQuery) (answer : Answer) → MayAnswerQuery tally query answer → P (requests.Query query) answer
-  query_answered (queries.Show municipality list) answer is = plainly _ _ _ is (placed (misplaced tally.canton municipality list) _ (entry_showed (held tally municipality list)))
-  query_answered (queries.Last municipality list) answer is = plainly _ _ _ is (placed (misplaced tally.canton municipality list) _ (desk_showed (held tally municipality list)))
   query_answered queries.Sheet answer may = holds.sheet answer may
   query_answered queries.Final answer may = ⊎_elim (λ first. plainly _ _ _ first.2 refl) (λ closed. holds.final answer closed.1) may
+  query_answered query answer is = plainly _ _ _ is (search (rules, placed, entry_showed, desk_showed))
 
   pub without_command : (batches : desks.Held) (desk : Desk) (request : Request) (answer : Answer) → MayAnswerTo tally batches desk request answer → P request answer
   without_command batches desk (requests.Command command) answer may = absurd may

@@ -42,7 +42,7 @@ shown (Some entry) = shown_content entry.number entry.votes
 -- the desk that set an entry
 abbrev pub shown_desk : Option Entry → Reply
 shown_desk None = Nothing
-shown_desk (Some entry) = LastDesk entry.desk
+shown_desk (Some entry) = LastDesk entry.origin.desk
 
 -- a list that has no place is refused; else this reply is given
 abbrev pub reply_by_place : Option Misplaced → Reply → Reply

@@ -14,11 +14,10 @@ ghost use Rattle.zh_commands.specs.declared.lines.Request.TheVariants as request
 
 use crate::answer::Answer;
 use crate::batch_steps::{drop_batch, hold, open_batch};
+use crate::books::Books;
 use crate::outcomes::reply_to;
-use crate::queries::answer_query;
-use std::alloc::Global;
 use zh_commands::{BatchStep, Line, Refusal, Reply, Request};
-use zh_desks::{Batch, Desk, Desks};
+use zh_desks::{Batch, Desk};
 use zh_disk::Disk;
 use zh_ledger::Ledger;
 use zh_returns::Command;
@@ -33,9 +32,8 @@ fn submit<D: Disk>(ledger: &mut Ledger<'_>, disk: &mut D, command: &Command<'_>)
     reply_to(ledger.submit(disk, command))
 }
 
-/// Submits the rows of a desk's batch, of which there is one at least, as one command, and reports its outcome. Desk 0
-/// stands for a batch that no desk holds.
-pub fn submit_batch<D: Disk>(
+/// Submits these rows, of which there is one at least, as one command of this desk, and reports its outcome.
+fn submit_rows<D: Disk>(
     ledger: &mut Ledger<'_>,
     disk: &mut D,
     desk: u8,
@@ -53,62 +51,71 @@ pub fn submit_batch<D: Disk>(
     submit(ledger, disk, &Command::Batch { desk, rows })
 }
 
-/// Answers what a desk asks for: a command is submitted, and every other line answered from memory. After a fault of the
-/// device all is `reopen-disk`. In `rows` there is room for the bytes of a batch.
-pub fn answer_to<'s, D: Disk>(
-    alloc: Global,
-    ledger: &mut Ledger<'s>,
-    desks: &mut Desks,
-    rows: &mut [u8],
-    disk: &mut D,
-    line: Line,
-) -> Answer<'s>
-    requires line { IsRequest line.request }
-    requires room { rows_length ≤ length rows.old }
-    ensures acts { (log : Log) × Acts (on_disk ledger.old (D.history disk.old))
-        (command_of line.desk (rows_of desks.old line.desk) line.request)
-        (MayAnswerWhere ledger.old.store.broken ledger.old.tally desks.old line) result log (on_disk ledger.new (D.history disk.new)) }
-    ensures held { desks.new ≡ held_after desks.old line result }
-    ensures untouched { answer_may_write result ≡ false → disk.new ≡ disk.old }
-{
-    if ledger.is_broken() {
-        return Answer::Reply(Reply::Refused(Refusal::ReopenDisk));
+impl<'s> Books<'s> {
+    /// Submits the rows of a batch that no desk of these books holds, of which there is one at least, as one command, and
+    /// reports its outcome. Desk 0 stands for what no desk sent.
+    pub fn submit_batch<D: Disk>(&mut self, disk: &mut D, desk: u8, batch: &Batch) -> Reply
+        requires desk { desk ≤ 8 }
+        requires some { 1 ≤ length batch.now }
+        ensures reported { ReportsOutcome (on_disk self.old.ledger (D.history disk.old)) (commands.Batch desk batch.now)
+            (answers.Reply result) (on_disk self.new.ledger (D.history disk.new)) }
+        ensures held { self.new.desks ≡ self.old.desks }
+        ensures untouched { answer_may_write (answers.Reply result) ≡ false → disk.new ≡ disk.old }
+    {
+        submit_rows(&mut self.ledger, disk, desk, batch, &mut self.rows)
     }
-    let desk = line.desk;
-    match line.request {
-        Request::Command(command) => Answer::Reply(submit(ledger, disk, &command.of_desk(desk))),
-        Request::Commit => Answer::Reply(commit(ledger, desks, rows, disk, desk)),
-        Request::Batch(BatchStep::Open) => Answer::Reply(open_batch(alloc, desks, desk)),
-        Request::Batch(BatchStep::Row(row)) => {
-            Answer::Reply(hold(ledger.count(), desks, desk, row))
-        }
-        Request::Batch(BatchStep::Drop) => Answer::Reply(drop_batch(desks, desk)),
-        Request::Query(query) => answer_query(alloc, ledger.count(), ledger.totals(), query),
-    }
-}
 
-/// Submits a desk's batch as one command. It ends where it is stored, or held already.
-fn commit<D: Disk>(
-    ledger: &mut Ledger<'_>,
-    desks: &mut Desks,
-    rows: &mut [u8],
-    disk: &mut D,
-    desk: Desk,
-) -> Reply
-    requires room { rows_length ≤ length rows.old }
-    ensures acts { (log : Log) × Acts (on_disk ledger.old (D.history disk.old)) (batch_of desk.number (rows_of desks.old desk))
-        (λ answer. answer ≡ answers.Reply (answer_to_commit (rows_of desks.old desk))) (answers.Reply result) log
-        (on_disk ledger.new (D.history disk.new)) }
-    ensures held { desks.new ≡ with_batch desks.old desk (batch_after (rows_of desks.old desk) requests.Commit result) }
-    ensures untouched { answer_may_write (answers.Reply result) ≡ false → disk.new ≡ disk.old }
-{
-    let reply = match desks.batch(desk) {
-        Some(batch) if batch.len() > 0 => submit_batch(ledger, disk, desk.number, batch, rows),
-        Some(_) => Reply::Same,
-        None => Reply::Refused(Refusal::NoBatch),
-    };
-    if matches!(reply, Reply::Stored(_) | Reply::Same) {
-        desks.close(desk);
+    /// Answers what a desk asks for: a command is submitted, and every other line answered from memory. After a fault of
+    /// the device all is `reopen-disk`.
+    pub fn answer_to<D: Disk>(&mut self, disk: &mut D, line: Line) -> Answer<'s>
+        requires { IsRequest line.request }
+        ensures acts { (log : Log) × Acts (on_disk self.old.ledger (D.history disk.old))
+            (command_of line.desk (rows_of self.old.desks line.desk) line.request)
+            (MayAnswerWhere self.old.ledger.store.broken self.old.ledger.tally self.old.desks line) result log
+            (on_disk self.new.ledger (D.history disk.new)) }
+        ensures held { self.new.desks ≡ held_after self.old.desks line result }
+        ensures untouched { answer_may_write result ≡ false → disk.new ≡ disk.old }
+    {
+        if self.ledger.is_broken() {
+            return Answer::Reply(Reply::Refused(Refusal::ReopenDisk));
+        }
+        let desk = line.desk;
+        match line.request {
+            Request::Command(command) => {
+                Answer::Reply(submit(&mut self.ledger, disk, &command.of_desk(desk)))
+            }
+            Request::Commit => Answer::Reply(self.commit(disk, desk)),
+            Request::Batch(BatchStep::Open) => {
+                Answer::Reply(open_batch(self.alloc, &mut self.desks, desk))
+            }
+            Request::Batch(BatchStep::Row(row)) => {
+                Answer::Reply(hold(self.ledger.count(), &mut self.desks, desk, row))
+            }
+            Request::Batch(BatchStep::Drop) => { Answer::Reply(drop_batch(&mut self.desks, desk)) }
+            Request::Query(query) => self.answer_query(query),
+        }
     }
-    reply
+
+    /// Submits a desk's batch as one command. It ends where it is stored, or held already.
+    fn commit<D: Disk>(&mut self, disk: &mut D, desk: Desk) -> Reply
+        ensures acts { (log : Log) × Acts (on_disk self.old.ledger (D.history disk.old))
+            (batch_of desk.number (rows_of self.old.desks desk))
+            (λ answer. answer ≡ answers.Reply (answer_to_commit (rows_of self.old.desks desk))) (answers.Reply result) log
+            (on_disk self.new.ledger (D.history disk.new)) }
+        ensures held { self.new.desks
+            ≡ with_batch self.old.desks desk (batch_after (rows_of self.old.desks desk) requests.Commit result) }
+        ensures untouched { answer_may_write (answers.Reply result) ≡ false → disk.new ≡ disk.old }
+    {
+        let reply = match self.desks.batch(desk) {
+            Some(batch) if batch.len() > 0 => {
+                submit_rows(&mut self.ledger, disk, desk.number, batch, &mut self.rows)
+            }
+            Some(_) => Reply::Same,
+            None => Reply::Refused(Refusal::NoBatch),
+        };
+        if matches!(reply, Reply::Stored(_) | Reply::Same) {
+            self.desks.close(desk);
+        }
+        reply
+    }
 }

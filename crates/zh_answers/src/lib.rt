@@ -3,11 +3,12 @@
 
 mod answer;
 mod batch_steps;
+mod books;
 mod commands;
 mod outcomes;
 mod queries;
 mod sheets;
 
 pub use answer::Answer;
-pub use commands::{answer_to, submit_batch};
+pub use books::Books;
 pub use sheets::{first_open, sheet_refusal};

@@ -2,34 +2,29 @@
 
 ghost use Rattle.std.specs.Prelude.{◌≡◌};
 ghost use Rattle.zh_answers.specs.Answers.{MayAnswerQuery, shown, answer_to_show, answer_to_last};
-ghost use Rattle.zh_totals.specs.Counting.{totals_of};
 
 use crate::answer::Answer;
+use crate::books::Books;
 use crate::sheets::{answer_to_final, answer_with_sheet};
-use std::alloc::Global;
 use zh_commands::{DeskQuery, Refusal, Reply};
 use zh_returns::{Count, Entry, Reason};
-use zh_totals::Totals;
 
-/// Answers a query from a count and its totals.
-pub(crate) fn answer_query<'s>(
-    alloc: Global,
-    count: &Count<'s>,
-    totals: &Totals<'s>,
-    query: DeskQuery,
-) -> Answer<'s>
-    requires totals { totals.now ≡ totals_of count.now }
-    ensures { MayAnswerQuery count.now query result }
-{
-    match query {
-        DeskQuery::Show { municipality, list } => {
-            Answer::Reply(answer_to_show(count, municipality, list))
+impl<'s> Books<'s> {
+    /// Answers a query from the count and its totals.
+    pub(crate) fn answer_query(&self, query: DeskQuery) -> Answer<'s>
+        ensures { MayAnswerQuery self.now.ledger.tally query result }
+    {
+        let count = self.ledger.count();
+        match query {
+            DeskQuery::Show { municipality, list } => {
+                Answer::Reply(answer_to_show(count, municipality, list))
+            }
+            DeskQuery::Last { municipality, list } => {
+                Answer::Reply(answer_to_last(count, municipality, list))
+            }
+            DeskQuery::Sheet => answer_with_sheet(self.alloc, self.ledger.totals(), false),
+            DeskQuery::Final => answer_to_final(self.alloc, count, self.ledger.totals()),
         }
-        DeskQuery::Last { municipality, list } => {
-            Answer::Reply(answer_to_last(count, municipality, list))
-        }
-        DeskQuery::Sheet => answer_with_sheet(alloc, totals, false),
-        DeskQuery::Final => answer_to_final(alloc, count, totals),
     }
 }
 
@@ -74,6 +69,6 @@ fn answer_to_last(count: &Count<'_>, municipality: u32, list: u32) -> Reply
     }
     match count.entry(municipality, list) {
         None => Reply::Nothing,
-        Some(entry) => Reply::LastDesk(entry.desk),
+        Some(entry) => Reply::LastDesk(entry.origin.desk),
     }
 }

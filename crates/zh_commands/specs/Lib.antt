@@ -3,4 +3,3 @@ pub mod Forms
 pub mod Lines
 pub mod Commands
 pub mod Replies
-pub mod Shown

@@ -7,7 +7,6 @@ mod output;
 mod parser;
 mod replies;
 mod reply_writer;
-mod shown;
 mod text;
 mod words;
 
@@ -17,8 +16,6 @@ pub use output::{WriteFault, put};
 pub use parser::{desk_of, parse_line};
 pub use replies::{Refusal, Reply};
 pub use reply_writer::{write_answer, write_reply};
-pub use shown::{Sign, sign_at};
+pub use text::{push, push_bytes, push_number, push_numbered};
 pub use words::numeral;
-pub use zh_desks::{Desk, RowFault};
-pub use zh_returns::Reason;
 pub use zh_sheet::SheetRefusal;

@@ -3,10 +3,14 @@ ghost use Rattle.zh_commands.specs.Replies.{name, reason_name, answer, reply_tex
 ghost use Rattle.zh_sheet.specs.Names.{ArePartsOf};
 
 use crate::replies::{Refusal, Reply};
-use crate::text::Text;
+use crate::text::{push, push_number, push_numbered};
+use arrayvec::ArrayVec;
 use zh_desks::RowFault;
 use zh_returns::Reason;
 use zh_sheet::Name;
+
+// The bytes of a reply.
+type ReplyText = ArrayVec<u8, 64>;
 
 /// Writes a reply at the front of `out`, as `docs/FORMATS.md`, "Replies", has it, and gives the number of its bytes.
 ///
@@ -15,11 +19,11 @@ pub fn write_reply(desk: u8, reply: &Reply, out: &mut [u8; 64]) -> usize
     ensures text { take result out.new ≡ reply_text desk reply.now }
     ensures short { result ≤ 64 }
 {
-    let mut text = Text::new();
-    text.push_number(u64::from(desk));
-    text.push(b" ");
+    let mut text = ReplyText::new();
+    push_number(&mut text, u64::from(desk));
+    push(&mut text, " ");
     push_line(&mut text, reply);
-    text.copy_to(out)
+    copy_to(&text, out)
 }
 
 /// Writes the same without the desk: what the reply says, and the end of the line.
@@ -27,67 +31,77 @@ pub fn write_answer(reply: &Reply, out: &mut [u8; 64]) -> usize
     ensures text { take result out.new ≡ answer reply.now ++ 10 ∷ [] }
     ensures short { result ≤ 64 }
 {
-    let mut text = Text::new();
+    let mut text = ReplyText::new();
     push_line(&mut text, reply);
-    text.copy_to(out)
+    copy_to(&text, out)
+}
+
+// Copies a text to the front of `out`, and gives its length.
+fn copy_to(text: &ReplyText, out: &mut [u8; 64]) -> usize
+    ensures text { take result out.new ≡ text.now.items }
+    ensures short { result ≤ 64 }
+{
+    let length = text.len();
+    out[..length].copy_from_slice(text);
+    length
 }
 
 // What the reply says after the desk, and the end of the line.
-fn push_line(text: &mut Text, reply: &Reply)
-    requires { length text.old ≤ 4 }
-    ensures { text.new ≡ text.old ++ answer reply.now ++ 10 ∷ [] }
+fn push_line(text: &mut ReplyText, reply: &Reply)
+    requires { length text.old.items ≤ 4 }
+    ensures { text.new.items ≡ text.old.items ++ answer reply.now ++ 10 ∷ [] }
 {
     push_answer(text, reply);
-    text.push(b"\n");
+    push(text, "\n");
 }
 
 // What the reply says after the desk.
-fn push_answer(text: &mut Text, reply: &Reply)
-    requires { length text.old ≤ 4 }
-    ensures answer { text.new ≡ text.old ++ answer reply.now }
-    ensures short { length text.new ≤ 63 }
+fn push_answer(text: &mut ReplyText, reply: &Reply)
+    requires { length text.old.items ≤ 4 }
+    ensures answer { text.new.items ≡ text.old.items ++ answer reply.now }
+    ensures short { length text.new.items ≤ 63 }
 {
     match reply {
         Reply::Stored(accepted) => {
-            text.push(b"stored ");
-            text.push_number(*accepted);
+            push(text, "stored ");
+            push_number(text, *accepted);
         }
-        Reply::Same => text.push(b"same"),
-        Reply::Held(rows) => text.push_numbered(b"held ", *rows),
-        Reply::Dropped(rows) => text.push_numbered(b"dropped ", *rows),
-        Reply::Nothing => text.push(b"none"),
+        Reply::Same => push(text, "same"),
+        Reply::Held(rows) => push_numbered(text, "held ", *rows),
+        Reply::Dropped(rows) => push_numbered(text, "dropped ", *rows),
+        Reply::Nothing => push(text, "none"),
         Reply::Shows(number, votes) => {
-            text.push_numbered(b"shows ", *number);
-            text.push_numbered(b" ", *votes);
+            push_numbered(text, "shows ", *number);
+            push_numbered(text, " ", *votes);
         }
         Reply::ShowsWithdrawn(number) => {
-            text.push_numbered(b"shows ", *number);
-            text.push(b" withdrawn");
+            push_numbered(text, "shows ", *number);
+            push(text, " withdrawn");
         }
-        Reply::LastDesk(desk) => text.push_numbered(b"last ", u32::from(*desk)),
+        Reply::LastDesk(desk) => push_numbered(text, "last ", u32::from(*desk)),
         Reply::Refused(refusal) => {
-            text.push(b"refused ");
+            push(text, "refused ");
             push_name(text, refusal);
         }
     }
 }
 
 // The name of the refusal.
-fn push_name(text: &mut Text, refusal: &Refusal)
-    requires { length text.old ≤ 12 }
-    ensures name { text.new ≡ text.old ++ name refusal.now }
-    ensures short { length text.new ≤ 63 }
+fn push_name(text: &mut ReplyText, refusal: &Refusal)
+    requires { length text.old.items ≤ 12 }
+    ensures name { text.new.items ≡ text.old.items ++ name refusal.now }
+    ensures short { length text.new.items ≤ 63 }
 {
     match name_of(refusal) {
-        Name::Words(words) => text.push(words.as_bytes()),
+        Name::Words(words) => push(text, words),
         Name::Number(words, number) => {
-            text.push(words.as_bytes());
-            text.push_numbered(b" ", number);
+            push(text, words);
+            push_numbered(text, " ", number);
         }
         Name::Pair(words, one, other) => {
-            text.push(words.as_bytes());
-            text.push_numbered(b" ", one);
-            text.push_numbered(b" ", other);
+            push(text, words);
+            push_numbered(text, " ", one);
+            push_numbered(text, " ", other);
         }
     }
 }

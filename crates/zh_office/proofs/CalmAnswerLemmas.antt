@@ -30,16 +30,11 @@ use Rattle.zh_office.proofs.SteadyLemmas.{finds_broken, spends}
 
 -- the reply that reports an outcome
 pub outcome_calm : (outcome : Outcome) → fails outcome ≡ false → finds_broken outcome ≡ false → spends outcome ≡ false → is_disturbed (answers.Reply (reply_to outcome)) ≡ false
-outcome_calm (outcomes.Stored accepted) calm whole left = refl
-outcome_calm outcomes.Same calm whole left = refl
-outcome_calm (outcomes.Refused reason) calm whole left = refl
-outcome_calm outcomes.Spent calm whole left = absurd (cc left)
-outcome_calm outcomes.Device calm whole left = absurd (cc calm)
-outcome_calm outcomes.Broken calm whole left = absurd (cc whole)
+outcome_calm (outcomes.Refused reason) calm whole left = cc
+outcome_calm outcome calm whole left = cc
 
 pub outcome_without_memory : (outcome : Outcome) → is_memory (answers.Reply (reply_to outcome)) ≡ false
 outcome_without_memory (outcomes.Refused reason) = refl
-outcome_without_memory (outcomes.Stored accepted) = refl
 outcome_without_memory outcome = refl
 
 sheet_calm : (is_final : Bool) (made : Result Distribution SheetFault) → is_disturbed (answer_with is_final made) ≡ false

@@ -11,7 +11,6 @@ ghost use Rattle.zh_answers.specs.declared.answer.Answer.TheVariants as answers;
 
 use crate::office::Office;
 use std::io::Read;
-use zh_answers::submit_batch;
 use zh_commands::{Refusal, Reply};
 use zh_csv::{LoadFault, NotedReader, read_batch};
 use zh_desks::Batch;
@@ -51,7 +50,7 @@ impl<'s> Office<'s> {
         if self.faulted() {
             return Reply::Refused(Refusal::ReopenDisk);
         }
-        match read_batch(self.alloc, self.ledger.count().setup(), reader) {
+        match read_batch(self.books.alloc, self.count().setup(), reader) {
             Ok(batch) => self.store(disk, &batch),
             Err(fault) => Reply::Refused(load_refusal(fault)),
         }
@@ -68,6 +67,6 @@ impl<'s> Office<'s> {
         if batch.len() == 0 {
             return Reply::Same;
         }
-        submit_batch(&mut self.ledger, disk, NO_DESK, batch, &mut self.rows)
+        self.books.submit_batch(disk, NO_DESK, batch)
     }
 }

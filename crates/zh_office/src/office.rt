@@ -8,13 +8,10 @@ ghost use Rattle.zh_ledger.specs.Submissions.{on_disk};
 ghost use Rattle.zh_answers.specs.Requests.{answer_may_write};
 ghost use Rattle.zh_office.specs.Runs.{Turn};
 
-use std::alloc::Global;
 use std::marker::Model;
-use zh_answers::{Answer, answer_to};
+use zh_answers::{Answer, Books};
 use zh_commands::{LineFault, Refusal, Reply, parse_line};
-use zh_desks::Desks;
 use zh_disk::Disk;
-use zh_ledger::Ledger;
 use zh_returns::Count;
 
 /// The count of an election, kept on a disk, and the desks that change it.
@@ -23,15 +20,10 @@ use zh_returns::Count;
 /// office answers `reopen-disk` until a new one is opened there.
 #[derive(Drop)]
 pub struct Office<'s> {
-    pub(crate) ledger: Ledger<'s>,
-    pub(crate) desks: Desks,
-    // room for the rows of a batch
-    pub(crate) rows: Vec<u8>,
-    pub(crate) alloc: Global,
+    pub(crate) books: Books<'s>,
 }
 
 impl<'s> Model for Office<'s> {
-    ghost use Rattle.std.specs.Prelude.{◌≡◌, length};
     ghost use Rattle.zh_office.specs.Office as office;
 
     ghost Value = { office.Office };
@@ -40,9 +32,7 @@ impl<'s> Model for Office<'s> {
 
     ghost coded = { office_code };
 
-    ghost view = { λ office. record { ledger = office.ledger; held = office.desks } };
-
-    ghost invariant = { λ office. length office.rows.items ≡ 11000 };
+    ghost view = { λ office. record { ledger = office.books.ledger; held = office.books.desks } };
 }
 
 impl<'s> Office<'s> {
@@ -50,14 +40,14 @@ impl<'s> Office<'s> {
     pub fn count(&self) -> &Count<'s>
         ensures { result.now ≡ self.now.ledger.tally }
     {
-        self.ledger.count()
+        self.books.ledger.count()
     }
 
     /// Whether the device failed under this office, so that the disk must be opened again.
     pub fn faulted(&self) -> bool
         ensures { result ≡ self.now.ledger.store.broken }
     {
-        self.ledger.is_broken()
+        self.books.ledger.is_broken()
     }
 
     /// Answers a line, given without its LF. Only the lines `row`, `sheet` and `final` may take memory.
@@ -74,14 +64,7 @@ impl<'s> Office<'s> {
         match parse_line(bytes) {
             Err(LineFault::Syntax) => Answer::Reply(Reply::Refused(Refusal::Syntax)),
             Err(LineFault::Desk) => Answer::Reply(Reply::Refused(Refusal::Desk)),
-            Ok(line) => answer_to(
-                self.alloc,
-                &mut self.ledger,
-                &mut self.desks,
-                &mut self.rows,
-                disk,
-                line,
-            ),
+            Ok(line) => self.books.answer_to(disk, line),
         }
     }
 }

@@ -9,7 +9,7 @@ ghost use Rattle.zh_office.specs.Opened.{ledger_of_opened};
 
 use crate::office::Office;
 use std::alloc::{AllocError, Global};
-use zh_desks::Desks;
+use zh_answers::Books;
 use zh_disk::Disk;
 use zh_districts::Setup;
 use zh_ledger::{FormatFault, Ledger, OpenFault};
@@ -51,10 +51,7 @@ impl<'s> Office<'s> {
         let rows = row_bytes(alloc)?;
         let ledger = Ledger::open(alloc, setup, disk)?;
         Ok(Office {
-            ledger,
-            desks: Desks::new(),
-            rows,
-            alloc,
+            books: Books::new(alloc, ledger, rows),
         })
     }
 }

@@ -10,7 +10,6 @@ use Rattle.zh_answers.proofs.commands.submit.Goals as goal
 -- an outcome and the reply that reports it may write alike
 may_write_alike : (outcome : Outcome) → may_write outcome ≡ answer_may_write (answers.Reply (reply_to outcome))
 may_write_alike (outcomes.Refused reason) = refl
-may_write_alike (outcomes.Stored accepted) = refl
 may_write_alike outcome = refl
 
 pub returns-clause-reported : goal.returns-clause-reported

@@ -7,7 +7,7 @@ use Rattle.zh_commands.proofs.reply_writer.write_reply.Goals as goal
 pub push_line-requires : goal.push_line-requires
 push_line-requires c =
     let digits = length-decimal-le 3 c.args.desk (omega arith) (omega (arith, c.ranges.desk.fits)) (omega (arith, c.ranges.desk.fits)) in
-    let text : c.push.new.self ≡ decimal c.args.desk ++ 32 ∷ [] =
+    let text : c.push.new.text.items ≡ decimal c.args.desk ++ 32 ∷ [] =
     c.push.ensures ∙ ap (λ l. l ++ 32 ∷ []) (c.push_number.ensures.text ∙ ap (λ l. l ++ decimal c.from.result) c.new-text.ensures ∙ ap decimal c.from.ensures) in
     omega (arith, digits, ap length text, length-append (decimal c.args.desk) (32 ∷ []))
 

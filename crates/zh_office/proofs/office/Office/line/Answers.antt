@@ -1,5 +1,4 @@
-use Rattle.std.proofs.Common.{rules, ◌∙◌, Ok, ap, arith, subst}
-use Rattle.std.proofs.lemmas.Grind.{common_steps}
+use Rattle.std.proofs.Common.{rules, ◌∙◌, Ok, ap, subst}
 use Rattle.zh_answers.specs.Answers.{held_after}
 use Rattle.zh_ledger.specs.Submissions.{on_disk}
 use Rattle.zh_answers.specs.Requests.{Acts}
@@ -10,14 +9,14 @@ use Rattle.zh_office.proofs.office.Office.line.Goals as goal
 pub returns-in-Ok-clause-others : goal.returns-in-Ok-clause-others
 returns-in-Ok-clause-others g c =
     let held = c.answer_to.ensures.held ∙ ap (λ (o : Office). held_after o.held c.in-Ok.line c.answer_to.result) c.self.view_is in
-    others_after c.args.bytes.now c.in-Ok.line c.args.self.now.held c.answer_to.new.desks c.answer_to.result c.in-Ok.ensures.reads held
+    others_after c.args.bytes.now c.in-Ok.line c.args.self.now.held c.answer_to.new.self.desks c.answer_to.result c.in-Ok.ensures.reads held
 
 pub returns-in-Ok-clause-turn : goal.returns-in-Ok-clause-turn
 returns-in-Ok-clause-turn g c =
     let line = c.in-Ok.line in
     let result = c.answer_to.result in
     let history = g.D.Disk.history c.args.disk.now in
-    let new = on_disk c.answer_to.new.ledger (g.D.Disk.history c.answer_to.new.disk) in
+    let new = on_disk c.answer_to.new.self.ledger (g.D.Disk.history c.answer_to.new.disk) in
     let (log, acts) = c.answer_to.ensures.acts in
     record {
       reading = Ok line;
@@ -29,6 +28,3 @@ returns-in-Ok-clause-turn g c =
 
 pub returns-in-Err-Syntax-clause-turn : goal.returns-in-Err-Syntax-clause-turn
 returns-in-Err-Syntax-clause-turn g c = search rules
-
-pub invariant_of-self : goal.invariant_of-self
-invariant_of-self g c = grind (arith, common_steps)

@@ -29,4 +29,4 @@ returns-in_err-ledger-clause-opening g c =
     rw is c.in_err-ledger.ensures.opening
 
 pub returns-clause-opening : goal.returns-clause-opening
-returns-clause-opening g c = c.in_ok-ledger.ensures.opening
+returns-clause-opening g c = rw c.new.ensures.ledger c.in_ok-ledger.ensures.opening

@@ -5,7 +5,7 @@ use Rattle.zh_ledger.specs.Ledger.{Ledger}
 use Rattle.zh_ledger.specs.Submissions.{OnDisk}
 use Rattle.zh_answers.specs.Requests.{ReportsOutcome}
 use Rattle.zh_answers.specs.declared.answer.Answer.{Answer}
-use Rattle.zh_answers.proofs.commands.submit_batch.Goals as goal
+use Rattle.zh_answers.proofs.commands.submit_rows.Goals as goal
 
 -- what is reported of these rows is reported of the batch's
 reported_of : (old new : OnDisk Ledger) (desk : ℕ) (rows batch : List Row) (answer : Answer) → rows ≡ batch
