@@ -123,12 +123,7 @@ module _ (most left byte : ℕ) (from : Point) (fields : Record) (field : List �
           let is : byte ≡ 10 = grind (arith, nat_tests) in
           rw is (record { stands = tt; between = λ w. cc w; fresh = λ _ _. (at, none, empty); counts = λ _. omega arith })
       by false false f g = rw (f, g) (rw (f, g) at (start_steps counts))
-  record_steps at none empty counts states.StartField stands = absurd stands
-  record_steps at none empty counts states.InField stands = absurd stands
-  record_steps at none empty counts states.InQuoted stands = absurd stands
-  record_steps at none empty counts states.AfterQuote stands = absurd stands
-  record_steps at none empty counts states.InEscape stands = absurd stands
-  record_steps at none empty counts states.InComment stands = absurd stands
+  record_steps at none empty counts state stands = absurd stands
 
 -- what a byte leads to, wherever a text stands
 steps : (most left byte : ℕ) (point : Point) (state : State) (fields : Record) (field : List ℕ) → Stands point state → (point ≡ points.Between → (fields ≡ []) × (field ≡ [])) → Counts most (suc left) point fields field
@@ -200,7 +195,7 @@ goes_on (byte ∷ text) point state fields field stands inside =
         rw e (record { read = rest.read; is = rest.is; more = omega (arith, grows, rest.more) })
 
 -- a record of the front of a text is one of the text, which goes on after it
-record HoldsLedger (most : ℕ) (part whole : Option Read) : Type 0 where
+record IsWhole (most : ℕ) (part whole : Option Read) : Type 0 where
   fields : Record
   state : State
   rest : List ℕ
@@ -218,7 +213,7 @@ record IsCut (limit : ℕ) (part whole : Option Read) : Type 0 where
   longer : limit < record_size read.0
 
 abbrev IsFront : ℕ → ℕ → Option Read → Option Read → Type 0
-IsFront limit most part whole = ((part ≡ None) × (whole ≡ None)) ⊎ (HoldsLedger most part whole ⊎ IsCut limit part whole)
+IsFront limit most part whole = ((part ≡ None) × (whole ≡ None)) ⊎ (IsWhole most part whole ⊎ IsCut limit part whole)
 
 -- the first records of the front are the first of the text
 record AreKept (most : ℕ) (records : List Record) (state end : State) (text rest : List ℕ) : Type 0 where

@@ -2,10 +2,8 @@ pub mod CallerLemmas
 mod CutLemmas
 mod ExportLemmas
 mod FieldLemmas
-mod FirstRecordsLemmas
 mod FrontLemmas
-mod LoadLemmas
-mod OneLoadingLemmas
+mod LoadingLemmas
 mod OneReadingLemmas
-mod ReadLemmas
 mod ReadingLemmas
+mod RecordsLemmas

@@ -1,18 +1,32 @@
 -- A text is read in one way, refused memory and a reader that fails aside.
-use Rattle.std.proofs.Common.{◌≡◌, ◌≢◌, ◌≤◌, ◌<◌, ◌+◌, ◌⊎◌, ⊎_elim, inl, inr, ℕ, suc, true, false, List, [], ◌∷◌, ◌++◌, map, length, get_or, Some, None, refl, sym, ap, ◌∙◌, subst, arith, All, length-append}
+use Rattle.std.proofs.Common.{◌≡◌, ◌≤◌, ◌<◌, ◌+◌, ◌⊎◌, inl, inr, ℕ, suc, true, false, List, [], ◌∷◌, ◌++◌, map, length, get_or, Some, None, Result, Ok, Err, refl, sym, ap, ◌∙◌, subst, arith, All, length-append}
+use Rattle.std.specs.List.{list_any, IsDistinct}
+use Rattle.std.specs.Ordering.{eq_by_cmp}
+use Rattle.std.proofs.Math.Seq.{get_or-append_seam, take-append_seam}
 use Rattle.std.proofs.lemmas.Bool.{cases_order}
-use Rattle.std.proofs.lemmas.List.{append-nil, length-map}
+use Rattle.std.proofs.lemmas.List.{append-nil, length-map, map-append}
+use Rattle.zh_records.specs.Keys.{key_cmp}
+use Rattle.zh_records.proofs.CallerLemmas.{fresh_from_distinct}
 use Rattle.zh_csv.specs.Records.{Record, AreAll, AreFirst, names, may_be_row}
-use Rattle.zh_csv.specs.Reading.{RowKind, HasNoNames, IsUnheld, IsUnread, Refuses, StopsAt}
+use Rattle.zh_csv.specs.Reading.{RowKind, HasNoNames, IsOfText, IsUnheld, IsUnread, Refuses, StopsAt}
 use Rattle.zh_csv.specs.declared.fault.LoadFault.{LoadFault}
 use Rattle.zh_csv.specs.declared.fault.LoadFault.TheVariants as faults
-use Rattle.zh_csv.proofs.FirstRecordsLemmas.{first_more, all_first, none_after}
+use Rattle.zh_csv.proofs.RecordsLemmas.{first_more, all_first, none_after}
 use Rattle.zh_csv.proofs.ReadingLemmas.{IsKind}
 
--- the element at the seam of two lists
-pub at_seam : {X : Type 0} (xs : List X) (y : X) (ys : List X) (d : X) → get_or (xs ++ y ∷ ys) (length xs) d ≡ y
-at_seam [] y ys d = refl
-at_seam (x ∷ xs) y ys d = at_seam xs y ys d
+-- what all elements of a list are, each is
+pub among_all : {X : Type 0} (P : X → Type 0) (rows : List X) (row : X) (others : List X) → All P (rows ++ row ∷ others) → P row
+among_all P rows row others all = subst P (get_or-append_seam rows row others row) (all (length rows) row (omega (arith, length-append rows (row ∷ others))))
+
+-- where no two have one key, none before an element has its key
+pub own_key : {X : Type 0} (key_of : X → ℕ × ℕ) (rows : List X) (row : X) (others : List X) → IsDistinct (eq_by_cmp key_cmp) (map key_of (rows ++ row ∷ others)) → list_any (eq_by_cmp key_cmp (key_of row)) (map key_of rows) ≡ false
+own_key key_of rows row others keys =
+    let before = map key_of rows in
+    let after = key_of row ∷ map key_of others in
+    let distinct : IsDistinct (eq_by_cmp key_cmp) (before ++ after) = subst (IsDistinct (eq_by_cmp key_cmp)) (map-append key_of rows (row ∷ others)) keys in
+    let fresh = fresh_from_distinct (before ++ after) (length before) (0, 0) distinct (omega (arith, length-append before after)) in
+    subst (λ (key : ℕ × ℕ). list_any (eq_by_cmp key_cmp key) before ≡ false) (get_or-append_seam before (key_of row) (map key_of others) (0, 0))
+    (subst (λ (keys : List (ℕ × ℕ)). list_any (eq_by_cmp key_cmp (get_or (before ++ after) (length before) (0, 0))) keys ≡ false) (take-append_seam before after) fresh)
 
 -- how many records decide
 pub long : {X : Type 0} (fields : X → Record) (rows : List X) (last : Record) → length (names ∷ (map fields rows ++ last ∷ [])) ≡ length rows + 2
@@ -68,8 +82,7 @@ module _ {X : Type 0} (kind : RowKind X) (is_kind : IsKind kind) where
 
   -- a row among rows that are held is read
   readable_among : (rows : List X) (row : X) (others : List X) → kind.AreHeld (rows ++ row ∷ others) → kind.IsReadable row
-  readable_among rows row others held =
-      subst kind.IsReadable (at_seam rows row others row) (is_kind.readable (rows ++ row ∷ others) held (length rows) row (omega (arith, length-append rows (row ∷ others))))
+  readable_among rows row others held = among_all kind.IsReadable rows row others (is_kind.readable (rows ++ row ∷ others) held)
 
   -- so no record of one of them stops a text
   unstopped : (rows : List X) (row : X) (others : List X) (fault : LoadFault) → kind.AreHeld (rows ++ row ∷ others) → (IsUnread kind.fields kind.IsReadable (kind.fields row) fault ⊎ IsUnheld kind rows (kind.fields row) fault) → ⊥
@@ -145,22 +158,7 @@ module _ {X : Type 0} (kind : RowKind X) (is_kind : IsKind kind) where
         | inr (inr less) ↦ absurd (stops_within text g y x.rows (x.last ∷ []) x.held x.records less)
       ]
 
-  -- why a text is refused
-  refuses : (text : List ℕ) (fault : LoadFault) → Refuses kind text fault → fault ≢ faults.Memory → fault ≢ faults.Read → (HasNoNames text × (fault ≡ faults.Csv)) ⊎ StopsAt kind text fault
-  refuses text faults.Csv (inl none) memory read = inl (none, refl)
-  refuses text faults.Csv (inr stops) memory read = inr stops
-  refuses text faults.Memory refused memory read = absurd (memory refl)
-  refuses text faults.Read refused memory read = absurd (read refl)
-  refuses text faults.Syntax stops memory read = inr stops
-  refuses text (faults.Judged reason) stops memory read = inr stops
-  refuses text (faults.Row fault) stops memory read = inr stops
-
-  pub read_or_refused : (text : List ℕ) (rows : List X) (fault : LoadFault) → AreAll text (names ∷ map kind.fields rows) → kind.AreHeld rows → Refuses kind text fault → fault ≢ faults.Memory → fault ≢ faults.Read → ⊥
-  read_or_refused text rows fault all held refused memory read =
-      ⊎_elim (λ (none : HasNoNames text × (fault ≡ faults.Csv)). named text (map kind.fields rows) (all_first text _ all) none.0)
-      (λ (stops : StopsAt kind text fault). read_or_stopped text rows fault all held stops) (refuses text fault refused memory read)
-
-  pub read_once : (text : List ℕ) (rows more : List X) → AreAll text (names ∷ map kind.fields rows) → kind.AreHeld rows → AreAll text (names ∷ map kind.fields more) → kind.AreHeld more → rows ≡ more
+  read_once : (text : List ℕ) (rows more : List X) → AreAll text (names ∷ map kind.fields rows) → kind.AreHeld rows → AreAll text (names ∷ map kind.fields more) → kind.AreHeld more → rows ≡ more
   read_once text rows more all held all' held' =
       let short : length rows ≤ length more = omega (arith, none_after text _ (names ∷ map kind.fields rows) all' (all_first text _ all), length-map rows kind.fields, length-map more kind.fields) in
       let tall : length more ≤ length rows = omega (arith, none_after text _ (names ∷ map kind.fields more) all (all_first text _ all'), length-map rows kind.fields, length-map more kind.fields) in
@@ -168,11 +166,33 @@ module _ {X : Type 0} (kind : RowKind X) (is_kind : IsKind kind) where
       let same : map kind.fields more ≡ map kind.fields rows ++ rest = cc is in
       sym (all_same rows more rest (is_kind.readable rows held) (is_kind.readable more held') (omega arith) same)
 
-  alike : (text : List ℕ) (f g : LoadFault) → (HasNoNames text × (f ≡ faults.Csv)) ⊎ StopsAt kind text f → (HasNoNames text × (g ≡ faults.Csv)) ⊎ StopsAt kind text g → f ≡ g
-  alike text f g (inl x) (inl y) = x.1 ∙ sym y.1
-  alike text f g (inl x) (inr y) = absurd (named text _ y.records x.0)
-  alike text f g (inr x) (inl y) = absurd (named text _ x.records y.0)
+  alike : (text : List ℕ) (f g : LoadFault) → ((f ≡ faults.Csv) × HasNoNames text) ⊎ StopsAt kind text f → ((g ≡ faults.Csv) × HasNoNames text) ⊎ StopsAt kind text g → f ≡ g
+  alike text f g (inl x) (inl y) = x.0 ∙ sym y.0
+  alike text f g (inl x) (inr y) = absurd (named text _ y.records x.1)
+  alike text f g (inr x) (inl y) = absurd (named text _ x.records y.1)
   alike text f g (inr x) (inr y) = stopped_once text f g x y
 
-  pub refused_alike : (text : List ℕ) (f g : LoadFault) → Refuses kind text f → Refuses kind text g → f ≢ faults.Memory → f ≢ faults.Read → g ≢ faults.Memory → g ≢ faults.Read → f ≡ g
-  refused_alike text f g x y memory read memory' read' = alike text f g (refuses text f x memory read) (refuses text g y memory' read')
+-- a text gives what its rows do, or is refused for its reason
+module _ {X A : Type 0} (kind : RowKind X) (is_kind : IsKind kind) (text : List ℕ) (Reads : Result A LoadFault → Type 0)
+    (rows_of : (given : A) → Reads (Ok given) → (rows : List X) × AreAll text (names ∷ map kind.fields rows) × kind.AreHeld rows)
+    (by_rows : (given other : A) (x : Reads (Ok given)) (y : Reads (Ok other)) → (rows_of given x).0 ≡ (rows_of other y).0 → given ≡ other)
+    (why : (fault : LoadFault) → Reads (Err fault) → Refuses kind text fault) where
+  reasons : (fault : LoadFault) → Reads (Err fault) → IsOfText {A = A} (Err fault) → ((fault ≡ faults.Csv) × HasNoNames text) ⊎ StopsAt kind text fault
+  reasons fault refused of_text = why fault refused (λ e. of_text.0 (ap (λ (f : LoadFault). Err f) e)) (λ e. of_text.1 (ap (λ (f : LoadFault). Err f) e))
+
+  read_or_refused : (given : A) (fault : LoadFault) → Reads (Ok given) → Reads (Err fault) → IsOfText {A = A} (Err fault) → ⊥
+  read_or_refused given fault read refused of_text =
+      let p = rows_of given read in
+      elim (reasons fault refused of_text) [
+        | inl (csv, none) ↦ named text (map kind.fields p.0) (all_first text _ p.1) none
+        | inr stops ↦ read_or_stopped kind is_kind text p.0 fault p.1 p.2 stops
+      ]
+
+  pub one_reading : (read other : Result A LoadFault) → Reads read → Reads other → IsOfText read → IsOfText other → read ≡ other
+  one_reading (Ok given) (Ok more) x y of_text of_text' =
+      let p = rows_of given x in
+      let q = rows_of more y in
+      ap (λ (a : A). Ok a) (by_rows given more x y (read_once kind is_kind text p.0 q.0 p.1 p.2 q.1 q.2))
+  one_reading (Ok given) (Err fault) x y of_text of_text' = absurd (read_or_refused given fault x y of_text')
+  one_reading (Err fault) (Ok given) x y of_text of_text' = absurd (read_or_refused given fault y x of_text)
+  one_reading (Err f) (Err g) x y of_text of_text' = ap (λ (e : LoadFault). Err e) (alike kind is_kind text f g (reasons f x of_text) (reasons g y of_text'))

@@ -8,10 +8,8 @@ use Rattle.zh_csv.specs.Records.{Record, AreAll, AreFirst, HasRead, names, may_b
 use Rattle.zh_csv.specs.Reading.{RowKind, HasNoNames, IsUnheld, IsUnread, Refuses, StopsAt, ReadsRows}
 use Rattle.zh_csv.specs.declared.fault.LoadFault.{LoadFault}
 use Rattle.zh_csv.specs.declared.fault.LoadFault.TheVariants as faults
-use Rattle.zh_csv.specs.declared.records.ReadFault.{ReadFault}
-use Rattle.zh_csv.specs.declared.records.ReadFault.TheVariants as reading
 use Rattle.zh_csv.proofs.CutLemmas.{EndsInPart, all_of_front, first_of_front}
-use Rattle.zh_csv.proofs.FirstRecordsLemmas.{all_first, first_more, none_after}
+use Rattle.zh_csv.proofs.RecordsLemmas.{all_first, first_more, none_after}
 
 -- a kind of which each row that is read has a record of its own, which may be that of a row; and where rows are held together,
 -- each of them is read and follows those before it
@@ -20,10 +18,6 @@ pub record IsKind {X : Type 0} (kind : RowKind X) : Type 0 where
   pub once : (row other : X) → kind.IsReadable row → kind.IsReadable other → kind.fields row ≡ kind.fields other → row ≡ other
   pub readable : (rows : List X) → kind.AreHeld rows → All kind.IsReadable rows
   pub follows : (rows : List X) (row : X) (others : List X) → kind.AreHeld (rows ++ row ∷ others) → kind.fault_after rows row ≡ None
-
--- the records that a reader gave are the first of its text
-pub are_first : {R : Type 0} (remaining : R → Option (List ℕ)) (text : List ℕ) (records : List Record) (reader : Reader R) → HasRead remaining text records reader → AreFirst text records
-are_first remaining text records reader has = (reader.state, has.rest, has.leaves)
 
 -- a record that may be that of a row is not too long
 short_enough : (last : Record) → may_be_row last ≡ true → most_bytes < record_size last → ⊥
@@ -64,23 +58,10 @@ same_ends (a ∷ xs) (b ∷ ys) x y same =
     (λ i. head i ∷ rest i, last)
 
 module _ {X : Type 0} (kind : RowKind X) where
-  -- a text of which no record was given
-  pub not_given : (text : List ℕ) (error : ReadFault) (fault : LoadFault) → (error ≡ reading.Memory → fault ≡ faults.Memory) × (error ≡ reading.Read → fault ≡ faults.Read) → Refuses kind text fault
-  not_given text reading.Memory fault is = rw (is.0 refl) tt
-  not_given text reading.Read fault is = rw (is.1 refl) tt
-
-  stopped : (text : List ℕ) (fault : LoadFault) → (fault ≢ faults.Memory → fault ≢ faults.Read → StopsAt kind text fault) → Refuses kind text fault
-  stopped text faults.Csv stops = inr (stops (λ e. cc e) (λ e. cc e))
-  stopped text faults.Syntax stops = stops (λ e. cc e) (λ e. cc e)
-  stopped text (faults.Judged reason) stops = stops (λ e. cc e) (λ e. cc e)
-  stopped text (faults.Row fault) stops = stops (λ e. cc e) (λ e. cc e)
-  stopped text faults.Memory stops = tt
-  stopped text faults.Read stops = tt
-
   -- a record that cannot follow these
   pub refused_here : (text : List ℕ) (rows : List X) (last : Record) (fault : LoadFault) → kind.AreHeld rows → AreFirst text ((names ∷ map kind.fields rows) ++ last ∷ [])
       → (fault ≢ faults.Memory → IsUnread kind.fields kind.IsReadable last fault ⊎ IsUnheld kind rows last fault) → Refuses kind text fault
-  refused_here text rows last fault held first refused = stopped text fault (λ other _. record { rows = rows; last = last; records = first; held = held; refused = refused other })
+  refused_here text rows last fault held first refused = λ other _. inr (record { rows = rows; last = last; records = first; held = held; refused = refused other })
 
   -- a row that is held
   pub given_more : {R : Type 0} (remaining : R → Option (List ℕ)) (text : List ℕ) (rows : List X) (last : Record) (row : X) (reader : Reader R) → last ≡ kind.fields row
@@ -157,10 +138,7 @@ module _ {X : Type 0} (kind : RowKind X) (is_kind : IsKind kind) (text : List �
           inr (cut.last, subst (λ (l : List Record). AreFirst text (l ++ cut.last ∷ [])) (sym before) cut.first, λ same. short_enough cut.last (rw same refl) cut.longer)
 
   pub refused_by_front : (fault : LoadFault) → Refuses kind (front_of text) fault → Refuses kind text fault
-  refused_by_front faults.Csv (inl none) = inl (names_of_front none)
-  refused_by_front faults.Csv (inr stops) = inr (stops_of_front faults.Csv stops)
-  refused_by_front faults.Syntax stops = stops_of_front faults.Syntax stops
-  refused_by_front (faults.Judged reason) stops = stops_of_front (faults.Judged reason) stops
-  refused_by_front (faults.Row fault) stops = stops_of_front (faults.Row fault) stops
-  refused_by_front faults.Memory none = tt
-  refused_by_front faults.Read none = tt
+  refused_by_front fault refused = λ memory read. elim (refused memory read) [
+    | inl (csv, none) ↦ inl (csv, names_of_front none)
+    | inr stops ↦ inr (stops_of_front fault stops)
+  ]

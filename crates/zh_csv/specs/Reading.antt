@@ -39,10 +39,8 @@ HasNoNames text = AreAll text [] ⊎ ((first : Record) × AreFirst text (first �
 
 -- Why a text is refused. Refused memory and a reader that fails are no matter of the text.
 abbrev pub Refuses : {X : Type 0} → RowKind X → List ℕ → LoadFault → Type 0
-Refuses kind text faults.Memory = Unit {0}
-Refuses kind text faults.Read = Unit {0}
-Refuses kind text faults.Csv = HasNoNames text ⊎ StopsAt kind text faults.Csv
-Refuses kind text fault = StopsAt kind text fault
+Refuses kind text fault =
+    fault ≢ faults.Memory → fault ≢ faults.Read → ((fault ≡ faults.Csv) × HasNoNames text) ⊎ StopsAt kind text fault
 
 -- neither refused memory nor a reader that failed decided
 abbrev pub IsOfText : {A : Type 0} → Result A LoadFault → Type 0

@@ -5,30 +5,23 @@ ghost use Rattle.zh_csv.specs.declared.fault.LoadFault.TheVariants.{Memory};
 
 use crate::records::ReadFault;
 use std::alloc::AllocError;
-use thiserror::Error;
 use zh_desks::RowFault;
 use zh_returns::Reason;
 
 /// Why a text gives no batch: of the first record that cannot be taken, the first reason that applies.
-#[derive(Clone, Copy, Debug, PartialEq, Eq, Error)]
+#[derive(Clone, Copy, Debug, PartialEq, Eq)]
 pub enum LoadFault {
     /// The first record is missing or does not name the columns, or a record does not have four fields or is too long.
-    #[error("csv")]
     Csv,
     /// A field is no numeral, or a replacement number is 0.
-    #[error("syntax")]
     Syntax,
     /// No batch may have this row.
-    #[error("unfit")]
     Judged(Reason),
     /// The rows before it leave no room for this row.
-    #[error("row")]
     Row(RowFault),
     /// Memory ran out.
-    #[error("memory")]
     Memory,
     /// The reader failed.
-    #[error("read")]
     Read,
 }
 

@@ -16,7 +16,6 @@ pub use batch_reader::{hold, read_batch};
 pub use export::write_count;
 pub use fault::LoadFault;
 pub use fields::{field, is_names, may_be_row, row_of};
-pub use front_reader::FrontReader;
 pub use laws::{few_records, one_loading, short_records_are_read};
 pub use noted_reader::NotedReader;
 pub use records::{ReadFault, next_record, reader_of};

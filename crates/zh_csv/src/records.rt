@@ -1,34 +1,37 @@
 //! The records of a text.
 
-ghost use Rattle.std.specs.Prelude.{◌≡◌, ◌++◌, ◌∷◌, [], ℕ, List, Some, IfOk};
+ghost use Rattle.std.specs.Prelude.{◌≡◌, ◌++◌, ◌∷◌, [], ℕ, List, Some, IfOk, option_map};
 ghost use Rattle.std.specs.Bool.{MatchBool};
 ghost use Rattle.csv.specs.Records.{fields_of};
+ghost use Rattle.zh_csv.specs.Front.{front_of};
+ghost use Rattle.zh_csv.specs.Fronts.{front_left};
 ghost use Rattle.zh_csv.specs.Records.{Record, AreAll, HasRead};
 
+use crate::front_reader::FrontReader;
 use csv::{ByteRecord, Error, ErrorKind, Reader, ReaderBuilder};
 use std::alloc::Global;
 use std::io::Read;
-use thiserror::Error as ErrorOfLibrary;
 
 /// Why no record is given, where the text has not ended.
-#[derive(Clone, Copy, Debug, PartialEq, Eq, ErrorOfLibrary)]
+#[derive(Clone, Copy, Debug, PartialEq, Eq)]
 pub enum ReadFault {
     /// Memory ran out.
-    #[error("memory")]
     Memory,
     /// The reader failed.
-    #[error("read")]
     Read,
 }
 
-/// A reader of the records of a text, none of which it takes for a header row, and each of which may have another length.
-pub fn reader_of<R: Read>(alloc: Global, text: R) -> Reader<R>
-    ensures { (bytes : List ℕ) → R.remaining text ≡ Some bytes → HasRead R.remaining bytes [] result }
+/// A reader of the records of the front of a text, none of which it takes for a header row, and each of which may have another
+/// length.
+pub fn reader_of<R: Read>(alloc: Global, text: R) -> Reader<FrontReader<R>>
+    ensures { (front : List ℕ) → option_map front_of (R.remaining text) ≡ Some front
+        → HasRead (front_left R.remaining) front [] result }
 {
+    let front = FrontReader::new(text);
     ReaderBuilder::new()
         .has_headers(false)
         .flexible(true)
-        .from_reader(alloc, text)
+        .from_reader(alloc, front)
 }
 
 /// The fault for an error of the reader.

@@ -11,7 +11,6 @@ ghost use Rattle.zh_csv.specs.declared.fault.LoadFault.{LoadFault};
 
 use crate::fault::LoadFault;
 use crate::fields::is_names;
-use crate::front_reader::FrontReader;
 use crate::noted_reader::NotedReader;
 use crate::records::{next_record, reader_of};
 use csv::{ByteRecord, Reader};
@@ -75,7 +74,7 @@ fn take_text<R: Read + Drop, T: Takes>(
     ensures { (canton : Canton) → T.holds canton taker.old [] → ReadsRows (T.kind canton)
         (λ front. option_map front_of (R.remaining text) ≡ Some front) (T.holds canton taker.new) result }
 {
-    let mut reader = reader_of(alloc, FrontReader::new(text));
+    let mut reader = reader_of(alloc, text);
     let mut record = ByteRecord::new(alloc);
     if !next_record(&mut reader, &mut record)? || !is_names(&record) {
         return Err(LoadFault::Csv);

@@ -1,10 +1,11 @@
 -- The fields of a row.
-use Rattle.std.proofs.Common.{◌≡◌, ◌<◌, ◌^◌, ℕ, List, [], get_or, Option, Some, None, IfSome, refl, sym, ap, ◌∙◌, subst, arith, decimal, codes}
+use Rattle.std.proofs.Common.{◌≡◌, ◌<◌, ◌^◌, ℕ, List, [], get_or, Option, Some, None, IfSome, refl, sym, ap, subst, arith, decimal, codes}
 use Rattle.std.specs.Int.{IsInRange}
 use Rattle.std.proofs.lemmas.Fmt.{decimal_is_IsNumeral, decimal_injective}
 use Rattle.std.proofs.lemmas.Str.Parse.{digit_at}
 use Rattle.zh_csv.specs.Export.{votes_field}
 use Rattle.zh_csv.specs.Records.{Record}
+use Rattle.zh_csv.proofs.CallerLemmas.{one_numeral}
 use Rattle.zh_held.specs.declared.row.HeldRow.{HeldRow}
 use Rattle.zh_held.specs.Rows.{held_fields, IsHeldRow}
 
@@ -27,13 +28,8 @@ votes_once (Some m) (Some n) x y same = ap (λ (k : ℕ). Some k) (decimal_injec
 -- so the row of a record is one
 pub same_row : (row other : HeldRow) → IsHeldRow row → IsHeldRow other → held_fields row ≡ held_fields other → row ≡ other
 same_row row other r o same =
-    let m : row.municipality ≡ other.municipality = decimal_injective _ _ (omega (arith, r.municipality)) (omega (arith, o.municipality)) (ap (λ (l : Record). get_or l 0 []) same) in
-    let l : row.list ≡ other.list = decimal_injective _ _ (omega (arith, r.list)) (omega (arith, o.list)) (ap (λ (l : Record). get_or l 1 []) same) in
-    let n : row.number ≡ other.number = decimal_injective _ _ (omega (arith, r.number.1)) (omega (arith, o.number.1)) (ap (λ (l : Record). get_or l 2 []) same) in
+    let m = one_numeral (held_fields row) (held_fields other) 0 row.municipality other.municipality r.municipality o.municipality refl refl same in
+    let l = one_numeral (held_fields row) (held_fields other) 1 row.list other.list r.list o.list refl refl same in
+    let n = one_numeral (held_fields row) (held_fields other) 2 row.number other.number r.number.1 o.number.1 refl refl same in
     let v : row.votes ≡ other.votes = votes_once row.votes other.votes r.votes o.votes (ap (λ (l : Record). get_or l 3 []) same) in
     λ i. record { municipality = m i; list = l i; number = n i; votes = v i }
-
--- the third field of a row is the numeral of its number
-pub number_is : (row : HeldRow) (n : ℕ) (all : Record) → row.number < 2 ^ 32 → all ≡ held_fields row → get_or all 2 [] ≡ decimal n → n < 2 ^ 32 → n ≡ row.number
-number_is row n all small is third fits =
-    decimal_injective n row.number (omega arith) (omega arith) (sym third ∙ ap (λ (r : Record). get_or r 2 []) is)

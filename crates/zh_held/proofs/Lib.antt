@@ -3,7 +3,7 @@ mod ExportRowsLemmas
 mod ExportSumsLemmas
 mod FewRowsLemmas
 mod FieldLemmas
-mod OneHoldingLemmas
+mod HoldingLemmas
 mod RunningLemmas
 mod SumLemmas
 mod TakenLemmas

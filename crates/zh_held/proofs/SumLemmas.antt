@@ -11,9 +11,10 @@ use Rattle.zh_districts.proofs.CallerLemmas.{placed}
 use Rattle.zh_records.specs.Keys.{key_cmp}
 use Rattle.zh_records.proofs.CallerLemmas.{exact_keys, keys_total, keys_alike}
 use Rattle.zh_returns.specs.declared.entry.Entry.{Entry}
+use Rattle.zh_records.specs.declared.format.Format.TheVariants.{Two}
 use Rattle.zh_returns.specs.Limits.{IsTally, IsEntry, most_votes}
 use Rattle.zh_returns.specs.Tally.{empty, held}
-use Rattle.zh_returns.proofs.CallerLemmas.{IsTally-empty, IsTally-insert}
+use Rattle.zh_returns.proofs.CallerLemmas.{IsTally-empty, IsTally-insert, no_desk_said}
 use Rattle.zh_desks.specs.RowFaults.{unfit}
 use Rattle.zh_desks.proofs.CallerLemmas.{fit_within}
 use Rattle.zh_totals.specs.declared.change.Change.{Change}
@@ -60,7 +61,7 @@ is_placed canton row readable fit =
       there = there;
       standing = standing;
       votes = few;
-      entry = record { desk = omega arith; number = readable.number; votes = few_votes row.votes few };
+      entry = record { origin = no_desk_said Two; number = readable.number; votes = few_votes row.votes few };
     }
 
 -- the count is within its limits

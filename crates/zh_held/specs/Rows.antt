@@ -7,6 +7,7 @@ use Rattle.zh_districts.specs.Canton.{Canton}
 use Rattle.zh_records.specs.Keys.{key_cmp}
 use Rattle.zh_records.specs.declared.row.Row.{Row}
 use Rattle.zh_returns.specs.declared.entry.Entry.{Entry}
+use Rattle.zh_returns.specs.Origin.{no_desk}
 use Rattle.zh_returns.specs.Tally.{Tally, empty}
 use Rattle.zh_desks.specs.RowFaults.{unfit}
 use Rattle.zh_totals.specs.Counting.{totals_of}
@@ -19,9 +20,9 @@ use Rattle.zh_held.specs.declared.row.HeldRow.{HeldRow}
 abbrev pub held_key : HeldRow → ℕ × ℕ
 held_key row = (row.municipality, row.list)
 
--- what is held there; an export does not say which desk set it
+-- what is held there; an export does not say where it came from
 abbrev pub held_entry : HeldRow → Entry
-held_entry row = record { desk = 0; number = row.number; votes = row.votes }
+held_entry row = record { origin = no_desk; number = row.number; votes = row.votes }
 
 -- its record, as an export has it
 abbrev pub held_fields : HeldRow → Record
@@ -51,9 +52,7 @@ pub record AreHeld (canton : Canton) (rows : List HeldRow) : Type 0 where
 
 -- the count in which these rows are held
 abbrev pub count_of : Canton → List HeldRow → Tally
-count_of canton rows = record (empty canton) {
-  entries = map_of.from_entries (map (λ row. (held_key row, held_entry row)) rows);
-}
+count_of canton rows = record (empty canton) { entries = map_of.from_entries (map (λ row. (held_key row, held_entry row)) rows) }
 
 -- the votes of each list in each constituency, summed over the rows
 abbrev pub sums_of : Canton → List HeldRow → VoteTotals

@@ -3,30 +3,23 @@
 ghost use Rattle.std.specs.Prelude.{◌≡◌};
 ghost use Rattle.zh_held.specs.Faults.{named};
 
-use thiserror::Error;
 use zh_csv::LoadFault;
 use zh_returns::Reason;
 
 /// What is wrong with a record.
-#[derive(Clone, Copy, Debug, PartialEq, Eq, Error)]
+#[derive(Clone, Copy, Debug, PartialEq, Eq)]
 pub enum HeldFault {
     /// The first record does not name the columns, or one does not have four fields or is too long.
-    #[error("csv")]
     Csv,
     /// A field is no numeral, or a replacement number is 0.
-    #[error("syntax")]
     Syntax,
     /// The set-up has no such municipality.
-    #[error("municipality")]
     Municipality,
     /// The list does not stand in the constituency of the municipality.
-    #[error("list")]
     List,
     /// More than 1,000,000,000 votes.
-    #[error("votes")]
     Votes,
     /// A record before it has its municipality and list.
-    #[error("twice")]
     Twice,
 }
 

@@ -10,4 +10,3 @@ mod running_sums;
 pub use fault::HeldFault;
 pub use held_reader::{HeldSums, read_held};
 pub use laws::{export_adds_up, few_rows, one_holding};
-pub use row::HeldRow;

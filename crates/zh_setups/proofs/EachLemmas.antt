@@ -9,7 +9,7 @@ use Rattle.toml.specs.declared.value.Value.{Value}
 use Rattle.zh_setups.specs.Document.{◌>>=◌, each, stands_of}
 use Rattle.zh_setups.specs.Outcomes.{Fails, within_range}
 use Rattle.zh_setups.specs.declared.fault.SetupFault.{SetupFault}
-use Rattle.zh_setups.specs.declared.fault.SetupFault.TheVariants.{Memory, Text, Missing, Unknown, Range, Double}
+use Rattle.zh_setups.specs.declared.fault.SetupFault.TheVariants.{Memory, Range}
 
 -- what was read before, and what is still read
 abbrev pub joined : {X : Type 0} → List X → Option (List X) → Option (List X)
@@ -27,16 +27,8 @@ same_fault a b e = cc
 -- the fault of a range stands where no value is left
 pub fails_within : {X Y : Type 0} (fault : SetupFault) (o : Option X) (wanted : Result Y SetupFault) → (o ≡ None → wanted ≡ Err Range) → Fails fault (within_range o) → Fails fault wanted
 fails_within Memory o wanted h e = tt
-fails_within Range None wanted h e = h refl
-fails_within Range (Some x) wanted h e = absurd cc
-fails_within Text None wanted h e = absurd cc
-fails_within Text (Some x) wanted h e = absurd cc
-fails_within Missing None wanted h e = absurd cc
-fails_within Missing (Some x) wanted h e = absurd cc
-fails_within Unknown None wanted h e = absurd cc
-fails_within Unknown (Some x) wanted h e = absurd cc
-fails_within Double None wanted h e = absurd cc
-fails_within Double (Some x) wanted h e = absurd cc
+fails_within fault None wanted h e = h refl ∙ ap (λ (f : SetupFault). Err f) (same_fault Range fault e)
+fails_within fault (Some x) wanted h e = absurd cc
 
 -- a fault goes through where no value is left
 pub fails_through : {X Y : Type 0} (fault : SetupFault) (o : Option X) (p : Option Y) → (o ≡ None → p ≡ None) → Fails fault (within_range o) → Fails fault (within_range p)

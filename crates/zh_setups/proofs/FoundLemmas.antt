@@ -78,7 +78,7 @@ or_false true b = refl
 or_false false true = refl
 or_false false false = refl
 
-or_swap : (a b c d : Bool) → ((a || b) || (c || d)) ≡ ((a || c) || (b || d))
+pub or_swap : (a b c d : Bool) → ((a || b) || (c || d)) ≡ ((a || c) || (b || d))
 or_swap true b c d = refl
 or_swap false true true d = refl
 or_swap false true false d = refl

@@ -1,10 +1,10 @@
 -- The keys at the top of a document.
-use Rattle.std.proofs.Common.{◌≡◌, Bool, true, false, not, ◌&&◌, Ordering, Less, Equal, Greater, List, Option, Some, None, ℕ, codes, refl, sym, subst, ◌∙◌, inl, inr}
+use Rattle.std.proofs.Common.{◌≡◌, Bool, true, false, ◌&&◌, Ordering, Less, Equal, Greater, List, Option, Some, None, ℕ, codes, refl, sym, subst, ◌∙◌, inl, inr}
 use Rattle.std.specs.List.{list_all, list_any}
 use Rattle.std.specs.Ordering.{nat_cmp, is_eq, match_ordering}
 use Rattle.std.specs.Cmp.Lexicographic.{slice_cmp}
 use Rattle.std.specs.Str.{bytes_eq}
-use Rattle.std.proofs.lemmas.Bool.{and_parts, cases_Bool, false≢true}
+use Rattle.std.proofs.lemmas.Bool.{not-false, and_parts, cases_Bool, false≢true}
 use Rattle.std.proofs.lemmas.Map.Text.{is_eq-slice_cmp}
 use Rattle.std.proofs.lemmas.Slice.Eq.{bytes_eq-Decides}
 use Rattle.toml.specs.Data.{Data, Members, no_members, member, get_member}
@@ -30,10 +30,6 @@ no_member keys key (member here d members) knows other =
     ] in
     passed (slice_cmp nat_cmp key here) d (get_member key members) apart ∙ no_member keys key members k.1 other
 
-not_false : (b : Bool) → not b ≡ false → b ≡ true
-not_false true e = refl
-not_false false e = absurd cc
-
 -- the keys at the top are known
 pub knows_top : (document : Members) → has_other_key document ≡ false → knows_keys (known_keys document) document ≡ true
 knows_top document e =
@@ -41,7 +37,7 @@ knows_top document e =
     let ms = list_all (knows_keys_of (own_keys kinds.Municipality)) (tables_at (codes "municipality") document) in
     let gs = list_all (knows_keys_of (own_keys kinds.Group)) (tables_at (codes "group") document) in
     let top = knows_keys (known_keys document) document in
-    (and_parts top cs (and_parts (top && cs) ms (and_parts (top && cs && ms) gs (not_false (top && cs && ms && gs) e)).0).0).0
+    (and_parts top cs (and_parts (top && cs) ms (and_parts (top && cs && ms) gs (not-false (top && cs && ms && gs) e)).0).0).0
 
 -- version 1 does not know that of a canton-wide quorum
 pub no_quorum_key : (document : Members) → HasVersion document 1 → knows_keys (known_keys document) document ≡ true → get_member (codes "canton_quorum") document ≡ None

@@ -3,6 +3,7 @@ mod AsciiLemmas
 mod EachLemmas
 mod FoundLemmas
 mod KeyLemmas
+mod PartLemmas
 mod PlaceLemmas
 mod RangeLemmas
 mod RehearsalTextLemmas

@@ -8,6 +8,7 @@ use Rattle.zh_districts.specs.Canton.{Canton, Constituency, Municipality, Group,
 use Rattle.zh_setups.specs.Keys.{tables_at}
 use Rattle.zh_setups.specs.Document.{◌>>=◌, number_within, each, values_at, constituency_from, municipality_from, group_from, quorum_of}
 use Rattle.zh_setups.specs.Document.{setup_of, same_name, same_number, stands_in, repeats, has_double}
+use Rattle.zh_setups.proofs.PartLemmas.{parts_said}
 use Rattle.zh_setups.proofs.ValueLemmas.{bind_some, some_is, number_within-bounds, HasName, length-each, each-all, each-named, are_names}
 use Rattle.zh_setups.proofs.ValueLemmas.{values_at-some, constituency_from-some, municipality_from-some, group_from-some}
 
@@ -68,31 +69,20 @@ quorum_of-bounds (Some value) quorum e =
 -- a set-up that a document says, with nothing twice, is one within the limits
 pub IsCanton-from_document : (document : Members) (canton : Canton) → setup_of document ≡ Some canton → has_double document ≡ false → IsCanton canton
 IsCanton-from_document document canton e single =
-    let version = get_member (codes "version") document >>= number_within 1 2 in
-    let house = get_member (codes "house") document >>= number_within 1 400 in
-    let constituencies = values_at (codes "constituency") 32 document >>= each constituency_from in
-    let municipalities = λ (n : ℕ). values_at (codes "municipality") 512 document >>= each (municipality_from n) in
-    let groups = λ (n : ℕ). values_at (codes "group") 32 document >>= each (group_from n) in
-    let quorum = quorum_of (get_member (codes "canton_quorum") document) in
-    let a = bind_some version (λ v. house >>= λ h. constituencies >>= λ cs. municipalities (length cs) >>= λ ms. groups (length cs) >>= λ gs. quorum >>= λ q. Some (made_of h cs ms gs q)) canton e in
-    let b = bind_some house (λ h. constituencies >>= λ cs. municipalities (length cs) >>= λ ms. groups (length cs) >>= λ gs. quorum >>= λ q. Some (made_of h cs ms gs q)) canton a.2 in
-    let c = bind_some constituencies (λ cs. municipalities (length cs) >>= λ ms. groups (length cs) >>= λ gs. quorum >>= λ q. Some (made_of b.0 cs ms gs q)) canton b.2 in
-    let d = bind_some (municipalities (length c.0)) (λ ms. groups (length c.0) >>= λ gs. quorum >>= λ q. Some (made_of b.0 c.0 ms gs q)) canton c.2 in
-    let g = bind_some (groups (length c.0)) (λ gs. quorum >>= λ q. Some (made_of b.0 c.0 d.0 gs q)) canton d.2 in
-    let k = bind_some quorum (λ q. Some (made_of b.0 c.0 d.0 g.0 q)) canton g.2 in
-    let hb = bind_some (get_member (codes "house") document) (number_within 1 400) b.0 b.1 in
-    let bounds = number_within-bounds 1 400 hb.0 b.0 hb.2 in
-    let cs = constituencies_read document c.0 c.1 in
-    let ms = municipalities_read (length c.0) document d.0 d.1 in
-    let gs = groups_read (length c.0) document g.0 g.1 in
+    let parts = parts_said document canton e in
+    let n = length canton.constituencies in
+    let hb = bind_some (get_member (codes "house") document) (number_within 1 400) canton.house parts.house in
+    let cs = constituencies_read document canton.constituencies parts.constituencies in
+    let ms = municipalities_read n document canton.municipalities parts.municipalities in
+    let gs = groups_read n document canton.groups parts.groups in
     let names = repeats same_name (tables_at (codes "constituency") document) in
     let names' = repeats same_name (tables_at (codes "municipality") document) in
     let names'' = repeats same_name (tables_at (codes "group") document) in
     let o = or_parts (names || names' || names'') (list_any (λ value. repeats same_number (stands_in value)) (tables_at (codes "group") document)) single in
     let o' = or_parts (names || names') names'' o.0 in
     let o'' = or_parts names names' o'.0 in
-    subst IsCanton {x = made_of b.0 c.0 d.0 g.0 k.0} (some_is (made_of b.0 c.0 d.0 g.0 k.0) canton k.2) (record {
-      house = bounds;
+    record {
+      house = number_within-bounds 1 400 hb.0 canton.house hb.2;
       constituencies = (cs.some, cs.few);
       municipalities = (ms.some, ms.few);
       groups = (gs.some, gs.few);
@@ -103,11 +93,8 @@ IsCanton-from_document document canton e single =
       constituency_names = cs.names o''.0;
       municipality_names = ms.names o''.1;
       group_names = gs.names o'.1;
-      canton_quorum = quorum_of-bounds (get_member (codes "canton_quorum") document) k.0 k.1;
-    })
-  where
-    made_of : ℕ → List Constituency → List Municipality → List Group → Option ℕ → Canton
-    made_of h cs ms gs q = record { house = h; constituencies = cs; municipalities = ms; groups = gs; canton_quorum = q }
+      canton_quorum = quorum_of-bounds (get_member (codes "canton_quorum") document) canton.canton_quorum parts.quorum;
+    }
 
 -- where the municipalities, or the groups, say nothing, there is no set-up
 pub no_municipalities : (document : Members) (v h n : ℕ) (cs : List Constituency)

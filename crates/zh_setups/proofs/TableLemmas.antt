@@ -1,69 +1,47 @@
 -- The table of a set-up text holds the set-up, part by part.
-use Rattle.std.proofs.Common.{◌≡◌, ℕ, ◌≤◌, Bool, true, false, cond, ◌&&◌, nat_le, List, length, map, Option, Some, None, option_map}
-use Rattle.std.proofs.Common.{option_and_then, Result, Ok, Err, pos, negsuc, codes, refl, sym, ap, subst, ◌∙◌, inl, inr, arith}
+use Rattle.std.proofs.Common.{◌≡◌, ℕ, ◌≤◌, Bool, true, false, cond, nat_le, List, length, map, Option, Some, None, option_map}
+use Rattle.std.proofs.Common.{option_and_then, Result, Ok, Err, pos, codes, refl, sym, ap, subst, ◌∙◌, inl, inr, arith}
 use Rattle.std.specs.Prelude.{◌⊎◌, IfOk}
 use Rattle.std.specs.List.{AllZip}
 use Rattle.std.proofs.lemmas.Bool.{cases_lt}
-use Rattle.toml.specs.Data.{Data, Members, string, integer, float, boolean, datetime, array, table, get, get_member, as_array}
-use Rattle.zh_districts.specs.Canton.{Canton, Constituency, Municipality, Group, is_name}
+use Rattle.toml.specs.Data.{Data, Members, string, integer, get, get_member, as_array}
+use Rattle.zh_districts.specs.Canton.{Canton, Constituency, Municipality, Group}
 use Rattle.zh_setups.specs.Keys.{list_of, tables_at, knows_keys, known_keys, has_other_key}
-use Rattle.zh_setups.specs.Document.{◌>>=◌, number_within, name_of, each, values_of, values_at, constituency_from, municipality_from, group_from, quorum_of, stands_of, setup_of, undoubled, checked}
+use Rattle.zh_setups.specs.Document.{◌>>=◌, number_within, name_of, each, values_of, values_at, constituency_from, municipality_from, group_from, quorum_of, setup_of, undoubled, checked}
 use Rattle.zh_setups.specs.Outcomes.{Gives}
 use Rattle.zh_setups.specs.SetupText.{ConstituencyOf, MunicipalityOf, GroupOf, HasVersion, SetupOf}
 use Rattle.zh_setups.specs.declared.fault.SetupFault.{SetupFault}
 use Rattle.zh_setups.specs.declared.fault.SetupFault.TheVariants.{Missing, Unknown}
 use Rattle.zh_setups.proofs.KeyLemmas.{knows_top, no_quorum_key}
-use Rattle.zh_setups.proofs.ValueLemmas.{bind_some, some_is, guard_some, number_within-bounds, HasName, each-holds, each-named}
-use Rattle.zh_setups.proofs.ValueLemmas.{values_at-some, constituency_from-some, municipality_from-some, group_from-some}
-
-number_within-is : (low high : ℕ) (d : Data) (n : ℕ) → number_within low high d ≡ Some n → d ≡ integer (pos n)
-number_within-is low high (integer (pos m)) n e = ap (λ (k : ℕ). integer (pos k)) (guard_some (nat_le low m && nat_le m high) m n e).1
-number_within-is low high (integer (negsuc m)) n e = absurd cc
-number_within-is low high (string s) n e = absurd cc
-number_within-is low high (float x) n e = absurd cc
-number_within-is low high (boolean b) n e = absurd cc
-number_within-is low high (datetime t) n e = absurd cc
-number_within-is low high (array ds) n e = absurd cc
-number_within-is low high (table ms) n e = absurd cc
-
-name_of-is : (d : Data) (name : List ℕ) → name_of d ≡ Some name → d ≡ string name
-name_of-is (string s) name e = ap (λ (x : List ℕ). string x) (guard_some (is_name s) s name e).1
-name_of-is (integer z) name e = absurd cc
-name_of-is (float x) name e = absurd cc
-name_of-is (boolean b) name e = absurd cc
-name_of-is (datetime t) name e = absurd cc
-name_of-is (array ds) name e = absurd cc
-name_of-is (table ms) name e = absurd cc
+use Rattle.zh_setups.proofs.PartLemmas.{parts_said}
+use Rattle.zh_setups.proofs.ValueLemmas.{bind_some, some_is, guard_some, name_of-some, number_within-bounds, number_within-some, HasName, each-holds, each-named}
+use Rattle.zh_setups.proofs.ValueLemmas.{values_at-some, constituency_from-some, constituency_said, municipality_from-some, municipality_said, group_from-some, group_said}
 
 -- the value of a number, or of a name, that was found
 number_found : (found : Option Data) (low high n : ℕ) → (found >>= number_within low high) ≡ Some n → found ≡ Some (integer (pos n))
 number_found found low high n e =
     let b = bind_some found (number_within low high) n e in
-    b.1 ∙ ap (λ (d : Data). Some d) (number_within-is low high b.0 n b.2)
+    b.1 ∙ ap (λ (d : Data). Some d) (number_within-some low high b.0 n b.2).0
 
 name_found : (found : Option Data) (name : List ℕ) → (found >>= name_of) ≡ Some name → found ≡ Some (string name)
 name_found found name e =
     let b = bind_some found name_of name e in
-    b.1 ∙ ap (λ (d : Data). Some d) (name_of-is b.0 name b.2)
+    b.1 ∙ ap (λ (d : Data). Some d) (name_of-some b.0 name b.2).0
 
 constituency_from-holds : (d : Data) (x : Constituency) → constituency_from d ≡ Some x → ConstituencyOf d x
 constituency_from-holds d x e =
-    let a = bind_some (get (codes "name") d >>= name_of) (λ name. (get (codes "persons") d >>= number_within 1 10000000) >>= λ persons. Some (record { name = name; persons = persons })) x e in
-    let b = bind_some (get (codes "persons") d >>= number_within 1 10000000) (λ persons. Some (record { name = a.0; persons = persons })) x a.2 in
-    let made : Constituency = record { name = a.0; persons = b.0 } in
-    subst (λ (y : Constituency). ConstituencyOf d y) (some_is made x b.2) (name_found (get (codes "name") d) a.0 a.1, number_found (get (codes "persons") d) 1 10000000 b.0 b.1)
+    let said = constituency_said d x e in
+    (name_found (get (codes "name") d) x.name said.0, number_found (get (codes "persons") d) 1 10000000 x.persons said.1)
 
 municipality_from-holds : (n : ℕ) (d : Data) (x : Municipality) → municipality_from n d ≡ Some x → MunicipalityOf d x
 municipality_from-holds n d x e =
-    let a = bind_some (get (codes "name") d >>= name_of) (λ name. (get (codes "constituency") d >>= number_within 1 n) >>= λ c. Some (record { name = name; constituency = c })) x e in
-    let b = bind_some (get (codes "constituency") d >>= number_within 1 n) (λ c. Some (record { name = a.0; constituency = c })) x a.2 in
-    let made : Municipality = record { name = a.0; constituency = b.0 } in
-    subst (λ (y : Municipality). MunicipalityOf d y) (some_is made x b.2) (name_found (get (codes "name") d) a.0 a.1, number_found (get (codes "constituency") d) 1 n b.0 b.1)
+    let said = municipality_said n d x e in
+    (name_found (get (codes "name") d) x.name said.0, number_found (get (codes "constituency") d) 1 n x.constituency said.1)
 
 -- numbers that were read stand there as they are
 each_number : (low high : ℕ) (ds : List Data) (ns : List ℕ) → each (number_within low high) ds ≡ Some ns → ds ≡ map (λ n. integer (pos n)) ns
 each_number low high ds ns e =
-    each-holds (λ d n. d ≡ integer (pos n)) (number_within low high) (number_within-is low high) (λ ds ns. ds ≡ map (λ n. integer (pos n)) ns) refl
+    each-holds (λ d n. d ≡ integer (pos n)) (number_within low high) (λ d n e. (number_within-some low high d n e).0) (λ ds ns. ds ≡ map (λ n. integer (pos n)) ns) refl
     (λ d n ds ns first others. rw (first, others) refl) ds ns e
 
 values_of-is : (d : Data) (ds : List Data) → values_of d ≡ Some ds → option_map list_of (as_array d) ≡ Some ds
@@ -79,14 +57,10 @@ values_found (Some d) ds e = values_of-is d ds e
 
 group_from-holds : (n : ℕ) (d : Data) (x : Group) → group_from n d ≡ Some x → GroupOf n d x
 group_from-holds n d x e =
-    let a = bind_some (get (codes "name") d >>= name_of) (λ name. (get (codes "stands") d >>= values_of) >>= λ values.
-    each (number_within 1 n) values >>= λ numbers. Some (record { name = name; stands = stands_of n numbers })) x e in
-    let b = bind_some (get (codes "stands") d >>= values_of) (λ values. each (number_within 1 n) values >>= λ numbers. Some (record { name = a.0; stands = stands_of n numbers })) x a.2 in
-    let c = bind_some (each (number_within 1 n) b.0) (λ numbers. Some (record { name = a.0; stands = stands_of n numbers })) x b.2 in
-    let made : Group = record { name = a.0; stands = stands_of n c.0 } in
-    let listed : option_map list_of (option_and_then as_array (get (codes "stands") d)) ≡ Some (map (λ k. integer (pos k)) c.0) =
-    values_found (get (codes "stands") d) b.0 b.1 ∙ ap (λ (ds : List Data). Some ds) (each_number 1 n b.0 c.0 c.1) in
-    subst (λ (y : Group). GroupOf n d y) (some_is made x c.2) (name_found (get (codes "name") d) a.0 a.1, (c.0, listed, refl))
+    let said = group_said n d x e in
+    let listed : option_map list_of (option_and_then as_array (get (codes "stands") d)) ≡ Some (map (λ k. integer (pos k)) said.numbers) =
+    values_found (get (codes "stands") d) said.values said.found ∙ ap (λ (ds : List Data). Some ds) (each_number 1 n said.values said.numbers said.read) in
+    (name_found (get (codes "name") d) x.name said.name, (said.numbers, listed, said.stands))
 
 -- the tables of the parts of one kind
 zipped : {X : Type 0} (key : List ℕ) (most : ℕ) (name : X → List ℕ) (R : Data → X → Type 0) (f : Data → Option X)
@@ -104,7 +78,7 @@ quorum_found : (found : Option Data) (quorum : Option ℕ) → quorum_of found �
 quorum_found None quorum e = ap (option_map (λ q. integer (pos q))) (some_is None quorum e)
 quorum_found (Some value) quorum e =
     let n = bind_some (number_within 1 49 value) (λ q. Some (Some q)) quorum e in
-    ap (λ (d : Data). Some d) (number_within-is 1 49 value n.0 n.1) ∙ ap (option_map (λ q. integer (pos q))) (some_is (Some n.0) quorum n.2)
+    ap (λ (d : Data). Some d) (number_within-some 1 49 value n.0 n.1).0 ∙ ap (option_map (λ q. integer (pos q))) (some_is (Some n.0) quorum n.2)
 
 -- version 1 has no canton-wide quorum
 no_quorum_in_version_1 : (document : Members) (quorum : Option ℕ) → HasVersion document 1 → knows_keys (known_keys document) document ≡ true
@@ -129,30 +103,19 @@ version_of document n quorum e knows q =
 
 SetupOf-from_document : (document : Members) (canton : Canton) → has_other_key document ≡ false → setup_of document ≡ Some canton → SetupOf document canton
 SetupOf-from_document document canton other e =
-    let version = get_member (codes "version") document >>= number_within 1 2 in
-    let house = get_member (codes "house") document >>= number_within 1 400 in
-    let constituencies = values_at (codes "constituency") 32 document >>= each constituency_from in
-    let municipalities = λ (n : ℕ). values_at (codes "municipality") 512 document >>= each (municipality_from n) in
-    let groups = λ (n : ℕ). values_at (codes "group") 32 document >>= each (group_from n) in
-    let quorum = quorum_of (get_member (codes "canton_quorum") document) in
-    let a = bind_some version (λ v. house >>= λ h. constituencies >>= λ cs. municipalities (length cs) >>= λ ms. groups (length cs) >>= λ gs. quorum >>= λ q. Some (made_of h cs ms gs q)) canton e in
-    let b = bind_some house (λ h. constituencies >>= λ cs. municipalities (length cs) >>= λ ms. groups (length cs) >>= λ gs. quorum >>= λ q. Some (made_of h cs ms gs q)) canton a.2 in
-    let c = bind_some constituencies (λ cs. municipalities (length cs) >>= λ ms. groups (length cs) >>= λ gs. quorum >>= λ q. Some (made_of b.0 cs ms gs q)) canton b.2 in
-    let d = bind_some (municipalities (length c.0)) (λ ms. groups (length c.0) >>= λ gs. quorum >>= λ q. Some (made_of b.0 c.0 ms gs q)) canton c.2 in
-    let g = bind_some (groups (length c.0)) (λ gs. quorum >>= λ q. Some (made_of b.0 c.0 d.0 gs q)) canton d.2 in
-    let k = bind_some quorum (λ q. Some (made_of b.0 c.0 d.0 g.0 q)) canton g.2 in
-    let n = length c.0 in
-    subst (λ (x : Canton). SetupOf document x) {x = made_of b.0 c.0 d.0 g.0 k.0} (some_is (made_of b.0 c.0 d.0 g.0 k.0) canton k.2) (record {
-      version = version_of document a.0 k.0 a.1 (knows_top document other) k.1;
-      house = number_found (get_member (codes "house") document) 1 400 b.0 b.1;
-      constituencies = zipped (codes "constituency") 32 (λ x. x.name) ConstituencyOf constituency_from (λ d x e. (constituency_from-some d x e).0) constituency_from-holds document c.0 c.1;
-      municipalities = zipped (codes "municipality") 512 (λ x. x.name) MunicipalityOf (municipality_from n) (λ d x e. (municipality_from-some n d x e).0) (municipality_from-holds n) document d.0 d.1;
-      groups = zipped (codes "group") 32 (λ x. x.name) (GroupOf n) (group_from n) (λ d x e. (group_from-some n d x e).0) (group_from-holds n) document g.0 g.1;
-      canton_quorum = quorum_found (get_member (codes "canton_quorum") document) k.0 k.1;
-    })
-  where
-    made_of : ℕ → List Constituency → List Municipality → List Group → Option ℕ → Canton
-    made_of h cs ms gs q = record { house = h; constituencies = cs; municipalities = ms; groups = gs; canton_quorum = q }
+    let parts = parts_said document canton e in
+    let n = length canton.constituencies in
+    record {
+      version = version_of document parts.version canton.canton_quorum parts.version_is (knows_top document other) parts.quorum;
+      house = number_found (get_member (codes "house") document) 1 400 canton.house parts.house;
+      constituencies = zipped (codes "constituency") 32 (λ x. x.name) ConstituencyOf constituency_from (λ d x e. (constituency_from-some d x e).0)
+          constituency_from-holds document canton.constituencies parts.constituencies;
+      municipalities = zipped (codes "municipality") 512 (λ x. x.name) MunicipalityOf (municipality_from n) (λ d x e. (municipality_from-some n d x e).0)
+          (municipality_from-holds n) document canton.municipalities parts.municipalities;
+      groups = zipped (codes "group") 32 (λ x. x.name) (GroupOf n) (group_from n) (λ d x e. (group_from-some n d x e).0)
+          (group_from-holds n) document canton.groups parts.groups;
+      canton_quorum = quorum_found (get_member (codes "canton_quorum") document) canton.canton_quorum parts.quorum;
+    }
 
 -- what passes each check is the set-up
 passes : (misses other double : Bool) (wanted : Option Canton) (canton : Canton)

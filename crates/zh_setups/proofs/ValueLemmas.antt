@@ -1,6 +1,6 @@
 -- What is known of the values of a document that say something.
 use Rattle.std.proofs.Common.{◌≡◌, ◌≢◌, ℕ, ◌-◌, ◌<◌, ◌≤◌, Bool, true, false, cond, ◌&&◌, ◌==◌, eqb, nat_le, List, [], ◌∷◌, length, get_or}
-use Rattle.std.proofs.Common.{map, All, Option, Some, None, pos, negsuc, IsTrue, codes, refl, sym, ap, subst, ◌∙◌, arith, eq-eqb}
+use Rattle.std.proofs.Common.{map, All, Option, Some, None, pos, IsTrue, codes, refl, sym, ap, subst, ◌∙◌, arith, eq-eqb}
 use Rattle.std.specs.Prelude.{AllPairs, Contains}
 use Rattle.std.specs.List.{list_all, list_any, AllByRecursion}
 use Rattle.std.proofs.lemmas.Bool.{and_parts, or_parts, leb-true, false≢true}
@@ -8,7 +8,7 @@ use Rattle.std.proofs.lemmas.List.FromFn.{length-map-range_with_len, get_or-map-
 use Rattle.std.proofs.lemmas.List.Elements.{All-from_recursion}
 use Rattle.std.proofs.lemmas.List.Kept.{AllPairs-cons}
 use Rattle.std.proofs.lemmas.Slice.Eq.{bytes_eq-Decides}
-use Rattle.toml.specs.Data.{Data, Members, string, integer, float, boolean, datetime, array, table, get, get_member, as_array, as_str}
+use Rattle.toml.specs.Data.{Data, Members, string, integer, table, get, get_member, as_array, as_str}
 use Rattle.zh_districts.specs.Canton.{Constituency, Municipality, Group, is_name, AreNames}
 use Rattle.zh_setups.specs.Keys.{list_of, is_table, tables_of, tables_at}
 use Rattle.zh_setups.specs.Document.{◌>>=◌, number_within, name_of, each, values_of, values_at, constituency_from, municipality_from, group_from, stands_of, name_in, same_name, repeats}
@@ -27,38 +27,25 @@ some_is x y e = cc
 
 -- ---- numbers and names
 
-pub number_within-bounds : (low high : ℕ) (d : Data) (n : ℕ) → number_within low high d ≡ Some n → (low ≤ n) × (n ≤ high)
-number_within-bounds low high (integer (pos m)) n e =
+pub number_within-some : (low high : ℕ) (d : Data) (n : ℕ) → number_within low high d ≡ Some n → (d ≡ integer (pos n)) × (low ≤ n) × (n ≤ high)
+number_within-some low high (integer (pos m)) n e =
     let g = guard_some (nat_le low m && nat_le m high) m n e in
     let b = and_parts (nat_le low m) (nat_le m high) g.0 in
-    (subst (λ (k : ℕ). low ≤ k) g.1 (leb-true low m b.0), subst (λ (k : ℕ). k ≤ high) g.1 (leb-true m high b.1))
-number_within-bounds low high (integer (negsuc m)) n e = absurd cc
-number_within-bounds low high (string s) n e = absurd cc
-number_within-bounds low high (float x) n e = absurd cc
-number_within-bounds low high (boolean b) n e = absurd cc
-number_within-bounds low high (datetime t) n e = absurd cc
-number_within-bounds low high (array ds) n e = absurd cc
-number_within-bounds low high (table ms) n e = absurd cc
+    (ap (λ (k : ℕ). integer (pos k)) g.1, subst (λ (k : ℕ). low ≤ k) g.1 (leb-true low m b.0), subst (λ (k : ℕ). k ≤ high) g.1 (leb-true m high b.1))
+number_within-some low high d n e = absurd cc
 
-name_of-rule : (d : Data) (name : List ℕ) → name_of d ≡ Some name → IsTrue (is_name name) × (as_str d ≡ Some name)
-name_of-rule (string s) name e =
+pub number_within-bounds : (low high : ℕ) (d : Data) (n : ℕ) → number_within low high d ≡ Some n → (low ≤ n) × (n ≤ high)
+number_within-bounds low high d n e = let s = number_within-some low high d n e in (s.1, s.2)
+
+pub name_of-some : (d : Data) (name : List ℕ) → name_of d ≡ Some name → (d ≡ string name) × IsTrue (is_name name)
+name_of-some (string s) name e =
     let g = guard_some (is_name s) s name e in
-    (subst (λ (x : List ℕ). IsTrue (is_name x)) g.1 g.0, ap (λ (x : List ℕ). Some x) g.1)
-name_of-rule (integer z) name e = absurd cc
-name_of-rule (float x) name e = absurd cc
-name_of-rule (boolean b) name e = absurd cc
-name_of-rule (datetime t) name e = absurd cc
-name_of-rule (array ds) name e = absurd cc
-name_of-rule (table ms) name e = absurd cc
+    (ap (λ (x : List ℕ). string x) g.1, subst (λ (x : List ℕ). IsTrue (is_name x)) g.1 g.0)
+name_of-some d name e = absurd cc
 
 is_table-from_get : (key : List ℕ) (d v : Data) → get key d ≡ Some v → is_table d ≡ true
 is_table-from_get key (table ms) v e = refl
-is_table-from_get key (string s) v e = absurd cc
-is_table-from_get key (integer z) v e = absurd cc
-is_table-from_get key (float x) v e = absurd cc
-is_table-from_get key (boolean b) v e = absurd cc
-is_table-from_get key (datetime t) v e = absurd cc
-is_table-from_get key (array ds) v e = absurd cc
+is_table-from_get key d v e = absurd cc
 
 -- a table with a name, and that name
 pub record HasName (d : Data) (name : List ℕ) : Type 0 where
@@ -69,8 +56,9 @@ pub record HasName (d : Data) (name : List ℕ) : Type 0 where
 has_name : (d : Data) (name : List ℕ) → (get (codes "name") d >>= name_of) ≡ Some name → HasName d name
 has_name d name e =
     let b = bind_some (get (codes "name") d) name_of name e in
-    let r = name_of-rule b.0 name b.2 in
-    record { rule = r.0; within = rw (b.1, r.1) refl; kind = is_table-from_get (codes "name") d b.0 b.1 }
+    let r = name_of-some b.0 name b.2 in
+    let said : as_str b.0 ≡ Some name = ap as_str r.0 in
+    record { rule = r.1; within = rw (b.1, said) refl; kind = is_table-from_get (codes "name") d b.0 b.1 }
 
 -- ---- each value
 
@@ -145,23 +133,36 @@ values_at-some key most document ds e =
 
 -- ---- the parts
 
-pub constituency_from-some : (d : Data) (x : Constituency) → constituency_from d ≡ Some x → HasName d x.name × (1 ≤ x.persons) × (x.persons ≤ 10000000)
-constituency_from-some d x e =
+-- what a table says of each part of a constituency, and of a municipality
+pub constituency_said : (d : Data) (x : Constituency) → constituency_from d ≡ Some x
+    → ((get (codes "name") d >>= name_of) ≡ Some x.name) × ((get (codes "persons") d >>= number_within 1 10000000) ≡ Some x.persons)
+constituency_said d x e =
     let a = bind_some (get (codes "name") d >>= name_of) (λ name. (get (codes "persons") d >>= number_within 1 10000000) >>= λ persons. Some (record { name = name; persons = persons })) x e in
     let b = bind_some (get (codes "persons") d >>= number_within 1 10000000) (λ persons. Some (record { name = a.0; persons = persons })) x a.2 in
-    let c = bind_some (get (codes "persons") d) (number_within 1 10000000) b.0 b.1 in
-    let n = number_within-bounds 1 10000000 c.0 b.0 c.2 in
     let made : Constituency = record { name = a.0; persons = b.0 } in
-    subst (λ (y : Constituency). HasName d y.name × (1 ≤ y.persons) × (y.persons ≤ 10000000)) (some_is made x b.2) (has_name d a.0 a.1, n.0, n.1)
+    subst (λ (y : Constituency). ((get (codes "name") d >>= name_of) ≡ Some y.name) × ((get (codes "persons") d >>= number_within 1 10000000) ≡ Some y.persons)) (some_is made x b.2) (a.1, b.1)
+
+pub constituency_from-some : (d : Data) (x : Constituency) → constituency_from d ≡ Some x → HasName d x.name × (1 ≤ x.persons) × (x.persons ≤ 10000000)
+constituency_from-some d x e =
+    let said = constituency_said d x e in
+    let found = bind_some (get (codes "persons") d) (number_within 1 10000000) x.persons said.1 in
+    let bounds = number_within-bounds 1 10000000 found.0 x.persons found.2 in
+    (has_name d x.name said.0, bounds.0, bounds.1)
+
+pub municipality_said : (n : ℕ) (d : Data) (x : Municipality) → municipality_from n d ≡ Some x
+    → ((get (codes "name") d >>= name_of) ≡ Some x.name) × ((get (codes "constituency") d >>= number_within 1 n) ≡ Some x.constituency)
+municipality_said n d x e =
+    let a = bind_some (get (codes "name") d >>= name_of) (λ name. (get (codes "constituency") d >>= number_within 1 n) >>= λ c. Some (record { name = name; constituency = c })) x e in
+    let b = bind_some (get (codes "constituency") d >>= number_within 1 n) (λ c. Some (record { name = a.0; constituency = c })) x a.2 in
+    let made : Municipality = record { name = a.0; constituency = b.0 } in
+    subst (λ (y : Municipality). ((get (codes "name") d >>= name_of) ≡ Some y.name) × ((get (codes "constituency") d >>= number_within 1 n) ≡ Some y.constituency)) (some_is made x b.2) (a.1, b.1)
 
 pub municipality_from-some : (n : ℕ) (d : Data) (x : Municipality) → municipality_from n d ≡ Some x → HasName d x.name × (1 ≤ x.constituency) × (x.constituency ≤ n)
 municipality_from-some n d x e =
-    let a = bind_some (get (codes "name") d >>= name_of) (λ name. (get (codes "constituency") d >>= number_within 1 n) >>= λ c. Some (record { name = name; constituency = c })) x e in
-    let b = bind_some (get (codes "constituency") d >>= number_within 1 n) (λ c. Some (record { name = a.0; constituency = c })) x a.2 in
-    let c = bind_some (get (codes "constituency") d) (number_within 1 n) b.0 b.1 in
-    let m = number_within-bounds 1 n c.0 b.0 c.2 in
-    let made : Municipality = record { name = a.0; constituency = b.0 } in
-    subst (λ (y : Municipality). HasName d y.name × (1 ≤ y.constituency) × (y.constituency ≤ n)) (some_is made x b.2) (has_name d a.0 a.1, m.0, m.1)
+    let said = municipality_said n d x e in
+    let found = bind_some (get (codes "constituency") d) (number_within 1 n) x.constituency said.1 in
+    let bounds = number_within-bounds 1 n found.0 x.constituency found.2 in
+    (has_name d x.name said.0, bounds.0, bounds.1)
 
 -- the first number of a list within 1 to n names a place where the group stands
 stands_somewhere : (n : ℕ) (numbers : List ℕ) → 1 ≤ length numbers → All (λ m. (1 ≤ m) × (m ≤ n)) numbers → Contains (stands_of n numbers) true
@@ -174,16 +175,31 @@ stands_somewhere n (m ∷ numbers) some all =
     let here : eqb m m ≡ true = eq-eqb m m refl in
     (m - 1, omega (arith, length-map-range_with_len (λ d. list_any (λ i. i == d) (m ∷ numbers)) 1 n), at ∙ rw here refl)
 
-pub group_from-some : (n : ℕ) (d : Data) (x : Group) → group_from n d ≡ Some x → HasName d x.name × (length x.stands ≡ n) × Contains x.stands true
-group_from-some n d x e =
+-- what a table says of each part of a group
+pub record SaidGroup (n : ℕ) (d : Data) (x : Group) : Type 0 where
+  pub name : (get (codes "name") d >>= name_of) ≡ Some x.name
+  pub values : List Data
+  pub found : (get (codes "stands") d >>= values_of) ≡ Some values
+  pub numbers : List ℕ
+  pub read : each (number_within 1 n) values ≡ Some numbers
+  pub stands : x.stands ≡ stands_of n numbers
+
+pub group_said : (n : ℕ) (d : Data) (x : Group) → group_from n d ≡ Some x → SaidGroup n d x
+group_said n d x e =
     let a = bind_some (get (codes "name") d >>= name_of) (λ name. (get (codes "stands") d >>= values_of) >>= λ values.
     each (number_within 1 n) values >>= λ numbers. Some (record { name = name; stands = stands_of n numbers })) x e in
     let b = bind_some (get (codes "stands") d >>= values_of) (λ values. each (number_within 1 n) values >>= λ numbers. Some (record { name = a.0; stands = stands_of n numbers })) x a.2 in
     let c = bind_some (each (number_within 1 n) b.0) (λ numbers. Some (record { name = a.0; stands = stands_of n numbers })) x b.2 in
-    let v = bind_some (get (codes "stands") d) values_of b.0 b.1 in
-    let some = (values_of-some v.0 b.0 v.2).0 in
-    let long = length-each (number_within 1 n) b.0 c.0 c.1 in
-    let bounds = each-all (λ m. (1 ≤ m) × (m ≤ n)) (number_within 1 n) (λ d m. number_within-bounds 1 n d m) b.0 c.0 c.1 in
     let made : Group = record { name = a.0; stands = stands_of n c.0 } in
-    subst (λ (y : Group). HasName d y.name × (length y.stands ≡ n) × Contains y.stands true) (some_is made x c.2)
-    (has_name d a.0 a.1, length-map-range_with_len (λ d. list_any (λ i. i == d) c.0) 1 n, stands_somewhere n c.0 (omega arith) bounds)
+    subst (λ (y : Group). SaidGroup n d y) (some_is made x c.2) (record { name = a.1; values = b.0; found = b.1; numbers = c.0; read = c.1; stands = refl })
+
+pub group_from-some : (n : ℕ) (d : Data) (x : Group) → group_from n d ≡ Some x → HasName d x.name × (length x.stands ≡ n) × Contains x.stands true
+group_from-some n d x e =
+    let said = group_said n d x e in
+    let v = bind_some (get (codes "stands") d) values_of said.values said.found in
+    let some = (values_of-some v.0 said.values v.2).0 in
+    let long = length-each (number_within 1 n) said.values said.numbers said.read in
+    let bounds = each-all (λ m. (1 ≤ m) × (m ≤ n)) (number_within 1 n) (λ d m. number_within-bounds 1 n d m) said.values said.numbers said.read in
+    let stands = subst (λ (l : List Bool). (length l ≡ n) × Contains l true) (sym said.stands)
+    (length-map-range_with_len (λ d. list_any (λ i. i == d) said.numbers) 1 n, stands_somewhere n said.numbers (omega arith) bounds) in
+    (has_name d x.name said.name, stands.0, stands.1)

@@ -1,16 +1,12 @@
 -- What a call that reads a part of a set-up text returns.
 use Rattle.std.specs.Prelude.{◌≡◌, Option, Some, None, Result, Ok, Err}
 use Rattle.zh_setups.specs.declared.fault.SetupFault.{SetupFault}
-use Rattle.zh_setups.specs.declared.fault.SetupFault.TheVariants.{Memory, Text, Missing, Unknown, Range, Double}
+use Rattle.zh_setups.specs.declared.fault.SetupFault.TheVariants.{Memory, Range}
 
 -- this fault, unless memory ran out
 abbrev pub Fails : {Y : Type 0} → SetupFault → Result Y SetupFault → Type 0
 Fails Memory wanted = Unit {0}
-Fails Text wanted = wanted ≡ Err Text
-Fails Missing wanted = wanted ≡ Err Missing
-Fails Unknown wanted = wanted ≡ Err Unknown
-Fails Range wanted = wanted ≡ Err Range
-Fails Double wanted = wanted ≡ Err Double
+Fails fault wanted = wanted ≡ Err fault
 
 -- the wanted value, seen by view, or the wanted fault
 abbrev pub Gives : {X Y : Type 0} → (X → Y) → Result X SetupFault → Result Y SetupFault → Type 0

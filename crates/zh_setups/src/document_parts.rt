@@ -13,32 +13,22 @@ use std::alloc::{AllocError, Global};
 use toml::{Table, Value};
 use zh_districts::{Constituency, Group, Municipality};
 
-fn read_constituency(alloc: Global, value: &Value) -> Result<Constituency, SetupFault>
-    ensures { GivesInRange constituency result (constituency_from (view value.now)) }
-{
-    let name = name(value).ok_or(SetupFault::Range)?;
-    let persons = number_at(value, "persons", 1, 10_000_000).ok_or(SetupFault::Range)?;
-    Ok(Constituency {
-        name: String::from_str(alloc, name)?,
-        persons,
-    })
-}
+/// A part of a set-up, which a table of its document says.
+trait Part: Sized {
+    ghost use Rattle.std.specs.Prelude.{ℕ, Option};
+    ghost use Rattle.toml.specs.Data.{Data};
 
-fn read_municipality(
-    alloc: Global,
-    value: &Value,
-    constituencies: u32,
-) -> Result<Municipality, SetupFault>
-    ensures { GivesInRange municipality result (municipality_from constituencies (view value.now)) }
-{
-    let name = name(value).ok_or(SetupFault::Range)?;
-    let constituency = number_at(value, "constituency", 1, constituencies).ok_or(
-        SetupFault::Range,
-    )?;
-    Ok(Municipality {
-        name: String::from_str(alloc, name)?,
-        constituency,
-    })
+    /// What it stands for.
+    ghost Meaning: { Type 0 };
+
+    ghost meaning: { Self → Meaning };
+
+    /// That of a table, where there are so many constituencies.
+    ghost said: { ℕ → Data → Option Meaning };
+
+    /// Reads that of a table.
+    fn read(alloc: Global, value: &Value, constituencies: u32) -> Result<Self, SetupFault>
+        ensures { GivesInRange meaning result (said constituencies (view value.now)) };
 }
 
 fn read_numbers(
@@ -77,55 +67,84 @@ fn stands_among(
     Ok(stands)
 }
 
-fn read_group(alloc: Global, value: &Value, constituencies: u32) -> Result<Group, SetupFault>
-    ensures { GivesInRange group result (group_from constituencies (view value.now)) }
-{
-    let name = name(value).ok_or(SetupFault::Range)?;
-    let stands = value_of(value, "stands").ok_or(SetupFault::Range)?;
-    let values = values(stands).ok_or(SetupFault::Range)?;
-    let numbers = read_numbers(alloc, values, constituencies)?;
-    Ok(Group {
-        name: String::from_str(alloc, name)?,
-        stands: stands_among(alloc, constituencies, &numbers)?,
-    })
-}
+impl Part for Constituency {
+    ghost use Rattle.zh_districts.specs.Canton.{Constituency};
+    ghost use Rattle.zh_districts.specs.Parts.{constituency};
+    ghost use Rattle.zh_setups.specs.Document.{constituency_from};
 
-fn each_constituency(alloc: Global, values: &[Value]) -> Result<Vec<Constituency>, SetupFault>
-    ensures { GivesInRange (λ v. map constituency v.items) result (each constituency_from (map view values.now)) }
-{
-    let mut parts = Vec::new(alloc);
-    for value in values {
-        let part = read_constituency(alloc, value)?;
-        parts.push(part)?;
+    ghost Meaning = { Constituency };
+
+    ghost meaning = { constituency };
+
+    ghost said = { λ _. constituency_from };
+
+    fn read(alloc: Global, value: &Value, _constituencies: u32) -> Result<Self, SetupFault> {
+        let name = name(value).ok_or(SetupFault::Range)?;
+        let persons = number_at(value, "persons", 1, 10_000_000).ok_or(SetupFault::Range)?;
+        Ok(Constituency {
+            name: String::from_str(alloc, name)?,
+            persons,
+        })
     }
-    Ok(parts)
 }
 
-fn each_municipality(
+impl Part for Municipality {
+    ghost use Rattle.zh_districts.specs.Canton.{Municipality};
+    ghost use Rattle.zh_districts.specs.Parts.{municipality};
+    ghost use Rattle.zh_setups.specs.Document.{municipality_from};
+
+    ghost Meaning = { Municipality };
+
+    ghost meaning = { municipality };
+
+    ghost said = { municipality_from };
+
+    fn read(alloc: Global, value: &Value, constituencies: u32) -> Result<Self, SetupFault> {
+        let name = name(value).ok_or(SetupFault::Range)?;
+        let constituency = number_at(value, "constituency", 1, constituencies).ok_or(
+            SetupFault::Range,
+        )?;
+        Ok(Municipality {
+            name: String::from_str(alloc, name)?,
+            constituency,
+        })
+    }
+}
+
+impl Part for Group {
+    ghost use Rattle.zh_districts.specs.Canton.{Group};
+    ghost use Rattle.zh_districts.specs.Parts.{group};
+    ghost use Rattle.zh_setups.specs.Document.{group_from};
+
+    ghost Meaning = { Group };
+
+    ghost meaning = { group };
+
+    ghost said = { group_from };
+
+    fn read(alloc: Global, value: &Value, constituencies: u32) -> Result<Self, SetupFault> {
+        let name = name(value).ok_or(SetupFault::Range)?;
+        let stands = value_of(value, "stands").ok_or(SetupFault::Range)?;
+        let values = values(stands).ok_or(SetupFault::Range)?;
+        let numbers = read_numbers(alloc, values, constituencies)?;
+        Ok(Group {
+            name: String::from_str(alloc, name)?,
+            stands: stands_among(alloc, constituencies, &numbers)?,
+        })
+    }
+}
+
+/// Reads each part.
+fn read_each<P: Part + Drop>(
     alloc: Global,
     values: &[Value],
     constituencies: u32,
-) -> Result<Vec<Municipality>, SetupFault>
-    ensures { GivesInRange (λ v. map municipality v.items) result (each (municipality_from constituencies) (map view values.now)) }
+) -> Result<Vec<P>, SetupFault>
+    ensures { GivesInRange (λ v. map P.meaning v.items) result (each (P.said constituencies) (map view values.now)) }
 {
     let mut parts = Vec::new(alloc);
     for value in values {
-        let part = read_municipality(alloc, value, constituencies)?;
-        parts.push(part)?;
-    }
-    Ok(parts)
-}
-
-fn each_group(
-    alloc: Global,
-    values: &[Value],
-    constituencies: u32,
-) -> Result<Vec<Group>, SetupFault>
-    ensures { GivesInRange (λ v. map group v.items) result (each (group_from constituencies) (map view values.now)) }
-{
-    let mut parts = Vec::new(alloc);
-    for value in values {
-        let part = read_group(alloc, value, constituencies)?;
+        let part = P::read(alloc, value, constituencies)?;
         parts.push(part)?;
     }
     Ok(parts)
@@ -140,7 +159,7 @@ pub(crate) fn read_constituencies(
         (option_and_then (each constituency_from) (values_at (codes "constituency") 32 (table_view document.now))) }
 {
     let values = values_at(document, "constituency", 32).ok_or(SetupFault::Range)?;
-    each_constituency(alloc, values)
+    read_each(alloc, values, 0)
 }
 
 /// The municipalities of a document, 1 to 512.
@@ -153,7 +172,7 @@ pub(crate) fn read_municipalities(
         (option_and_then (each (municipality_from constituencies)) (values_at (codes "municipality") 512 (table_view document.now))) }
 {
     let values = values_at(document, "municipality", 512).ok_or(SetupFault::Range)?;
-    each_municipality(alloc, values, constituencies)
+    read_each(alloc, values, constituencies)
 }
 
 /// The groups of a document, 1 to 32.
@@ -166,5 +185,5 @@ pub(crate) fn read_groups(
         (option_and_then (each (group_from constituencies)) (values_at (codes "group") 32 (table_view document.now))) }
 {
     let values = values_at(document, "group", 32).ok_or(SetupFault::Range)?;
-    each_group(alloc, values, constituencies)
+    read_each(alloc, values, constituencies)
 }

@@ -1,5 +1,5 @@
 use Rattle.std.proofs.Common.{rules, sym, ◌∙◌}
-use Rattle.zh_csv.proofs.LoadLemmas.{loaded_more}
+use Rattle.zh_csv.proofs.LoadingLemmas.{loaded_more}
 use Rattle.zh_csv.proofs.batch_reader.hold.Goals as goal
 
 pub returns-clause-loaded : goal.returns-clause-loaded

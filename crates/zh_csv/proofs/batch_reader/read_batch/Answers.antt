@@ -1,7 +1,7 @@
 use Rattle.std.proofs.Common.{rules, refl, ap, ◌≡◌, [], Ok, Err, option_map}
 use Rattle.zh_csv.specs.Front.{front_of}
 use Rattle.zh_csv.specs.Load.{AreLoaded}
-use Rattle.zh_csv.proofs.OneLoadingLemmas.{loads_of_front}
+use Rattle.zh_csv.proofs.LoadingLemmas.{loads_of_front}
 use Rattle.zh_csv.proofs.batch_reader.read_batch.Goals as goal
 
 pub returns-in_err-read_rows-clause-loads : goal.returns-in_err-read_rows-clause-loads

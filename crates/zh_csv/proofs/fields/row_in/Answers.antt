@@ -1,13 +1,14 @@
-use Rattle.std.proofs.Common.{rules, ◌≡◌, ◌∙◌, sym, arith}
+use Rattle.std.proofs.Common.{rules, ◌≡◌, ◌∙◌, refl, sym, arith}
 use Rattle.std.proofs.lemmas.Grind.{common_steps}
 use Rattle.csv.specs.Records.{fields_of}
-use Rattle.zh_csv.proofs.FieldLemmas.{number_is}
+use Rattle.zh_csv.specs.Load.{fields}
+use Rattle.zh_csv.proofs.FieldLemmas.{one_numeral}
 use Rattle.zh_csv.proofs.fields.row_in.Goals as goal
 
 pub returns-then-row-eq0 : goal.returns-then-row-eq0
 returns-then-row-eq0 c row is e =
     let read = c.in_ok-numeral-3.ensures in
-    let same = number_is row c.in_ok-numeral-3.field-0 (fields_of c.args.record.now) is.number.0 is.number.1 e (sym c.field-3.ensures ∙ read.1) read.0 in
+    let same = one_numeral (fields_of c.args.record.now) (fields row) 2 c.in_ok-numeral-3.field-0 row.number read.0 is.number.1 (sym c.field-3.ensures ∙ read.1) refl e in
     let zero : c.in_ok-numeral-3.field-0 ≡ 0 = search rules in
     absurd (omega (arith, is.number.0))
 

@@ -1,4 +1,4 @@
-use Rattle.zh_csv.proofs.OneLoadingLemmas.{few_records}
+use Rattle.zh_csv.proofs.LoadingLemmas.{few_records}
 use Rattle.zh_csv.proofs.laws.few_records.Goals as goal
 
 pub returns : goal.returns

@@ -1,4 +1,4 @@
-use Rattle.zh_csv.proofs.OneLoadingLemmas.{one_loading}
+use Rattle.zh_csv.proofs.LoadingLemmas.{one_loading}
 use Rattle.zh_csv.proofs.laws.one_loading.Goals as goal
 
 pub returns : goal.returns

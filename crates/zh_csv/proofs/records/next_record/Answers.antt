@@ -1,4 +1,4 @@
-use Rattle.zh_csv.proofs.ReadLemmas.{found_either}
+use Rattle.zh_csv.proofs.RecordsLemmas.{found_either}
 use Rattle.zh_csv.proofs.records.next_record.Goals as goal
 
 pub returns-in-Ok : goal.returns-in-Ok

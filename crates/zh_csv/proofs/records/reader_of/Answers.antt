@@ -4,7 +4,7 @@ use Rattle.zh_csv.proofs.records.reader_of.Goals as goal
 
 pub returns : goal.returns
 unfolding Reached
-returns g c bytes known =
+returns g c front known =
     let from = c.from_reader.ensures in
     let set = c.flexible.ensures in
     let before = c.has_headers.ensures in
@@ -13,7 +13,7 @@ returns g c bytes known =
       trim = from.trim ∙ ap (λ b. b.trim) set ∙ ap (λ b. b.trim) before ∙ c.new.ensures.trim;
       flexible = from.flexible ∙ ap (λ b. b.flexible) set;
       ready = inr (inr (from.has_headers ∙ ap (λ b. b.has_headers) set ∙ ap (λ b. b.has_headers) before, from.headers));
-      rest = strip_bom bytes;
-      source = from.source ∙ ap (option_map strip_bom) known;
+      rest = strip_bom front;
+      source = from.source ∙ ap (option_map strip_bom) (c.new-front.ensures ∙ known);
       leaves = (sym from.state, refl);
     }

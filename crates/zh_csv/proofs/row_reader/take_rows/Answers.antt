@@ -2,7 +2,8 @@ use Rattle.std.proofs.Common.{rules, sym, ◌≡◌, ◌++◌, ◌∷◌, [], Er
 use Rattle.csv.specs.Records.{fields_of}
 use Rattle.std.proofs.lemmas.List.{length_push}
 use Rattle.zh_csv.specs.Records.{names}
-use Rattle.zh_csv.proofs.ReadingLemmas.{are_first, given_more, refused_here}
+use Rattle.zh_csv.proofs.ReadingLemmas.{given_more, refused_here}
+use Rattle.zh_csv.proofs.RecordsLemmas.{are_first}
 use Rattle.zh_csv.proofs.row_reader.take_rows.Goals as goal
 
 pub returns-then-not-branch : goal.returns-then-not-branch

@@ -1,7 +1,7 @@
 use Rattle.std.proofs.Common.{rules, ap, ◌≡◌, ◌∙◌, Ok, Err, option_map}
 use Rattle.zh_csv.specs.Front.{front_of}
 use Rattle.zh_held.specs.Held.{AreSums}
-use Rattle.zh_held.proofs.OneHoldingLemmas.{adds_up_of_front}
+use Rattle.zh_held.proofs.HoldingLemmas.{adds_up_of_front}
 use Rattle.zh_held.proofs.held_reader.read_held.Goals as goal
 
 pub returns-in_err-rows-clause-held : goal.returns-in_err-rows-clause-held

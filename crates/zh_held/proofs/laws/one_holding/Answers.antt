@@ -1,4 +1,4 @@
-use Rattle.zh_held.proofs.OneHoldingLemmas.{one_holding}
+use Rattle.zh_held.proofs.HoldingLemmas.{one_holding}
 use Rattle.zh_held.proofs.laws.one_holding.Goals as goal
 
 pub returns : goal.returns

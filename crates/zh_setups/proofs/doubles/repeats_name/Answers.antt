@@ -1,5 +1,6 @@
 use Rattle.std.proofs.Common.{◌≡◌, ℕ, suc, ◌+◌, ◌<◌, Bool, true, false, cond, not, ◌||◌, List, [], ◌∷◌, map, drop, length, get_or, refl, sym, ap, ◌∙◌, arith, drop-cons, add-one}
 use denote.Ref.{Bor}
+use Rattle.std.proofs.Math.Bool.{or_assoc, or_comm}
 use Rattle.std.proofs.lemmas.Grind.{common_steps}
 use Rattle.std.proofs.lemmas.Map.Text.{is_eq-slice_cmp}
 use Rattle.std.specs.BTreeSet.{BTreeSet, contains_by}
@@ -10,13 +11,8 @@ use Rattle.std.specs.Str.{bytes_eq}
 use Rattle.toml.specs.Data.{Data}
 use Rattle.toml.specs.View.{view}
 use Rattle.zh_setups.specs.Document.{name_in, same_name, repeats}
+use Rattle.zh_setups.proofs.FoundLemmas.{or_swap}
 use Rattle.zh_setups.proofs.doubles.repeats_name.Goals as goal
-
-or_swap : (a b c d : Bool) → (a || b) || (c || d) ≡ (a || c) || (b || d)
-or_swap true b c d = refl
-or_swap false true true d = refl
-or_swap false true false d = refl
-or_swap false false c d = refl
 
 any_none : (f : List ℕ → Bool) → ((q : List ℕ) → f q ≡ false) → (rest : List Data) → list_any (λ d. f (name_in d)) rest ≡ false
 any_none f none [] = refl
@@ -27,25 +23,15 @@ any_more : (f g : List ℕ → Bool) (v : Data) → ((q : List ℕ) → g q ≡ 
 any_more f g v more [] = refl
 any_more f g v more (d ∷ rest) =
     or_swap (f (name_in d)) (list_any (λ x. f (name_in x)) rest) (same_name v d) (list_any (same_name v) rest)
-    ∙ ap (λ b. b || (list_any (λ x. f (name_in x)) rest || list_any (same_name v) rest)) (or_turn (f (name_in d)) (same_name v d) ∙ sym (more (name_in d)))
+    ∙ ap (λ b. b || (list_any (λ x. f (name_in x)) rest || list_any (same_name v) rest)) (or_comm (f (name_in d)) (same_name v d) ∙ sym (more (name_in d)))
     ∙ ap (λ b. g (name_in d) || b) (any_more f g v more rest)
-  where
-    or_turn : (a b : Bool) → (a || b) ≡ (b || a)
-    or_turn true true = refl
-    or_turn true false = refl
-    or_turn false true = refl
-    or_turn false false = refl
-
-or_assoc : (a b c : Bool) → (a || (b || c)) ≡ ((a || b) || c)
-or_assoc true b c = refl
-or_assoc false b c = refl
 
 -- a name that is new is seen from now on
 goes_on : (f g : List ℕ → Bool) (v : Data) (rest : List Data) → f (name_in v) ≡ false → ((q : List ℕ) → g q ≡ (bytes_eq (name_in v) q || f q)) →
     (list_any (λ d. f (name_in d)) (v ∷ rest) || repeats same_name (v ∷ rest)) ≡ (list_any (λ d. g (name_in d)) rest || repeats same_name rest)
 goes_on f g v rest fresh more =
     ap (λ b. (b || list_any (λ d. f (name_in d)) rest) || (list_any (same_name v) rest || repeats same_name rest)) fresh
-    ∙ or_assoc (list_any (λ d. f (name_in d)) rest) (list_any (same_name v) rest) (repeats same_name rest)
+    ∙ sym (or_assoc (list_any (λ d. f (name_in d)) rest) (list_any (same_name v) rest) (repeats same_name rest))
     ∙ ap (λ b. b || repeats same_name rest) (any_more f g v more rest)
 
 drop_one : {X : Type 0} (h : X → Data) (xs : List X) (i : ℕ) (x : X) → i < length xs → x ≡ get_or xs i x → map h (drop i xs) ≡ h x ∷ map h (drop (i + 1) xs)

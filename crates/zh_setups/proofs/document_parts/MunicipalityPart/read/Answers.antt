@@ -1,7 +1,7 @@
 use Rattle.std.proofs.Common.{refl, sym}
 use Rattle.std.proofs.lemmas.Result.{err_from_is_err_and}
 use Rattle.zh_setups.proofs.EachLemmas.{same_fault}
-use Rattle.zh_setups.proofs.document_parts.read_municipality.Goals as goal
+use Rattle.zh_setups.proofs.document_parts.MunicipalityPart.read.Goals as goal
 
 pub returns : goal.returns
 returns c =

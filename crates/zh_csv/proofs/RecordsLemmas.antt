@@ -1,11 +1,14 @@
--- The first records of a text are the same for all who read it.
-use Rattle.std.proofs.Common.{◌≡◌, ◌≤◌, ℕ, List, [], ◌∷◌, ◌++◌, length, Some, None, refl, sym, ap, ◌∙◌, subst, arith}
+-- The records that a reader gives of a text are its first, which are the same for all who read it.
+use Rattle.std.proofs.Common.{◌≡◌, ◌≤◌, ℕ, List, [], ◌∷◌, ◌++◌, length, Option, Some, None, Bool, true, false, refl, sym, ap, ◌∙◌, inl, subst, arith}
+use Rattle.std.specs.Bool.{MatchBool}
 use Rattle.csv.specs.Machine.{Read, next_record}
-use Rattle.csv.specs.Reading.{Reached, default_config, strip_bom}
+use Rattle.csv.specs.Reading.{Reached, ReadRecord, default_config, is_flexible, strip_bom, took_first}
 use Rattle.csv.specs.declared.parser.Config.{Config}
 use Rattle.csv.specs.declared.parser.State.{State}
 use Rattle.csv.specs.declared.parser.State.TheVariants as states
-use Rattle.zh_csv.specs.Records.{Record, AreAll, AreFirst}
+use Rattle.csv.specs.declared.reader.Reader.{Reader}
+use Rattle.csv.proofs.ReadFacts.{rows-more, rows-end}
+use Rattle.zh_csv.specs.Records.{Record, AreAll, AreFirst, HasRead}
 
 -- of two fronts of a text the longer one begins with the shorter one
 reached_more : (cfg : Config) (s s2 s3 : State) (xs ys zs : List ℕ) (few many : List Record) → Reached cfg s xs few s2 ys → Reached cfg s xs many s3 zs → length few ≤ length many → (rest : List Record) × (many ≡ few ++ rest)
@@ -40,3 +43,33 @@ all_first text all (state, rest, reached, none) = (state, rest, reached)
 
 pub none_after : (text : List ℕ) (all few : List Record) → AreAll text all → AreFirst text few → length few ≤ length all
 none_after text all few (s2, ys, reached, none) (s3, zs, other) = reached_all default_config states.StartRecord s2 s3 (strip_bom text) ys zs all few reached none other
+
+-- a record that was given
+found_more : {R : Type 0} (remaining : R → Option (List ℕ)) (text : List ℕ) (records : List Record) (fields : Record) (old new : Reader R) → HasRead remaining text records old → ReadRecord remaining old new true fields
+    → took_first new ≡ true → is_flexible new ≡ is_flexible old → HasRead remaining text (records ++ fields ∷ []) new
+found_more remaining text records fields old new has read ready flexible =
+    let more = rows-more remaining old new fields default_config states.StartRecord (strip_bom text) has.rest records has.config has.source has.leaves read in
+    record {
+      config = read.2 ∙ has.config;
+      trim = read.3 ∙ has.trim;
+      flexible = flexible ∙ has.flexible;
+      ready = inl ready;
+      rest = more.0;
+      source = more.1;
+      leaves = more.2;
+    }
+
+-- the end of the text
+found_none : {R : Type 0} (remaining : R → Option (List ℕ)) (text : List ℕ) (records : List Record) (fields : Record) (old new : Reader R) → HasRead remaining text records old → ReadRecord remaining old new false fields → AreAll text records
+found_none remaining text records fields old new has read =
+    (old.state, has.rest, has.leaves, rows-end remaining old new fields default_config has.rest has.config has.source read)
+
+-- a read that succeeded
+pub found_either : {R : Type 0} (remaining : R → Option (List ℕ)) (text : List ℕ) (records : List Record) (fields : Record) (old new : Reader R) (found : Bool) → HasRead remaining text records old → ReadRecord remaining old new found fields
+    → took_first new ≡ true → is_flexible new ≡ is_flexible old → MatchBool found (HasRead remaining text (records ++ fields ∷ []) new) (AreAll text records)
+found_either remaining text records fields old new true has read ready flexible = found_more remaining text records fields old new has read ready flexible
+found_either remaining text records fields old new false has read ready flexible = found_none remaining text records fields old new has read
+
+-- the records that a reader gave are the first of its text
+pub are_first : {R : Type 0} (remaining : R → Option (List ℕ)) (text : List ℕ) (records : List Record) (reader : Reader R) → HasRead remaining text records reader → AreFirst text records
+are_first remaining text records reader has = (reader.state, has.rest, has.leaves)
