@@ -1,11 +1,8 @@
 -- What is reported of a text that gives no set-up, or no export of one, in bytes: 10 is LF, 32 the space.
-use Rattle.std.specs.Prelude.{ℕ, Bool, ◌==◌, ◌||◌, ◌&&◌, ◌-◌, nat_lt, if◌then◌else◌, List, [], ◌∷◌, ◌++◌, get_or, length}
+use Rattle.std.specs.Prelude.{ℕ, Bool, ◌==◌, ◌||◌, ◌&&◌, nat_lt, if◌then◌else◌, List, [], ◌∷◌, ◌++◌, length}
 use Rattle.std.specs.Prelude.{Option, Some, None, codes, decimal}
 use Rattle.std.specs.Char.{is_ascii_alphanumeric}
 use Rattle.std.specs.List.{list_all}
-use Rattle.zh_commands.specs.Shown.{sign_at}
-use Rattle.zh_commands.specs.declared.shown.Sign.{Sign}
-use Rattle.zh_commands.specs.declared.shown.Sign.TheVariants as signs
 use Rattle.zh_held.specs.declared.fault.HeldFault.{HeldFault}
 use Rattle.zh_held.specs.declared.fault.HeldFault.TheVariants as of_held
 use Rattle.zh_setups.specs.PlaceNames.{key_name, kind_name}
@@ -16,6 +13,8 @@ use Rattle.zh_setups.specs.declared.place.FaultPlace.{FaultPlace}
 use Rattle.zh_setups.specs.declared.place.FaultPlace.TheVariants as places
 use Rattle.zh_setups.specs.declared.place.Key.{Key}
 use Rattle.zh_record_text.specs.Each.{each_to}
+use Rattle.zh_text.specs.Shown.{shown_at}
+use Rattle.zh_text.specs.declared.shown.ShownNames.TheVariants as names
 
 -- the name of a fault of a set-up
 abbrev pub setup_name : SetupFault → List ℕ
@@ -35,16 +34,9 @@ held_name of_held.List = codes "held list"
 held_name of_held.Votes = codes "held votes"
 held_name of_held.Twice = codes "held twice"
 
--- a byte order mark and each control as a question mark, which is 63
-abbrev pub safe_sign : Sign → ℕ → List ℕ
-safe_sign signs.Mark byte = codes "?"
-safe_sign signs.Control byte = codes "?"
-safe_sign signs.Further byte = []
-safe_sign signs.Byte byte = (if nat_lt byte 32 || (byte == 127) then 63 else byte) ∷ []
-
--- the byte of this number, from 1, as it is shown
+-- the byte of this number, from 1, as it is shown: a byte order mark and each control as a question mark
 abbrev pub safe_byte : List ℕ → ℕ → List ℕ
-safe_byte text number = safe_sign (sign_at text (number - 1)) (get_or text (number - 1) 0)
+safe_byte text number = shown_at names.None text number
 
 -- a letter, a digit, _ or -, which are 95 and 45
 abbrev pub is_bare : ℕ → Bool

@@ -1,21 +1,14 @@
 //! What is reported where the text of a set-up or of an export gives none: the name of the fault in a line, and then its place, if
 //! that is known.
 
-ghost use Rattle.std.specs.Prelude.{◌≡◌, ◌≤◌, ◌++◌, OnOk, IfOk, decimal, length};
+ghost use Rattle.std.specs.Prelude.{◌≡◌, ◌≤◌, ◌++◌, OnOk, IfOk, length};
 ghost use Rattle.zh_checks.specs.Reports.{held_name, rows_report, setup_name, setup_place, setup_report};
 
 use crate::shown::shown_key;
-use itoa::Buffer;
 use std::alloc::{AllocError, Global};
 use zh_held::HeldFault;
 use zh_setups::{FaultPlace, SetupFault, SetupRefusal};
-
-/// Puts a numeral at the end.
-fn push_number(text: &mut Vec<u8>, number: u64) -> Result<(), AllocError>
-    ensures { OnOk result (text.new.items ≡ text.old.items ++ decimal number) }
-{
-    text.extend_from_slice(Buffer::new().format(number).as_bytes())
-}
+use zh_text::push_number;
 
 /// The name of the fault of a set-up text.
 pub fn name_of_setup(fault: SetupFault) -> &'static str
@@ -54,15 +47,15 @@ fn push_place(text: &mut Vec<u8>, place: &FaultPlace) -> Result<(), AllocError>
     match place {
         FaultPlace::At(position) => {
             text.extend_from_slice(b"line ")?;
-            push_number(text, position.line as u64)?;
+            push_number(text, position.line)?;
             text.extend_from_slice(b", column ")?;
-            push_number(text, position.column as u64)
+            push_number(text, position.column)
         }
         FaultPlace::Top(key) => text.extend_from_slice(shown_key(key).as_slice()),
         FaultPlace::Table { kind, number, key } => {
             text.extend_from_slice(kind.as_str().as_bytes())?;
             text.extend_from_slice(b" ")?;
-            push_number(text, *number as u64)?;
+            push_number(text, *number)?;
             text.extend_from_slice(b", ")?;
             text.extend_from_slice(shown_key(key).as_slice())
         }

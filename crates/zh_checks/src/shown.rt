@@ -1,38 +1,16 @@
 //! Bytes of a text, as they are shown in a report: nothing that a terminal might act on.
 
-ghost use Rattle.std.specs.Prelude.{◌≡◌, ◌+◌, ◌≤◌, ◌<◌, ◌++◌, [], ◌∷◌, length};
+ghost use Rattle.std.specs.Prelude.{◌≡◌, ◌+◌, ◌≤◌, ◌++◌, [], ◌∷◌, length};
 ghost use Rattle.std.specs.List.{list_all};
-ghost use Rattle.zh_checks.specs.Reports.{is_bare, safe_byte, safe_sign, shown_key};
-ghost use Rattle.zh_commands.specs.declared.shown.Sign.TheVariants.{Byte};
+ghost use Rattle.zh_checks.specs.Reports.{is_bare, safe_byte, shown_key};
 ghost use Rattle.zh_record_text.specs.Each.{each_to};
 
 use arrayvec::ArrayVec;
-use zh_commands::{Sign, sign_at};
 use zh_setups::Key;
+use zh_text::{ShownNames, shown_at};
 
 /// A key as it is shown: at most 40 bytes, and quotes.
 pub type ShownKey = ArrayVec<u8, 42>;
-
-/// A byte as it is shown: a control byte as a question mark.
-fn printable(byte: u8) -> u8
-    ensures { result ∷ [] ≡ safe_sign Byte byte }
-{
-    if byte < 32 || byte == 127 { b'?' } else { byte }
-}
-
-/// Writes the byte of a text at this place as it is shown.
-fn push_byte<const N: usize>(shown: &mut ArrayVec<u8, N>, text: &[u8], place: usize)
-    requires room { length shown.old.items < N }
-    requires within { place < length text.now }
-    ensures shown { shown.new.items ≡ shown.old.items ++ safe_byte text.now (place + 1) }
-    ensures short { length shown.new.items ≤ length shown.old.items + 1 }
-{
-    match sign_at(text, place) {
-        Sign::Mark | Sign::Control => shown.push(b'?'),
-        Sign::Further => {}
-        Sign::Byte => shown.push(printable(text[place])),
-    }
-}
 
 /// Writes so many bytes of a text as they are shown.
 pub fn push_shown<const N: usize>(shown: &mut ArrayVec<u8, N>, text: &[u8], count: usize)
@@ -42,7 +20,7 @@ pub fn push_shown<const N: usize>(shown: &mut ArrayVec<u8, N>, text: &[u8], coun
     ensures short { length shown.new.items ≤ length shown.old.items + count }
 {
     for place in 0..count {
-        push_byte(shown, text, place);
+        let _fits = shown.try_extend_from_slice(shown_at(ShownNames::None, text, place));
     }
 }
 

@@ -1,5 +1,6 @@
 -- Fronts of texts that are written.
-use Rattle.std.proofs.Common.{◌≡◌, ◌<◌, ◌+◌, ℕ, suc, List, [], ◌∷◌, ◌++◌, length, take, Option, sym, ap, ◌∙◌, subst, arith}
+use Rattle.std.proofs.Common.{◌≡◌, ◌<◌, ◌+◌, ℕ, List, ◌++◌, length, take, Option, sym, subst, arith}
+use Rattle.std.proofs.Math.Seq.{take-append-add}
 use Rattle.std.proofs.lemmas.List.{length-append, take-append-le, take_all}
 use Rattle.std.specs.Io.KnownBytes.{Appends}
 use Rattle.zh_record_text.proofs.CallerLemmas.{Appends-join, Appends-none}
@@ -27,11 +28,7 @@ front_more left a b xs ys (front, within, written) =
 pub breaks_more : (fault : JudgementFault) (a b : Option (List ℕ)) (xs ys : List ℕ) → BreaksOffLine fault a b xs → BreaksOffLine fault a b (xs ++ ys)
 breaks_more fault a b xs ys (early, front) = (early, front_more _ a b xs ys front)
 
-take_more : (xs ys : List ℕ) (n : ℕ) → take (length xs + n) (xs ++ ys) ≡ xs ++ take n ys
-take_more [] ys n = ap (λ (m : ℕ). take m ys) (omega arith)
-take_more (x ∷ xs) ys n = let more : length (x ∷ xs) + n ≡ suc (length xs + n) = omega arith in ap (λ (m : ℕ). take m (x ∷ (xs ++ ys))) more ∙ ap (λ (l : List ℕ). x ∷ l) (take_more xs ys n)
-
 -- a front after a whole text
 pub front_after : (left : ℕ) (a b c : Option (List ℕ)) (xs ys : List ℕ) → Appends a b xs → WritesUpTo left b c ys → WritesUpTo left a c (xs ++ ys)
 front_after left a b c xs ys all (front, within, written) =
-    (length xs + front, omega (arith, within, length-append xs ys), subst (Appends a c) (sym (take_more xs ys front)) (Appends-join a b c xs (take front ys) all written))
+    (length xs + front, omega (arith, within, length-append xs ys), subst (Appends a c) (sym (take-append-add xs ys front)) (Appends-join a b c xs (take front ys) all written))

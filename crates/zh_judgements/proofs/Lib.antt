@@ -3,6 +3,5 @@ pub mod CallerLemmas
 mod FindingLemmas
 mod FrontLemmas
 mod JudgedLemmas
-mod LineLemmas
 mod LoadedLemmas
 mod RowLemmas

@@ -1,6 +1,7 @@
 -- What is found of the records that a loading reads.
 use Rattle.std.proofs.Common.{◌≡◌, ◌≢◌, ◌<◌, ◌≤◌, ◌||◌, ◌⊎◌, inl, inr, ℕ, ◌+◌, List, [], ◌∷◌, ◌++◌, map, length, Bool, true, false, Some, None, Result, Ok, Err, refl, sym, ap, ◌∙◌, subst, arith, append_assoc, length-append, if◌then◌else◌}
 use Rattle.std.specs.List.{list_any}
+use Rattle.std.proofs.Math.Bool.{or-true}
 use Rattle.std.proofs.lemmas.List.{append-nil}
 use Rattle.std.proofs.lemmas.List.Folds.{list_any-append}
 use Rattle.zh_records.specs.declared.command.Command.{Command}
@@ -76,10 +77,6 @@ stored_alike verdicts.Accept = refl
 stored_alike verdicts.Same = refl
 stored_alike (verdicts.Refused reason) = refl
 
-or_true : (b : Bool) → (b || true) ≡ true
-or_true true = refl
-or_true false = refl
-
 -- the record at which a loading stops is refused
 last_refused : (tally : Tally) (rows : List Row) (last : Record) (fault : LoadFault) → (IsUnread fields IsReadable last fault ⊎ IsUnheld (loading tally.canton) rows last fault) → refuses (judgement tally rows (row_in last)) ≡ true
 last_refused tally rows last fault (inl unread) = rw (row_in-unread last fault unread) refl
@@ -95,7 +92,7 @@ stop_refused tally number before (row ∷ rows) last rest are refused =
     (subst (λ (r : List Row). refuses (judgement tally r (row_in last)) ≡ true) (sym (append_assoc before (row ∷ []) rows)) refused) in
     let grows : any_refused (findings_from tally (number + 1) (rows_after tally.canton before (row_in (fields row))) ((map fields rows ++ last ∷ []) ++ rest)) ≡ true =
     ap (λ (r : List Row). any_refused (findings_from tally (number + 1) r ((map fields rows ++ last ∷ []) ++ rest))) (grown tally before row rows are) ∙ later in
-    ap (λ (b : Bool). refuses (judgement tally before (row_in (fields row))) || b) grows ∙ or_true (refuses (judgement tally before (row_in (fields row))))
+    ap (λ (b : Bool). refuses (judgement tally before (row_in (fields row))) || b) grows ∙ or-true (refuses (judgement tally before (row_in (fields row))))
 
 -- the names are no finding
 after_names : (tally : Tally) (others : List Record) → findings tally (names ∷ others) ≡ findings_from tally 2 [] others
@@ -124,13 +121,10 @@ stopped_refused tally text records fault all stops =
     ∙ stop_refused tally 2 [] stops.rows stops.last rest stops.held (last_refused tally stops.rows stops.last fault stops.refused)
 
 fault_refused : (tally : Tally) (text : List ℕ) (records : List Record) (fault : LoadFault) → fault ≢ faults.Memory → fault ≢ faults.Read → AreAll text records → Loads tally.canton text (Err fault) → any_refused (findings tally records) ≡ true
-fault_refused tally text records faults.Csv memory read all (inl unnamed) = unnamed_refused tally text records all unnamed
-fault_refused tally text records faults.Csv memory read all (inr stops) = stopped_refused tally text records faults.Csv all stops
-fault_refused tally text records faults.Memory memory read all loads = absurd (memory refl)
-fault_refused tally text records faults.Read memory read all loads = absurd (read refl)
-fault_refused tally text records faults.Syntax memory read all stops = stopped_refused tally text records faults.Syntax all stops
-fault_refused tally text records (faults.Judged reason) memory read all stops = stopped_refused tally text records (faults.Judged reason) all stops
-fault_refused tally text records (faults.Row fault) memory read all stops = stopped_refused tally text records (faults.Row fault) all stops
+fault_refused tally text records fault memory read all refused = elim (refused memory read) [
+  | inl (csv, unnamed) ↦ unnamed_refused tally text records all unnamed
+  | inr stops ↦ stopped_refused tally text records fault all stops
+]
 
 -- a text that a loading reads
 module _ (tally : Tally) (text : List ℕ) (records : List Record) (rows : List Row) (all : AreAll text records) (loads : Loads tally.canton text (Ok rows)) where
@@ -221,7 +215,7 @@ long_refused tally (first ∷ others) part long =
     let last : any_refused (next_finding tally 2 [] others part ∷ []) ≡ true = rw (read_other part (too_long part long)) refl in
     ap any_refused (begun_push tally first others part)
     ∙ list_any-append (λ (f : Finding). refuses f.judgement) (begun tally (first ∷ others)) (next_finding tally 2 [] others part ∷ [])
-    ∙ ap (λ (b : Bool). any_refused (begun tally (first ∷ others)) || b) last ∙ or_true (any_refused (begun tally (first ∷ others)))
+    ∙ ap (λ (b : Bool). any_refused (begun tally (first ∷ others)) || b) last ∙ or-true (any_refused (begun tally (first ∷ others)))
 
 -- a text of which not all is read
 module _ (old new : OnDisk Office) (text : List ℕ) (records : List Record) (reply : Reply) (log : Log) (cut : EndsInPart text records) where

@@ -2,6 +2,7 @@
 use Rattle.std.proofs.Common.{◌≡◌, ◌≢◌, ◌<◌, ◌≤◌, ◌^◌, ◌==◌, ◌&&◌, ◌⊎◌, inl, inr, ⊎_elim, ℕ, nat_lt, List, [], ◌∷◌, length, Option, Some, None, Result, Ok, Err, refl, ap, ◌∙◌, subst, arith, true, false, Bool, decimal, if◌then◌else◌}
 use Rattle.std.specs.Str.{bytes_eq}
 use Rattle.std.specs.Str.Parse.{AllDigits, digits_value}
+use Rattle.std.proofs.lemmas.Bool.{and_parts}
 use Rattle.std.proofs.lemmas.Bool.Decides.{nat_tests}
 use Rattle.std.proofs.lemmas.Fmt.{digits_value-decimal}
 use Rattle.std.proofs.lemmas.List.{append-nil}
@@ -38,11 +39,6 @@ row_in-fields row is =
     let some : (row.number == 0) ≡ false = grind (arith, nat_tests, is.number.0) in
     rw (may_be row is, number_read-decimal row.municipality is.municipality, number_read-decimal row.list is.list, number_read-decimal row.number is.number.1, number_read-decimal row.votes is.votes, some) refl
 
-and_both : (a b : Bool) → (a && b) ≡ true → (a ≡ true) × (b ≡ true)
-and_both true true both = (refl, refl)
-and_both true false both = cc both
-and_both false b both = cc both
-
 -- a field that is read is the numeral of the number
 number_read-sound : (field : List ℕ) (n : ℕ) → number_read field ≡ Some n → (n < 2 ^ 32) × (field ≡ decimal n)
 number_read-sound field n is = by (is_numeral field (digits_value 10 field)) refl is
@@ -51,7 +47,7 @@ number_read-sound field n is = by (is_numeral field (digits_value 10 field)) ref
     by false test found = cc found
     by true test found =
         let value : digits_value 10 field ≡ n = cc found in
-        let (small, same) = and_both (nat_lt (digits_value 10 field) (2 ^ 32)) (bytes_eq field (decimal (digits_value 10 field))) test in
+        let (small, same) = and_parts (nat_lt (digits_value 10 field) (2 ^ 32)) (bytes_eq field (decimal (digits_value 10 field))) test in
         let fits : digits_value 10 field < 2 ^ 32 = grind (arith, nat_tests) in
         (omega arith, (bytes_eq-Decides field (decimal (digits_value 10 field))).0 same ∙ ap decimal value)
 
@@ -71,10 +67,7 @@ module _ (a b c d : List ℕ) (row : Row) where
           let fv = number_read-sound d v ev in
           subst (λ (r : Row). IsReadable r × (a ∷ b ∷ c ∷ d ∷ [] ≡ fields r)) same
           (record { municipality = fm.0; list = fl.0; number = (first, fn.0); votes = fv.0 }, λ i. fm.1 i ∷ fl.1 i ∷ fn.1 i ∷ fv.1 i ∷ [])
-  four_sound None y z w em el en ev is = cc is
-  four_sound (Some m) None z w em el en ev is = cc is
-  four_sound (Some m) (Some l) None w em el en ev is = cc is
-  four_sound (Some m) (Some l) (Some n) None em el en ev is = cc is
+  four_sound x y z w em el en ev is = cc is
 
 -- the row whose numerals four fields are, however long
 abbrev row_of_four : Record → Result Row LoadFault
@@ -82,29 +75,17 @@ row_of_four (a ∷ b ∷ c ∷ d ∷ []) = row_with (number_read a) (number_read
 row_of_four fields = Err faults.Csv
 
 read_short : (all : Record) → may_be_row all ≡ true → row_in all ≡ row_of_four all
-read_short [] may = refl
-read_short (a ∷ []) may = refl
-read_short (a ∷ b ∷ []) may = refl
-read_short (a ∷ b ∷ c ∷ []) may = refl
 read_short (a ∷ b ∷ c ∷ d ∷ []) may = rw may refl
-read_short (a ∷ b ∷ c ∷ d ∷ e ∷ rest) may = refl
+read_short all may = refl
 
 pub read_other : (all : Record) → may_be_row all ≡ false → row_in all ≡ Err faults.Csv
-read_other [] other = refl
-read_other (a ∷ []) other = refl
-read_other (a ∷ b ∷ []) other = refl
-read_other (a ∷ b ∷ c ∷ []) other = refl
 read_other (a ∷ b ∷ c ∷ d ∷ []) other = rw other refl
-read_other (a ∷ b ∷ c ∷ d ∷ e ∷ rest) other = refl
+read_other all other = refl
 
 -- a row that is read is that of the fields
 row_of_four-sound : (record_fields : Record) (row : Row) → row_of_four record_fields ≡ Ok row → IsReadable row × (record_fields ≡ fields row)
-row_of_four-sound [] row is = cc is
-row_of_four-sound (a ∷ []) row is = cc is
-row_of_four-sound (a ∷ b ∷ []) row is = cc is
-row_of_four-sound (a ∷ b ∷ c ∷ []) row is = cc is
 row_of_four-sound (a ∷ b ∷ c ∷ d ∷ []) row is = four_sound a b c d row (number_read a) (number_read b) (number_read c) (number_read d) refl refl refl refl is
-row_of_four-sound (a ∷ b ∷ c ∷ d ∷ e ∷ rest) row is = cc is
+row_of_four-sound all row is = cc is
 
 -- four numbers or not
 four_or : (x y z w : Option ℕ) → (row_with x y z w ≡ Err faults.Syntax) ⊎ ((row : Row) × (row_with x y z w ≡ Ok row))
@@ -113,31 +94,21 @@ four_or (Some m) (Some l) (Some n) (Some v) = by (record { municipality = m; lis
     by : (row : Row) (zero : Bool) → ((if zero then Err faults.Syntax else Ok row) ≡ Err faults.Syntax) ⊎ ((found : Row) × ((if zero then Err faults.Syntax else Ok row) ≡ Ok found))
     by row true = inl refl
     by row false = inr (row, refl)
-four_or None y z w = inl refl
-four_or (Some m) None z w = inl refl
-four_or (Some m) (Some l) None w = inl refl
-four_or (Some m) (Some l) (Some n) None = inl refl
+four_or x y z w = inl refl
 
 -- a record that is no row is read as none
 no_row : (all : Record) → length all ≡ 4 → ((row : Row) → IsReadable row → all ≢ fields row) → row_of_four all ≡ Err faults.Syntax
-no_row [] four none = absurd (omega arith)
-no_row (a ∷ []) four none = absurd (omega arith)
-no_row (a ∷ b ∷ []) four none = absurd (omega arith)
-no_row (a ∷ b ∷ c ∷ []) four none = absurd (omega arith)
 no_row (a ∷ b ∷ c ∷ d ∷ []) four none =
     ⊎_elim (λ (is : row_of_four (a ∷ b ∷ c ∷ d ∷ []) ≡ Err faults.Syntax). is)
     (λ (found : (row : Row) × (row_of_four (a ∷ b ∷ c ∷ d ∷ []) ≡ Ok row)).
     let sound = row_of_four-sound (a ∷ b ∷ c ∷ d ∷ []) found.0 found.1 in absurd (none found.0 sound.0 sound.1))
     (four_or (number_read a) (number_read b) (number_read c) (number_read d))
-no_row (a ∷ b ∷ c ∷ d ∷ e ∷ rest) four none = absurd (omega arith)
+no_row all four none = absurd (omega arith)
 
 pub row_in-unread : (all : Record) (fault : LoadFault) → IsUnread fields IsReadable all fault → row_in all ≡ Err fault
 row_in-unread all faults.Csv other = read_other all other
 row_in-unread all faults.Syntax (may, none) = read_short all may ∙ no_row all (four_of_row all may) none
-row_in-unread all (faults.Judged reason) none = absurd none
-row_in-unread all (faults.Row fault) none = absurd none
-row_in-unread all faults.Memory none = absurd none
-row_in-unread all faults.Read none = absurd none
+row_in-unread all fault none = absurd none
 
 -- the names are where the test finds them, and nowhere else
 pub names_found : (all : Record) → all ≡ names → first_findings all ≡ []

@@ -1,18 +1,16 @@
 -- What is written of the records of a text: a line for each that is refused, and then what a loading would come to. 10 ends a
--- line, 32 is the space, 44 the comma, 63 the question mark.
-use Rattle.std.specs.Prelude.{ℕ, ◌==◌, ◌&&◌, ◌||◌, nat_lt, if◌then◌else◌, Bool, List, [], ◌∷◌, ◌++◌, ◌-◌, drop, get_or, length}
+-- line, 32 is the space, 44 the comma.
+use Rattle.std.specs.Prelude.{ℕ, ◌==◌, ◌&&◌, if◌then◌else◌, Bool, List, [], ◌∷◌, ◌++◌, drop}
 use Rattle.std.specs.Prelude.{codes, decimal}
 use Rattle.std.specs.Cmp.Lexicographic.{pointwise}
 use Rattle.std.specs.List.{flat_map}
 use Rattle.std.specs.Str.{bytes_eq}
 use Rattle.zh_commands.specs.Replies.{answer}
-use Rattle.zh_commands.specs.Shown.{sign_at}
-use Rattle.zh_commands.specs.declared.shown.Sign.{Sign}
-use Rattle.zh_commands.specs.declared.shown.Sign.TheVariants.{Mark, Control, Further, Byte}
-use Rattle.zh_record_text.specs.Each.{each_to}
 use Rattle.zh_commands.specs.declared.replies.Reply.TheVariants as replies
 use Rattle.zh_commands.specs.declared.replies.Refusal.{Refusal}
 use Rattle.zh_csv.specs.Records.{Record}
+use Rattle.zh_text.specs.Shown.{shown_text}
+use Rattle.zh_text.specs.declared.shown.ShownNames.TheVariants as names
 use Rattle.zh_returns.specs.Tally.{Tally}
 use Rattle.zh_judgements.specs.Findings.{Finding, findings, forecast_of}
 use Rattle.zh_judgements.specs.declared.judgement.Forecast.{Forecast}
@@ -20,23 +18,9 @@ use Rattle.zh_judgements.specs.declared.judgement.Forecast.TheVariants as foreca
 use Rattle.zh_judgements.specs.declared.judgement.Judgement.{Judgement}
 use Rattle.zh_judgements.specs.declared.judgement.Judgement.TheVariants.{Refused}
 
--- a control byte stands as a question mark
-abbrev pub printable : ℕ → ℕ
-printable byte = if nat_lt byte 32 || (byte == 127) then 63 else byte
-
--- a byte order mark by its name, and a control of two bytes as a question mark
-abbrev pub printed_sign : Sign → ℕ → List ℕ
-printed_sign Mark byte = codes "<BOM>"
-printed_sign Control byte = codes "?"
-printed_sign Further byte = []
-printed_sign Byte byte = printable byte ∷ []
-
--- the byte of this number, from 1, as it is shown
-abbrev pub printed_at : List ℕ → ℕ → List ℕ
-printed_at field number = printed_sign (sign_at field (number - 1)) (get_or field (number - 1) 0)
-
+-- a field as it is shown, a byte order mark by its name
 abbrev pub shown_field : List ℕ → List ℕ
-shown_field field = each_to (length field) (printed_at field)
+shown_field field = shown_text names.Mark field
 
 -- fields, a comma before each
 abbrev pub after_commas : Record → List ℕ

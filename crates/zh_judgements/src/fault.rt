@@ -4,24 +4,19 @@ ghost use Rattle.std.specs.Prelude.{◌≡◌};
 ghost use Rattle.zh_judgements.specs.declared.fault.JudgementFault.TheVariants.{Memory, Write};
 
 use std::alloc::AllocError;
-use thiserror::Error;
 use zh_commands::WriteFault;
 use zh_csv::ReadFault;
 
 /// Why a text is not judged to its end.
-#[derive(Clone, Copy, Debug, PartialEq, Eq, Error)]
+#[derive(Clone, Copy, Debug, PartialEq, Eq)]
 pub enum JudgementFault {
     /// Memory ran out.
-    #[error("memory")]
     Memory,
     /// The reader failed.
-    #[error("read")]
     Read,
     /// The text has 4,294,967,294 records or more.
-    #[error("turns")]
     Turns,
     /// The writer failed, or took no byte.
-    #[error("write")]
     Write,
 }
 

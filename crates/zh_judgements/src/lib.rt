@@ -9,6 +9,6 @@ mod progress;
 mod text;
 
 pub use fault::JudgementFault;
-pub use judgement::{Forecast, Judgement};
+pub use judgement::Forecast;
 pub use laws::{each_is_judged_after_those_before, forecast_is_kept};
 pub use text::write_judgement;

@@ -1,47 +1,24 @@
 //! The line of a record that is refused, and the last line.
 
-ghost use Rattle.std.specs.Prelude.{◌≡◌, ◌<◌, ◌++◌, ◌∷◌, [], ◌+◌, drop, length, IfOk, OnOk, codes, decimal};
+ghost use Rattle.std.specs.Prelude.{◌≡◌, ◌<◌, ◌++◌, ◌∷◌, [], drop, length, IfOk, OnOk};
 ghost use Rattle.csv.specs.Records.{fields_of};
 ghost use Rattle.zh_commands.specs.Replies.{answer};
 ghost use Rattle.zh_commands.specs.declared.replies.Reply.{Reply};
-ghost use Rattle.zh_judgements.specs.Text.{conversion, after_commas, forecast_text, has_semicolons, joined, printable, printed_at};
+ghost use Rattle.zh_judgements.specs.Text.{conversion, after_commas, forecast_text, has_semicolons, joined};
 ghost use Rattle.zh_judgements.specs.Text.{refused_line, shown_field};
 
 use crate::judgement::Forecast;
 use csv::ByteRecord;
-use itoa::Buffer;
 use std::alloc::{AllocError, Global};
-use zh_commands::{Refusal, Reply, Sign, sign_at, write_reply};
+use zh_commands::{Refusal, Reply, write_answer};
 use zh_csv::field;
+use zh_text::{ShownNames, push_number, push_shown};
 
-/// A byte as it is shown: a control byte as a question mark.
-fn printable(byte: u8) -> u8
-    ensures { result ≡ printable byte }
-{
-    if byte < 32 || byte == 127 { b'?' } else { byte }
-}
-
-/// Puts the byte of a field at this place at the end as it is shown.
-fn push_printed(line: &mut Vec<u8>, field: &[u8], place: usize) -> Result<(), AllocError>
-    requires { place < length field.now }
-    ensures { OnOk result (line.new.items ≡ line.old.items ++ printed_at field.now (place + 1)) }
-{
-    match sign_at(field, place) {
-        Sign::Mark => line.extend_from_slice(b"<BOM>"),
-        Sign::Control => line.extend_from_slice(b"?"),
-        Sign::Further => Ok(()),
-        Sign::Byte => line.extend_from_slice(&[printable(field[place])]),
-    }
-}
-
-/// Puts a field at the end.
+/// Puts a field at the end as it is shown, a byte order mark by its name.
 fn push_field(line: &mut Vec<u8>, field: &[u8]) -> Result<(), AllocError>
     ensures { OnOk result (line.new.items ≡ line.old.items ++ shown_field field.now) }
 {
-    for place in 0..field.len() {
-        push_printed(line, field, place)?;
-    }
-    Ok(())
+    push_shown(line, ShownNames::Mark, field)
 }
 
 /// Puts the fields after the first at the end, a comma before each.
@@ -67,20 +44,14 @@ fn push_fields(line: &mut Vec<u8>, record: &ByteRecord) -> Result<(), AllocError
     push_others(line, record)
 }
 
-/// Puts a number at the end.
-fn push_number(line: &mut Vec<u8>, number: u32) -> Result<(), AllocError>
-    ensures { OnOk result (line.new.items ≡ line.old.items ++ decimal number) }
-{
-    line.extend_from_slice(Buffer::new().format(number).as_bytes())
-}
-
 /// Puts the refusal at the end, after a space, and then the end of the line.
 fn push_refusal(line: &mut Vec<u8>, refusal: Refusal) -> Result<(), AllocError>
     ensures { OnOk result (line.new.items ≡ line.old.items ++ 32 ∷ answer (Reply.Refused refusal) ++ 10 ∷ []) }
 {
     let mut text = [0; 64];
-    let length = write_reply(0, &Reply::Refused(refusal), &mut text);
-    line.extend_from_slice(&text[1..length])
+    let length = write_answer(&Reply::Refused(refusal), &mut text);
+    line.push(b' ')?;
+    line.extend_from_slice(&text[..length])
 }
 
 /// Whether a record is the names of the columns with semicolons between them.

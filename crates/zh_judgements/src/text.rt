@@ -20,7 +20,7 @@ use csv::{ByteRecord, Reader};
 use std::alloc::Global;
 use std::io::{Read, Write};
 use zh_commands::put;
-use zh_csv::{FrontReader, NotedReader, next_record, reader_of};
+use zh_csv::{NotedReader, next_record, reader_of};
 use zh_returns::Count;
 
 /// Judges the records that follow the first.
@@ -102,7 +102,7 @@ fn judge_records<R: Read + Drop, W: Write>(
 ) -> Result<Forecast, JudgementFault>
     ensures { Judges count.now (λ bytes. R.remaining text ≡ Some bytes) (W.contents out.old) (W.contents out.new) result }
 {
-    let mut reader = reader_of(alloc, FrontReader::new(text));
+    let mut reader = reader_of(alloc, text);
     let mut record = ByteRecord::new(alloc);
     if !next_record(&mut reader, &mut record)? {
         return judge_none(alloc, out);

@@ -1,3 +1,4 @@
 pub mod Lists
 pub mod Quotients
+pub mod Refusals
 pub mod Table

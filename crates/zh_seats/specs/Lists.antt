@@ -1,7 +1,7 @@
 -- The seats of the lists as comma-separated text. Each list that stands has a record, also where its group takes no part: so
 -- the votes of a constituency are there whole.
 use Rattle.std.specs.Prelude.{◌≡◌, ℕ, ◌-◌, Option, Some, None, option_map, List, [], ◌∷◌, ◌++◌, length, slice_index}
-use Rattle.std.specs.Prelude.{if◌then◌else◌, codes, decimal, string_bytes}
+use Rattle.std.specs.Prelude.{if◌then◌else◌, codes, decimal}
 use Rattle.std.specs.Option.{option_map_or}
 use Rattle.zh_districts.specs.Canton.{stands}
 use Rattle.zh_totals.specs.Totals.{votes_in}
@@ -36,10 +36,10 @@ list_quotient x d g = option_map (quotient (votes_in x.totals d g) (constituency
 
 -- the texts of numbers, nothing where there is no number
 pub record AreTexts (x : Distribution) (d g : ℕ) (texts : Texts) : Type 0 where
-  pub voters : string_bytes texts.voters ≡ option_map_or decimal (list_voters x d g) []
-  pub constituency : string_bytes texts.constituency_divisor ≡ divisor_text (constituency_divisor x d)
-  pub group : string_bytes texts.group_divisor ≡ option_map_or divisor_text (group_divisor x g) []
-  pub quotient : string_bytes texts.quotient ≡ option_map_or divisor_text (list_quotient x d g) []
+  pub voters : texts.voters.items ≡ option_map_or decimal (list_voters x d g) []
+  pub constituency : texts.constituency_divisor.items ≡ divisor_text (constituency_divisor x d)
+  pub group : texts.group_divisor.items ≡ option_map_or divisor_text (group_divisor x g) []
+  pub quotient : texts.quotient.items ≡ option_map_or divisor_text (list_quotient x d g) []
 
 -- whether the seats are final, in a word
 abbrev pub finality : Mark → List ℕ

@@ -39,10 +39,10 @@ pub(crate) fn write_header<W: Write + Drop>(writer: &mut Writer<W>) -> Result<()
 /// The numbers of a list that there may not be, and those with digits after the dot, as text.
 #[derive(Drop)]
 struct Texts {
-    voters: String,
-    constituency_divisor: String,
-    group_divisor: String,
-    quotient: String,
+    voters: Vec<u8>,
+    constituency_divisor: Vec<u8>,
+    group_divisor: Vec<u8>,
+    quotient: Vec<u8>,
 }
 
 /// These texts of a list.
@@ -97,13 +97,13 @@ fn write_list<W: Write + Drop>(
         votes
             .format(sheet.totals().votes(constituency, group))
             .as_bytes(),
-        texts.voters.as_bytes(),
+        texts.voters.as_slice(),
         seats
             .format(sheet.list_seats(constituency, group))
             .as_bytes(),
-        texts.constituency_divisor.as_bytes(),
-        texts.group_divisor.as_bytes(),
-        texts.quotient.as_bytes(),
+        texts.constituency_divisor.as_slice(),
+        texts.group_divisor.as_slice(),
+        texts.quotient.as_slice(),
         mark.kind().as_bytes(),
         accepted.format(mark.accepted).as_bytes(),
         sheet.constituency_name(constituency).as_bytes(),

@@ -9,9 +9,9 @@ use crate::cells::{Line, label_in, push_cell, push_last};
 use crate::mark::Mark;
 use crate::padding::push_left;
 use crate::widths::{group_width, name_width, table_width};
-use itoa::Buffer;
 use std::alloc::{AllocError, Global};
 use zh_sheet::Sheet;
+use zh_text::push_number;
 
 /// The columns that the wide table has at most.
 const MOST_COLUMNS: usize = 80;
@@ -100,7 +100,7 @@ fn push_title(out: &mut Vec<u8>, mark: Mark) -> Result<(), AllocError>
     out.extend_from_slice(mark.finality().as_bytes())?;
     out.extend_from_slice(whose)?;
     out.extend_from_slice(b", ")?;
-    out.extend_from_slice(Buffer::new().format(mark.accepted).as_bytes())?;
+    push_number(out, mark.accepted)?;
     out.extend_from_slice(b" commands")?;
     out.extend_from_slice(whose)?;
     out.extend_from_slice(b"\n")

@@ -1,5 +1,5 @@
 -- What crates above may use.
-pub use Rattle.zh_sheet_text.proofs.EachLemmas.{Each, each_all, each_more}
+pub use Rattle.zh_sheet_text.proofs.EachLemmas.{Each}
 pub use Rattle.zh_sheet_text.proofs.LayoutLemmas.{IsLineOf, all_lines, is_laid_out, is_name_part, parts_at}
 pub use Rattle.zh_sheet_text.proofs.LongestLemmas.{each_at_most, list_seats_small, seats_small, upper_small}
 pub use Rattle.zh_sheet_text.proofs.PageLemmas.{last_of, marked_put}

@@ -1,4 +1,5 @@
 pub mod CallerLemmas
+mod DivisorLemmas
 mod EachLemmas
 mod LayoutLemmas
 mod LongestLemmas

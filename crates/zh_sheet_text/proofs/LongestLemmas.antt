@@ -1,11 +1,10 @@
 -- How long the text of a sheet is at most: 1,094 lines of 256 bytes.
-use Rattle.std.proofs.Common.{◌≡◌, ◌∙◌, ℕ, zero, suc, ◌+◌, ◌-◌, ◌*◌, ◌/◌, ◌%◌, ◌^◌, ◌<◌, ◌≤◌, ◌==◌, Bool, cond, true, false, All, IsTrue, Option, Some, None, List, [], ◌∷◌, ◌++◌, length, get_or, map, replicate, decimal, codes, refl, ap, sym, arith, length-append, inl, inr}
+use Rattle.std.proofs.Common.{◌≡◌, ◌∙◌, ℕ, zero, suc, ◌+◌, ◌-◌, ◌*◌, ◌^◌, ◌<◌, ◌≤◌, ◌==◌, Bool, cond, true, false, All, IsTrue, Option, Some, None, List, [], ◌∷◌, ◌++◌, length, get_or, map, decimal, codes, refl, ap, sym, arith, length-append, inl, inr}
 use Rattle.std.specs.Prelude.{slice_get, sum}
 use Rattle.std.specs.List.{flat_map}
 use Rattle.std.specs.Option.{option_map_or}
 use Rattle.std.proofs.lemmas.Bool.{cases_lt}
-use Rattle.std.proofs.lemmas.Fmt.{length-decimal-le}
-use Rattle.std.proofs.lemmas.List.{get_or_past, length-map, length-replicate}
+use Rattle.std.proofs.lemmas.List.{get_or_past, length-map}
 use Rattle.std.proofs.lemmas.List.Elements.{All-head, All-tail}
 use Rattle.std.proofs.lemmas.List.Quantifiers.{position-Some}
 use Rattle.std.proofs.lemmas.List.Sums.{get_or-le-sum_by, sum_by-cons}
@@ -23,27 +22,13 @@ use Rattle.zh_upper.proofs.CallerLemmas.{voter_number-le}
 use Rattle.zh_sheet.specs.Distribution.{Distribution, IsDistribution, seated_groups}
 use Rattle.zh_sheet.specs.Readings.{column_of, list_seats, takes_part}
 use Rattle.zh_sheet_text.specs.Layout.{IsPartOf, IsUpTo, SheetLine, mark_before, sheet_lines}
-use Rattle.zh_sheet_text.specs.SheetText.{divisor_text, line_text, part_text, joined_parts, sheet_text, six_digits}
+use Rattle.zh_sheet_text.specs.SheetText.{divisor_text, line_text, part_text, joined_parts, sheet_text}
 use Rattle.zh_sheet_text.specs.declared.parts.Head.{Head}
 use Rattle.zh_sheet_text.specs.declared.part.SheetPart.{SheetPart}
 use Rattle.zh_sheet_text.specs.declared.part.SheetPart.TheVariants.{Fixed, Number, Desk, Kind, Accepted, SeatsKey, UpperKey, ConstituencySeats, ConstituencyVotes, ConstituencyDivisor, ConstituencyName, TakesPart, GroupVoters, GroupSeats, GroupDivisor, GroupName, ListVotes, ListVoters, ListSeats}
+use Rattle.zh_sheet_text.proofs.DivisorLemmas.{digits, divisor}
 use Rattle.zh_sheet_text.proofs.EachLemmas.{Each, each_more}
 use Rattle.zh_sheet_text.proofs.LayoutLemmas.{IsLineOf, all_lines, few_lines, most, most_of}
-
--- numbers of 64 bits have 20 digits
-digits : (n : ℕ) → n < 2 ^ 64 → length (decimal n) ≤ 20
-digits n small = length-decimal-le 20 n (omega arith) (omega arith) small
-
-six : (n : ℕ) → n < 1000000 → length (six_digits n) ≤ 6
-six n small =
-    let few = length-decimal-le 6 n (omega arith) (omega arith) (omega arith) in
-    omega (arith, few, length-append (replicate (6 - length (decimal n)) 48) (decimal n), length-replicate {A = ℕ} (6 - length (decimal n)) 48)
-
-divisor : (n : ℕ) → n < 2 ^ 64 → length (divisor_text n) ≤ 27
-divisor n small =
-    let whole = digits (n / 1000000) (omega arith) in
-    let rest = simp length-append at (six (n % 1000000) (omega arith)) in
-    simp length-append (omega (arith, whole, rest))
 
 fraction : (num den : ℕ) → num < 2 ^ 64 → den < 2 ^ 64 → length (decimal num ++ (codes "/" ++ decimal den)) ≤ 41
 fraction num den one other =

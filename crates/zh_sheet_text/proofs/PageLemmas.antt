@@ -1,13 +1,11 @@
 -- Parts that are put on a page one after another.
-use Rattle.std.proofs.Common.{◌≡◌, ℕ, zero, suc, ◌+◌, ◌-◌, ◌<◌, ◌≤◌, Bool, true, false, if◌then◌else◌, Option, Some, None, List, [], ◌∷◌, ◌++◌, length, take, drop, replicate, codes, decimal, refl, ap, sym, ◌∙◌, inl, inr, arith, append_assoc, length-append}
+use Rattle.std.proofs.Common.{◌≡◌, ℕ, zero, suc, ◌+◌, ◌<◌, Bool, true, false, if◌then◌else◌, Option, Some, None, List, [], ◌∷◌, ◌++◌, length, drop, codes, decimal, refl, ap, sym, ◌∙◌, inl, inr, arith, append_assoc}
 use Rattle.std.specs.Option.{option_map_or}
 use Rattle.std.specs.Prelude.{◌==◌}
-use Rattle.std.proofs.Math.Seq.{take-length}
 use Rattle.std.proofs.lemmas.Bool.{cases_lt, eq-eqb, ne_eqb}
-use Rattle.std.proofs.lemmas.List.{drop_all, drop-replicate, length-replicate}
+use Rattle.std.proofs.lemmas.List.{drop_all}
 use Rattle.zh_sheet_text.specs.Layout.{mark_before}
 use Rattle.zh_sheet_text.specs.Printing.{or_dash}
-use Rattle.zh_sheet_text.specs.SheetText.{six_digits}
 use Rattle.zh_sheet_text.specs.declared.part.SheetPart.{SheetPart}
 
 -- a part and the mark after it, of what is still to be put
@@ -42,27 +40,3 @@ pub dash_unless_found : (text : ℕ → List ℕ) (f : ℕ → ℕ) (found : Opt
     or_dash text (option_map_or (λ k. Some (f k)) found None) ≡ option_map_or (λ k. text (f k)) found (codes "-")
 dash_unless_found text f None = refl
 dash_unless_found text f (Some k) = refl
-
-abbrev pub six_zeros : List ℕ
-six_zeros = 48 ∷ 48 ∷ 48 ∷ 48 ∷ 48 ∷ 48 ∷ []
-
-zeros_left : (k : ℕ) → take {A = ℕ} (6 - k) (drop k six_zeros) ≡ replicate (6 - k) 48
-zeros_left k =
-    let zero : ℕ = 48 in
-    let zeros : List ℕ = replicate (6 - k) zero in
-    ap (take {A = ℕ} (6 - k)) (drop-replicate k 6 zero) ∙ (ap (λ (n : ℕ). take n zeros) (sym (length-replicate (6 - k) zero)) ∙ take-length zeros)
-
--- zeros and then the digits
-pub six_put : (old page next digits : List ℕ) (n : ℕ) → digits ≡ decimal n → page ≡ old ++ take (6 - length digits) (drop (length digits) six_zeros) →
-    next ≡ page ++ digits → next ≡ old ++ six_digits n
-six_put old page next digits n are zeros put =
-    put
-    ∙ (ap (λ t. t ++ digits) (zeros ∙ ap (λ t. old ++ t) (zeros_left (length digits)))
-    ∙ (append_assoc old (replicate (6 - length digits) 48) digits ∙ ap (λ d. old ++ (replicate (6 - length d) 48 ++ d)) are))
-
--- are six in all
-pub six_long : (old page digits : List ℕ) → page ≡ old ++ take (6 - length digits) (drop (length digits) six_zeros) → length digits ≤ 6 →
-    length page + length digits ≡ length old + 6
-six_long old page digits zeros few =
-    let whole : page ≡ old ++ replicate (6 - length digits) 48 = zeros ∙ ap (λ t. old ++ t) (zeros_left (length digits)) in
-    omega (arith, few, ap length whole, length-append old (replicate (6 - length digits) 48), length-replicate {A = ℕ} (6 - length digits) 48)

@@ -1,12 +1,13 @@
--- The text of a sheet (docs/FORMATS.md, "The sheet"): what stands at each part of its lines; 48 is the digit 0.
-use Rattle.std.specs.Prelude.{ℕ, ◌-◌, ◌/◌, ◌%◌, Bool, if◌then◌else◌, codes, decimal}
-use Rattle.std.specs.Prelude.{List, [], ◌∷◌, ◌++◌, length, replicate, slice_get, slice_index, flat_map}
+-- The text of a sheet (docs/FORMATS.md, "The sheet"): what stands at each part of its lines.
+use Rattle.std.specs.Prelude.{ℕ, ◌-◌, Bool, if◌then◌else◌, codes, decimal}
+use Rattle.std.specs.Prelude.{List, [], ◌∷◌, ◌++◌, slice_get, slice_index, flat_map}
 use Rattle.std.specs.Option.{option_map_or}
 use Rattle.zh_districts.specs.Canton.{Canton}
 use Rattle.zh_totals.specs.Totals.{constituency_votes, votes_in}
 use Rattle.zh_upper.specs.VoterNumbers.{voter_number}
 use Rattle.zh_sheet.specs.Distribution.{Distribution}
 use Rattle.zh_sheet.specs.Readings.{column_of, list_seats, takes_part}
+use Rattle.zh_text.specs.Numbers.{millionths_text}
 use Rattle.zh_sheet_text.specs.Layout.{SheetLine, label_text, mark_before, sheet_lines}
 use Rattle.zh_sheet_text.specs.declared.parts.Head.{Head}
 use Rattle.zh_sheet_text.specs.declared.part.SheetPart.{SheetPart}
@@ -15,13 +16,9 @@ use Rattle.zh_sheet_text.specs.declared.part.SheetPart.TheVariants.{Constituency
 use Rattle.zh_sheet_text.specs.declared.part.SheetPart.TheVariants.{ConstituencyName, TakesPart, GroupVoters, GroupSeats, GroupDivisor}
 use Rattle.zh_sheet_text.specs.declared.part.SheetPart.TheVariants.{GroupName, ListVotes, ListVoters, ListSeats}
 
--- a number of 0 to 999,999 in six digits
-abbrev pub six_digits : ℕ → List ℕ
-six_digits number = replicate (6 - length (decimal number)) 48 ++ decimal number
-
 -- a number of millionths, with six digits after the dot
 abbrev pub divisor_text : ℕ → List ℕ
-divisor_text millionths = decimal (millionths / 1000000) ++ codes "." ++ six_digits (millionths % 1000000)
+divisor_text millionths = millionths_text millionths
 
 -- names
 abbrev pub constituency_name : Canton → ℕ → List ℕ

@@ -1,13 +1,13 @@
 //! Text that waits for the writer.
-ghost use Rattle.std.specs.Prelude.{◌≡◌, ◌+◌, ◌<◌, ◌≤◌, ◌++◌, [], codes, length, decimal, OnErr, OnOk};
-ghost use Rattle.std.specs.Str.{bytes_eq};
+ghost use Rattle.std.specs.Prelude.{◌≡◌, ◌+◌, ◌≤◌, ◌++◌, [], codes, length, decimal, OnErr, OnOk};
 ghost use Rattle.zh_sheet_text.specs.Printing.{Prints, Puts, WritesFront, or_dash};
-ghost use Rattle.zh_sheet_text.specs.SheetText.{divisor_text, six_digits};
+ghost use Rattle.zh_sheet_text.specs.SheetText.{divisor_text};
 
 use itoa::Buffer;
 use std::io::Write;
 use std::marker::Model;
 use zh_commands::{WriteFault, put};
+use zh_text::millionths_text;
 
 /// The bytes that a page has room for.
 pub(crate) const ROOM: usize = 4096;
@@ -74,27 +74,12 @@ impl Page {
         self.push_number(u64::from(den));
     }
 
-    /// Puts a number of six digits at the end, zeros in front.
-    fn push_six_digits(&mut self, number: u64)
-        requires small { number < 1000000 }
-        requires room { length self.old + 6 ≤ ROOM }
-        ensures { Puts 6 (six_digits number) self.old self.new }
-    {
-        let zeros = [b'0'; 6];
-        let mut buffer = Buffer::new();
-        let digits = buffer.format(number).as_bytes();
-        self.push(&zeros[digits.len()..]);
-        self.push(digits);
-    }
-
     /// Puts a divisor in millionths at the end, with six digits after the dot.
     pub fn push_divisor(&mut self, millionths: u64)
         requires { length self.old + 27 ≤ ROOM }
         ensures { Puts 27 (divisor_text millionths) self.old self.new }
     {
-        self.push_number(millionths / 1_000_000);
-        self.push(b".");
-        self.push_six_digits(millionths % 1_000_000);
+        self.push(millionths_text(u128::from(millionths)).as_slice());
     }
 
     /// Puts a number at the end, or a dash where there is none.
@@ -148,13 +133,4 @@ impl Page {
         }
         Ok(())
     }
-}
-
-/// Whether a word is a divisor of so many millionths, as a sheet writes it.
-pub fn is_divisor_text(millionths: u64, word: &[u8]) -> bool
-    ensures { result ≡ bytes_eq word.now (divisor_text millionths) }
-{
-    let mut page = Page::new();
-    page.push_divisor(millionths);
-    word == page.text()
 }

@@ -1,14 +1,11 @@
 -- The quotient of a list whose seats do not follow, as a verdict shows it.
-use Rattle.std.specs.Prelude.{ℕ, ◌-◌, ◌*◌, ◌/◌, ◌%◌, ◌==◌, Bool, if◌then◌else◌, codes, decimal, List, [], ◌++◌, length, replicate}
+use Rattle.std.specs.Prelude.{ℕ, ◌*◌, ◌/◌, ◌%◌, ◌==◌, Bool, if◌then◌else◌, codes, decimal, List, [], ◌++◌}
 use Rattle.zh_sheet_text.specs.SheetText.{divisor_text}
+use Rattle.zh_text.specs.Numbers.{padded}
 use Rattle.zh_check.specs.declared.checked.OffList.{OffList}
 use Rattle.zh_check.specs.declared.checked.ListQuotient.{ListQuotient}
 use Rattle.zh_check.specs.declared.checked.ListQuotient.TheVariants.{NoDivisor, OnHalf, RoundsTo}
 use Rattle.zh_verdicts.specs.Wrong.{wrong_line}
-
--- a number of so many digits, zeros in front; 48 is the digit 0
-abbrev pub padded : ℕ → ℕ → List ℕ
-padded digits number = replicate (digits - length (decimal number)) 48 ++ decimal number
 
 -- a number of thousandths, with two dots where more digits follow
 abbrev pub cut_off : ℕ → Bool → List ℕ

@@ -1,33 +1,17 @@
 -- The line of a sheet that is wrong, as a verdict shows it.
-use Rattle.std.specs.Prelude.{ℕ, ◌==◌, nat_lt, ◌||◌, ◌&&◌, not, Bool, if◌then◌else◌, codes, decimal}
-use Rattle.std.specs.Prelude.{List, [], ◌∷◌, ◌++◌, ◌-◌, get_or, length}
+use Rattle.std.specs.Prelude.{ℕ, ◌==◌, ◌&&◌, not, Bool, if◌then◌else◌, codes, decimal}
+use Rattle.std.specs.Prelude.{List, [], ◌∷◌, ◌++◌}
 use Rattle.std.specs.List.{list_any}
 use Rattle.std.specs.Str.{bytes_eq}
-use Rattle.zh_commands.specs.Shown.{sign_at}
-use Rattle.zh_commands.specs.declared.shown.Sign.{Sign}
-use Rattle.zh_commands.specs.declared.shown.Sign.TheVariants.{Mark, Control, Further, Byte}
-use Rattle.zh_record_text.specs.Each.{each_to}
+use Rattle.zh_text.specs.Shown.{shown_text}
+use Rattle.zh_text.specs.declared.shown.ShownNames.TheVariants as names
 use Rattle.zh_check.specs.declared.checked.OffTotal.{OffTotal}
 use Rattle.zh_check.specs.declared.checked.OtherVotes.{OtherVotes}
 use Rattle.zh_check.specs.declared.checked.WrongLine.{WrongLine}
 
--- a byte as it is shown: CR, which is 13, by its name, and any other control, below 32 or 127, as a question mark
-abbrev pub shown_byte : ℕ → List ℕ
-shown_byte byte = if byte == 13 then codes "<CR>" else (if nat_lt byte 32 || byte == 127 then codes "?" else byte ∷ [])
-
--- a byte order mark by its name, and a control of two bytes as a question mark
-abbrev pub shown_sign : Sign → ℕ → List ℕ
-shown_sign Mark byte = codes "<BOM>"
-shown_sign Control byte = codes "?"
-shown_sign Further byte = []
-shown_sign Byte byte = shown_byte byte
-
--- the byte of this number, from 1, as it is shown
-abbrev pub shown_at : List ℕ → ℕ → List ℕ
-shown_at line number = shown_sign (sign_at line (number - 1)) (get_or line (number - 1) 0)
-
+-- a line as it is shown, with the names of a byte order mark and of a CR
 abbrev pub shown_line : List ℕ → List ℕ
-shown_line line = each_to (length line) (shown_at line)
+shown_line line = shown_text names.MarkAndReturn line
 
 -- a line that was found, or that there is nothing
 abbrev pub found_text : List ℕ → List ℕ

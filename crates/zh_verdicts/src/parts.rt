@@ -3,17 +3,17 @@
 ghost use Rattle.std.specs.Prelude.{◌≡◌, ◌++◌, OnOk};
 ghost use Rattle.zh_verdicts.specs.Parts.{form_and_votes, parts_above, parts_text, rows_part, votes_line};
 
-use crate::right::push_number;
 use std::alloc::AllocError;
 use zh_tables::HeldRows;
+use zh_text::push_number;
 
 /// Puts how many rows there are at the end, of how many that are due.
 pub(crate) fn push_rows(text: &mut Vec<u8>, rows: HeldRows) -> Result<(), AllocError>
     ensures { OnOk result (text.new.items ≡ text.old.items ++ rows_part rows) }
 {
-    push_number(text, u64::from(rows.held))?;
+    push_number(text, rows.held)?;
     text.extend_from_slice(b" of ")?;
-    push_number(text, u64::from(rows.due))?;
+    push_number(text, rows.due)?;
     text.extend_from_slice(b" rows")
 }
 

@@ -1,50 +1,28 @@
 //! The quotient of a list whose seats do not follow.
 
-ghost use Rattle.std.specs.Prelude.{◌≡◌, ◌≤◌, ◌++◌, codes, decimal, OnOk};
+ghost use Rattle.std.specs.Prelude.{◌≡◌, ◌++◌, codes, decimal, OnOk};
 ghost use Rattle.zh_sheet_text.specs.SheetText.{divisor_text};
-ghost use Rattle.zh_verdicts.specs.Quotient.{cut_off, off_text, padded, quotient_text, rounding_text};
+ghost use Rattle.zh_verdicts.specs.Quotient.{cut_off, off_text, quotient_text, rounding_text};
 
-use crate::right::push_number;
 use crate::wrong::push_wrong_line;
-use itoa::Buffer;
 use std::alloc::AllocError;
 use zh_check::{ListQuotient, OffList};
-
-/// Puts a number of so many digits at the end, zeros in front.
-fn push_padded(text: &mut Vec<u8>, number: u64, digits: usize) -> Result<(), AllocError>
-    requires { digits ≤ 6 }
-    ensures { OnOk result (text.new.items ≡ text.old.items ++ padded digits number) }
-{
-    let zeros = [b'0'; 6];
-    let mut buffer = Buffer::new();
-    let written = buffer.format(number).as_bytes();
-    text.extend_from_slice(&zeros[..digits.saturating_sub(written.len())])?;
-    text.extend_from_slice(written)
-}
+use zh_text::{millionths_text, padded, push_number};
 
 /// Puts a divisor in millionths at the end, with six digits after the dot.
 fn push_divisor(text: &mut Vec<u8>, millionths: u64) -> Result<(), AllocError>
     ensures { OnOk result (text.new.items ≡ text.old.items ++ divisor_text millionths) }
 {
-    push_number(text, millionths / 1_000_000)?;
-    text.extend_from_slice(b".")?;
-    push_padded(text, millionths % 1_000_000, 6)
-}
-
-/// Puts a number that may be wide at the end.
-fn push_wide(text: &mut Vec<u8>, number: u128) -> Result<(), AllocError>
-    ensures { OnOk result (text.new.items ≡ text.old.items ++ decimal number) }
-{
-    text.extend_from_slice(Buffer::new().format(number).as_bytes())
+    text.extend_from_slice(millionths_text(u128::from(millionths)).as_slice())
 }
 
 /// Puts a number of thousandths at the end, with two dots where more digits follow.
 fn push_cut_off(text: &mut Vec<u8>, thousandths: u128, is_exact: bool) -> Result<(), AllocError>
     ensures { OnOk result (text.new.items ≡ text.old.items ++ cut_off thousandths is_exact) }
 {
-    push_wide(text, thousandths / 1000)?;
+    push_number(text, thousandths / 1000)?;
     text.extend_from_slice(b".")?;
-    push_padded(text, (thousandths % 1000) as u64, 3)?;
+    text.extend_from_slice(padded((thousandths % 1000) as u32, 3).as_slice())?;
     if is_exact {
         return Ok(());
     }
@@ -95,7 +73,7 @@ fn push_rounding(text: &mut Vec<u8>, quotient: ListQuotient) -> Result<(), Alloc
     match quotient {
         ListQuotient::RoundsTo(seats) => {
             text.extend_from_slice(b" rounds to ")?;
-            push_wide(text, seats)
+            push_number(text, seats)
         }
         ListQuotient::OnHalf => text.extend_from_slice(b" lies on a half"),
         ListQuotient::NoDivisor => Ok(()),

@@ -1,20 +1,13 @@
 //! The lines of a sheet that is right.
 
-ghost use Rattle.std.specs.Prelude.{◌≡◌, ◌≤◌, ◌++◌, decimal, IfOk, OnOk};
+ghost use Rattle.std.specs.Prelude.{◌≡◌, ◌≤◌, ◌++◌, IfOk, OnOk};
 ghost use Rattle.zh_verdicts.specs.Right.{commands_part, desk_part, kind_part, missing_line, right_verdict, unchecked_line, worth_line};
 
 use crate::parts::{push_parts, push_rows};
-use itoa::Buffer;
 use std::alloc::{AllocError, Global};
 use zh_check::RightSheet;
 use zh_tables::HeldRows;
-
-/// Puts a number at the end of a text.
-pub(crate) fn push_number(text: &mut Vec<u8>, number: u64) -> Result<(), AllocError>
-    ensures { OnOk result (text.new.items ≡ text.old.items ++ decimal number) }
-{
-    text.extend_from_slice(Buffer::new().format(number).as_bytes())
-}
+use zh_text::push_number;
 
 /// Puts whether a sheet is final at the end.
 fn push_kind(text: &mut Vec<u8>, is_final: bool) -> Result<(), AllocError>
@@ -40,7 +33,7 @@ fn push_desk(text: &mut Vec<u8>, desk: u8) -> Result<(), AllocError>
     ensures { OnOk result (text.new.items ≡ text.old.items ++ desk_part desk) }
 {
     text.extend_from_slice(b", desk ")?;
-    push_number(text, u64::from(desk))?;
+    push_number(text, desk)?;
     text.extend_from_slice(b"\n")
 }
 
@@ -71,7 +64,7 @@ fn push_missing(text: &mut Vec<u8>, rows: HeldRows) -> Result<(), AllocError>
     text.extend_from_slice(b"sheet ok for ")?;
     push_rows(text, rows)?;
     text.extend_from_slice(b": ")?;
-    push_number(text, u64::from(rows.due - rows.held))?;
+    push_number(text, rows.due - rows.held)?;
     text.extend_from_slice(b" returns are missing\n")
 }
 

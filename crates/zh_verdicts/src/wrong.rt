@@ -1,49 +1,18 @@
 //! The line of a sheet that is wrong.
 
-ghost use Rattle.std.specs.Prelude.{◌≡◌, ◌<◌, ◌+◌, ◌++◌, OnOk, length};
-ghost use Rattle.zh_verdicts.specs.Wrong.{differs_text, found_text, held_text, lacks_end, should_text, shown_at, shown_byte};
-ghost use Rattle.zh_verdicts.specs.Wrong.{shown_line, sum_text, total_text, wrong_line};
+ghost use Rattle.std.specs.Prelude.{◌≡◌, ◌++◌, OnOk};
+ghost use Rattle.zh_verdicts.specs.Wrong.{differs_text, found_text, held_text, lacks_end, should_text, shown_line};
+ghost use Rattle.zh_verdicts.specs.Wrong.{sum_text, total_text, wrong_line};
 
-use crate::right::push_number;
 use std::alloc::AllocError;
 use zh_check::{OffTotal, OtherVotes, WrongLine};
-use zh_commands::{Sign, sign_at};
+use zh_text::{ShownNames, push_number, push_shown};
 
-/// Puts a byte of a line at the end as it is shown. A copy may have a CR at the end of each line, so it has a name; a terminal
-/// is given no other byte that it might act on.
-fn push_shown_byte(text: &mut Vec<u8>, byte: u8) -> Result<(), AllocError>
-    ensures { OnOk result (text.new.items ≡ text.old.items ++ shown_byte byte) }
-{
-    if byte == b'\r' {
-        text.extend_from_slice(b"<CR>")
-    } else if byte < b' ' || byte == 127 {
-        text.extend_from_slice(b"?")
-    } else {
-        text.extend_from_slice(&[byte])
-    }
-}
-
-/// Puts the byte of a line at this place at the end as it is shown.
-fn push_shown_at(text: &mut Vec<u8>, line: &[u8], place: usize) -> Result<(), AllocError>
-    requires { place < length line.now }
-    ensures { OnOk result (text.new.items ≡ text.old.items ++ shown_at line.now (place + 1)) }
-{
-    match sign_at(line, place) {
-        Sign::Mark => text.extend_from_slice(b"<BOM>"),
-        Sign::Control => text.extend_from_slice(b"?"),
-        Sign::Further => Ok(()),
-        Sign::Byte => push_shown_byte(text, line[place]),
-    }
-}
-
-/// Puts a line at the end as it is shown.
-fn push_shown(text: &mut Vec<u8>, line: &[u8]) -> Result<(), AllocError>
+/// Puts a line at the end as it is shown. A copy may have a CR at the end of each line, so it has a name.
+fn push_shown_line(text: &mut Vec<u8>, line: &[u8]) -> Result<(), AllocError>
     ensures { OnOk result (text.new.items ≡ text.old.items ++ shown_line line.now) }
 {
-    for place in 0..line.len() {
-        push_shown_at(text, line, place)?;
-    }
-    Ok(())
+    push_shown(text, ShownNames::MarkAndReturn, line)
 }
 
 /// Puts a line that was found at the end, or that there is nothing.
@@ -53,7 +22,7 @@ fn push_found(text: &mut Vec<u8>, found: &[u8]) -> Result<(), AllocError>
     if found.is_empty() {
         return text.extend_from_slice(b"nothing");
     }
-    push_shown(text, found)
+    push_shown_line(text, found)
 }
 
 /// Whether a line that was found lacks only its end. Where dots stand for words it may lack those.
@@ -70,7 +39,7 @@ fn push_should(text: &mut Vec<u8>, found: &[u8], should: &[u8]) -> Result<(), Al
     if should.is_empty() {
         return text.extend_from_slice(b"no line");
     }
-    push_shown(text, should)?;
+    push_shown_line(text, should)?;
     if lacks_end(found, should) {
         return text.extend_from_slice(b" and a line end");
     }
@@ -103,7 +72,7 @@ fn push_sum(text: &mut Vec<u8>, off: &OffTotal) -> Result<(), AllocError>
 {
     push_wrong_line(text, off.line, &off.found)?;
     text.extend_from_slice(b": its lists have ")?;
-    push_number(text, u64::from(off.seats))
+    push_number(text, off.seats)
 }
 
 /// Puts the line of a constituency or group at the end whose lists have other seats together, and its own seats.
@@ -112,7 +81,7 @@ pub(crate) fn push_total(text: &mut Vec<u8>, off: &OffTotal) -> Result<(), Alloc
 {
     push_sum(text, off)?;
     text.extend_from_slice(b" seats, should be: ")?;
-    push_number(text, u64::from(off.total))?;
+    push_number(text, off.total)?;
     text.extend_from_slice(b"\n")
 }
 

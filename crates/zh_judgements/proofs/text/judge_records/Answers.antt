@@ -1,4 +1,4 @@
-use Rattle.std.proofs.Common.{◌≡◌, ◌∙◌, ap, [], ◌∷◌, Err, Some, true, false, inl, option_map, rules, arith}
+use Rattle.std.proofs.Common.{◌≡◌, ap, [], ◌∷◌, Some, true, false, inl, option_map, rules, arith}
 use Rattle.csv.specs.Records.{fields_of}
 use Rattle.std.proofs.lemmas.Result.{err_from_is_err_and}
 use Rattle.zh_csv.specs.Records.{HasRead}
@@ -17,7 +17,7 @@ returns-in_err-next_record g c =
     let early = reader_early c.in_err-next_record.field-0.0 p.0 p.2 in
     rw p.1 (record {
       records = [];
-      first = λ bytes known. are_first (front_left g.R.Read.remaining) (front_of bytes) [] c.reader_of-reader.result (c.reader_of-reader.ensures (front_of bytes) (c.new.ensures ∙ ap (option_map front_of) known));
+      first = λ bytes known. are_first (front_left g.R.Read.remaining) (front_of bytes) [] c.reader_of-reader.result (c.reader_of-reader.ensures (front_of bytes) (ap (option_map front_of) known));
       enough = omega (arith, early.1);
       written = inl (none_written _ (g.W.Write.contents c.args.out.now) (finding_lines (begun c.args.count.now [])) early.0);
     })
@@ -26,10 +26,10 @@ pub returns-then-not-branch : goal.returns-then-not-branch
 returns-then-not-branch g c =
     let gone : c.in_ok-next_record.field-0 ≡ false = search rules in
     none_judges c.args.count.now (λ bytes. g.R.Read.remaining c.args.text ≡ Some bytes) _ _ c.judge_none.result
-    (λ bytes known. rw (c.in_ok-next_record.was, gone) at (c.next_record.ensures (front_of bytes) [] (c.reader_of-reader.ensures (front_of bytes) (c.new.ensures ∙ ap (option_map front_of) known)))) (c.judge_none.ensures c.args.count.now)
+    (λ bytes known. rw (c.in_ok-next_record.was, gone) at (c.next_record.ensures (front_of bytes) [] (c.reader_of-reader.ensures (front_of bytes) (ap (option_map front_of) known)))) (c.judge_none.ensures c.args.count.now)
 
 pub returns : goal.returns
 returns g c =
     let found : c.in_ok-next_record.field-0 ≡ true = search rules in
     judges_of c.args.count.now (λ bytes. HasRead (front_left g.R.Read.remaining) (front_of bytes) (fields_of c.next_record.new.record ∷ []) c.next_record.new.reader) (λ bytes. g.R.Read.remaining c.args.text ≡ Some bytes) _ _ c.judge_all.result
-    (λ bytes known. rw (c.in_ok-next_record.was, found) at (c.next_record.ensures (front_of bytes) [] (c.reader_of-reader.ensures (front_of bytes) (c.new.ensures ∙ ap (option_map front_of) known)))) c.judge_all.ensures
+    (λ bytes known. rw (c.in_ok-next_record.was, found) at (c.next_record.ensures (front_of bytes) [] (c.reader_of-reader.ensures (front_of bytes) (ap (option_map front_of) known)))) c.judge_all.ensures

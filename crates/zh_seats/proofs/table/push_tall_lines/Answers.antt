@@ -1,6 +1,6 @@
 use Rattle.std.proofs.Common.{[], ◌++◌, ◌∷◌}
 use Rattle.zh_seats.specs.Table.{tall_group_line, last_in, label_in, on_left, on_right}
-use Rattle.zh_seats.proofs.TextLemmas.{put_next}
+use Rattle.zh_record_text.proofs.CallerLemmas.{gathered-next}
 use Rattle.zh_seats.proofs.table.push_tall_lines.Goals as goal
 
 pub loop-place-preserved : goal.loop-place-preserved
@@ -8,4 +8,4 @@ loop-place-preserved c =
     let x = c.args.sheet.now in
     let line = c.args.line in
     let head = on_left 42 (label_in x line) ++ on_right 5 (last_in x line) ++ 10 ∷ [] in
-    put_next (tall_group_line x line) (c.args.out.now.items ++ head) c.loop-place.out.items c.push_tall_group_line.new.out.items c.loop-place.place c.loop-place.invariant c.in_ok-push_tall_group_line.ensures
+    gathered-next (tall_group_line x line) (c.args.out.now.items ++ head) c.loop-place.out.items c.push_tall_group_line.new.out.items c.loop-place.place c.loop-place.invariant c.in_ok-push_tall_group_line.ensures

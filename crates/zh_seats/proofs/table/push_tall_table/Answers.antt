@@ -2,12 +2,13 @@ use Rattle.std.proofs.Common.{ap, arith, length, ◌++◌, ◌∙◌, ◌≡◌,
 use Rattle.zh_record_text.specs.Each.{each_to}
 use Rattle.zh_seats.specs.Table.{tall_lines}
 use Rattle.zh_seats.specs.declared.cells.Line.TheVariants.{Constituency, Total}
-use Rattle.zh_seats.proofs.TextLemmas.{put_last, put_next}
+use Rattle.zh_record_text.proofs.CallerLemmas.{gathered-next}
+use Rattle.zh_seats.proofs.TextLemmas.{put_last}
 use Rattle.zh_seats.proofs.table.push_tall_table.Goals as goal
 
 pub loop-place-preserved : goal.loop-place-preserved
 loop-place-preserved c =
-    put_next (λ d. tall_lines c.args.sheet.now (Constituency d)) c.args.out.now.items c.loop-place.out.items c.push_tall_lines.new.out.items c.loop-place.place c.loop-place.invariant c.in_ok-push_tall_lines.ensures
+    gathered-next (λ d. tall_lines c.args.sheet.now (Constituency d)) c.args.out.now.items c.loop-place.out.items c.push_tall_lines.new.out.items c.loop-place.place c.loop-place.invariant c.in_ok-push_tall_lines.ensures
 
 pub returns : goal.returns
 returns c =

@@ -2,13 +2,14 @@ use Rattle.std.proofs.Common.{ap, append_assoc, arith, length, ◌++◌, ◌∙�
 use Rattle.zh_record_text.specs.Each.{each_to}
 use Rattle.zh_seats.specs.Table.{wide_line}
 use Rattle.zh_seats.specs.declared.cells.Line.TheVariants.{Constituency, Heading, Total}
-use Rattle.zh_seats.proofs.TextLemmas.{put_last, put_next}
+use Rattle.zh_record_text.proofs.CallerLemmas.{gathered-next}
+use Rattle.zh_seats.proofs.TextLemmas.{put_last}
 use Rattle.zh_seats.proofs.table.push_wide_table.Goals as goal
 
 pub loop-place-preserved : goal.loop-place-preserved
 loop-place-preserved c =
     let x = c.args.sheet.now in
-    put_next (λ d. wide_line x (Constituency d)) (c.args.out.now.items ++ wide_line x Heading) c.loop-place.out.items c.push_wide_line-in-loop-place.new.out.items c.loop-place.place c.loop-place.invariant c.in_ok-push_wide_line-2.ensures
+    gathered-next (λ d. wide_line x (Constituency d)) (c.args.out.now.items ++ wide_line x Heading) c.loop-place.out.items c.push_wide_line-in-loop-place.new.out.items c.loop-place.place c.loop-place.invariant c.in_ok-push_wide_line-2.ensures
 
 pub returns : goal.returns
 returns c =

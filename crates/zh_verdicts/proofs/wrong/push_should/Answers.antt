@@ -10,5 +10,5 @@ returns-then-lacks_end c =
     let new : List ℕ = c.extend_from_slice-then-lacks_end.new.self.items in
     subst (λ (t : List ℕ). OnOk c.extend_from_slice-then-lacks_end.result (new ≡ old ++ t))
     (missing_end c.args.found.now c.args.should.now (sym c.is_empty.ensures ∙ c.if-is_empty.false) (sym c.lacks_end.ensures ∙ c.if-lacks_end.true))
-    (put_after c.extend_from_slice-then-lacks_end.result old c.push_shown.new.text.items new (shown_line c.args.should.now) (codes " and a line end")
-    c.in_ok-push_shown.ensures c.extend_from_slice-then-lacks_end.ensures.items)
+    (put_after c.extend_from_slice-then-lacks_end.result old c.push_shown_line.new.text.items new (shown_line c.args.should.now) (codes " and a line end")
+    c.in_ok-push_shown_line.ensures c.extend_from_slice-then-lacks_end.ensures.items)

@@ -1,3 +1,0 @@
-mod RefusalLemmas
-mod ReplyLemmas
-mod VerdictLemmas

@@ -1,5 +1,0 @@
-use Rattle.zh_results.proofs.RefusalLemmas.{no_memory}
-use Rattle.zh_results.proofs.counted.why_none.Goals as goal
-
-pub returns-in-Err-clause-answer : goal.returns-in-Err-clause-answer
-returns-in-Err-clause-answer c = no_memory c.args.totals.now

@@ -1,7 +1,0 @@
-use Rattle.zh_results.specs.Texts.{number_if_among}
-use Rattle.zh_results.proofs.ReplyLemmas.{number_next}
-use Rattle.zh_results.proofs.refusals.push_marked.Goals as goal
-
-pub loop-place-preserved : goal.loop-place-preserved
-loop-place-preserved c =
-    number_next (number_if_among c.args.marked.now) c.args.out.now.items c.loop-place.out.items c.push_if_marked.new.out.items c.loop-place.place c.loop-place.invariant c.in_ok-push_if_marked.ensures

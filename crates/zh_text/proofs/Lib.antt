@@ -1,0 +1,3 @@
+pub mod CallerLemmas
+mod NumberLemmas
+mod ShownLemmas

@@ -1,0 +1,52 @@
+//! Numbers in decimal.
+
+ghost use Rattle.std.specs.Prelude.{◌≡◌, ◌<◌, ◌≤◌, ◌^◌, ◌++◌, OnOk, length};
+ghost use Rattle.zh_text.specs.Numbers.{millionths_text, padded};
+
+use arrayvec::ArrayVec;
+use itoa::{Buffer, Integer};
+use std::alloc::AllocError;
+
+/// Puts a number at the end of a text.
+pub fn push_number<I: Integer>(text: &mut Vec<u8>, number: I) -> Result<(), AllocError>
+    ensures { OnOk result (text.new.items ≡ text.old.items ++ I.text number) }
+{
+    text.extend_from_slice(Buffer::new().format(number).as_bytes())
+}
+
+/// A number of at most six digits.
+pub type Padded = ArrayVec<u8, 6>;
+
+/// A number of so many digits, zeros in front.
+pub fn padded(number: u32, digits: usize) -> Padded
+    requires some { 1 ≤ digits }
+    requires few { digits ≤ 6 }
+    requires small { number < 10 ^ digits }
+    ensures text { result.items ≡ padded digits number }
+    ensures long { length result.items ≡ digits }
+{
+    let zeros = [b'0'; 6];
+    let mut buffer = Buffer::new();
+    let written = buffer.format(number).as_bytes();
+    let mut text = Padded::new();
+    let _zeros_fit = text.try_extend_from_slice(&zeros[..digits - written.len()]);
+    let _digits_fit = text.try_extend_from_slice(written);
+    text
+}
+
+/// A number with digits after the dot.
+pub type DecimalText = ArrayVec<u8, 47>;
+
+/// A number of so many millionths, with six digits after the dot.
+pub fn millionths_text(millionths: u128) -> DecimalText
+    ensures { result.items ≡ millionths_text millionths }
+{
+    let mut buffer = Buffer::new();
+    let whole = buffer.format(millionths / 1_000_000).as_bytes();
+    let rest = padded((millionths % 1_000_000) as u32, 6);
+    let mut text = DecimalText::new();
+    let _whole_fits = text.try_extend_from_slice(whole);
+    text.push(b'.');
+    let _rest_fits = text.try_extend_from_slice(rest.as_slice());
+    text
+}

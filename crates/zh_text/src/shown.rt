@@ -1,0 +1,84 @@
+//! Text as it is shown in a line: nothing that a terminal might act on.
+
+ghost use Rattle.std.specs.Prelude.{◌≡◌, ◌+◌, ◌≤◌, ◌<◌, ◌++◌, OnOk, get_or, length};
+ghost use Rattle.zh_text.specs.Shown.{byte_shown, mark_shown, return_shown, shown_at, shown_text};
+ghost use Rattle.zh_text.specs.declared.shown.ShownNames.TheVariants as names;
+
+use crate::signs::{Sign, sign_at};
+use std::alloc::AllocError;
+
+/// What is shown by its name. Any other control is a question mark.
+#[derive(Clone, Copy, Debug, PartialEq, Eq)]
+pub enum ShownNames {
+    /// Nothing.
+    None,
+    /// A byte order mark, as `<BOM>`.
+    Mark,
+    /// A byte order mark, and a CR, as `<CR>`: a copy may have one at the end of each line.
+    MarkAndReturn,
+}
+
+impl ShownNames {
+    /// A byte order mark, as it is shown.
+    fn mark(self) -> &'static [u8]
+        ensures shown { result.now ≡ mark_shown self }
+        ensures short { length result.now ≤ 5 }
+        ensures nameless { self ≡ names.None → length result.now ≤ 1 }
+    {
+        match self {
+            ShownNames::None => b"?",
+            ShownNames::Mark | ShownNames::MarkAndReturn => b"<BOM>",
+        }
+    }
+
+    /// A CR, as it is shown.
+    fn carriage_return(self) -> &'static [u8]
+        ensures shown { result.now ≡ return_shown self }
+        ensures short { length result.now ≤ 4 }
+        ensures nameless { self ≡ names.None → length result.now ≤ 1 }
+    {
+        match self {
+            ShownNames::None | ShownNames::Mark => b"?",
+            ShownNames::MarkAndReturn => b"<CR>",
+        }
+    }
+}
+
+/// A byte that is no part of a mark or of a control of two bytes, as it is shown: the only one of these bytes.
+fn byte_shown(named: ShownNames, byte: &[u8]) -> &[u8]
+    requires { length byte.now ≡ 1 }
+    ensures shown { result.now ≡ byte_shown named (get_or byte.now 0 0) }
+    ensures short { length result.now ≤ 4 }
+    ensures nameless { named ≡ names.None → length result.now ≤ 1 }
+{
+    match byte[0] {
+        b'\r' => named.carriage_return(),
+        0..=31 | 127 => b"?",
+        _ => byte,
+    }
+}
+
+/// The byte of a text at this place, as it is shown: nothing for a further byte of a mark or a control of more than one.
+pub fn shown_at(named: ShownNames, text: &[u8], place: usize) -> &[u8]
+    requires { place < length text.now }
+    ensures shown { result.now ≡ shown_at named text.now (place + 1) }
+    ensures short { length result.now ≤ 5 }
+    ensures nameless { named ≡ names.None → length result.now ≤ 1 }
+{
+    match sign_at(text, place) {
+        Sign::Mark => named.mark(),
+        Sign::Control => b"?",
+        Sign::Further => b"",
+        Sign::Byte => byte_shown(named, &text[place..place + 1]),
+    }
+}
+
+/// Puts a text at the end of another, as it is shown.
+pub fn push_shown(text: &mut Vec<u8>, named: ShownNames, shown: &[u8]) -> Result<(), AllocError>
+    ensures { OnOk result (text.new.items ≡ text.old.items ++ shown_text named shown.now) }
+{
+    for place in 0..shown.len() {
+        text.extend_from_slice(shown_at(named, shown, place))?;
+    }
+    Ok(())
+}
