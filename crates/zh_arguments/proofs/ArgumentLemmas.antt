@@ -1,6 +1,7 @@
 -- What clap read, as what the arguments ask for.
-use Rattle.std.proofs.Common.{◌≡◌, ◌≢◌, ◌∙◌, subst, ℕ, List, [], ◌∷◌, Option, Some, None, Bor, Bool, true, false, inl, inr, Decides, refl, sym, ap, option_map, unwrap_or, codes}
+use Rattle.std.proofs.Common.{◌≡◌, ◌∙◌, subst, ℕ, List, [], ◌∷◌, Option, Some, None, Bor, true, inl, inr, refl, sym, ap, option_map, unwrap_or}
 use Rattle.std.specs.Option.{option_map_or}
+use Rattle.std.specs.Prelude.{option_and_then}
 use Rattle.std.specs.Str.{bytes_eq}
 use Rattle.std.proofs.lemmas.Slice.Eq.{bytes_eq-Decides}
 use Rattle.clap.specs.Words.{App, Row, Text, HasMatchesOf, first_of, found_of, rows_of, first_value, is_simple, subcommand_name_of, subcommand_rows_of, subcommand_of}
@@ -14,14 +15,15 @@ use Rattle.clap.specs.declared.parser.matches.Found.{Found}
 use Rattle.std.specs.Box.{box_value}
 use Rattle.clap.specs.declared.parser.matches.ArgMatches.TheViews.{out-ArgMatches, out-SubCommand}
 use Rattle.clap.proofs.WalkLemmas.{first_value-rows}
-use Rattle.zh_arguments.specs.Arguments.{AsksFor, IsMisuse, Names, command_in, kind_by, misuse_of, refusals}
-use Rattle.zh_arguments.specs.Commands.{zhcount}
+use Rattle.zh_arguments.specs.Arguments.{AsksBy, AsksFor, Names, command_in, kind_by, misuse_in, refusals}
+use Rattle.zh_arguments.specs.Commands.{IsTaskOf, command_named, misuse_of, zhcount}
 use Rattle.zh_arguments.specs.Table.{path_in}
 use Rattle.zh_arguments.specs.declared.misuse.Misuse.{Misuse}
-use Rattle.zh_arguments.specs.declared.arguments.Query.TheVariants as queries
+use Rattle.zh_arguments.specs.declared.commands.CommandName.{CommandName}
+use Rattle.zh_arguments.specs.declared.commands.CommandName.TheVariants as names
+use Rattle.zh_arguments.specs.declared.commands.Query.TheVariants as queries
 use Rattle.zh_arguments.specs.declared.arguments.Task.{Task}
 use Rattle.zh_arguments.specs.declared.arguments.Task.TheVariants as tasks
-use Rattle.zh_arguments.specs.declared.arguments.Task.TheVariants.{Rehearse, Format, Run, Load, DryRun}
 
 -- the path that was found, or else the empty text
 pub path_found : (found : Option (Bor (List ℕ))) (none path : Bor (List ℕ)) (f : Found) (name : Text)
@@ -61,31 +63,24 @@ named m = mapped (λ b. (out-SubCommand (box_value b)).name.now) (λ b. rows_of 
 pub equal : (a b : Text) → a ≡ b → bytes_eq a b ≡ true
 equal a b same = (bytes_eq-Decides a b).1 same
 
-pub unequal : (a b : Text) → a ≢ b → bytes_eq a b ≡ false
-unequal a b differ = at (bytes_eq a b) (bytes_eq-Decides a b)
-  where
-    at : (r : Bool) → Decides r (a ≡ b) → r ≡ false
-    at true d = absurd (differ (d.0 refl))
-    at false d = refl
-
--- a command of a name that asks for no table, no view and no source
-other_name : (name other : Text) (rows : List Row) → name ≡ other → misuse_of (Some (other, rows)) ≡ None → misuse_of (Some (name, rows)) ≡ None
-other_name name other rows is none = subst (λ (n : Text). misuse_of (Some (n, rows)) ≡ None) (sym is) none
-
 -- a command that asks for a task is not misused
-pub not_misused : (given : Option (Text × List Row)) (task : Task) → Names given task → misuse_of given ≡ None
+fits : (name : CommandName) (rows : List Row) (task : Task) → IsTaskOf name rows task → misuse_of name rows ≡ None
+fits names.List rows (tasks.List setup table) is = rw is.1 refl
+fits names.List rows task is = absurd is
+fits names.Status rows (tasks.Show paths (queries.Status view)) is = rw is refl
+fits names.Status rows task is = absurd is
+fits names.Seats rows (tasks.Show paths (queries.Seats is_final layout)) is = rw is.0 refl
+fits names.Seats rows (tasks.SheetSeats setup sheet layout) is = rw is.0 refl
+fits names.Seats rows task is = absurd is
+fits name rows task is = refl
+
+pub not_misused : (given : Option (Text × List Row)) (task : Task) → Names given task → misuse_in given ≡ None
 not_misused None task asks = refl
-not_misused (Some (name, rows)) Rehearse asks = rw (unequal name (codes "list") asks.4, unequal name (codes "status") asks.5, unequal name (codes "seats") asks.7) refl
-not_misused (Some (name, rows)) (Format paths) asks = other_name name (codes "format") rows asks.0 refl
-not_misused (Some (name, rows)) (Run paths) asks = other_name name (codes "run") rows asks.0 refl
-not_misused (Some (name, rows)) (Load paths csv) asks = other_name name (codes "load") rows asks.0 refl
-not_misused (Some (name, rows)) (DryRun paths csv) asks = other_name name (codes "load") rows asks.0 refl
-not_misused (Some (name, rows)) (tasks.Show paths queries.Export) asks = other_name name (codes "export") rows asks.0.0 refl
-not_misused (Some (name, rows)) (tasks.Show paths (queries.Status view)) asks = other_name name (codes "status") rows asks.0.0 (rw asks.1 refl)
-not_misused (Some (name, rows)) (tasks.Show paths (queries.Seats is_final layout)) asks = other_name name (codes "seats") rows asks.0.0 (rw asks.1.0 refl)
-not_misused (Some (name, rows)) (tasks.Check paths) asks = other_name name (codes "check") rows asks.0 refl
-not_misused (Some (name, rows)) (tasks.SheetSeats setup sheet layout) asks = other_name name (codes "seats") rows asks.0 (rw asks.1 refl)
-not_misused (Some (name, rows)) (tasks.List setup table) asks = other_name name (codes "list") rows asks.0 (rw asks.2 refl)
+not_misused (Some given) task asks = at (command_named given.0) asks
+  where
+    at : (name : Option CommandName) → AsksBy name given.1 task → option_and_then (λ n. misuse_of n given.1) name ≡ None
+    at None asks = refl
+    at (Some name) asks = fits name given.1 task asks.0
 
 either : (first next : Kinds) (e : Error) → HasKind first e → HasKind (or_else first next) e
 either [] next e (inl memory) = inl memory
@@ -94,7 +89,7 @@ either (k ∷ ks) next e has = has
 
 -- what a command is refused for
 abbrev misuse_kinds : Option (Text × List Row) → Kinds
-misuse_kinds given = option_map_or (λ misuse. kind_by misuse ∷ []) (misuse_of given) []
+misuse_kinds given = option_map_or (λ misuse. kind_by misuse ∷ []) (misuse_in given) []
 
 -- what clap refuses, and what is refused of what it takes
 pub refused : (a : App) (arguments : List Text) (e : Error) → a ≡ zhcount → (is_simple_and_free a ≡ true → HasKind (fault_of a arguments) e) → HasKind (refusals arguments) e
@@ -115,7 +110,7 @@ asked a arguments task is kinds asks =
 
 -- a command that was misused
 pub refused_misuse : (a : App) (arguments : List Text) (e : Error) (misuse : Misuse) → a ≡ zhcount
-    → (is_simple_and_free a ≡ true → fault_of a arguments ≡ []) → IsMisuse (command_in arguments) misuse → kind_of e ≡ kind_by misuse
+    → (is_simple_and_free a ≡ true → fault_of a arguments ≡ []) → misuse_in (command_in arguments) ≡ Some misuse → kind_of e ≡ kind_by misuse
     → HasKind (refusals arguments) e
 refused_misuse a arguments e misuse is kinds misused kind =
     let all : refusals arguments ≡ kind_by misuse ∷ [] = taken a arguments is kinds ∙ ap (λ (m : Option Misuse). option_map_or (λ misuse. kind_by misuse ∷ []) m []) misused in

@@ -1,2 +1,3 @@
 mod ArgumentLemmas
+pub mod CallerLemmas
 mod TableLemmas

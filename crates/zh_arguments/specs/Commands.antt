@@ -1,79 +1,115 @@
--- The commands of the program, and the arguments that each takes.
-use Rattle.std.specs.Prelude.{◌≡◌, List, [], ◌∷◌, Some, codes, true, false}
-use Rattle.clap.specs.Words.{App, Rule, Text, app_of, new_app, new_rule, rule_of, with_rule, with_subcommand}
-use Rattle.clap.specs.declared.builder.action.ArgAction.TheVariants.{SetTrue}
-use Rattle.clap.specs.declared.builder.arg.Arg.{Arg}
-use Rattle.clap.specs.declared.builder.command.Command.{Command}
-use Rattle.clap.specs.declared.builder.command.Command.TheViews.{out-Command as fields_of}
+-- The commands of the program: what each takes, which task it asks for, and how it is misused.
+use Rattle.std.specs.Prelude.{◌≡◌, true, false, List, [], ◌∷◌, ◌++◌, Option, Some, None, IfSome}
+use Rattle.std.specs.Prelude.{codes, find, fold, if◌then◌else◌, is_none, map, option_map}
+use Rattle.std.specs.Str.{bytes_eq}
+use Rattle.clap.specs.Words.{App, Row, Rule, Text, first_of, with_subcommand}
+use Rattle.zh_arguments.specs.declared.arguments.Paths.{Paths}
+use Rattle.zh_arguments.specs.declared.arguments.Task.{Task}
+use Rattle.zh_arguments.specs.declared.arguments.Task.TheVariants as tasks
+use Rattle.zh_arguments.specs.declared.check.CheckPaths.{CheckPaths}
+use Rattle.zh_arguments.specs.declared.commands.CommandName.{CommandName}
+use Rattle.zh_arguments.specs.declared.commands.CommandName.TheVariants as names
+use Rattle.zh_arguments.specs.declared.commands.Query.TheVariants as queries
+use Rattle.zh_arguments.specs.declared.misuse.Misuse.{Misuse}
+use Rattle.zh_arguments.specs.declared.misuse.Misuse.TheVariants as misuses
+use Rattle.zh_arguments.specs.declared.seats.Source.TheVariants.{Disk, Sheet}
+use Rattle.zh_arguments.specs.Rules.{argument_rule, bare, command_taking, flag_rule, option_rule}
+use Rattle.zh_arguments.specs.Seats.{layout_in, source_in}
+use Rattle.zh_arguments.specs.Table.{path_in, table_in}
+use Rattle.zh_arguments.specs.View.{has_flag, view_in}
 
--- a value that has to be given after `--name`
-abbrev pub argument_rule : Text → Rule
-argument_rule name = record (new_rule name) { long = Some name; required = true; value_names = 1 }
+-- all of them, in the order of the help
+abbrev pub commands : List CommandName
+commands = names.Format ∷ names.Run ∷ names.Load ∷ names.Export ∷ names.List ∷ names.Status ∷ names.Check ∷ names.Seats ∷ []
 
--- what clap reads of an argument, and that it is not global
-abbrev pub IsArgument : Arg → Rule → Type 0
-IsArgument argument rule = (rule_of argument ≡ rule) × (argument.global ≡ false)
+-- how each is written
+abbrev pub word_of : CommandName → Text
+word_of names.Format = codes "format"
+word_of names.Run = codes "run"
+word_of names.Load = codes "load"
+word_of names.Export = codes "export"
+word_of names.List = codes "list"
+word_of names.Status = codes "status"
+word_of names.Check = codes "check"
+word_of names.Seats = codes "seats"
 
--- a value that may be given after `--name`
-abbrev pub option_rule : Text → Rule
-option_rule name = record (new_rule name) { long = Some name; value_names = 1 }
+-- a set-up and a disk
+abbrev pub disk_rules : List Rule
+disk_rules = argument_rule (codes "setup") ∷ argument_rule (codes "disk") ∷ []
 
--- a flag `--name`, which has no value
-abbrev pub flag_rule : Text → Rule
-flag_rule name = record (new_rule name) { long = Some name; action = Some SetTrue }
+-- what each takes; which of these go together is said where they are read
+abbrev pub rules_of : CommandName → List Rule
+rules_of names.Format = disk_rules
+rules_of names.Run = disk_rules
+rules_of names.Load = disk_rules ++ argument_rule (codes "csv") ∷ flag_rule (codes "dry-run") ∷ []
+rules_of names.Export = disk_rules
+rules_of names.List =
+    argument_rule (codes "setup") ∷ argument_rule (codes "of") ∷ map option_rule (codes "municipality" ∷ codes "constituency" ∷ [])
+rules_of names.Status = disk_rules ++ map flag_rule (codes "constituencies" ∷ codes "missing" ∷ codes "implausible" ∷ [])
+rules_of names.Check = argument_rule (codes "setup") ∷ argument_rule (codes "sheet") ∷ option_rule (codes "held") ∷ []
+rules_of names.Seats =
+    argument_rule (codes "setup") ∷ option_rule (codes "disk") ∷ flag_rule (codes "final") ∷ option_rule (codes "sheet")
+    ∷ flag_rule (codes "table") ∷ []
 
--- a command that needs a set-up and a disk
-abbrev pub command_for : Text → App
-command_for name = with_rule (with_rule (new_app name) (argument_rule (codes "setup"))) (argument_rule (codes "disk"))
+-- the files of a task on a disk
+abbrev pub paths_of : Task → Option Paths
+paths_of (tasks.Format paths) = Some paths
+paths_of (tasks.Run paths) = Some paths
+paths_of (tasks.Load paths csv) = Some paths
+paths_of (tasks.DryRun paths csv) = Some paths
+paths_of (tasks.Show paths query) = Some paths
+paths_of task = None
 
--- the command that needs a CSV file too, and may have a flag
-abbrev pub load_command : App
-load_command = with_rule (with_rule (command_for (codes "load")) (argument_rule (codes "csv"))) (flag_rule (codes "dry-run"))
+-- these are the paths of a set-up and a disk that were given
+abbrev pub ArePaths : List Row → Paths → Type 0
+ArePaths rows paths = (paths.setup.now ≡ path_in (codes "setup") rows) × (paths.disk.now ≡ path_in (codes "disk") rows)
 
--- the command that needs a set-up and the name of a table, and may have the number of a municipality or of a constituency
-abbrev pub list_command : App
-list_command =
-    with_rule (with_rule (with_rule (with_rule (new_app (codes "list")) (argument_rule (codes "setup"))) (argument_rule (codes "of")))
-    (option_rule (codes "municipality"))) (option_rule (codes "constituency"))
+-- those of a check; an export may be left out
+pub record AreCheckPaths (rows : List Row) (paths : CheckPaths) : Type 0 where
+  pub setup : paths.setup.now ≡ path_in (codes "setup") rows
+  pub sheet : paths.sheet.now ≡ path_in (codes "sheet") rows
+  pub held : option_map (λ path. path.now) paths.held ≡ first_of (codes "held") rows
 
--- the command that may have one of three flags
-abbrev pub status_command : App
-status_command =
-    with_rule (with_rule (with_rule (command_for (codes "status")) (flag_rule (codes "constituencies"))) (flag_rule (codes "missing")))
-    (flag_rule (codes "implausible"))
+-- the task of each, by what was given beside the paths of a set-up and a disk
+abbrev pub IsTaskOf : CommandName → List Row → Task → Type 0
+IsTaskOf names.Format rows (tasks.Format paths) = Unit {0}
+IsTaskOf names.Run rows (tasks.Run paths) = Unit {0}
+IsTaskOf names.Load rows (tasks.Load paths csv) = (has_flag (codes "dry-run") rows ≡ false) × (csv.now ≡ path_in (codes "csv") rows)
+IsTaskOf names.Load rows (tasks.DryRun paths csv) = (has_flag (codes "dry-run") rows ≡ true) × (csv.now ≡ path_in (codes "csv") rows)
+IsTaskOf names.Export rows (tasks.Show paths queries.Export) = Unit {0}
+IsTaskOf names.List rows (tasks.List setup table) = (setup.now ≡ path_in (codes "setup") rows) × (table_in rows ≡ Some table)
+IsTaskOf names.Status rows (tasks.Show paths (queries.Status view)) = view_in rows ≡ Some view
+IsTaskOf names.Check rows (tasks.Check paths) = AreCheckPaths rows paths
+IsTaskOf names.Seats rows (tasks.Show paths (queries.Seats is_final layout)) =
+    (source_in rows ≡ Some (Disk is_final)) × (layout ≡ layout_in rows)
+IsTaskOf names.Seats rows (tasks.SheetSeats setup sheet layout) =
+    (source_in rows ≡ Some Sheet) × (setup.now ≡ path_in (codes "setup") rows)
+    × (sheet.now ≡ path_in (codes "sheet") rows) × (layout ≡ layout_in rows)
+IsTaskOf name rows task = ⊥
 
--- the command that needs a set-up and a sheet, and may have an export
-abbrev pub check_command : App
-check_command =
-    with_rule (with_rule (with_rule (new_app (codes "check")) (argument_rule (codes "setup"))) (argument_rule (codes "sheet")))
-    (option_rule (codes "held"))
+-- the task that each asks for, by all that was given
+abbrev pub AsksWith : CommandName → List Row → Task → Type 0
+AsksWith name rows task = IsTaskOf name rows task × IfSome (paths_of task) (ArePaths rows)
 
--- The command that needs a set-up, and a disk or a sheet, before it has a form. Which of its arguments go together `source_of`
--- says.
-abbrev pub source_command : App
-source_command =
-    with_rule (with_rule (with_rule (with_rule (new_app (codes "seats")) (argument_rule (codes "setup"))) (option_rule (codes "disk")))
-    (flag_rule (codes "final"))) (option_rule (codes "sheet"))
+-- how each is misused, though clap takes it: no name of a table, two flags that exclude each other, or seats not of one source
+abbrev pub misuse_of : CommandName → List Row → Option Misuse
+misuse_of names.List rows = if is_none (table_in rows) then Some misuses.Table else None
+misuse_of names.Status rows = if is_none (view_in rows) then Some misuses.Flags else None
+misuse_of names.Seats rows = if is_none (source_in rows) then Some misuses.Source else None
+misuse_of name rows = None
 
--- the same with the flag for its form
-abbrev pub seats_command : App
-seats_command = with_rule source_command (flag_rule (codes "table"))
+-- the command of this name, if it is one
+abbrev pub command_named : Text → Option CommandName
+command_named text = find (λ name. bytes_eq text (word_of name)) commands
 
--- what a command takes, and that none of it is global
-abbrev pub IsCommand : Command → App → Type 0
-IsCommand command app = (app_of command ≡ app) × ((fields_of command).has_globals ≡ false)
+-- a command with all that it takes
+abbrev pub app_for : CommandName → App
+app_for name = command_taking (word_of name) (rules_of name)
 
--- the program before it has commands; its own name is not among the arguments
-abbrev pub bare : App
-bare = record { top = record (new_app (codes "zhcount")).top { no_binary_name = true }; subs = [] }
-
--- a program with these commands more
-abbrev pub with_commands : App → List App → App
-with_commands program [] = program
-with_commands program (command ∷ commands) = with_commands (with_subcommand program command.top) commands
+-- a program with this command more
+abbrev pub with_command : App → CommandName → App
+with_command program name = with_subcommand program (app_for name).top
 
 -- the arguments that the program takes: a command or none
 abbrev pub zhcount : App
-zhcount =
-    with_commands bare (command_for (codes "format") ∷ command_for (codes "run") ∷ load_command ∷ command_for (codes "export")
-    ∷ list_command ∷ status_command ∷ check_command ∷ seats_command ∷ [])
+zhcount = fold with_command bare commands

@@ -1,5 +1,6 @@
 pub mod Arguments
 pub mod Commands
+pub mod Rules
 pub mod Seats
 pub mod Table
 pub mod View

@@ -1,22 +1,19 @@
 //! The arguments of the program.
 
-ghost use Rattle.std.specs.Prelude.{◌≡◌, IfOk, MatchResult, codes, map, option_map};
+ghost use Rattle.std.specs.Prelude.{◌≡◌, IfOk, MatchResult, Some, codes, map, option_map};
 ghost use Rattle.std.specs.String.{string_bytes};
 ghost use Rattle.clap.specs.Words.{found_of, kind_of, rows_of};
-ghost use Rattle.zh_arguments.specs.Arguments.{ArePaths, IsMisuse, Names, ReadsArguments, kind_by};
+ghost use Rattle.zh_arguments.specs.Arguments.{Names, ReadsArguments, kind_by, misuse_in};
+ghost use Rattle.zh_arguments.specs.Commands.{ArePaths};
 ghost use Rattle.zh_arguments.specs.Table.{path_in};
 
-use crate::check::{CheckPaths, check_paths_in};
-use crate::commands::zhcount;
-use crate::load::load_in;
+use crate::check::CheckPaths;
+use crate::commands::{Query, command_named, zhcount};
 use crate::misuse::Misuse;
-use crate::seats::{Layout, seats_in};
-use crate::table::table_in;
-use crate::view::view_in;
+use crate::seats::Layout;
 use clap::error::ErrorKind;
 use clap::{ArgMatches, Error};
 use std::alloc::{AllocError, Global};
-use zh_status::View;
 use zh_tables::Table;
 
 /// The files of the set-up and the disk of a task.
@@ -26,17 +23,6 @@ pub struct Paths<'a> {
     pub setup: &'a str,
     /// The path of the disk.
     pub disk: &'a str,
-}
-
-/// What is asked of what is held on a disk.
-#[derive(Clone, Copy)]
-pub enum Query {
-    /// It as CSV.
-    Export,
-    /// How far the returns have come in.
-    Status(View),
-    /// Its seats.
-    Seats { is_final: bool, layout: Layout },
 }
 
 /// What the program is asked to do.
@@ -92,39 +78,17 @@ pub(crate) fn paths_in<'a>(given: &ArgMatches<'a>) -> Paths<'a>
     }
 }
 
-/// The task that the command of this name asks for, with what was given to it, or how the command was misused.
-fn named_task<'a>(name: &'a str, given: &ArgMatches<'a>) -> Result<Task<'a>, Misuse>
-    ensures { MatchResult result (Names (Some (name.now, rows_of (found_of given.now))))
-        (IsMisuse (Some (name.now, rows_of (found_of given.now)))) }
-{
-    let task = match name {
-        "format" => Task::Format(paths_in(given)),
-        "run" => Task::Run(paths_in(given)),
-        "load" => load_in(given),
-        "export" => Task::Show(paths_in(given), Query::Export),
-        "list" => Task::List {
-            setup: setup_in(given),
-            table: table_in(given).ok_or(Misuse::Table)?,
-        },
-        "status" => Task::Show(
-            paths_in(given),
-            Query::Status(view_in(given).ok_or(Misuse::Flags)?),
-        ),
-        "check" => Task::Check(check_paths_in(given)),
-        "seats" => seats_in(given).ok_or(Misuse::Source)?,
-        _ => Task::Rehearse,
-    };
-    Ok(task)
-}
-
 /// The task that a command asks for. Without a command it is the rehearsal.
 fn task_for<'a>(command: Option<(&'a str, &ArgMatches<'a>)>) -> Result<Task<'a>, Misuse>
     ensures { MatchResult result
         (Names (option_map (λ given. (given.0.now, rows_of (found_of given.1.now))) command.entry))
-        (IsMisuse (option_map (λ given. (given.0.now, rows_of (found_of given.1.now))) command.entry)) }
+        (λ misuse. misuse_in (option_map (λ given. (given.0.now, rows_of (found_of given.1.now))) command.entry) ≡ Some misuse) }
 {
-    match command {
-        Some((name, given)) => named_task(name, given),
+    let Some((name, given)) = command else {
+        return Ok(Task::Rehearse);
+    };
+    match command_named(name) {
+        Some(command) => command.task(given),
         None => Ok(Task::Rehearse),
     }
 }

@@ -2,11 +2,12 @@
 
 ghost use Rattle.std.specs.Prelude.{IfOk};
 ghost use Rattle.clap.specs.Words.{found_of, rows_of};
-ghost use Rattle.zh_arguments.specs.Arguments.{AreCheckPaths};
-ghost use Rattle.zh_arguments.specs.Commands.{IsCommand, check_command};
+ghost use Rattle.zh_arguments.specs.Commands.{AreCheckPaths, rules_of};
+ghost use Rattle.zh_arguments.specs.Rules.{IsCommand, command_taking};
+ghost use Rattle.zh_arguments.specs.declared.commands.CommandName.TheVariants as names;
 
 use crate::arguments::setup_in;
-use crate::commands::{argument, option, setup_path};
+use crate::rules::{argument, option, with_setup};
 use clap::{ArgMatches, Command};
 use std::alloc::{AllocError, Global};
 
@@ -18,13 +19,15 @@ pub struct CheckPaths<'a> {
     pub held: Option<&'a str>,
 }
 
-/// The command that needs a set-up and a sheet, and may have an export.
-pub(crate) fn check_command<'a>(alloc: Global) -> Result<Command<'a>, AllocError>
-    ensures { IfOk result (λ command. IsCommand command check_command) }
+/// The command that takes a sheet too, and may have an export.
+pub(crate) fn check_command<'a>(
+    alloc: Global,
+    name: &'a str,
+    about: &'a str,
+) -> Result<Command<'a>, AllocError>
+    ensures { IfOk result (λ command. IsCommand command (command_taking name.now (rules_of names.Check))) }
 {
-    Command::new(alloc, "check")
-        .about("Check whether the seats of a published sheet follow from its votes")
-        .arg(setup_path(alloc))?
+    with_setup(alloc, name, about)?
         .arg(argument(alloc, "sheet", "FILE", "The sheet"))?
         .arg(option(
             alloc,

@@ -1,116 +1,151 @@
-//! The commands of the program, and the arguments that each takes.
+//! The commands of the program: what each takes, and the task that it asks for.
 
-ghost use Rattle.std.specs.Prelude.{◌≡◌, IfOk, codes};
-ghost use Rattle.clap.specs.Words.{App, app_of, with_subcommand};
-ghost use Rattle.zh_arguments.specs.Commands.{IsArgument, IsCommand, argument_rule, bare, command_for, flag_rule};
-ghost use Rattle.zh_arguments.specs.Commands.{option_rule, zhcount};
+ghost use Rattle.std.specs.Prelude.{◌≡◌, IfOk, MatchResult, Some};
+ghost use Rattle.clap.specs.Words.{app_of, found_of, rows_of};
+ghost use Rattle.zh_arguments.specs.Commands.{AsksWith, app_for, command_named, misuse_of, word_of, zhcount};
+ghost use Rattle.zh_arguments.specs.Rules.{IsCommand};
 
-use crate::check::check_command;
-use crate::load::load_command;
-use crate::seats::seats_command;
-use crate::table::list_command;
-use crate::view::status_command;
-use clap::{Arg, ArgAction, Command};
+use crate::arguments::{Task, paths_in, setup_in};
+use crate::check::{check_command, check_paths_in};
+use crate::load::{load_command, load_in};
+use crate::misuse::Misuse;
+use crate::rules::{bare, with_disk};
+use crate::seats::{Layout, seats_command, seats_in};
+use crate::table::{list_command, table_in};
+use crate::view::{status_command, view_in};
+use clap::{ArgMatches, Command};
 use std::alloc::{AllocError, Global};
+use zh_status::View;
 
-/// A value that may be given after `--name`.
-pub(crate) fn option<'a>(alloc: Global, name: &'a str, value: &'a str, help: &'a str) -> Arg<'a>
-    ensures { IsArgument result (option_rule name.now) }
-{
-    Arg::new(alloc, name)
-        .long(name)
-        .value_name(value)
-        .help(help)
+/// What is asked of what is held on a disk.
+#[derive(Clone, Copy)]
+pub enum Query {
+    /// It as CSV.
+    Export,
+    /// How far the returns have come in.
+    Status(View),
+    /// Its seats.
+    Seats { is_final: bool, layout: Layout },
 }
 
-/// A flag `--name`, which has no value.
-pub(crate) fn flag<'a>(alloc: Global, name: &'a str, help: &'a str) -> Arg<'a>
-    ensures { IsArgument result (flag_rule name.now) }
-{
-    Arg::new(alloc, name)
-        .long(name)
-        .action(ArgAction::SetTrue)
-        .help(help)
+/// The name of a command.
+#[derive(Clone, Copy)]
+pub(crate) enum CommandName {
+    Format,
+    Run,
+    Load,
+    Export,
+    List,
+    Status,
+    Check,
+    Seats,
 }
 
-/// A value that has to be given after `--name`.
-pub(crate) fn argument<'a>(alloc: Global, name: &'a str, value: &'a str, help: &'a str) -> Arg<'a>
-    ensures { IsArgument result (argument_rule name.now) }
-{
-    Arg::new(alloc, name)
-        .long(name)
-        .required(true)
-        .value_name(value)
-        .help(help)
+/// All of them, in the order of the help.
+const NAMES: [CommandName; 8] = [
+    CommandName::Format,
+    CommandName::Run,
+    CommandName::Load,
+    CommandName::Export,
+    CommandName::List,
+    CommandName::Status,
+    CommandName::Check,
+    CommandName::Seats,
+];
+
+impl CommandName {
+    /// How it is written, and what the help says of the command.
+    fn words<'a>(self) -> (&'a str, &'a str)
+        ensures { result.0.now ≡ word_of self }
+    {
+        match self {
+            CommandName::Format => (
+                "format",
+                "Make a disk on which nothing has been returned yet",
+            ),
+            CommandName::Run => (
+                "run",
+                "Answer the lines of the standard input, and keep the count on the disk",
+            ),
+            CommandName::Load => ("load", "Load the returns of a CSV file as one batch"),
+            CommandName::Export => (
+                "export",
+                "Write what is held to the standard output, as CSV",
+            ),
+            CommandName::List => (
+                "list",
+                "Write a table of the set-up to the standard output, as CSV",
+            ),
+            CommandName::Status => ("status", "Write how far the returns have come in"),
+            CommandName::Check => (
+                "check",
+                "Check whether the seats of a published sheet follow from its votes",
+            ),
+            CommandName::Seats => ("seats", "Write the seats to the standard output, as CSV"),
+        }
+    }
+
+    /// The command, with all that it takes.
+    fn command<'a>(self, alloc: Global) -> Result<Command<'a>, AllocError>
+        ensures { IfOk result (λ command. IsCommand command (app_for self)) }
+    {
+        let (name, about) = self.words();
+        match self {
+            CommandName::Format | CommandName::Run | CommandName::Export => with_disk(
+                alloc, name, about,
+            ),
+            CommandName::Load => load_command(alloc, name, about),
+            CommandName::List => list_command(alloc, name, about),
+            CommandName::Status => status_command(alloc, name, about),
+            CommandName::Check => check_command(alloc, name, about),
+            CommandName::Seats => seats_command(alloc, name, about),
+        }
+    }
+
+    /// The task that the command asks for, with what was given to it, or how it was misused.
+    pub(crate) fn task<'a>(self, given: &ArgMatches<'a>) -> Result<Task<'a>, Misuse>
+        ensures { MatchResult result (AsksWith self (rows_of (found_of given.now)))
+            (λ misuse. misuse_of self (rows_of (found_of given.now)) ≡ Some misuse) }
+    {
+        let task = match self {
+            CommandName::Format => Task::Format(paths_in(given)),
+            CommandName::Run => Task::Run(paths_in(given)),
+            CommandName::Load => load_in(given),
+            CommandName::Export => Task::Show(paths_in(given), Query::Export),
+            CommandName::List => Task::List {
+                setup: setup_in(given),
+                table: table_in(given).ok_or(Misuse::Table)?,
+            },
+            CommandName::Status => Task::Show(
+                paths_in(given),
+                Query::Status(view_in(given).ok_or(Misuse::Flags)?),
+            ),
+            CommandName::Check => Task::Check(check_paths_in(given)),
+            CommandName::Seats => seats_in(given).ok_or(Misuse::Source)?,
+        };
+        Ok(task)
+    }
 }
 
-/// The path of the set-up.
-pub(crate) fn setup_path<'a>(alloc: Global) -> Arg<'a>
-    ensures { IsArgument result (argument_rule (codes "setup")) }
+/// The command of this name, if it is one.
+pub(crate) fn command_named(text: &str) -> Option<CommandName>
+    ensures { result ≡ command_named text.now }
 {
-    argument(alloc, "setup", "FILE", "The set-up, in TOML")
-}
-
-/// A command that needs a set-up and a disk.
-pub(crate) fn command_for<'a>(
-    alloc: Global,
-    name: &'a str,
-    about: &'a str,
-) -> Result<Command<'a>, AllocError>
-    ensures { IfOk result (λ command. IsCommand command (command_for name.now)) }
-{
-    Command::new(alloc, name)
-        .about(about)
-        .arg(setup_path(alloc))?
-        .arg(argument(alloc, "disk", "FILE", "The disk that the count is kept on"))
-}
-
-/// The program before it has commands.
-fn bare<'a>(alloc: Global) -> Result<Command<'a>, AllocError>
-    ensures { IfOk result (λ command. app_of command ≡ bare) }
-{
-    let program = Command::new(alloc, "zhcount").bin_name("zhcount")?;
-    Ok(
-        program.no_binary_name(true).about(
-            "The count office of a cantonal parliament. Without a command: a rehearsal that keeps nothing.",
-        ),
-    )
-}
-
-/// The program with one more command, where both could be made.
-fn with<'a>(
-    program: Result<Command<'a>, AllocError>,
-    command: Result<Command<'a>, AllocError>,
-) -> Result<Command<'a>, AllocError>
-    ensures { (one two : App) → IfOk program.entry (λ p. app_of p ≡ one)
-        → IfOk command.entry (λ c. IsCommand c two)
-        → IfOk result (λ both. app_of both ≡ with_subcommand one two.top) }
-{
-    program?.subcommand(command?)
+    for name in NAMES {
+        if text == name.words().0 {
+            return Some(name);
+        }
+    }
+    None
 }
 
 /// The arguments that the program takes.
 pub(crate) fn zhcount<'a>(alloc: Global) -> Result<Command<'a>, AllocError>
     ensures { IfOk result (λ command. app_of command ≡ zhcount) }
 {
-    let format = command_for(
-        alloc,
-        "format",
-        "Make a disk on which nothing has been returned yet",
-    );
-    let run = command_for(
-        alloc,
-        "run",
-        "Answer the lines of the standard input, and keep the count on the disk",
-    );
-    let export = command_for(
-        alloc,
-        "export",
-        "Write what is held to the standard output, as CSV",
-    );
-    let program = with(with(bare(alloc), format), run);
-    let program = with(with(program, load_command(alloc)), export);
-    let program = with(with(program, list_command(alloc)), status_command(alloc));
-    let program = with(program, check_command(alloc));
-    with(program, seats_command(alloc))
+    let mut program = bare(alloc)?;
+    for name in NAMES {
+        program = program.subcommand(name.command(alloc)?)?;
+    }
+    Ok(program)
 }

@@ -6,10 +6,12 @@ mod check;
 mod commands;
 mod load;
 mod misuse;
+mod rules;
 mod seats;
 mod table;
 mod view;
 
-pub use arguments::{Paths, Query, Task, read_arguments};
+pub use arguments::{Paths, Task, read_arguments};
 pub use check::CheckPaths;
+pub use commands::Query;
 pub use seats::Layout;

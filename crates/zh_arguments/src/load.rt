@@ -2,21 +2,26 @@
 
 ghost use Rattle.std.specs.Prelude.{◌≡◌, IfOk, codes};
 ghost use Rattle.clap.specs.Words.{found_of, rows_of};
-ghost use Rattle.zh_arguments.specs.Arguments.{Names};
-ghost use Rattle.zh_arguments.specs.Commands.{IsCommand, load_command};
+ghost use Rattle.zh_arguments.specs.Commands.{AsksWith, rules_of};
+ghost use Rattle.zh_arguments.specs.Rules.{IsCommand, command_taking};
 ghost use Rattle.zh_arguments.specs.Table.{path_in};
+ghost use Rattle.zh_arguments.specs.declared.commands.CommandName.TheVariants as names;
 
 use crate::arguments::{Task, paths_in};
-use crate::commands::{argument, command_for, flag};
+use crate::rules::{argument, flag, with_disk};
 use crate::view::has_flag;
 use clap::{ArgMatches, Command};
 use std::alloc::{AllocError, Global};
 
-/// The command that needs a CSV file too, and may have a flag.
-pub(crate) fn load_command<'a>(alloc: Global) -> Result<Command<'a>, AllocError>
-    ensures { IfOk result (λ command. IsCommand command load_command) }
+/// The command that takes a CSV file too, and may have a flag.
+pub(crate) fn load_command<'a>(
+    alloc: Global,
+    name: &'a str,
+    about: &'a str,
+) -> Result<Command<'a>, AllocError>
+    ensures { IfOk result (λ command. IsCommand command (command_taking name.now (rules_of names.Load))) }
 {
-    command_for(alloc, "load", "Load the returns of a CSV file as one batch")?
+    with_disk(alloc, name, about)?
         .arg(argument(
             alloc,
             "csv",
@@ -39,7 +44,7 @@ fn csv_in<'a>(given: &ArgMatches<'a>) -> &'a str
 
 /// The task of a load, or of a dry run.
 pub(crate) fn load_in<'a>(given: &ArgMatches<'a>) -> Task<'a>
-    ensures { Names (Some (codes "load", rows_of (found_of given.now))) result }
+    ensures { AsksWith names.Load (rows_of (found_of given.now)) result }
 {
     let paths = paths_in(given);
     let csv = csv_in(given);

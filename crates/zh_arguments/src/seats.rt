@@ -2,13 +2,15 @@
 
 ghost use Rattle.std.specs.Prelude.{◌≡◌, IfOk, MatchOption, codes};
 ghost use Rattle.clap.specs.Words.{found_of, rows_of};
-ghost use Rattle.zh_arguments.specs.Commands.{IsCommand, seats_command, source_command};
-ghost use Rattle.zh_arguments.specs.Arguments.{Names};
+ghost use Rattle.zh_arguments.specs.Commands.{AsksWith, rules_of};
+ghost use Rattle.zh_arguments.specs.Rules.{IsCommand, command_taking};
 ghost use Rattle.zh_arguments.specs.Seats.{is_given, layout_in, source_in, source_of};
 ghost use Rattle.zh_arguments.specs.Table.{path_in};
+ghost use Rattle.zh_arguments.specs.declared.commands.CommandName.TheVariants as names;
 
-use crate::arguments::{Query, Task, paths_in, setup_in};
-use crate::commands::{flag, option, setup_path};
+use crate::arguments::{Task, paths_in, setup_in};
+use crate::commands::Query;
+use crate::rules::{flag, option, with_setup};
 use crate::view::has_flag;
 use clap::{ArgMatches, Command};
 use std::alloc::{AllocError, Global};
@@ -31,13 +33,15 @@ pub(crate) enum Source {
     Sheet,
 }
 
-/// The command before it has a form: it needs a set-up and either a disk, perhaps with a flag, or a sheet.
-fn source_command<'a>(alloc: Global) -> Result<Command<'a>, AllocError>
-    ensures { IfOk result (λ command. IsCommand command source_command) }
+/// The command that takes either a disk, perhaps with a flag, or a sheet too, and may have a flag for its form.
+pub(crate) fn seats_command<'a>(
+    alloc: Global,
+    name: &'a str,
+    about: &'a str,
+) -> Result<Command<'a>, AllocError>
+    ensures { IfOk result (λ command. IsCommand command (command_taking name.now (rules_of names.Seats))) }
 {
-    Command::new(alloc, "seats")
-        .about("Write the seats to the standard output, as CSV")
-        .arg(setup_path(alloc))?
+    with_setup(alloc, name, about)?
         .arg(option(alloc, "disk", "FILE", "The disk that the count is kept on"))?
         .arg(flag(
             alloc,
@@ -49,14 +53,8 @@ fn source_command<'a>(alloc: Global) -> Result<Command<'a>, AllocError>
             "sheet",
             "FILE",
             "A published sheet, which is checked first",
-        ))
-}
-
-/// The command that may have a flag for its form too.
-pub(crate) fn seats_command<'a>(alloc: Global) -> Result<Command<'a>, AllocError>
-    ensures { IfOk result (λ command. IsCommand command seats_command) }
-{
-    source_command(alloc)?.arg(flag(alloc, "table", "Constituencies by groups, to be printed"))
+        ))?
+        .arg(flag(alloc, "table", "Constituencies by groups, to be printed"))
 }
 
 /// Whether a value was given.
@@ -109,7 +107,7 @@ fn sheet_in<'a>(given: &ArgMatches<'a>) -> &'a str
 /// The task that shows seats from this source.
 fn task_from<'a>(source: Source, given: &ArgMatches<'a>) -> Task<'a>
     ensures { source_in (rows_of (found_of given.now)) ≡ Some source
-        → Names (Some (codes "seats", rows_of (found_of given.now))) result }
+        → AsksWith names.Seats (rows_of (found_of given.now)) result }
 {
     let layout = layout_in(given);
     match source {
@@ -127,7 +125,7 @@ fn task_from<'a>(source: Source, given: &ArgMatches<'a>) -> Task<'a>
 /// The task that shows seats, if the arguments name one source.
 pub(crate) fn seats_in<'a>(given: &ArgMatches<'a>) -> Option<Task<'a>>
     ensures { MatchOption result (source_in (rows_of (found_of given.now)) ≡ None)
-        (Names (Some (codes "seats", rows_of (found_of given.now)))) }
+        (AsksWith names.Seats (rows_of (found_of given.now))) }
 {
     Some(task_from(source_in(given)?, given))
 }

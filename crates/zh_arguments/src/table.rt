@@ -1,23 +1,27 @@
 //! The table that arguments name.
 
-ghost use Rattle.std.specs.Prelude.{◌≡◌, IfOk, codes, option_map};
+ghost use Rattle.std.specs.Prelude.{◌≡◌, IfOk, option_map};
 ghost use Rattle.clap.specs.Words.{found_of, rows_of};
-ghost use Rattle.zh_arguments.specs.Commands.{IsCommand, list_command};
+ghost use Rattle.zh_arguments.specs.Commands.{rules_of};
+ghost use Rattle.zh_arguments.specs.Rules.{IsCommand, command_taking};
 ghost use Rattle.zh_arguments.specs.Table.{number_in, part_of, table_in, table_named};
+ghost use Rattle.zh_arguments.specs.declared.commands.CommandName.TheVariants as names;
 
-use crate::commands::{argument, option, setup_path};
+use crate::rules::{argument, option, with_setup};
 use clap::{ArgMatches, Command};
 use std::alloc::{AllocError, Global};
 use zh_commands::numeral;
 use zh_tables::{Part, Table};
 
-/// The command that needs a set-up and a table, and for some a part of the set-up.
-pub(crate) fn list_command<'a>(alloc: Global) -> Result<Command<'a>, AllocError>
-    ensures { IfOk result (λ command. IsCommand command list_command) }
+/// The command that takes a table too, and for some a part of the set-up.
+pub(crate) fn list_command<'a>(
+    alloc: Global,
+    name: &'a str,
+    about: &'a str,
+) -> Result<Command<'a>, AllocError>
+    ensures { IfOk result (λ command. IsCommand command (command_taking name.now (rules_of names.List))) }
 {
-    Command::new(alloc, "list")
-        .about("Write a table of the set-up to the standard output, as CSV")
-        .arg(setup_path(alloc))?
+    with_setup(alloc, name, about)?
         .arg(argument(
             alloc,
             "of",

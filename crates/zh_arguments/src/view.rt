@@ -1,20 +1,26 @@
 //! The view that flags ask for.
 
-ghost use Rattle.std.specs.Prelude.{◌≡◌, IfOk, codes};
+ghost use Rattle.std.specs.Prelude.{◌≡◌, IfOk};
 ghost use Rattle.clap.specs.Words.{found_of, rows_of};
-ghost use Rattle.zh_arguments.specs.Commands.{IsCommand, status_command};
+ghost use Rattle.zh_arguments.specs.Commands.{rules_of};
+ghost use Rattle.zh_arguments.specs.Rules.{IsCommand, command_taking};
 ghost use Rattle.zh_arguments.specs.View.{has_flag, view_in, view_of};
+ghost use Rattle.zh_arguments.specs.declared.commands.CommandName.TheVariants as names;
 
-use crate::commands::{command_for, flag};
+use crate::rules::{flag, with_disk};
 use clap::{ArgMatches, Command};
 use std::alloc::{AllocError, Global};
 use zh_status::View;
 
 /// The command that may have one of three flags.
-pub(crate) fn status_command<'a>(alloc: Global) -> Result<Command<'a>, AllocError>
-    ensures { IfOk result (λ command. IsCommand command status_command) }
+pub(crate) fn status_command<'a>(
+    alloc: Global,
+    name: &'a str,
+    about: &'a str,
+) -> Result<Command<'a>, AllocError>
+    ensures { IfOk result (λ command. IsCommand command (command_taking name.now (rules_of names.Status))) }
 {
-    command_for(alloc, "status", "Write how far the returns have come in")?
+    with_disk(alloc, name, about)?
         .arg(flag(
             alloc,
             "constituencies",

@@ -1,21 +1,12 @@
 -- What an answer says that is a sheet, or reports a tie.
-use Rattle.std.proofs.Common.{◌≡◌, ◌≢◌, ⊎_elim, ℕ, Bool, true, false, List, Option, Some, None, Result, Ok, Err, refl, sym, ap, subst}
-use Rattle.zh_districts.specs.declared.misplaced.Misplaced.{Misplaced}
+use Rattle.std.proofs.Common.{◌≡◌, ◌≢◌, ℕ, Bool, true, false, Option, Some, None, Result, Ok, Err, refl, sym, subst}
 use Rattle.zh_records.specs.declared.command.Command.{Command}
-use Rattle.zh_records.specs.declared.row.Row.{Row}
-use Rattle.zh_returns.specs.Tally.{Tally, held}
-use Rattle.zh_returns.specs.declared.entry.Entry.{Entry}
-use Rattle.zh_returns.specs.declared.verdict.Reason.{Reason}
+use Rattle.zh_returns.specs.Tally.{Tally}
 use Rattle.zh_desks.specs.Batches as desks
 use Rattle.zh_desks.specs.Batches.{rows_of}
-use Rattle.zh_desks.specs.RowFaults.{unfit, fault_in}
-use Rattle.zh_desks.specs.declared.desk.Desk.{Desk}
-use Rattle.zh_desks.specs.declared.fault.RowFault.{RowFault}
 use Rattle.zh_commands.specs.declared.lines.Line.{Line}
 use Rattle.zh_commands.specs.declared.lines.LineFault.{LineFault}
 use Rattle.zh_commands.specs.declared.lines.LineFault.TheVariants as lines
-use Rattle.zh_commands.specs.declared.lines.Request.{Request}
-use Rattle.zh_commands.specs.declared.lines.Request.TheVariants as requests
 use Rattle.zh_commands.specs.declared.replies.Reply.{Reply}
 use Rattle.zh_commands.specs.declared.replies.Reply.TheVariants.{Refused, Stored}
 use Rattle.zh_commands.specs.declared.replies.Refusal.TheVariants as refusals
@@ -26,6 +17,7 @@ use Rattle.zh_sheet.specs.Made.{IsMade, IsSheetOf}
 use Rattle.zh_sheet.specs.Refusals.{LeaveNoSeats}
 use Rattle.zh_sheet.specs.declared.fault.SheetFault.{SheetFault}
 use Rattle.zh_sheet.specs.declared.fault.SheetFault.TheVariants as faults
+use Rattle.zh_upper.specs.declared.refusal.UpperRefusal.TheVariants as uppers
 use Rattle.zh_sheet.specs.declared.refusal.SheetRefusal.TheVariants as sheets
 use Rattle.zh_ledger.specs.Ledger.{Ledger}
 use Rattle.zh_ledger.specs.Submissions.{Log, OnDisk}
@@ -33,7 +25,7 @@ use Rattle.zh_ledger.specs.declared.outcome.Outcome.{Outcome}
 use Rattle.zh_ledger.specs.declared.outcome.Outcome.TheVariants as outcomes
 use Rattle.zh_answers.proofs.CallerLemmas.{is_plain, HoldsWithoutCommand, without_command}
 use Rattle.zh_answers.specs.Requests.{Acts, MayAnswerWhere, reply_to}
-use Rattle.zh_answers.specs.Sheets.{MayAnswerFinal, MayGive, answer_with, sheet_refusal}
+use Rattle.zh_answers.specs.Sheets.{MayGive, answer_with, sheet_refusal}
 use Rattle.zh_answers.specs.declared.answer.Answer.{Answer}
 use Rattle.zh_answers.specs.declared.answer.Answer.TheVariants as answers
 use Rattle.zh_office.specs.Office.{MayAnswer, Office}
@@ -80,7 +72,7 @@ tie_fair totals reply other none = record { fair = record { sheet = λ sheet is_
 -- a sheet, or why there is none
 fault_fair : (totals : VoteTotals) (fault : SheetFault) → IsMade totals (Err fault) → StoresNone totals (answers.Reply (Refused (sheet_refusal fault)))
 fault_fair totals (faults.Refused sheets.TiedSeats) made = tie_fair totals _ (λ number is. absurd cc) (tied_seats totals made.refused.refused.holds)
-fault_fair totals (faults.Refused sheets.TiedUpper) made = tie_fair totals _ (λ number is. absurd cc) (tied_above totals made.refused.refused.holds)
+fault_fair totals (faults.Refused (sheets.NoUpperSeats uppers.Tied)) made = tie_fair totals _ (λ number is. absurd cc) (tied_above totals made.refused.refused.holds)
 fault_fair totals (faults.Refused (sheets.TiedLower d g)) made = tie_fair totals _ (λ number is. absurd cc) (made.refused.tied d g refl)
 fault_fair totals _ made = plain totals _ (λ no. no)
 

@@ -25,7 +25,7 @@ use Rattle.zh_ledger.proofs.CallerLemmas.{has_none}
 -- what is kept of a disk that began with the one history and has the other, where these exchanges came after its opening, in this
 -- conversation; and where no count stood there were none
 pub record Keeps (canton : Canton) (first last : History) (talk : Conversation) (xs : List Exchange) : Type 0 where
-  pub office : IsTrue last.honest → (bytes : List ℕ) → first.trail ≡ fresh_trail bytes → (tally : Tally) → IsCanton tally.canton → Holds tally bytes
+  pub on_a_count : IsTrue last.honest → (bytes : List ℕ) → first.trail ≡ fresh_trail bytes → (tally : Tally) → IsCanton tally.canton → Holds tally bytes
       → Headline tally (fresh_trail bytes) talk xs
   pub idle : IsTrue last.honest → (bytes : List ℕ) → first.trail ≡ fresh_trail bytes → ((tally : Tally) → IsCanton tally.canton → ¬ HoldsFramed tally bytes) → xs ≡ []
 
@@ -36,7 +36,7 @@ GoesOnTo start xs end = (tally : Tally) → IsTrue end.history.honest → IsAt t
 
 pub opened_keeps : (canton : Canton) (first last : History) (start end : OnDisk Office) (xs : List Exchange) (old new : Streams) → IsCanton canton → IsFrom canton first last start end → GoesOnTo start xs end → IsTold xs (talking old new start.history.trail last.trail)
     → Keeps canton first last (talking old new start.history.trail last.trail) xs
-opened_keeps canton first last start end xs old new limits from goes told = record { office = kept; idle = stood }
+opened_keeps canton first last start end xs old new limits from goes told = record { on_a_count = kept; idle = stood }
   where
     kept : IsTrue last.honest → (bytes : List ℕ) → first.trail ≡ fresh_trail bytes → (tally : Tally) → IsCanton tally.canton → Holds tally bytes → Headline tally (fresh_trail bytes) (talking old new start.history.trail last.trail) xs
     kept honest bytes fresh tally own holds =
@@ -57,7 +57,7 @@ nothing_given start tally honest at = (at_rest tally start.history.trail [] star
 -- a disk of which each image still holds the count
 pub unchanged_keeps : (canton : Canton) (first last : History) (old new : Streams) → IsTold [] (talking old new last.trail last.trail)
     → (IsTrue last.honest → (bytes : List ℕ) → first.trail ≡ fresh_trail bytes → (tally : Tally) → IsCanton tally.canton → Holds tally bytes → Always (Holds tally) (fresh_trail bytes) last.trail) → Keeps canton first last (talking old new last.trail last.trail) []
-unchanged_keeps canton first last old new told still = record { office = kept; idle = λ honest bytes fresh none. refl }
+unchanged_keeps canton first last old new told still = record { on_a_count = kept; idle = λ honest bytes fresh none. refl }
   where
     kept : IsTrue last.honest → (bytes : List ℕ) → first.trail ≡ fresh_trail bytes → (tally : Tally) → IsCanton tally.canton → Holds tally bytes → Headline tally (fresh_trail bytes) (talking old new last.trail last.trail) []
     kept honest bytes fresh tally own holds =

@@ -9,7 +9,7 @@ use Rattle.zh_records.specs.Spelling.{IsSpeakable}
 use Rattle.zh_records.specs.declared.format.Format.TheVariants.{Two}
 use Rattle.zh_returns.specs.Payload.{payload_spelling}
 use Rattle.zh_returns.specs.Tally.{Tally, empty}
-use Rattle.zh_returns.proofs.CallerLemmas.{IsTally-empty, desks_said}
+use Rattle.zh_returns.proofs.CallerLemmas.{IsTally-empty, said_in_two}
 use Rattle.zh_snapshot.specs.Format.{BlankOrFormatted, Formats, IsFormatted, KeptOrBlank}
 use Rattle.zh_snapshot.specs.Image.{IsBlank}
 use Rattle.zh_snapshot.specs.Store.{Settles}
@@ -33,7 +33,7 @@ new_holds canton limits c formatted = record {
     start = empty canton;
     canton = refl;
     limits = IsTally-empty canton limits;
-    snapshot = record { desks = desks_said (empty canton) (IsTally-empty canton limits); spelling = refl };
+    snapshot = record { said = said_in_two (empty canton) (IsTally-empty canton limits); spelling = refl };
     replays = record { commands = []; speakable = All-nil (IsSpeakable Two); spelled = refl; accepted = tt; count = refl };
   };
 }

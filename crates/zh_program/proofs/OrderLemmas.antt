@@ -124,7 +124,7 @@ module _ (xs : List Exchange) (first a b : Frame) (by : ComesAfter (map step_in 
         record {
           input = all.0;
           read = all.1;
-          done = length front.done;
+          replied = length front.done;
           lines = ap (map (λ (x : Exchange). line_in x.given)) seam ∙ sym (lines_in front.done) ∙ ap (map (λ (s : Step). s.line)) front.front_is ∙ sym all.2;
           written = subst (λ (d : List Exchange). Appends first.written a.written (flat_map text_of d)) (sym seam)
               (subst (Appends first.written a.written) (ap texts (sym front.front_is) ∙ texts_in front.done) by.written);
@@ -197,7 +197,7 @@ module _ (tally : Tally) (first : Frame) (xs : List Exchange) (turns : AreTurns 
     keeps_done w =
         let all = flat_map text_of (take (length by.done) xs) in
         record {
-          done = length by.done;
+          replied = length by.done;
           answered = answered;
           told = length by.done;
           one_more = inl refl;
@@ -216,7 +216,7 @@ module _ (tally : Tally) (first : Frame) (xs : List Exchange) (turns : AreTurns 
         let whole : flat_map text_of (take (length (by.done ++ by.one)) xs) ≡ written ++ w.more
         = ap (flat_map text_of) both ∙ flat-append by.done by.one ∙ ap (λ (l : List ℕ). flat_map text_of by.done ++ l) (sym w.front) ∙ sym (append_assoc (flat_map text_of by.done) w.text w.more) in
         record {
-          done = length by.done;
+          replied = length by.done;
           answered = answered;
           told = length (by.done ++ by.one);
           one_more = one_or_none by.done by.one by.single;

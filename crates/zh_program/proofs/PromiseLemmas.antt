@@ -1,11 +1,13 @@
 -- What the program has done that hands a disk over, by its task.
 use Rattle.std.proofs.Common.{◌≡◌, ◌≢◌, ⊎_elim, ℕ, List, Option, Some, None, Result, Err, IsTrue, refl, sym, ◌∙◌, ap, subst, codes}
-use Rattle.std.specs.Prelude.{IsSomeAnd}
+use Rattle.std.specs.Prelude.{IsSomeAnd, is_some, option_map}
 use Rattle.zh_disk.specs.History.{History}
 use Rattle.zh_disk.specs.declared.memory.MemoryDisk.{MemoryDisk}
 use Rattle.zh_districts.specs.Canton.{Canton, IsCanton}
 use Rattle.zh_film.specs.declared.film.Film.{Film}
-use Rattle.zh_arguments.specs.Arguments.{ArePaths, AsksFor, AsksOnDisk, Names, command_in}
+use Rattle.zh_arguments.specs.Arguments.{AsksFor, AsksOnDisk, Names, command_in}
+use Rattle.zh_arguments.specs.Commands.{ArePaths, paths_of}
+use Rattle.zh_arguments.proofs.CallerLemmas.{asked_at}
 use Rattle.zh_arguments.specs.Table.{path_in}
 use Rattle.clap.specs.Words.{Row, Text}
 use Rattle.zh_arguments.specs.declared.arguments.Paths.{Paths}
@@ -40,15 +42,13 @@ at_path rows paths path on are = let is : paths.disk.now ≡ path = cc in sym is
 -- what a command asks for on a disk, and the path of the disk
 asked_on : (given : Option (Text × List Row)) (task : Task) (path : List ℕ) → disk_path task ≡ Some path → Names given task → IsSomeAnd given (λ command. AsksOnDisk command task × (path ≡ path_in (codes "disk") command.1))
 asked_on None task path on asks = let wrong : disk_path Rehearse ≡ Some path = ap disk_path (sym asks) ∙ on in absurd cc
-asked_on (Some given) Rehearse path on asks = absurd cc
-asked_on (Some given) (tasks.List setup table) path on asks = absurd cc
-asked_on (Some given) (tasks.Check paths) path on asks = absurd cc
-asked_on (Some given) (Format paths) path on asks = (asks, at_path given.1 paths path on asks.1)
-asked_on (Some given) (Run paths) path on asks = (asks, at_path given.1 paths path on asks.1)
-asked_on (Some given) (Load paths csv) path on asks = (asks, at_path given.1 paths path on asks.1.1)
-asked_on (Some given) (tasks.DryRun paths csv) path on asks = (asks, at_path given.1 paths path on asks.1.1)
-asked_on (Some given) (tasks.Show paths query) path on asks = (asks.0, at_path given.1 paths path on asks.0.1)
-asked_on (Some given) (tasks.SheetSeats setup sheet layout) path on asks = absurd cc
+asked_on (Some given) task path on asks = at (paths_of task) refl
+  where
+    at : (known : Option Paths) → paths_of task ≡ known → AsksOnDisk given task × (path ≡ path_in (codes "disk") given.1)
+    at None is = let wrong : None ≡ Some path = sym (ap (option_map (λ (paths : Paths). paths.disk.now)) is) ∙ on in absurd cc
+    at (Some paths) is =
+        let disk : Some paths.disk.now ≡ Some path = sym (ap (option_map (λ (p : Paths). p.disk.now)) is) ∙ on in
+        ((ap is_some is, asks), at_path given.1 paths path disk (asked_at given task paths is asks))
 
 module _ (of : Known) where
   -- the promise, of the disk that was handed over, and its film
@@ -75,7 +75,7 @@ module _ (of : Known) where
       opened = by.opened;
       due = by.due;
       awaited = awaited_of (talk_of of task old new by.opened filmed) by.exchanges by.told;
-      office = λ honest bytes is tally own holds. by.kept.office honest bytes (known_fresh (of.files.disk_at old.files paths.disk.now) (of.disks.history first) bytes begins is) tally own holds;
+      on_a_count = λ honest bytes is tally own holds. by.kept.on_a_count honest bytes (known_fresh (of.files.disk_at old.files paths.disk.now) (of.disks.history first) bytes begins is) tally own holds;
       idle = λ honest bytes is none. by.kept.idle honest bytes (known_fresh (of.files.disk_at old.files paths.disk.now) (of.disks.history first) bytes begins is) none;
       formatted = λ p is. absurd (other p is);
     }
@@ -127,7 +127,7 @@ module _ (of : Known) where
           opened = here.opened;
           due = here.due;
           awaited = awaited_of (talk_of of (Format paths) old new here.opened filmed) here.exchanges here.told;
-          office = λ honest bytes is tally own holds. here.kept.office honest bytes (held_made tally bytes (of.disks.history uses.first).trail holds
+          on_a_count = λ honest bytes is tally own holds. here.kept.on_a_count honest bytes (held_made tally bytes (of.disks.history uses.first).trail holds
               (known_made known (of.disks.history uses.first) bytes uses.began.begins (first_honest honest) is)) tally own holds;
           idle = λ honest bytes is none. here.due;
           formatted = λ p is honest bytes known_is. empties honest bytes known_is;

@@ -9,7 +9,8 @@ use Rattle.zh_quorum.specs.Quorum.{AreParticipating}
 use Rattle.zh_totals.specs.Totals.{VoteTotals}
 use Rattle.zh_upper.specs.UpperSeats.{of_participants}
 use Rattle.zh_upper.specs.VoterNumbers.{AreVoterSums}
-use Rattle.zh_sheet.specs.Refusals.{IsTiedAbove, LeaveNoSeats}
+use Rattle.zh_upper.specs.declared.refusal.UpperRefusal.TheVariants.{Tied}
+use Rattle.zh_sheet.specs.Refusals.{IsRefusedAbove, LeaveNoSeats}
 
 weak_from_strict : (weights : List ℕ) (house : ℕ) (seats : List ℕ) → IsStrictFit weights house seats → IsFit weights house seats
 weak_from_strict weights house seats fit =
@@ -51,11 +52,11 @@ pub tied_seats : (totals : VoteTotals) → fits.IsTied (persons totals.canton) t
 tied_seats totals tied a divisors seats strict = no_strict_fit (persons totals.canton) totals.canton.house a.seats tied a.constituencies.in_proportion
 
 -- those of the groups
-pub tied_above : (totals : VoteTotals) → IsTiedAbove totals → LeaveNoSeats totals
+pub tied_above : (totals : VoteTotals) → IsRefusedAbove totals Tied → LeaveNoSeats totals
 tied_above totals tied a divisors below strict =
     let seats : tied.seats ≡ a.seats = same_seats totals a.seats tied.seats a.constituencies.in_proportion tied.constituencies.in_proportion in
     let taking : tied.taking ≡ a.taking = same_taking totals tied.taking a.taking tied.participation a.participation in
     let sums : AreVoterSums totals a.seats tied.voters = rw (← seats) tied.sums in
     let voters : tied.voters ≡ a.voters = same_sums totals a.seats tied.voters a.voters sums a.sums in
-    let here : fits.IsTied (of_participants a.voters a.taking) totals.canton.house = rw (← voters, ← taking) tied.tied in
+    let here : fits.IsTied (of_participants a.voters a.taking) totals.canton.house = rw (← voters, ← taking) tied.reason.holds in
     no_strict_fit (of_participants a.voters a.taking) totals.canton.house (of_participants a.upper a.taking) here a.groups.in_proportion

@@ -155,20 +155,20 @@ record IsParted (tally : Tally) (exchanges : List Exchange) (first a b : Frame) 
 
 parted : (tally : Tally) (exchanges : List Exchange) (first a b : Frame) → KeepsWhatIsTold tally exchanges first a b → IsParted tally exchanges first a b
 parted tally exchanges first a b k =
-    let left = drop k.done exchanges in
-    let next : take (k.done + 1) exchanges ≡ take k.done exchanges ++ take 1 left = take-add k.done 1 exchanges in
+    let left = drop k.replied exchanges in
+    let next : take (k.replied + 1) exchanges ≡ take k.replied exchanges ++ take 1 left = take-add k.replied 1 exchanges in
     let texts = flat_map text_of (take k.told exchanges) in
     record {
-      done = take k.done exchanges;
+      done = take k.replied exchanges;
       answered = k.answered;
       one = take 1 left;
       single = omega (arith, length-take 1 left);
       rest = drop 1 left;
-      parts = sym (ap (λ (l : List Exchange). take k.done exchanges ++ l) (take-append-drop 1 left) ∙ take-append-drop k.done exchanges);
+      parts = sym (ap (λ (l : List Exchange). take k.replied exchanges ++ l) (take-append-drop 1 left) ∙ take-append-drop k.replied exchanges);
       told = take k.told exchanges;
       with_it = ⊎_elim
-          (λ (is : k.told ≡ k.done). inl (ap (λ (n : ℕ). take n exchanges) is))
-          (λ (is : k.told ≡ k.done + 1). inr (ap (λ (n : ℕ). take n exchanges) is ∙ next))
+          (λ (is : k.told ≡ k.replied). inl (ap (λ (n : ℕ). take n exchanges) is))
+          (λ (is : k.told ≡ k.replied + 1). inr (ap (λ (n : ℕ). take n exchanges) is ∙ next))
           k.one_more;
       text = take k.front texts;
       more = drop k.front texts;
@@ -248,7 +248,7 @@ module _ (tally : Tally) (before : Trail) (talk : Conversation) (exchanges : Lis
         → talk.first.written ≡ Some known → a.written ≢ Some (known ++ flat_map text_of done) → ⊥
     none_late asks input left had has lines was other =
         let all = follows.1.reads asks in
-        let whole = sym (take-append-drop all.done exchanges) in
+        let whole = sym (take-append-drop all.replied exchanges) in
         let read : all.input ≡ input = consumed input left all.input talk.first.left a.left had has all.read in
-        let same : take all.done exchanges ≡ done = same_part (take all.done exchanges) (drop all.done exchanges) whole (all.lines ∙ ap (λ (l : List ℕ). map Some (ended_lines l)) read ∙ sym lines) in
+        let same : take all.replied exchanges ≡ done = same_part (take all.replied exchanges) (drop all.replied exchanges) whole (all.lines ∙ ap (λ (l : List ℕ). map Some (ended_lines l)) read ∙ sym lines) in
         other (after_known known (flat_map text_of done) talk.first.written a.written was (subst (λ (l : List Exchange). Appends talk.first.written a.written (flat_map text_of l)) same all.written))

@@ -63,9 +63,9 @@ pub record Exchange : Type 0 where
   pub count : Tally
   pub disk : Trail
 
--- so it is of each of these exchanges, by those before it
+-- so it is of each of these exchanges, by those prior to it
 abbrev pub EachIn : List Exchange → (List Exchange → Exchange → Type 0) → Type 0
-EachIn exchanges P = (done rest : List Exchange) (x : Exchange) → exchanges ≡ done ++ x ∷ rest → P done x
+EachIn exchanges P = (prior rest : List Exchange) (x : Exchange) → exchanges ≡ prior ++ x ∷ rest → P prior x
 
 -- `stored` acknowledges a command; after `device` one is accepted too, and the disk may have it or not
 abbrev pub log_by : Option Command → Answer → Log

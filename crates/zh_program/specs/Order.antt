@@ -28,24 +28,24 @@ AreNext talk a b = (newer : List Frame) × (older : List Frame) × (talk.last �
 -- by the later time, and at most one accepted command that is not answered in what is written by the earlier one.
 pub record KeepsWhatIsTold (tally : Tally) (exchanges : List Exchange) (first earlier later : Frame) : Type 0 where
   -- by the earlier time so many are answered, whole, and no other
-  pub done : ℕ
-  pub answered : Appends first.written earlier.written (flat_map text_of (take done exchanges))
+  pub replied : ℕ
+  pub answered : Appends first.written earlier.written (flat_map text_of (take replied exchanges))
   -- by the later time a front of the answers to so many is written, to one more at most
   pub told : ℕ
-  pub one_more : (told ≡ done) ⊎ (told ≡ done + 1)
+  pub one_more : (told ≡ replied) ⊎ (told ≡ replied + 1)
   pub front : ℕ
   pub written : Appends first.written later.written (take front (flat_map text_of (take told exchanges)))
   -- and the disk has all that these acknowledge, even if it is stopped before the first byte of it
-  pub kept : Always (HasSome tally (log_of (take (done + 1) exchanges)).accepted (log_of (take told exchanges)).acknowledged)
+  pub kept : Always (HasSome tally (log_of (take (replied + 1) exchanges)).accepted (log_of (take told exchanges)).acknowledged)
       earlier.disk later.disk
 
 -- by this time all lines that are complete in what was read are answered, whole, and nothing else is written
 pub record HasAnswered (exchanges : List Exchange) (first now : Frame) : Type 0 where
   pub input : List ℕ
   pub read : Consumes first.left now.left input
-  pub done : ℕ
-  pub lines : map (λ x. line_in x.given) (take done exchanges) ≡ map Some (ended_lines input)
-  pub written : Appends first.written now.written (flat_map text_of (take done exchanges))
+  pub replied : ℕ
+  pub lines : map (λ x. line_in x.given) (take replied exchanges) ≡ map Some (ended_lines input)
+  pub written : Appends first.written now.written (flat_map text_of (take replied exchanges))
 
 -- From one time to the next: a read, if it comes, comes once all lines are answered, and the input is taken in no other way.
 pub record AnswersBeforeReading (exchanges : List Exchange) (first earlier later : Frame) : Type 0 where

@@ -1,8 +1,7 @@
 -- What the program says of a task.
-use Rattle.std.specs.Prelude.{◌≡◌, ◌≢◌, ℕ, List, Option, Some, None, Result, Err}
+use Rattle.std.specs.Prelude.{◌≡◌, ◌≢◌, ℕ, List, Option, None, Result, Err, option_map}
 use Rattle.zh_arguments.specs.declared.arguments.Task.{Task}
-use Rattle.zh_arguments.specs.declared.arguments.Task.TheVariants.{Format, Run, Load}
-use Rattle.zh_arguments.specs.declared.arguments.Task.TheVariants as tasks
+use Rattle.zh_arguments.specs.Commands.{paths_of}
 use Rattle.zh_world.specs.declared.world.Ended.{Ended}
 use Rattle.zh_world.specs.declared.world.World.{World}
 use Rattle.zh_tasks.specs.Remarks.{BecameOf}
@@ -19,12 +18,7 @@ ends result used = record { result = result; used = used }
 
 -- the path of the disk of a task, if it is given one
 abbrev pub disk_path : Task → Option (List ℕ)
-disk_path (Format paths) = Some paths.disk.now
-disk_path (Run paths) = Some paths.disk.now
-disk_path (Load paths csv) = Some paths.disk.now
-disk_path (tasks.DryRun paths csv) = Some paths.disk.now
-disk_path (tasks.Show paths query) = Some paths.disk.now
-disk_path task = None
+disk_path task = option_map (λ paths. paths.disk.now) (paths_of task)
 
 -- A task met a fault, and then that is reported to standard error, whole or broken off as the world's remark says. Where it
 -- was refused nothing is reported: the task has said why.

@@ -34,7 +34,7 @@ pub record Promise (of : Known) (arguments : List (List ℕ)) (old new : WorldOf
   -- the input is read only when all lines that are complete in what was read before are answered
   pub awaited : Throughout (AnswersBeforeReading exchanges) (talk_of of task old new opened used)
   -- if the disk was honest, and the bytes of its file, where these are known, held a count: the clean image of one within the limits
-  pub office : IsTrue (of.disks.history used.disk).honest → (bytes : List ℕ) → of.files.disk_at old.files path ≡ Some bytes
+  pub on_a_count : IsTrue (of.disks.history used.disk).honest → (bytes : List ℕ) → of.files.disk_at old.files path ≡ Some bytes
       → (tally : Tally) → IsCanton tally.canton → Holds tally bytes
       → Headline tally (fresh_trail bytes) (talk_of of task old new opened used) exchanges
   -- if it was honest, and they held no such count, not even in an image that isn't clean: no answer; of such an image nothing is said

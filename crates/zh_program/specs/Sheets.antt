@@ -4,6 +4,7 @@ use Rattle.zh_commands.specs.declared.replies.Reply.TheVariants.{Refused}
 use Rattle.zh_commands.specs.declared.replies.Refusal.TheVariants as refusals
 use Rattle.zh_totals.specs.Totals.{VoteTotals}
 use Rattle.zh_sheet.specs.Distribution.{Distribution, IsDistribution}
+use Rattle.zh_upper.specs.declared.refusal.UpperRefusal.TheVariants as uppers
 use Rattle.zh_sheet.specs.declared.refusal.SheetRefusal.TheVariants as sheets
 use Rattle.zh_answers.specs.declared.answer.Answer.{Answer}
 use Rattle.zh_answers.specs.declared.answer.Answer.TheVariants.{Reply}
@@ -18,6 +19,6 @@ pub record FollowsFrom (totals : VoteTotals) (sheet : Distribution) : Type 0 whe
 -- the answer reports a tie: of the constituencies' seats, of the groups', or of the lists'
 abbrev pub IsTie : Answer → Type 0
 IsTie (Reply (Refused (refusals.Sheet sheets.TiedSeats))) = Unit {0}
-IsTie (Reply (Refused (refusals.Sheet sheets.TiedUpper))) = Unit {0}
+IsTie (Reply (Refused (refusals.Sheet (sheets.NoUpperSeats uppers.Tied)))) = Unit {0}
 IsTie (Reply (Refused (refusals.Sheet (sheets.TiedLower constituency group)))) = Unit {0}
 IsTie answer = ⊥

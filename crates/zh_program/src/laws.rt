@@ -40,61 +40,63 @@ use zh_world::{Files, World};
 /// What the promise excludes, wherever a stop comes.
 pub fn headline_excludes()
     // An image without the last acknowledged command.
-    ensures lost { (tally : Tally) (before : Trail) (talk : Conversation) (exchanges done rest : List Exchange) (c : List ℕ) (n : ℕ)
-        → Headline tally before talk exchanges → exchanges ≡ done ++ rest → IsImage (disk_by talk.first.disk done).now c
-        → n < (log_of done).acknowledged → n ≤ length (log_of done).accepted → Holds (after tally (take n (log_of done).accepted)) c → ⊥ }
+    ensures lost { (tally : Tally) (before : Trail) (talk : Conversation) (exchanges prior rest : List Exchange) (c : List ℕ) (n : ℕ)
+        → Headline tally before talk exchanges → exchanges ≡ prior ++ rest → IsImage (disk_by talk.first.disk prior).now c
+        → n < (log_of prior).acknowledged → n ≤ length (log_of prior).accepted → Holds (after tally (take n (log_of prior).accepted)) c
+        → ⊥ }
     // One that skips a command, has them in another order, or has one that was not accepted by then.
-    ensures skipped { (tally count : Tally) (before : Trail) (talk : Conversation) (exchanges done rest : List Exchange)
-        (x : Exchange) (c : List ℕ) → Headline tally before talk exchanges → exchanges ≡ done ++ x ∷ rest
-        → StopsWithin (disk_by talk.first.disk done) x.disk c
+    ensures skipped { (tally count : Tally) (before : Trail) (talk : Conversation) (exchanges prior rest : List Exchange)
+        (x : Exchange) (c : List ℕ) → Headline tally before talk exchanges → exchanges ≡ prior ++ x ∷ rest
+        → StopsWithin (disk_by talk.first.disk prior) x.disk c
         → Holds count c → count.canton ≡ tally.canton
-        → ((n : ℕ) → (log_of done).acknowledged ≤ n → n ≤ length (log_of (done ++ x ∷ [])).accepted
-        → count ≢ after tally (take n (log_of (done ++ x ∷ [])).accepted)) → ⊥ }
+        → ((n : ℕ) → (log_of prior).acknowledged ≤ n → n ≤ length (log_of (prior ++ x ∷ [])).accepted
+        → count ≢ after tally (take n (log_of (prior ++ x ∷ [])).accepted)) → ⊥ }
     // An answer `stored` where there is no command.
-    ensures nothing_stored { (tally : Tally) (before : Trail) (talk : Conversation) (exchanges done rest : List Exchange)
-        (x : Exchange) (number : ℕ) → Headline tally before talk exchanges → exchanges ≡ done ++ x ∷ rest
+    ensures nothing_stored { (tally : Tally) (before : Trail) (talk : Conversation) (exchanges prior rest : List Exchange)
+        (x : Exchange) (number : ℕ) → Headline tally before talk exchanges → exchanges ≡ prior ++ x ∷ rest
         → x.answer ≡ answers.Reply (replies.Stored number) → x.command ≡ None → ⊥ }
     // An answer `same` to a command that is new to the count.
-    ensures not_same { (tally : Tally) (before : Trail) (talk : Conversation) (exchanges done rest : List Exchange)
-        (x : Exchange) (command : Command) → Headline tally before talk exchanges → exchanges ≡ done ++ x ∷ rest
+    ensures not_same { (tally : Tally) (before : Trail) (talk : Conversation) (exchanges prior rest : List Exchange)
+        (x : Exchange) (command : Command) → Headline tally before talk exchanges → exchanges ≡ prior ++ x ∷ rest
         → x.answer ≡ answers.Reply replies.Same → x.command ≡ Some command
-        → judge (count_by tally (log_of done)) command ≡ verdicts.Accept → ⊥ }
+        → judge (count_by tally (log_of prior)) command ≡ verdicts.Accept → ⊥ }
     // A sheet of another count than that at its line.
-    ensures other_count { (tally : Tally) (before : Trail) (talk : Conversation) (exchanges done rest : List Exchange) (x : Exchange)
-        (sheet : Distribution) (is_final : Bool) → Headline tally before talk exchanges → exchanges ≡ done ++ x ∷ rest
-        → x.answer ≡ answers.Sheet sheet is_final → sheet.totals ≢ totals_of (count_by tally (log_of (done ++ x ∷ []))) → ⊥ }
+    ensures other_count { (tally : Tally) (before : Trail) (talk : Conversation) (exchanges prior rest : List Exchange) (x : Exchange)
+        (sheet : Distribution) (is_final : Bool) → Headline tally before talk exchanges → exchanges ≡ prior ++ x ∷ rest
+        → x.answer ≡ answers.Sheet sheet is_final → sheet.totals ≢ totals_of (count_by tally (log_of (prior ++ x ∷ []))) → ⊥ }
     // A sheet with the quotient of row d and column g on a half, k and a half.
-    ensures half { (tally : Tally) (before : Trail) (talk : Conversation) (exchanges done rest : List Exchange) (x : Exchange)
+    ensures half { (tally : Tally) (before : Trail) (talk : Conversation) (exchanges prior rest : List Exchange) (x : Exchange)
         (sheet : Distribution) (is_final : Bool) (d g k : ℕ) → Headline tally before talk exchanges
-        → exchanges ≡ done ++ x ∷ rest → x.answer ≡ answers.Sheet sheet is_final
+        → exchanges ≡ prior ++ x ∷ rest → x.answer ≡ answers.Sheet sheet is_final
         → d < (question_of sheet).rows → g < (question_of sheet).columns
         → 2 * (cell (question_of sheet).columns (question_of sheet).votes d g * (sheet.lower.divisors.scale * sheet.lower.divisors.scale))
         ≡ (2 * k + 1) * (slice_index sheet.lower.divisors.of_rows d * slice_index sheet.lower.divisors.of_columns g) → ⊥ }
     // Seats beside those of a sheet, by whatever divisors, of any scale, halves rounded either way.
-    ensures other_seats { (tally : Tally) (before : Trail) (talk : Conversation) (exchanges done rest : List Exchange) (x : Exchange)
+    ensures other_seats { (tally : Tally) (before : Trail) (talk : Conversation) (exchanges prior rest : List Exchange) (x : Exchange)
         (sheet : Distribution) (is_final : Bool) (divisors : Divisors) (seats : List ℕ) → Headline tally before talk exchanges
-        → exchanges ≡ done ++ x ∷ rest → x.answer ≡ answers.Sheet sheet is_final
+        → exchanges ≡ prior ++ x ∷ rest → x.answer ≡ answers.Sheet sheet is_final
         → IsWeak (question_of sheet) divisors seats → seats ≢ sheet.lower.seats → ⊥ }
     // Seats where the answer is a tie, by whatever divisors.
-    ensures tie { (tally : Tally) (before : Trail) (talk : Conversation) (exchanges done rest : List Exchange) (x : Exchange)
+    ensures tie { (tally : Tally) (before : Trail) (talk : Conversation) (exchanges prior rest : List Exchange) (x : Exchange)
         (targets : Targets (totals_of x.count)) (divisors : Divisors) (seats : List ℕ)
-        → Headline tally before talk exchanges → exchanges ≡ done ++ x ∷ rest → IsTie x.answer
+        → Headline tally before talk exchanges → exchanges ≡ prior ++ x ∷ rest → IsTie x.answer
         → IsStrict (lower_question (totals_of x.count) targets.seats targets.upper) divisors seats → ⊥ }
     // Of two times a and b that follow each other: an acknowledgement that is written by b, of a command that a stop between loses.
-    ensures early { (tally : Tally) (before : Trail) (talk : Conversation) (exchanges done rest : List Exchange) (a b : Frame)
-        (text c : List ℕ) (n : ℕ) → Headline tally before talk exchanges → exchanges ≡ done ++ rest → AreNext talk a b
-        → talk.first.written ≡ Some text → b.written ≡ Some (text ++ flat_map text_of done) → StopsWithin a.disk b.disk c
-        → n ≤ length (log_of done).accepted → n < (log_of done).acknowledged → Holds (after tally (take n (log_of done).accepted)) c → ⊥ }
+    ensures early { (tally : Tally) (before : Trail) (talk : Conversation) (exchanges prior rest : List Exchange) (a b : Frame)
+        (text c : List ℕ) (n : ℕ) → Headline tally before talk exchanges → exchanges ≡ prior ++ rest → AreNext talk a b
+        → talk.first.written ≡ Some text → b.written ≡ Some (text ++ flat_map text_of prior) → StopsWithin a.disk b.disk c
+        → n ≤ length (log_of prior).accepted → n < (log_of prior).acknowledged → Holds (after tally (take n (log_of prior).accepted)) c
+        → ⊥ }
     // A read that is made while a line that is complete in what was read has no answer, or another one, or two.
-    ensures late { (tally : Tally) (before : Trail) (talk : Conversation) (exchanges done rest : List Exchange) (a b : Frame)
-        (input left text : List ℕ) → Headline tally before talk exchanges → exchanges ≡ done ++ rest → AreNext talk a b → a.kind ≡ Asks
-        → talk.first.left ≡ Some (input ++ left) → a.left ≡ Some left → map (λ x. line_in x.given) done ≡ map Some (ended_lines input)
-        → talk.first.written ≡ Some text → a.written ≢ Some (text ++ flat_map text_of done) → ⊥ }
+    ensures late { (tally : Tally) (before : Trail) (talk : Conversation) (exchanges prior rest : List Exchange) (a b : Frame)
+        (input left text : List ℕ) → Headline tally before talk exchanges → exchanges ≡ prior ++ rest → AreNext talk a b → a.kind ≡ Asks
+        → talk.first.left ≡ Some (input ++ left) → a.left ≡ Some left → map (λ x. line_in x.given) prior ≡ map Some (ended_lines input)
+        → talk.first.written ≡ Some text → a.written ≢ Some (text ++ flat_map text_of prior) → ⊥ }
     // A moment of the disk with two commands more than those that are answered by then.
-    ensures unanswered { (tally : Tally) (before : Trail) (talk : Conversation) (exchanges done rest : List Exchange) (a b : Frame)
-        (text c : List ℕ) (n : ℕ) → Headline tally before talk exchanges → exchanges ≡ done ++ rest → AreNext talk a b
-        → talk.first.written ≡ Some text → a.written ≡ Some (text ++ flat_map text_of done) → StopsWithin a.disk b.disk c
-        → length (log_of done).accepted + 1 < n → n ≤ length (log_of exchanges).accepted
+    ensures unanswered { (tally : Tally) (before : Trail) (talk : Conversation) (exchanges prior rest : List Exchange) (a b : Frame)
+        (text c : List ℕ) (n : ℕ) → Headline tally before talk exchanges → exchanges ≡ prior ++ rest → AreNext talk a b
+        → talk.first.written ≡ Some text → a.written ≡ Some (text ++ flat_map text_of prior) → StopsWithin a.disk b.disk c
+        → length (log_of prior).accepted + 1 < n → n ≤ length (log_of exchanges).accepted
         → Holds (after tally (take n (log_of exchanges).accepted)) c → ⊥ }
 {}
 

@@ -5,8 +5,9 @@ ghost use Rattle.zh_program.specs.Reports.{fault_text, place_text, report_text, 
 ghost use Rattle.zh_tasks.specs.Remarks.{BecameOf};
 
 use crate::paths::{Report, push_path};
-use crate::report_parts::{ReportWords, push, push_bytes, push_fault, push_place};
+use crate::report_parts::{ReportWords, push_fault, push_place};
 use std::io::Write;
+use zh_commands::{push, push_bytes};
 use zh_tasks::{TaskFault, TaskPlace, make_remark};
 use zh_world::Remark;
 

@@ -5,8 +5,8 @@ ghost use Rattle.zh_program.specs.Reports.{fault_text, limits_text, opening_name
 ghost use Rattle.zh_checks.specs.Reports.{setup_place};
 
 use arrayvec::ArrayVec;
-use itoa::Buffer;
 use zh_checks::{name_of_held, name_of_setup, shown_key};
+use zh_commands::{push, push_bytes, push_number, push_numbered};
 use zh_disk::DISK_LENGTH;
 use zh_districts::SeatFault;
 use zh_office::{OpenFault, ServeFault};
@@ -15,41 +15,6 @@ use zh_tasks::{TaskFault, TaskFile, TaskPlace};
 
 /// The name of a fault in its line, or a place or a cause: at most 115 bytes.
 pub(crate) type ReportWords = ArrayVec<u8, 128>;
-
-/// Writes bytes.
-pub(crate) fn push_bytes<const N: usize>(words: &mut ArrayVec<u8, N>, bytes: &[u8])
-    requires { length words.old.items + length bytes.now ≤ N }
-    ensures { words.new.items ≡ words.old.items ++ bytes.now }
-{
-    let _fits = words.try_extend_from_slice(bytes);
-}
-
-/// Writes a text.
-pub(crate) fn push<const N: usize>(words: &mut ArrayVec<u8, N>, text: &str)
-    requires { length words.old.items + length text.now ≤ N }
-    ensures { words.new.items ≡ words.old.items ++ text.now }
-{
-    push_bytes(words, text.as_bytes());
-}
-
-/// Writes a numeral, which has at most 20 digits.
-fn push_number(words: &mut ReportWords, number: u64)
-    requires { length words.old.items + 20 ≤ 128 }
-    ensures text { words.new.items ≡ words.old.items ++ decimal number }
-    ensures short { length words.new.items ≤ length words.old.items + 20 }
-{
-    push(words, Buffer::new().format(number));
-}
-
-/// Writes a word and then a numeral, which has at most 10 digits.
-fn push_numbered(words: &mut ReportWords, word: &str, number: u32)
-    requires { length words.old.items + length word.now + 20 ≤ 128 }
-    ensures text { words.new.items ≡ words.old.items ++ word.now ++ decimal number }
-    ensures short { length words.new.items ≤ length words.old.items + length word.now + 10 }
-{
-    push(words, word);
-    push_number(words, u64::from(number));
-}
 
 fn name_of_opening(fault: OpenFault) -> &'static str
     ensures name { result.now ≡ opening_name fault }

@@ -21,7 +21,7 @@ use Rattle.zh_tasks.proofs.LoadLemmas.{writes_front}
 use Rattle.zh_tasks.proofs.TextLemmas.{no_calls}
 
 -- a fault of no record, and of no read
-pub other_fault : (why : LoadFault) → named why ≡ None → (why ≡ loads.Read → ⊥) → why ≡ loads.Memory
+other_fault : (why : LoadFault) → named why ≡ None → (why ≡ loads.Read → ⊥) → why ≡ loads.Memory
 other_fault loads.Csv none read = absurd (cc none)
 other_fault loads.Syntax none read = absurd (cc none)
 other_fault (loads.Judged reasons.Municipality) none read = absurd (cc none)
@@ -32,7 +32,7 @@ other_fault loads.Memory none read = refl
 other_fault loads.Read none read = absurd (read refl)
 
 -- the sums that were read are those of the export, where its bytes are known
-pub sums_known : (known : Option (List ℕ)) (canton : Canton) (sums : HeldSums) → IsHolding canton (λ bytes. known ≡ Some bytes) (Ok sums) → AreSumsAt known canton sums
+sums_known : (known : Option (List ℕ)) (canton : Canton) (sums : HeldSums) → IsHolding canton (λ bytes. known ≡ Some bytes) (Ok sums) → AreSumsAt known canton sums
 sums_known None canton sums held = held.sums
 sums_known (Some text) canton sums held = held.known text refl
 
@@ -45,7 +45,7 @@ wrong_known (Some text) canton Met why (faults.Held record_fault) held is = (why
 wrong_known known canton Met why fault held is = absurd is
 
 -- a file that was opened gives no sheet
-pub opened_lacks : (Met : FileFault → Type 0) (fault : TaskFault) → IsOfSheet fault → LacksSheetFile Met fault
+opened_lacks : (Met : FileFault → Type 0) (fault : TaskFault) → IsOfSheet fault → LacksSheetFile Met fault
 opened_lacks Met faults.SheetFile is = tt
 opened_lacks Met faults.Memory is = tt
 opened_lacks Met fault is = absurd is

@@ -5,9 +5,11 @@ mod FrontLemmas
 mod KeptLemmas
 mod ListLemmas
 mod LoadLemmas
+mod NoMemoryLemmas
 mod OrderLemmas
 mod ReadingLemmas
 mod RehearseLemmas
+mod RightLemmas
 mod RunLemmas
 mod SetupLemmas
 mod ShownLemmas

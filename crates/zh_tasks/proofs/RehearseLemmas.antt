@@ -22,13 +22,13 @@ use Rattle.zh_tasks.specs.declared.fault.TaskFault.TheVariants as faults
 use Rattle.zh_tasks.proofs.RunLemmas.{serves_as}
 
 -- an office that is opened on a new disk has an empty count
-pub opened_empty : (canton : Canton) (m : Moment) (s : Ledger) → ((c : List ℕ) → IsImage m c → IsNew canton c) → IsReady canton s → HoldsFramed s.tally m.bytes → s.tally ≡ empty canton
+opened_empty : (canton : Canton) (m : Moment) (s : Ledger) → ((c : List ℕ) → IsImage m c → IsNew canton c) → IsReady canton s → HoldsFramed s.tally m.bytes → s.tally ≡ empty canton
 opened_empty canton m s formatted ready stood =
     let new = formatted m.bytes (record { size = refl; same = λ k settled. refl }) in
     (one_count m.bytes stood.content new.content stood.end new.end stood.format new.format s.tally (empty canton) stood.framed new.clean.framed stood.stands new.stands ready.set_up).1
 
 -- the office of the rehearsal
-pub rehearses : (canton : Canton) (first last : History) (start end : OnDisk Office) → canton ≡ rehearsal → IsTrue last.honest → ((c : List ℕ) → IsImage first.trail.now c → IsNew canton c)
+rehearses : (canton : Canton) (first last : History) (start end : OnDisk Office) → canton ≡ rehearsal → IsTrue last.honest → ((c : List ℕ) → IsImage first.trail.now c → IsNew canton c)
     → IsFrom canton first last start end → IsRehearsal start end
 rehearses canton first last start end is sure formatted from =
     let opens = from.begun.opening.call.did (from.honest sure) in

@@ -16,5 +16,6 @@ pub mod Shown
 pub mod Texts
 pub mod Query
 pub mod Reading
+pub mod Results
 pub mod Seats
 pub mod SheetSeats

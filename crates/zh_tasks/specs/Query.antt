@@ -1,12 +1,12 @@
 -- What a query shows of what is held.
 use Rattle.std.specs.Prelude.{◌≡◌, Result}
-use Rattle.zh_arguments.specs.declared.arguments.Query.{Query}
-use Rattle.zh_arguments.specs.declared.arguments.Query.TheVariants.{Export, Status, Seats}
+use Rattle.zh_arguments.specs.declared.commands.Query.{Query}
+use Rattle.zh_arguments.specs.declared.commands.Query.TheVariants.{Export, Status, Seats}
 use Rattle.zh_csv.specs.Export.{export_text}
 use Rattle.zh_returns.specs.Tally.{Tally}
 use Rattle.zh_status.specs.Status.{IsSaidOf, IsStatusText}
-use Rattle.zh_results.specs.declared.outcome.MarkedSheet.{MarkedSheet}
-use Rattle.zh_results.specs.declared.outcome.NoSeats.{NoSeats}
+use Rattle.zh_seats.specs.declared.outcome.MarkedSheet.{MarkedSheet}
+use Rattle.zh_seats.specs.declared.outcome.NoSeats.{NoSeats}
 use Rattle.zh_tasks.specs.Seats.{AreSeatsOf, AreShownSeats}
 use Rattle.zh_tasks.specs.declared.shown.Shown.{Shown}
 use Rattle.zh_tasks.specs.declared.shown.Shown.TheVariants.{Text, Advised}

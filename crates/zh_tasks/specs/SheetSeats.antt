@@ -6,9 +6,9 @@ use Rattle.zh_check.specs.Verdicts.{IsRight}
 use Rattle.zh_check.specs.declared.checked.RightSheet.{RightSheet}
 use Rattle.zh_seats.specs.declared.mark.Source.TheVariants as sources
 use Rattle.zh_verdicts.specs.Right.{unchecked_line}
-use Rattle.zh_results.specs.Results.{IsNoSheetOf}
-use Rattle.zh_results.specs.declared.outcome.MarkedSheet.{MarkedSheet}
-use Rattle.zh_results.specs.declared.outcome.NoSeats.{NoSeats}
+use Rattle.zh_tasks.specs.Results.{IsNoSheetOf}
+use Rattle.zh_seats.specs.declared.outcome.MarkedSheet.{MarkedSheet}
+use Rattle.zh_seats.specs.declared.outcome.NoSeats.{NoSeats}
 use Rattle.zh_world.specs.declared.files.Files.{Ghosts as Files}
 use Rattle.zh_tasks.specs.Check.{a_sheet}
 use Rattle.zh_tasks.specs.Seats.{IsShownReason, laid_out}

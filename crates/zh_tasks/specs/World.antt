@@ -13,6 +13,8 @@ use Rattle.zh_world.specs.declared.fault.FileFault.{FileFault}
 use Rattle.zh_world.specs.declared.world.Ended.{Ended}
 use Rattle.zh_world.specs.declared.world.World.{World}
 use Rattle.zh_tasks.specs.declared.fault.TaskFault.{TaskFault}
+use Rattle.zh_tasks.specs.declared.on_disk.Missing.{Missing}
+use Rattle.zh_tasks.specs.declared.on_disk.Missing.TheVariants.{Fault, Made}
 use Rattle.zh_tasks.specs.declared.used.Filmed.{Filmed}
 use Rattle.zh_tasks.specs.declared.used.Observed.{Observed}
 use Rattle.zh_tasks.specs.declared.used.Used.{Used}
@@ -74,14 +76,22 @@ pub record Sight (F T D R : Type 0) : Type 1 where
   pub disks : Disks D
   pub Begins : Option (List ℕ) → History → Type 0
 
+-- how a disk begins, where a missing one is a fault, or is made
+abbrev pub BeginsAt : Missing → Option (List ℕ) → History → Type 0
+BeginsAt Fault = opened.Begins
+BeginsAt Made = opened.BeginsOrIsMade
+
 module _ {F T D R : Type 0} where
+  abbrev pub sight : Missing → Files F T D R → Disks D → Sight F T D R
+  sight missing files disks = record { files = files; disks = disks; Begins = BeginsAt missing }
+
   -- the sight of a disk that there is
   abbrev pub finding : Files F T D R → Disks D → Sight F T D R
-  finding files disks = record { files = files; disks = disks; Begins = opened.Begins }
+  finding = sight Fault
 
   -- the sight of one that is made where there is none
   abbrev pub making : Files F T D R → Disks D → Sight F T D R
-  making files disks = record { files = files; disks = disks; Begins = opened.BeginsOrIsMade }
+  making = sight Made
 
   -- so many calls were made of the files, of which the same is known, and nothing that stands anywhere was touched
   pub record AreCalls (files : Files F T D R) (count : ℕ) (old new : F) : Type 0 where

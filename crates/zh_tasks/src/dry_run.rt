@@ -66,7 +66,7 @@ fn dry_run<I: Read, O: Write, E: Write, F: Files>(
 
 /// Says what a load of the CSV file at a path would do, and stores nothing.
 #[derive(Drop)]
-pub struct DryRun<'a> {
+pub(crate) struct DryRun<'a> {
     pub csv: &'a str,
 }
 

@@ -19,7 +19,11 @@ use zh_tables::{problems_line, setup_problems};
 use zh_world::{Files, Remark, World};
 
 /// Formats a disk that is blank.
-pub fn format_blank<D: Disk>(alloc: Global, setup: &Setup, disk: &mut D) -> Result<(), TaskFault>
+pub(crate) fn format_blank<D: Disk>(
+    alloc: Global,
+    setup: &Setup,
+    disk: &mut D,
+) -> Result<(), TaskFault>
     // It is opened, and formatted only where it is blank: specs/Format.antt has the moments.
     ensures call { Call format_fails (FormatsBlank setup.now) (D.history disk.old) (D.history disk.new) result }
     ensures fault { IfErr result IsOfFormat }
@@ -66,7 +70,7 @@ fn format_with<I: Read, O: Write, E: Write, F: Files>(
 }
 
 /// Formats the disk.
-pub struct FormatDisk;
+pub(crate) struct FormatDisk;
 
 impl<I: Read, O: Write, E: Write, F: Files> Middle<World<I, O, E, F>, F::Disk> for FormatDisk {
     ghost does = { λ task. Formatted (known I.Read O.Write E.Write F.Files F.Disk.Disk) };

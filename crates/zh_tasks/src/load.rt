@@ -125,7 +125,7 @@ fn load_from<I: Read, O: Write, E: Write, F: Files>(
 
 /// Loads the CSV file at a path.
 #[derive(Drop)]
-pub struct Load<'a> {
+pub(crate) struct Load<'a> {
     pub csv: &'a str,
 }
 

@@ -2,9 +2,11 @@
 
 ghost use Rattle.std.specs.Prelude.{◌≤◌, ◌+◌, IfErr, IfOk, Result, Some};
 ghost use Rattle.zh_districts.specs.Canton.{Canton};
-ghost use Rattle.zh_world.specs.Places.{Touches};
+ghost use Rattle.zh_world.specs.Causes.{EndsAt};
+ghost use Rattle.zh_world.specs.Files.{IsCallOfFiles};
+ghost use Rattle.zh_world.specs.Places.{IfKnown, Touches, TouchesOnly};
 ghost use Rattle.zh_tasks.specs.OnDisk.{Began, IsEarly, UsesDisk, UsesFilm};
-ghost use Rattle.zh_tasks.specs.World.{IsMetAt, finding, making};
+ghost use Rattle.zh_tasks.specs.World.{BeginsAt, IsMetAt, finding, sight};
 ghost use Rattle.zh_tasks.specs.declared.fault.TaskFault.{TaskFault};
 
 use crate::fault::TaskFault;
@@ -13,7 +15,7 @@ use crate::used::{Filmed, Observed, Used};
 use std::alloc::Global;
 use zh_arguments::Paths;
 use zh_districts::Setup;
-use zh_world::{Ended, Files, World};
+use zh_world::{Ended, FileFault, Files, World};
 
 /// What a task does with its disk.
 pub trait Middle<W, D> {
@@ -41,39 +43,49 @@ pub trait FilmedMiddle<W, D, S> {
         ensures { does self.now setup.now (world.old, disk.old) (world.new, disk.new) result };
 }
 
+/// What comes of a path at which there is no disk.
+#[derive(Clone, Copy)]
+pub(crate) enum Missing {
+    /// The task is not done.
+    Fault,
+    /// One is made.
+    Made,
+}
+
+/// The disk at a path.
+fn disk_at<F: Files>(
+    files: &mut F,
+    right: F::Right,
+    path: &str,
+    missing: Missing,
+) -> Result<F::Disk, FileFault>
+    ensures call { IsCallOfFiles F.text_at F.disk_at F.calls files.old files.new }
+    ensures touches { IfKnown (TouchesOnly path.now) (F.places files.old) (F.places files.new) }
+    ensures ends { EndsAt (F.places files.old) path.now (F.fault files.new) result }
+    ensures begins { IfOk result (λ disk. BeginsAt missing (F.disk_at files.old path.now) (F.Disk.history disk)) }
+{
+    match missing {
+        Missing::Fault => files.disk(right, path),
+        Missing::Made => files.disk_or_make(right, path),
+    }
+}
+
 /// Reads the set-up, and opens the disk.
 fn begin<F: Files>(
     alloc: Global,
     paths: Paths<'_>,
     right: F::Right,
+    missing: Missing,
     files: &mut F,
 ) -> Result<(Setup, F::Disk), TaskFault>
-    ensures began { IfOk result (Began (finding F.Files F.Disk.Disk) paths.entry files.old files.new) }
+    ensures began { IfOk result (Began (sight missing F.Files F.Disk.Disk) paths.entry files.old files.new) }
     ensures counted { F.calls files.new ≤ F.calls files.old + 2 }
     ensures touches { Touches (Some paths.entry.disk.now) (F.places files.old) (F.places files.new) }
     ensures early { IfErr result (IsEarly (F.text_at files.old paths.entry.setup.now)
         (IsMetAt F.Files paths.entry.setup.now files.old files.new) (IsMetAt F.Files paths.entry.disk.now files.old files.new)) }
 {
     let setup = setup_at(alloc, files, paths.setup)?;
-    let disk = files.disk(right, paths.disk)?;
-    Ok((setup, disk))
-}
-
-/// The same of a disk that is made where there is none.
-fn begin_made<F: Files>(
-    alloc: Global,
-    paths: Paths<'_>,
-    right: F::Right,
-    files: &mut F,
-) -> Result<(Setup, F::Disk), TaskFault>
-    ensures began { IfOk result (Began (making F.Files F.Disk.Disk) paths.entry files.old files.new) }
-    ensures counted { F.calls files.new ≤ F.calls files.old + 2 }
-    ensures touches { Touches (Some paths.entry.disk.now) (F.places files.old) (F.places files.new) }
-    ensures early { IfErr result (IsEarly (F.text_at files.old paths.entry.setup.now)
-        (IsMetAt F.Files paths.entry.setup.now files.old files.new) (IsMetAt F.Files paths.entry.disk.now files.old files.new)) }
-{
-    let setup = setup_at(alloc, files, paths.setup)?;
-    let disk = files.disk_or_make(right, paths.disk)?;
+    let disk = disk_at(files, right, paths.disk, missing)?;
     Ok((setup, disk))
 }
 
@@ -82,12 +94,13 @@ pub(crate) fn on_disk<I, O, E, F: Files, M: Middle<World<I, O, E, F>, F::Disk>>(
     alloc: Global,
     paths: Paths<'_>,
     right: F::Right,
+    missing: Missing,
     world: &mut World<I, O, E, F>,
     middle: &M,
 ) -> Ended<Result<(), TaskFault>, Used<I, O, F::Disk, F::Text>>
-    ensures { UsesDisk (finding F.Files F.Disk.Disk) paths.entry world.old world.new (M.does middle.now) result }
+    ensures { UsesDisk (sight missing F.Files F.Disk.Disk) paths.entry world.old world.new (M.does middle.now) result }
 {
-    match begin(alloc, paths, right, &mut world.files) {
+    match begin(alloc, paths, right, missing, &mut world.files) {
         Ok((setup, mut disk)) => {
             let result = middle.on(alloc, &setup, world, &mut disk);
             let observed = Observed::nothing();
@@ -103,7 +116,7 @@ pub(crate) fn on_disk<I, O, E, F: Files, M: Middle<World<I, O, E, F>, F::Disk>>(
     }
 }
 
-/// The same of a task that is filmed. What is to be seen of it is handed over with the disk.
+/// The same of a task that is filmed, on a disk that there is. What is to be seen of it is handed over with the disk.
 pub(crate) fn on_filmed_disk<
     I,
     O,
@@ -119,41 +132,12 @@ pub(crate) fn on_filmed_disk<
 ) -> Ended<Result<(), TaskFault>, Used<I, O, F::Disk, F::Text>>
     ensures { UsesFilm (finding F.Files F.Disk.Disk) paths.entry world.old world.new (M.does middle.now) result }
 {
-    match begin(alloc, paths, right, &mut world.files) {
+    match begin(alloc, paths, right, Missing::Fault, &mut world.files) {
         Ok((setup, mut disk)) => {
             let (result, observed) = middle.on_film(alloc, &setup, world, &mut disk);
             Ended {
                 result,
                 used: Some(Used::Disk(Filmed { disk, observed })),
-            }
-        }
-        Err(fault) => Ended {
-            result: Err(fault),
-            used: None,
-        },
-    }
-}
-
-/// The same on a disk that is made where there is none.
-pub(crate) fn on_made_disk<I, O, E, F: Files, M: Middle<World<I, O, E, F>, F::Disk>>(
-    alloc: Global,
-    paths: Paths<'_>,
-    right: F::Right,
-    world: &mut World<I, O, E, F>,
-    middle: &M,
-) -> Ended<Result<(), TaskFault>, Used<I, O, F::Disk, F::Text>>
-    ensures { UsesDisk (making F.Files F.Disk.Disk) paths.entry world.old world.new (M.does middle.now) result }
-{
-    match begin_made(alloc, paths, right, &mut world.files) {
-        Ok((setup, mut made)) => {
-            let result = middle.on(alloc, &setup, world, &mut made);
-            let observed = Observed::nothing();
-            Ended {
-                result,
-                used: Some(Used::Disk(Filmed {
-                    disk: made,
-                    observed,
-                })),
             }
         }
         Err(fault) => Ended {

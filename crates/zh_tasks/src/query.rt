@@ -8,12 +8,12 @@ ghost use Rattle.zh_tasks.specs.World.{known};
 use crate::fault::TaskFault;
 use crate::reading::Reading;
 use crate::seats::shown_seats;
+use crate::seats_counted::seats_by_count;
 use crate::shown::{Shown, write_shown};
 use std::alloc::Global;
 use std::io::{Read, Write};
 use zh_arguments::Query;
 use zh_office::Office;
-use zh_results::seats_by_count;
 use zh_status::{said_of, write_status};
 use zh_world::{Files, World};
 

@@ -47,7 +47,7 @@ fn read_from<I: Read, O: Write, E: Write, F: Files, T: Reading<I, O, E, F>>(
 
 /// Reads what the office on the disk holds.
 #[derive(Drop)]
-pub struct ReadingOf<'a, T>(pub &'a T);
+pub(crate) struct ReadingOf<'a, T>(pub &'a T);
 
 impl<'a, I: Read, O: Write, E: Write, F: Files, T: Reading<I, O, E, F>> Middle<
     World<I, O, E, F>,

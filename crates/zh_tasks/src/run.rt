@@ -27,7 +27,7 @@ fn most_reads() -> u64
 }
 
 /// Opens the office that a disk holds, and serves the lines of the input.
-pub fn serve_on<I: Read, O: Write, D: Disk>(
+pub(crate) fn serve_on<I: Read, O: Write, D: Disk>(
     alloc: Global,
     setup: &Setup,
     disk: &mut D,
@@ -92,7 +92,7 @@ fn run_from<I: Read, O: Write, E: Write, F: Files>(
 }
 
 /// Serves the lines of the input on the office on the disk.
-pub struct Run;
+pub(crate) struct Run;
 
 impl<I: Read, O: Write, E: Write, F: Files> FilmedMiddle<
     World<I, O, E, F>,

@@ -10,8 +10,7 @@ use crate::shown::Shown;
 use std::alloc::Global;
 use zh_arguments::Layout;
 use zh_districts::Setup;
-use zh_results::{MarkedSheet, NoSeats, refusal_text};
-use zh_seats::{seat_table, write_seats};
+use zh_seats::{MarkedSheet, NoSeats, refusal_text, seat_table, write_seats};
 
 /// The text of seats in a form.
 pub(crate) fn text_of(

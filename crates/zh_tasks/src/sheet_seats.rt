@@ -8,6 +8,7 @@ ghost use Rattle.zh_tasks.specs.World.{AreCalls, known};
 use crate::check::sheet_at;
 use crate::fault::TaskFault;
 use crate::seats::{shown_reason, text_of};
+use crate::seats_published::seats_by_sheet;
 use crate::setup::setup_at;
 use crate::shown::{Shown, write_shown};
 use std::alloc::Global;
@@ -15,8 +16,7 @@ use std::io::{Read, Write};
 use zh_arguments::Layout;
 use zh_check::RightSheet;
 use zh_districts::Setup;
-use zh_results::{MarkedSheet, seats_by_sheet};
-use zh_seats::{Mark, Source};
+use zh_seats::{Mark, MarkedSheet, Source};
 use zh_verdicts::unchecked_line;
 use zh_world::{Files, World};
 

@@ -11,7 +11,7 @@ use zh_world::{Files, World};
 
 /// What a task shows.
 #[derive(Drop)]
-pub enum Shown {
+pub(crate) enum Shown {
     /// A text for the output.
     Text(Vec<u8>),
     /// One, and what is said beside it to the standard error.

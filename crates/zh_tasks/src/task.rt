@@ -9,7 +9,7 @@ use crate::fault::TaskFault;
 use crate::format::FormatDisk;
 use crate::list::list_at;
 use crate::load::Load;
-use crate::on_disk::{on_disk, on_filmed_disk, on_made_disk};
+use crate::on_disk::{Missing, on_disk, on_filmed_disk};
 use crate::reading::ReadingOf;
 use crate::rehearse::rehearse;
 use crate::run::Run;
@@ -33,14 +33,18 @@ pub fn carry_out<I: Read, O: Write, E: Write, F: Files>(
 {
     match task {
         Task::Rehearse => rehearse(alloc, world),
-        Task::Format(paths) => on_made_disk(alloc, paths, right, world, &FormatDisk),
+        Task::Format(paths) => on_disk(alloc, paths, right, Missing::Made, world, &FormatDisk),
         Task::Run(paths) => on_filmed_disk(alloc, paths, right, world, &Run),
         Task::Load { paths, csv } => on_filmed_disk(alloc, paths, right, world, &Load { csv }),
         Task::DryRun { paths, csv } => {
-            let task = DryRun { csv };
-            on_disk(alloc, paths, right, world, &ReadingOf(&task))
+            let dry_run = DryRun { csv };
+            let task = ReadingOf(&dry_run);
+            on_disk(alloc, paths, right, Missing::Fault, world, &task)
         }
-        Task::Show(paths, query) => on_disk(alloc, paths, right, world, &ReadingOf(&query)),
+        Task::Show(paths, query) => {
+            let reading = ReadingOf(&query);
+            on_disk(alloc, paths, right, Missing::Fault, world, &reading)
+        }
         Task::List { setup, table } => Ended {
             result: list_at(alloc, setup, table, world),
             used: None,

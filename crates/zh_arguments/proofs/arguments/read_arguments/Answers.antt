@@ -1,8 +1,8 @@
-use Rattle.std.proofs.Common.{rules, inl, map, List, Option, subst, ◌∙◌}
+use Rattle.std.proofs.Common.{rules, inl, map, List, Option, Some, subst, ◌≡◌, ◌∙◌}
 use Rattle.std.specs.String.{string_bytes}
 use Rattle.std.proofs.lemmas.Result.{err_from_is_err_and}
 use Rattle.clap.specs.Words.{app_of, found_of, rows_of, subcommand_rows_of, Row, Text}
-use Rattle.zh_arguments.specs.Arguments.{IsMisuse, Names}
+use Rattle.zh_arguments.specs.Arguments.{Names, misuse_in}
 use Rattle.zh_arguments.proofs.ArgumentLemmas.{asked, refused, refused_misuse, command_read, named, parts}
 use Rattle.zh_arguments.proofs.arguments.read_arguments.Goals as goal
 
@@ -34,4 +34,4 @@ returns c =
     let given = parts (λ p. p.0.now) (λ p. rows_of (found_of p.1.now)) c.subcommand.result (subcommand_rows_of c.in_ok-matches.matches)
     (c.subcommand.ensures.name ∙ named c.in_ok-matches.matches) c.subcommand.ensures.rows in
     refused_misuse app arguments c.in_ok-refusal-in-Err.field-0 c.in-Err.misuse c.in_ok-zhcount.ensures c.in_ok-matches.ensures.kinds
-    (subst (λ (o : Option (Text × List Row)). IsMisuse o c.in-Err.misuse) (given ∙ read) c.in-Err.ensures) c.in_ok-refusal-in-Err.ensures
+    (subst (λ (o : Option (Text × List Row)). misuse_in o ≡ Some c.in-Err.misuse) (given ∙ read) c.in-Err.ensures) c.in_ok-refusal-in-Err.ensures

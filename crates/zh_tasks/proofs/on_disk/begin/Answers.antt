@@ -1,7 +1,6 @@
 use Rattle.std.proofs.lemmas.Result.{err_from_is_err_and}
-use Rattle.zh_tasks.specs.World.{IsMetAt}
+use Rattle.zh_tasks.specs.World.{BeginsAt, IsMetAt}
 use Rattle.std.proofs.Common.{rules, ◌≡◌, Err, List, ℕ, Option}
-use Rattle.zh_world.specs.Files.{Begins}
 use Rattle.zh_world.specs.Places.{TouchesOnly}
 use Rattle.zh_world.proofs.CallerLemmas.{after_stay, stays_untouched}
 use Rattle.zh_tasks.proofs.SetupLemmas.{is_early}
@@ -11,8 +10,8 @@ use Rattle.zh_tasks.proofs.on_disk.begin.Goals as goal
 pub returns-clause-began : goal.returns-clause-began
 returns-clause-began g c = record {
   setup = c.in_ok-setup.ensures.setup;
-  calls = disk_after g.F.Files c.args.paths.disk.now c.args.files.now c.setup_at.new.files c.disk.new.self c.setup_at.ensures.call c.disk.ensures.call c.disk.ensures.touches;
-  begins = known_before g.F.Files.disk_at c.args.files.now c.setup_at.new.files c.args.paths.disk.now (λ (k : Option (List ℕ)). Begins k (g.F.Disk.Disk.history c.in_ok-disk.disk)) c.setup_at.ensures.call.disks c.in_ok-disk.ensures.begins;
+  calls = disk_after g.F.Files c.args.paths.disk.now c.args.files.now c.setup_at.new.files c.disk_at.new.files c.setup_at.ensures.call c.disk_at.ensures.call c.disk_at.ensures.touches;
+  begins = known_before g.F.Files.disk_at c.args.files.now c.setup_at.new.files c.args.paths.disk.now (λ (k : Option (List ℕ)). BeginsAt c.args.missing k (g.F.Disk.Disk.history c.in_ok-disk.disk)) c.setup_at.ensures.call.disks c.in_ok-disk.ensures.begins;
 }
 
 pub returns-in_err-setup-clause-early : goal.returns-in_err-setup-clause-early
@@ -25,9 +24,9 @@ returns-in_err-setup-clause-early g c =
 pub returns-in_err-disk-clause-early : goal.returns-in_err-disk-clause-early
 returns-in_err-disk-clause-early g c =
     let p = err_from_is_err_and c.from_residual-in_err-disk.result c.from_residual-in_err-disk.ensures.1 in
-    rw p.1 (found_early (g.F.Files.text_at c.args.files.now c.args.paths.setup.now) (IsMetAt g.F.Files c.args.paths.setup.now c.args.files.now c.disk.new.self)
-    (IsMetAt g.F.Files c.args.paths.disk.now c.args.files.now c.disk.new.self) c.in_err-disk.field-0.0 p.0 p.2
-    (met_before g.F.Files c.args.paths.disk.now c.args.files.now c.setup_at.new.files c.disk.new.self c.setup_at.ensures.call.stays c.in_err-disk.field-0.0 c.in_err-disk.ensures.ends))
+    rw p.1 (found_early (g.F.Files.text_at c.args.files.now c.args.paths.setup.now) (IsMetAt g.F.Files c.args.paths.setup.now c.args.files.now c.disk_at.new.files)
+    (IsMetAt g.F.Files c.args.paths.disk.now c.args.files.now c.disk_at.new.files) c.in_err-disk.field-0.0 p.0 p.2
+    (met_before g.F.Files c.args.paths.disk.now c.args.files.now c.setup_at.new.files c.disk_at.new.files c.setup_at.ensures.call.stays c.in_err-disk.field-0.0 c.in_err-disk.ensures.ends))
 
 pub returns-in_err-setup-clause-touches : goal.returns-in_err-setup-clause-touches
 returns-in_err-setup-clause-touches g c = stays_untouched c.args.paths.disk.now (g.F.Files.places c.args.files.now) (g.F.Files.places c.setup_at.new.files) c.setup_at.ensures.call.stays
@@ -35,9 +34,9 @@ returns-in_err-setup-clause-touches g c = stays_untouched c.args.paths.disk.now 
 pub returns-in_err-disk-clause-touches : goal.returns-in_err-disk-clause-touches
 returns-in_err-disk-clause-touches g c =
     let at = g.F.Files.places in
-    after_stay (TouchesOnly c.args.paths.disk.now) (at c.args.files.now) (at c.setup_at.new.files) (at c.disk.new.self) c.setup_at.ensures.call.stays c.disk.ensures.touches
+    after_stay (TouchesOnly c.args.paths.disk.now) (at c.args.files.now) (at c.setup_at.new.files) (at c.disk_at.new.files) c.setup_at.ensures.call.stays c.disk_at.ensures.touches
 
 pub returns-clause-touches : goal.returns-clause-touches
 returns-clause-touches g c =
     let at = g.F.Files.places in
-    after_stay (TouchesOnly c.args.paths.disk.now) (at c.args.files.now) (at c.setup_at.new.files) (at c.disk.new.self) c.setup_at.ensures.call.stays c.disk.ensures.touches
+    after_stay (TouchesOnly c.args.paths.disk.now) (at c.args.files.now) (at c.setup_at.new.files) (at c.disk_at.new.files) c.setup_at.ensures.call.stays c.disk_at.ensures.touches

@@ -1,0 +1,44 @@
+-- The seats by a count or by a published sheet, or why there are none.
+use Rattle.std.specs.Prelude.{ℕ, Bool, true, false, Result, Ok, Err, None, List}
+use Rattle.zh_districts.specs.Canton.{Canton}
+use Rattle.zh_returns.specs.Tally.{Tally}
+use Rattle.zh_totals.specs.Totals.{VoteTotals}
+use Rattle.zh_sheet.specs.Reasons.{IsReason}
+use Rattle.zh_sheet.specs.declared.refusal.SheetRefusal.TheVariants as sheets
+use Rattle.zh_commands.specs.declared.replies.Reply.TheVariants as replies
+use Rattle.zh_commands.specs.declared.replies.Refusal.TheVariants as refusals
+use Rattle.zh_answers.specs.Sheets.{MayAnswerFinal, MayGive}
+use Rattle.zh_answers.specs.declared.answer.Answer.{Answer}
+use Rattle.zh_answers.specs.declared.answer.Answer.TheVariants as answers
+use Rattle.zh_check.specs.Verdicts.{IsRight}
+use Rattle.zh_check.specs.declared.checked.RightSheet.{RightSheet}
+use Rattle.zh_seats.specs.declared.outcome.MarkedSheet.{MarkedSheet}
+use Rattle.zh_seats.specs.declared.outcome.NoSeats.{NoSeats}
+use Rattle.zh_seats.specs.declared.outcome.NoSeats.TheVariants.{Refused, Exhausted, Wrong}
+
+-- why there are no seats, and what there is instead, as the line of a sheet is answered
+abbrev pub refusal_answer : NoSeats → Answer
+refusal_answer (Refused refusal) = answers.Reply (replies.Refused refusal)
+refusal_answer (Exhausted reason) = answers.Reply (replies.Refused (refusals.Sheet sheets.Exhausted))
+refusal_answer Wrong = answers.Reply replies.Nothing
+
+abbrev pub answer_of : Result MarkedSheet NoSeats → Answer
+answer_of (Ok seats) = answers.Sheet seats.sheet seats.mark.is_final
+answer_of (Err why) = refusal_answer why
+
+-- the line `sheet`, or the line `final`, may be answered so
+abbrev pub MayAnswerAs : Tally → Bool → Answer → Type 0
+MayAnswerAs tally false answer = MayGive tally false answer
+MayAnswerAs tally true answer = MayAnswerFinal tally answer
+
+-- an exhausted search has a reason, and it is this one
+abbrev pub IsReasonFor : VoteTotals → NoSeats → Type 0
+IsReasonFor totals (Exhausted reason) = IsReason totals reason
+IsReasonFor totals (Refused (refusals.Sheet sheets.Exhausted)) = ⊥
+IsReasonFor totals why = Unit {0}
+
+-- the bytes are a right sheet of this set-up in no way; or memory was refused
+abbrev pub IsNoSheetOf : Canton → List ℕ → NoSeats → Type 0
+IsNoSheetOf canton bytes Wrong = (c : RightSheet) → ¬ IsRight canton None bytes c
+IsNoSheetOf canton bytes (Refused refusals.Memory) = Unit {0}
+IsNoSheetOf canton bytes why = ⊥
