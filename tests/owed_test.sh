@@ -13,7 +13,7 @@ owed() {
     mkdir "$room/tests"
     cp tests/owed "$room/tests"
     cp -r docs "$room"
-    for crate in arguments commands csv disk journal ledger office records returns setups sheet sheet_text snapshot tables tasks; do
+    for crate in arguments commands csv disk journal ledger office records returns setups sheet sheet_text snapshot tables tasks upper; do
         mkdir -p "$room/crates/zh_$crate"
         cp -r "crates/zh_$crate/src" "$room/crates/zh_$crate"
     done
@@ -49,7 +49,7 @@ sed -i 's/"stale"/"muddle"/' crates/zh_commands/src/reply_writer.rt
 END
 
 owed "a refusal of a sheet that is new" 1 'docs/MANUAL.md has no row of `muddle` (refusal of a sheet)' << 'END'
-sed -i 's/"nogroup"/"muddle"/' crates/zh_sheet/src/refusal.rt
+sed -i 's/"nogroup"/"muddle"/' crates/zh_upper/src/refusal.rt
 END
 
 owed "a reply that is not said" 1 'docs/FORMATS.md does not say `dropped` (reply)' << 'END'
@@ -69,7 +69,7 @@ sed -i 's/, `held twice`//' docs/MANUAL.md
 END
 
 owed "a task that is new" 1 'docs/MANUAL.md does not say `purge` (task)' << 'END'
-sed -i 's/"export" => Task/"purge" => Task/' crates/zh_arguments/src/arguments.rt
+sed -i 's/"export",$/"purge",/' crates/zh_arguments/src/commands.rt
 END
 
 owed "a flag that is new" 1 'docs/FORMATS.md does not say `--urgent` (argument)' << 'END'
