@@ -1,23 +1,15 @@
 -- The text of a count.
-use Rattle.std.proofs.Common.{◌≡◌, ◌≤◌, ◌<◌, ◌+◌, ◌^◌, ℕ, zero, suc, List, [], ◌∷◌, ◌++◌, length, get_or, false, Option, Some, None, refl, sym, ap, ◌∙◌, arith, append_assoc, add-zero, subst, decimal, All, IfSome}
+use Rattle.std.proofs.Common.{◌≡◌, ◌≤◌, ◌<◌, ◌^◌, ℕ, zero, suc, List, [], ◌∷◌, ◌++◌, length, get_or, false, Option, Some, None, refl, ap, ◌∙◌, arith, append_assoc, decimal, All, IfSome}
 use Rattle.std.specs.Int.{IsInRange}
-use Rattle.std.specs.List.{flat_map, list_any}
+use Rattle.std.specs.List.{list_any}
 use Rattle.std.proofs.lemmas.Bool.Decides.{nat_tests}
 use Rattle.std.proofs.lemmas.Fmt.{decimal_is_IsNumeral}
 use Rattle.std.proofs.lemmas.Str.Parse.{digit_at}
 use Rattle.csv.specs.Writing.{default_writer, needs_byte, needs_quotes, fields_text, row_text, is_blank}
-use Rattle.csv.specs.declared.writer.Writer.{Writer}
-use Rattle.zh_record_text.specs.Records.{IsBetweenRecords, PutsText, record_text}
-use Rattle.zh_record_text.proofs.CallerLemmas.{Puts-none, Puts-push}
+use Rattle.zh_record_text.specs.Records.{record_text}
 use Rattle.zh_returns.specs.declared.entry.Entry.{Entry}
-use Rattle.zh_returns.specs.Payload.{numbers}
-use Rattle.zh_returns.specs.Tally.{Tally, held}
 use Rattle.zh_csv.specs.Records.{Record, names}
-use Rattle.zh_csv.specs.Export.{following, line, entry_text, votes_field, record_of}
-
--- the text of what is held of a list
-abbrev pub list_text : Tally → ℕ → ℕ → List ℕ
-list_text tally municipality list = entry_text municipality list (held tally municipality list)
+use Rattle.zh_csv.specs.Export.{following, line, votes_field, record_of}
 
 -- fields, two at least, none of which calls for quotes
 abbrev pub ArePlain : Record → Type 0
@@ -70,27 +62,6 @@ row_text-plain [] (two, plain) = absurd (omega arith)
 row_text-plain (a ∷ []) (two, plain) = absurd (omega arith)
 row_text-plain (a ∷ b ∷ fields) (two, plain) =
     rw (plain 0 a (omega arith)) (append_assoc a (fields_text default_writer (b ∷ fields)) (10 ∷ []) ∙ ap (λ (l : List ℕ). a ++ l) (following_text (b ∷ fields) (λ i x within. plain (suc i) x (omega arith))))
-
--- one number more
-numbers-push : (first n : ℕ) → numbers first (suc n) ≡ numbers first n ++ (first + n) ∷ []
-unfolding numbers
-numbers-push first zero = rw (add-zero first) refl
-numbers-push first (suc n) =
-    let same : first + 1 + n ≡ first + suc n = omega arith in
-    ap (λ (l : List ℕ). first ∷ l) (numbers-push (first + 1) n ∙ ap (λ (k : ℕ). numbers (first + 1) n ++ k ∷ []) same)
-
--- what was written for the numbers so far, and then for the next
-pub Puts-next : {W : Type 0} (contents : W → Option (List ℕ)) (f : ℕ → List ℕ) (n : ℕ) (a b c : Writer W) → PutsText contents (flat_map f (numbers 1 n)) a b → PutsText contents (f (n + 1)) b c → PutsText contents (flat_map f (numbers 1 (n + 1))) a c
-Puts-next contents f n a b c first second =
-    let next : n + 1 ≡ 1 + n = omega arith in
-    let one : suc n ≡ n + 1 = omega arith in
-    let all : numbers 1 n ++ (n + 1) ∷ [] ≡ numbers 1 (n + 1) = ap (λ (k : ℕ). numbers 1 n ++ k ∷ []) next ∙ sym (numbers-push 1 n) ∙ ap (numbers 1) one in
-    subst (λ (ns : List ℕ). PutsText contents (flat_map f ns) a c) all (Puts-push contents f (numbers 1 n) (n + 1) a b c first second)
-
--- nothing was written yet
-pub Puts-start : {W : Type 0} (contents : W → Option (List ℕ)) (f : ℕ → List ℕ) (writer : Writer W) → IsBetweenRecords writer → PutsText contents (flat_map f (numbers 1 0)) writer writer
-unfolding numbers
-Puts-start contents f writer ready = Puts-none contents writer ready
 
 -- what `csv` writes for fields that are those of a plain record is the line of that record
 pub plain_record : (a b c d x y z w : List ℕ) → a ≡ x → b ≡ y → c ≡ z → d ≡ w → ArePlain (x ∷ y ∷ z ∷ w ∷ []) → record_text (a ∷ b ∷ c ∷ d ∷ []) ≡ line (x ∷ y ∷ z ∷ w ∷ [])

@@ -1,5 +1,7 @@
 -- The front of a text, byte by byte.
-use Rattle.std.proofs.Common.{◌≡◌, ◌≤◌, ◌<◌, ◌+◌, ◌-◌, ◌==◌, ◌&&◌, ℕ, zero, suc, List, [], ◌∷◌, ◌++◌, length, take, drop, get_or, min, Option, Some, None, option_map, Bool, true, false, refl, sym, ap, ◌∙◌, subst, arith, append_assoc, add-one, drop-cons}
+use Rattle.std.proofs.Common.{◌≡◌, ◌≤◌, ◌<◌, ◌+◌, ◌-◌, ◌==◌, ◌&&◌, ℕ, zero, suc, List, [], ◌∷◌, ◌++◌, length, take, drop}
+use Rattle.std.proofs.Common.{get_or, min, Option, Some, None, option_map, Bool, true, false, refl, sym, ap, ◌∙◌, subst, arith}
+use Rattle.std.proofs.Common.{append_assoc, add-one, drop-cons}
 use Rattle.std.specs.Io.KnownBytes.{Consumes, IsAtEnd, Keeps}
 use Rattle.std.proofs.lemmas.Bool.Decides.{nat_tests}
 use Rattle.std.proofs.lemmas.List.{take-take, take_more}
@@ -44,7 +46,8 @@ second most left b c text other = by left (b == 187) refl
     by (suc n) true e =
         let b_is : b ≡ 187 = grind (arith, nat_tests) in
         let c_other : (c == 191) ≡ false = rw e at other in
-        subst (λ (x : ℕ). front most points.FirstOfMark (suc n) (x ∷ c ∷ text) ≡ front most points.Plain (suc n) (x ∷ c ∷ text)) (sym b_is) (ap (λ (l : List ℕ). 187 ∷ l) (third most n c text c_other))
+        let here = ap (λ (l : List ℕ). 187 ∷ l) (third most n c text c_other) in
+        subst (λ (x : ℕ). front most points.FirstOfMark (suc n) (x ∷ c ∷ text) ≡ front most points.Plain (suc n) (x ∷ c ∷ text)) (sym b_is) here
 
 unmarked : (most left a b c : ℕ) (text : List ℕ) → is_bom a b c ≡ false → front most points.Start left (a ∷ b ∷ c ∷ text) ≡ front most points.Between left (a ∷ b ∷ c ∷ text)
 unfolding front
@@ -56,7 +59,8 @@ unmarked most left a b c text other = by left (a == 239) refl
     by (suc n) true e =
         let a_is : a ≡ 239 = grind (arith, nat_tests) in
         let others : ((b == 187) && (c == 191)) ≡ false = rw e at other in
-        subst (λ (x : ℕ). front most points.Start (suc n) (x ∷ b ∷ c ∷ text) ≡ front most points.Between (suc n) (x ∷ b ∷ c ∷ text)) (sym a_is) (ap (λ (l : List ℕ). 239 ∷ l) (second most n b c text others))
+        let here = ap (λ (l : List ℕ). 239 ∷ l) (second most n b c text others) in
+        subst (λ (x : ℕ). front most points.Start (suc n) (x ∷ b ∷ c ∷ text) ≡ front most points.Between (suc n) (x ∷ b ∷ c ∷ text)) (sym a_is) here
 
 -- so of a short one
 strip_one : (most left a : ℕ) → 0 < left → strip_bom (front most points.Start left (a ∷ [])) ≡ front most points.Between left (a ∷ [])
@@ -96,7 +100,8 @@ left_much most left least points.Quoted much more = more
 left_much most left least points.Closed much more = more
 
 -- of a longer one three bytes at least are read
-front_three : (most left a b c : ℕ) (text : List ℕ) (point : Point) → 3 ≤ left → 3 ≤ most → (rest : List ℕ) × (front most point left (a ∷ b ∷ c ∷ text) ≡ a ∷ b ∷ c ∷ rest)
+front_three : (most left a b c : ℕ) (text : List ℕ) (point : Point) → 3 ≤ left → 3 ≤ most
+    → (rest : List ℕ) × (front most point left (a ∷ b ∷ c ∷ text) ≡ a ∷ b ∷ c ∷ rest)
 front_three most left a b c text point some much =
     let p = point_after point a in
     let m = left_at most p (left - 1) in
@@ -118,7 +123,8 @@ unfolding strip_bom
 strip_gone a b c text marked = rw marked refl
 
 -- a byte order mark is read, and what comes after it is read as from between two records
-marked : (most a b c : ℕ) (text : List ℕ) → 3 ≤ most → is_bom a b c ≡ true → front most points.Start most (a ∷ b ∷ c ∷ text) ≡ a ∷ b ∷ c ∷ front most points.Between most text
+marked : (most a b c : ℕ) (text : List ℕ) → 3 ≤ most → is_bom a b c ≡ true
+    → front most points.Start most (a ∷ b ∷ c ∷ text) ≡ a ∷ b ∷ c ∷ front most points.Between most text
 unfolding front
 marked most a b c text much mark = by most much
   where

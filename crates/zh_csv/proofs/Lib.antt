@@ -4,6 +4,8 @@ mod ExportLemmas
 mod FieldLemmas
 mod FrontLemmas
 mod LoadingLemmas
+mod NextLemmas
 mod OneReadingLemmas
 mod ReadingLemmas
 mod RecordsLemmas
+mod StepLemmas

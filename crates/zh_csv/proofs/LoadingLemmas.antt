@@ -65,15 +65,19 @@ pub loads_of_front : (canton : Canton) (text : List ℕ) (loaded : Result (List 
 loads_of_front canton text (Ok rows) (all, are) = (rows_of_front (loading canton) (is_loading canton) text rows are all, are)
 loads_of_front canton text (Err fault) refused = refused_by_front (loading canton) (is_loading canton) text fault refused
 
-pub one_loading : (canton : Canton) (text : List ℕ) (loaded other : Result (List Row) LoadFault) → Loads canton text loaded → Loads canton text other → IsOfText loaded → IsOfText other → loaded ≡ other
-one_loading canton text = one_reading (loading canton) (is_loading canton) text (Loads canton text) (λ rows loads. (rows, loads.0, loads.1)) (λ rows more x y same. same) (λ fault refused. refused)
+pub one_loading : (canton : Canton) (text : List ℕ) (loaded other : Result (List Row) LoadFault)
+    → Loads canton text loaded → Loads canton text other → IsOfText loaded → IsOfText other → loaded ≡ other
+one_loading canton text =
+    one_reading (loading canton) (is_loading canton) text (Loads canton text) (λ rows loads. (rows, loads.0, loads.1))
+    (λ rows more x y same. same) (λ fault refused. refused)
 
 -- the record at which a text stops comes after 1,000 rows at most
 pub few_records : (canton : Canton) (text : List ℕ) (fault : LoadFault) (stops : StopsAt (loading canton) text fault) → length (names ∷ (map fields stops.rows ++ stops.last ∷ [])) ≤ 1002
 few_records canton text fault stops = omega (arith, long fields stops.rows stops.last, stops.held.are_rows.most)
 
 -- a row more
-pub loaded_more : (canton : Canton) (rows : List Row) (row : Row) → AreLoaded canton rows → unfit canton row ≡ None → fault_in rows row ≡ None → IsSpeakableRow row → AreLoaded canton (rows ++ row ∷ [])
+pub loaded_more : (canton : Canton) (rows : List Row) (row : Row) → AreLoaded canton rows
+    → unfit canton row ≡ None → fault_in rows row ≡ None → IsSpeakableRow row → AreLoaded canton (rows ++ row ∷ [])
 loaded_more canton rows row are fit none speakable =
     let (own, room) = taken_by rows row none in
     record {

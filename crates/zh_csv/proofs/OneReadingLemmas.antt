@@ -1,5 +1,6 @@
 -- A text is read in one way, refused memory and a reader that fails aside.
-use Rattle.std.proofs.Common.{◌≡◌, ◌≤◌, ◌<◌, ◌+◌, ◌⊎◌, inl, inr, ℕ, suc, true, false, List, [], ◌∷◌, ◌++◌, map, length, get_or, Some, None, Result, Ok, Err, refl, sym, ap, ◌∙◌, subst, arith, All, length-append}
+use Rattle.std.proofs.Common.{◌≡◌, ◌≤◌, ◌<◌, ◌+◌, ◌⊎◌, inl, inr, ℕ, suc, true, false, List, [], ◌∷◌, ◌++◌, map, length}
+use Rattle.std.proofs.Common.{get_or, Some, None, Result, Ok, Err, refl, sym, ap, ◌∙◌, subst, arith, All, length-append}
 use Rattle.std.specs.List.{list_any, IsDistinct}
 use Rattle.std.specs.Ordering.{eq_by_cmp}
 use Rattle.std.proofs.Math.Seq.{get_or-append_seam, take-append_seam}
@@ -11,22 +12,28 @@ use Rattle.zh_csv.specs.Records.{Record, AreAll, AreFirst, names, may_be_row}
 use Rattle.zh_csv.specs.Reading.{RowKind, HasNoNames, IsOfText, IsUnheld, IsUnread, Refuses, StopsAt}
 use Rattle.zh_csv.specs.declared.fault.LoadFault.{LoadFault}
 use Rattle.zh_csv.specs.declared.fault.LoadFault.TheVariants as faults
-use Rattle.zh_csv.proofs.RecordsLemmas.{first_more, all_first, none_after}
+use Rattle.zh_csv.proofs.RecordsLemmas.{first_more, all_first, all_once, none_after}
 use Rattle.zh_csv.proofs.ReadingLemmas.{IsKind}
 
 -- what all elements of a list are, each is
 pub among_all : {X : Type 0} (P : X → Type 0) (rows : List X) (row : X) (others : List X) → All P (rows ++ row ∷ others) → P row
-among_all P rows row others all = subst P (get_or-append_seam rows row others row) (all (length rows) row (omega (arith, length-append rows (row ∷ others))))
+among_all P rows row others all =
+    let there = all (length rows) row (omega (arith, length-append rows (row ∷ others))) in
+    subst P (get_or-append_seam rows row others row) there
 
 -- where no two have one key, none before an element has its key
-pub own_key : {X : Type 0} (key_of : X → ℕ × ℕ) (rows : List X) (row : X) (others : List X) → IsDistinct (eq_by_cmp key_cmp) (map key_of (rows ++ row ∷ others)) → list_any (eq_by_cmp key_cmp (key_of row)) (map key_of rows) ≡ false
+pub own_key : {X : Type 0} (key_of : X → ℕ × ℕ) (rows : List X) (row : X) (others : List X)
+    → IsDistinct (eq_by_cmp key_cmp) (map key_of (rows ++ row ∷ others))
+    → list_any (eq_by_cmp key_cmp (key_of row)) (map key_of rows) ≡ false
 own_key key_of rows row others keys =
     let before = map key_of rows in
     let after = key_of row ∷ map key_of others in
-    let distinct : IsDistinct (eq_by_cmp key_cmp) (before ++ after) = subst (IsDistinct (eq_by_cmp key_cmp)) (map-append key_of rows (row ∷ others)) keys in
+    let distinct : IsDistinct (eq_by_cmp key_cmp) (before ++ after) =
+    subst (IsDistinct (eq_by_cmp key_cmp)) (map-append key_of rows (row ∷ others)) keys in
     let fresh = fresh_from_distinct (before ++ after) (length before) (0, 0) distinct (omega (arith, length-append before after)) in
+    let its_key : ℕ × ℕ = get_or (before ++ after) (length before) (0, 0) in
     subst (λ (key : ℕ × ℕ). list_any (eq_by_cmp key_cmp key) before ≡ false) (get_or-append_seam before (key_of row) (map key_of others) (0, 0))
-    (subst (λ (keys : List (ℕ × ℕ)). list_any (eq_by_cmp key_cmp (get_or (before ++ after) (length before) (0, 0))) keys ≡ false) (take-append_seam before after) fresh)
+    (subst (λ (keys : List (ℕ × ℕ)). list_any (eq_by_cmp key_cmp its_key) keys ≡ false) (take-append_seam before after) fresh)
 
 -- how many records decide
 pub long : {X : Type 0} (fields : X → Record) (rows : List X) (last : Record) → length (names ∷ (map fields rows ++ last ∷ [])) ≡ length rows + 2
@@ -34,7 +41,9 @@ long fields rows last = omega (arith, length-append (map fields rows) (last ∷ 
 
 -- a text that begins with the names has them
 named : (text : List ℕ) (more : List Record) → AreFirst text (names ∷ more) → HasNoNames text → ⊥
-named text more first (inl all) = let wrong : length (names ∷ more) ≤ 0 = none_after text [] (names ∷ more) all first in omega arith
+named text more first (inl all) =
+    let wrong : length (names ∷ more) ≤ 0 = none_after text [] (names ∷ more) all first in
+    omega arith
 named text more first (inr (other, its, differs)) =
     let (rest, is) = first_more text (other ∷ []) (names ∷ more) its first (omega arith) in
     differs (cc is)
@@ -43,41 +52,61 @@ module _ {X : Type 0} (kind : RowKind X) (is_kind : IsKind kind) where
   abbrev AllReadable : List X → Type 0
   AllReadable rows = All kind.IsReadable rows
 
+  -- the records of rows, and one more
+  abbrev up_to : List X → Record → List Record
+  up_to rows last = map kind.fields rows ++ last ∷ []
+
+  -- that record is refused
+  abbrev IsRefused : List X → Record → LoadFault → Type 0
+  IsRefused rows last fault = IsUnread kind.fields kind.IsReadable last fault ⊎ IsUnheld kind rows last fault
+
+  -- more rows after the first are readable
+  later_readable : (row : X) (rows : List X) → AllReadable (row ∷ rows) → AllReadable rows
+  later_readable row rows all = λ i x within. all (suc i) x (omega arith)
+
+  -- rows of one record are one
+  same_first : (row other : X) (rows others : List X) → AllReadable (row ∷ rows) → AllReadable (other ∷ others)
+      → kind.fields other ≡ kind.fields row → other ≡ row
+  same_first row other rows others small large same =
+      is_kind.once other row (large 0 other (omega arith)) (small 0 row (omega arith)) same
+
   -- rows that a record follows, and more rows whose records are these and others: the record is that of the next of them
-  next_row : (rows more : List X) (last : Record) (tail rest : List Record) → AllReadable rows → AllReadable more → length rows < length more → map kind.fields more ++ tail ≡ (map kind.fields rows ++ last ∷ []) ++ rest
+  next_row : (rows more : List X) (last : Record) (tail rest : List Record) → AllReadable rows → AllReadable more
+      → length rows < length more → map kind.fields more ++ tail ≡ up_to rows last ++ rest
       → (row : X) × (others : List X) × (more ≡ rows ++ row ∷ others) × (last ≡ kind.fields row)
   next_row [] [] last tail rest small large less same = absurd (omega arith)
   next_row [] (row ∷ more) last tail rest small large less same = (row, more, refl, cc same)
   next_row (r ∷ rows) [] last tail rest small large less same = absurd (omega arith)
   next_row (r ∷ rows) (m ∷ more) last tail rest small large less same =
-      let first : kind.fields m ≡ kind.fields r = cc same in
-      let others : map kind.fields more ++ tail ≡ (map kind.fields rows ++ last ∷ []) ++ rest = cc same in
-      let is : m ≡ r = is_kind.once m r (large 0 m (omega arith)) (small 0 r (omega arith)) first in
-      let (row, after, splits, found) = next_row rows more last tail rest (λ i x within. small (suc i) x (omega arith)) (λ i x within. large (suc i) x (omega arith)) (omega arith) others in
+      let others : map kind.fields more ++ tail ≡ up_to rows last ++ rest = cc same in
+      let is : m ≡ r = same_first r m rows more small large (cc same) in
+      let small' = later_readable r rows small in
+      let large' = later_readable m more large in
+      let (row, after, splits, found) = next_row rows more last tail rest small' large' (omega arith) others in
       (row, after, λ i. is i ∷ splits i, found)
 
   -- the same number of rows
-  same_rows : (rows more : List X) (last next : Record) (rest : List Record) → AllReadable rows → AllReadable more → length rows ≡ length more → map kind.fields more ++ next ∷ [] ≡ (map kind.fields rows ++ last ∷ []) ++ rest
-      → (more ≡ rows) × (next ≡ last)
+  same_rows : (rows more : List X) (last next : Record) (rest : List Record) → AllReadable rows → AllReadable more
+      → length rows ≡ length more → up_to more next ≡ up_to rows last ++ rest → (more ≡ rows) × (next ≡ last)
   same_rows [] [] last next rest small large alike same = (refl, cc same)
   same_rows [] (m ∷ more) last next rest small large alike same = absurd (omega arith)
   same_rows (r ∷ rows) [] last next rest small large alike same = absurd (omega arith)
   same_rows (r ∷ rows) (m ∷ more) last next rest small large alike same =
-      let first : kind.fields m ≡ kind.fields r = cc same in
-      let others : map kind.fields more ++ next ∷ [] ≡ (map kind.fields rows ++ last ∷ []) ++ rest = cc same in
-      let is : m ≡ r = is_kind.once m r (large 0 m (omega arith)) (small 0 r (omega arith)) first in
-      let (splits, found) = same_rows rows more last next rest (λ i x within. small (suc i) x (omega arith)) (λ i x within. large (suc i) x (omega arith)) (omega arith) others in
+      let others : up_to more next ≡ up_to rows last ++ rest = cc same in
+      let is : m ≡ r = same_first r m rows more small large (cc same) in
+      let small' = later_readable r rows small in
+      let large' = later_readable m more large in
+      let (splits, found) = same_rows rows more last next rest small' large' (omega arith) others in
       (λ i. is i ∷ splits i, found)
 
-  all_same : (rows more : List X) (rest : List Record) → AllReadable rows → AllReadable more → length rows ≡ length more → map kind.fields more ≡ map kind.fields rows ++ rest → more ≡ rows
-  all_same [] [] rest small large alike same = refl
-  all_same [] (m ∷ more) rest small large alike same = absurd (omega arith)
-  all_same (r ∷ rows) [] rest small large alike same = absurd (omega arith)
-  all_same (r ∷ rows) (m ∷ more) rest small large alike same =
-      let first : kind.fields m ≡ kind.fields r = cc same in
-      let others : map kind.fields more ≡ map kind.fields rows ++ rest = cc same in
-      let is : m ≡ r = is_kind.once m r (large 0 m (omega arith)) (small 0 r (omega arith)) first in
-      let splits = all_same rows more rest (λ i x within. small (suc i) x (omega arith)) (λ i x within. large (suc i) x (omega arith)) (omega arith) others in
+  all_same : (rows more : List X) → AllReadable rows → AllReadable more → map kind.fields more ≡ map kind.fields rows → more ≡ rows
+  all_same [] [] small large same = refl
+  all_same [] (m ∷ more) small large same = let wrong : kind.fields m ∷ map kind.fields more ≡ [] = same in cc wrong
+  all_same (r ∷ rows) [] small large same = let wrong : [] ≡ kind.fields r ∷ map kind.fields rows = same in cc wrong
+  all_same (r ∷ rows) (m ∷ more) small large same =
+      let others : map kind.fields more ≡ map kind.fields rows = cc same in
+      let is : m ≡ r = same_first r m rows more small large (cc same) in
+      let splits = all_same rows more (later_readable r rows small) (later_readable m more large) others in
       λ i. is i ∷ splits i
 
   -- a row among rows that are held is read
@@ -85,7 +114,8 @@ module _ {X : Type 0} (kind : RowKind X) (is_kind : IsKind kind) where
   readable_among rows row others held = among_all kind.IsReadable rows row others (is_kind.readable (rows ++ row ∷ others) held)
 
   -- so no record of one of them stops a text
-  unstopped : (rows : List X) (row : X) (others : List X) (fault : LoadFault) → kind.AreHeld (rows ++ row ∷ others) → (IsUnread kind.fields kind.IsReadable (kind.fields row) fault ⊎ IsUnheld kind rows (kind.fields row) fault) → ⊥
+  unstopped : (rows : List X) (row : X) (others : List X) (fault : LoadFault) → kind.AreHeld (rows ++ row ∷ others)
+      → IsRefused rows (kind.fields row) fault → ⊥
   unstopped rows row others fault held (inl unread) = by fault unread
     where
       may : may_be_row (kind.fields row) ≡ true
@@ -115,7 +145,7 @@ module _ {X : Type 0} (kind : RowKind X) (is_kind : IsKind kind) where
   unread_or_held rows last faults.Syntax g x (row, readable, is, refused) = x.1 row readable is
   unread_or_held rows last f g x y = absurd x
 
-  refused_once : (rows : List X) (last : Record) (f g : LoadFault) → (IsUnread kind.fields kind.IsReadable last f ⊎ IsUnheld kind rows last f) → (IsUnread kind.fields kind.IsReadable last g ⊎ IsUnheld kind rows last g) → f ≡ g
+  refused_once : (rows : List X) (last : Record) (f g : LoadFault) → IsRefused rows last f → IsRefused rows last g → f ≡ g
   refused_once rows last f g (inl x) (inl y) = unread_once last f g x y
   refused_once rows last f g (inl x) (inr y) = absurd (unread_or_held rows last f g x y)
   refused_once rows last f g (inr x) (inl y) = absurd (unread_or_held rows last g f y x)
@@ -125,48 +155,60 @@ module _ {X : Type 0} (kind : RowKind X) (is_kind : IsKind kind) where
       cc both
 
   -- a text that stops before one of some rows does not give these
-  stops_within : (text : List ℕ) (fault : LoadFault) (stops : StopsAt kind text fault) (rows : List X) (tail : List Record) → kind.AreHeld rows → AreFirst text (names ∷ (map kind.fields rows ++ tail)) → length stops.rows < length rows → ⊥
+  stops_within : (text : List ℕ) (fault : LoadFault) (stops : StopsAt kind text fault) (rows : List X) (tail : List Record)
+      → kind.AreHeld rows → AreFirst text (names ∷ (map kind.fields rows ++ tail)) → length stops.rows < length rows → ⊥
   stops_within text fault stops rows tail held first less =
-      let (rest, more) = first_more text (names ∷ (map kind.fields stops.rows ++ stops.last ∷ [])) (names ∷ (map kind.fields rows ++ tail)) stops.records first
+      let few : List Record = names ∷ up_to stops.rows stops.last in
+      let many : List Record = names ∷ (map kind.fields rows ++ tail) in
+      let (rest, more) = first_more text few many stops.records first
       (omega (arith, long kind.fields stops.rows stops.last, length-append (map kind.fields rows) tail, length-map rows kind.fields)) in
-      let same : map kind.fields rows ++ tail ≡ (map kind.fields stops.rows ++ stops.last ∷ []) ++ rest = cc more in
-      let (row, others, splits, is) = next_row stops.rows rows stops.last tail rest (is_kind.readable stops.rows stops.held) (is_kind.readable rows held) less same in
-      unstopped stops.rows row others fault (subst kind.AreHeld splits held) (subst (λ (l : Record). IsUnread kind.fields kind.IsReadable l fault ⊎ IsUnheld kind stops.rows l fault) is stops.refused)
+      let same : map kind.fields rows ++ tail ≡ up_to stops.rows stops.last ++ rest = cc more in
+      let small = is_kind.readable stops.rows stops.held in
+      let (row, others, splits, is) = next_row stops.rows rows stops.last tail rest small (is_kind.readable rows held) less same in
+      let refused = subst (λ (l : Record). IsRefused stops.rows l fault) is stops.refused in
+      unstopped stops.rows row others fault (subst kind.AreHeld splits held) refused
 
   -- a text that gives its rows stops nowhere
-  read_or_stopped : (text : List ℕ) (rows : List X) (fault : LoadFault) → AreAll text (names ∷ map kind.fields rows) → kind.AreHeld rows → StopsAt kind text fault → ⊥
+  read_or_stopped : (text : List ℕ) (rows : List X) (fault : LoadFault) → AreAll text (names ∷ map kind.fields rows) → kind.AreHeld rows
+      → StopsAt kind text fault → ⊥
   read_or_stopped text rows fault all held stops =
-      let first : AreFirst text (names ∷ (map kind.fields rows ++ [])) = subst (λ (l : List Record). AreFirst text (names ∷ l)) (sym (append-nil (map kind.fields rows))) (all_first text _ all) in
+      let first : AreFirst text (names ∷ (map kind.fields rows ++ [])) =
+      subst (λ (l : List Record). AreFirst text (names ∷ l)) (sym (append-nil (map kind.fields rows))) (all_first text _ all) in
+      let most = none_after text (names ∷ map kind.fields rows) _ all stops.records in
       stops_within text fault stops rows [] held first
-      (omega (arith, none_after text (names ∷ map kind.fields rows) _ all stops.records, long kind.fields stops.rows stops.last, length-map rows kind.fields))
+      (omega (arith, most, long kind.fields stops.rows stops.last, length-map rows kind.fields))
+
+  -- it stops once
+  stopped_even : (text : List ℕ) (f g : LoadFault) (x : StopsAt kind text f) (y : StopsAt kind text g) → length x.rows ≡ length y.rows → f ≡ g
+  stopped_even text f g x y even =
+      let (rest, more) = first_more text (names ∷ up_to x.rows x.last) (names ∷ up_to y.rows y.last) x.records y.records
+      (omega (arith, long kind.fields x.rows x.last, long kind.fields y.rows y.last)) in
+      let same : up_to y.rows y.last ≡ up_to x.rows x.last ++ rest = cc more in
+      let small = is_kind.readable x.rows x.held in
+      let (rows, last) = same_rows x.rows y.rows x.last y.last rest small (is_kind.readable y.rows y.held) even same in
+      let of_last : IsRefused y.rows x.last g = subst (λ (l : Record). IsRefused y.rows l g) last y.refused in
+      refused_once x.rows x.last f g x.refused (subst (λ (r : List X). IsRefused r x.last g) rows of_last)
 
   stopped_once : (text : List ℕ) (f g : LoadFault) → StopsAt kind text f → StopsAt kind text g → f ≡ g
-  stopped_once text f g x y = by_less
-    where
-      alike : length x.rows ≡ length y.rows → f ≡ g
-      alike even =
-          let (rest, more) = first_more text (names ∷ (map kind.fields x.rows ++ x.last ∷ [])) (names ∷ (map kind.fields y.rows ++ y.last ∷ [])) x.records y.records (omega (arith, long kind.fields x.rows x.last, long kind.fields y.rows y.last)) in
-          let same : map kind.fields y.rows ++ y.last ∷ [] ≡ (map kind.fields x.rows ++ x.last ∷ []) ++ rest = cc more in
-          let (rows, last) = same_rows x.rows y.rows x.last y.last rest (is_kind.readable x.rows x.held) (is_kind.readable y.rows y.held) even same in
-          refused_once x.rows x.last f g x.refused
-          (subst (λ (r : List X). IsUnread kind.fields kind.IsReadable x.last g ⊎ IsUnheld kind r x.last g) rows (subst (λ (l : Record). IsUnread kind.fields kind.IsReadable l g ⊎ IsUnheld kind y.rows l g) last y.refused))
-
-      by_less : f ≡ g
-      by_less = elim (cases_order (length x.rows) (length y.rows)) [
-        | inl even ↦ alike even
+  stopped_once text f g x y =
+      elim (cases_order (length x.rows) (length y.rows)) [
+        | inl even ↦ stopped_even text f g x y even
         | inr (inl less) ↦ absurd (stops_within text f x y.rows (y.last ∷ []) y.held y.records less)
         | inr (inr less) ↦ absurd (stops_within text g y x.rows (x.last ∷ []) x.held x.records less)
       ]
 
-  read_once : (text : List ℕ) (rows more : List X) → AreAll text (names ∷ map kind.fields rows) → kind.AreHeld rows → AreAll text (names ∷ map kind.fields more) → kind.AreHeld more → rows ≡ more
+  read_once : (text : List ℕ) (rows more : List X) → AreAll text (names ∷ map kind.fields rows) → kind.AreHeld rows
+      → AreAll text (names ∷ map kind.fields more) → kind.AreHeld more → rows ≡ more
   read_once text rows more all held all' held' =
-      let short : length rows ≤ length more = omega (arith, none_after text _ (names ∷ map kind.fields rows) all' (all_first text _ all), length-map rows kind.fields, length-map more kind.fields) in
-      let tall : length more ≤ length rows = omega (arith, none_after text _ (names ∷ map kind.fields more) all (all_first text _ all'), length-map rows kind.fields, length-map more kind.fields) in
-      let (rest, is) = first_more text (names ∷ map kind.fields rows) (names ∷ map kind.fields more) (all_first text _ all) (all_first text _ all') (omega (arith, length-map rows kind.fields, length-map more kind.fields)) in
-      let same : map kind.fields more ≡ map kind.fields rows ++ rest = cc is in
-      sym (all_same rows more rest (is_kind.readable rows held) (is_kind.readable more held') (omega arith) same)
+      let is : names ∷ map kind.fields rows ≡ names ∷ map kind.fields more = all_once text _ _ all all' in
+      let same : map kind.fields rows ≡ map kind.fields more = cc is in
+      all_same more rows (is_kind.readable more held') (is_kind.readable rows held) same
 
-  alike : (text : List ℕ) (f g : LoadFault) → ((f ≡ faults.Csv) × HasNoNames text) ⊎ StopsAt kind text f → ((g ≡ faults.Csv) × HasNoNames text) ⊎ StopsAt kind text g → f ≡ g
+  -- why a text is refused: the names are missing, or it stops
+  abbrev IsWhy : List ℕ → LoadFault → Type 0
+  IsWhy text fault = ((fault ≡ faults.Csv) × HasNoNames text) ⊎ StopsAt kind text fault
+
+  alike : (text : List ℕ) (f g : LoadFault) → IsWhy text f → IsWhy text g → f ≡ g
   alike text f g (inl x) (inl y) = x.0 ∙ sym y.0
   alike text f g (inl x) (inr y) = absurd (named text _ y.records x.1)
   alike text f g (inr x) (inl y) = absurd (named text _ x.records y.1)

@@ -1,5 +1,7 @@
 -- Why a text is refused, whatever the rows are.
-use Rattle.std.proofs.Common.{◌≡◌, ◌≢◌, ◌≤◌, ◌<◌, ◌&&◌, ◌==◌, nat_le, ◌⊎◌, inl, inr, ℕ, suc, List, [], ◌∷◌, ◌++◌, map, length, length-append, append_assoc, All, Bool, true, false, Option, None, Result, Ok, Err, refl, sym, ap, ◌∙◌, subst, arith}
+use Rattle.std.proofs.Common.{◌≡◌, ◌≢◌, ◌≤◌, ◌<◌, ◌&&◌, ◌==◌, nat_le, ◌⊎◌, inl, inr, ℕ, suc, List, [], ◌∷◌, ◌++◌, map, length}
+use Rattle.std.proofs.Common.{length-append, append_assoc, All, Bool, true, false, Option, None, Result, Ok, Err, refl, sym, ap, ◌∙◌}
+use Rattle.std.proofs.Common.{subst, arith}
 use Rattle.std.proofs.lemmas.Bool.Decides.{nat_tests}
 use Rattle.std.proofs.lemmas.List.{map-append}
 use Rattle.csv.specs.declared.reader.Reader.{Reader}
@@ -9,7 +11,7 @@ use Rattle.zh_csv.specs.Reading.{RowKind, HasNoNames, IsUnheld, IsUnread, Refuse
 use Rattle.zh_csv.specs.declared.fault.LoadFault.{LoadFault}
 use Rattle.zh_csv.specs.declared.fault.LoadFault.TheVariants as faults
 use Rattle.zh_csv.proofs.CutLemmas.{EndsInPart, all_of_front, first_of_front}
-use Rattle.zh_csv.proofs.RecordsLemmas.{all_first, first_more, none_after}
+use Rattle.zh_csv.proofs.RecordsLemmas.{begin_all}
 
 -- a kind of which each row that is read has a record of its own, which may be that of a row; and where rows are held together,
 -- each of them is read and follows those before it
@@ -34,14 +36,6 @@ too_long last long = by (may_be_row last) refl
     by true may = absurd (short_enough last may long)
     by false may = refl
 
--- it has four fields
-pub four_of_row : (last : Record) → may_be_row last ≡ true → length last ≡ 4
-four_of_row last may = by (length last == 4) refl may
-  where
-    by : (b : Bool) → (length last == 4) ≡ b → (b && nat_le (record_size last) most_bytes) ≡ true → length last ≡ 4
-    by true four is = grind (arith, nat_tests)
-    by false other is = cc is
-
 -- four short fields
 pub four_short : (a b c d : List ℕ) → length a ≤ 10 → length b ≤ 10 → length c ≤ 10 → length d ≤ 10 → may_be_row (a ∷ b ∷ c ∷ d ∷ []) ≡ true
 four_short a b c d x y z w = let short : record_size (a ∷ b ∷ c ∷ d ∷ []) ≤ most_bytes = omega arith in grind (arith, nat_tests)
@@ -59,36 +53,43 @@ same_ends (a ∷ xs) (b ∷ ys) x y same =
 
 module _ {X : Type 0} (kind : RowKind X) where
   -- a record that cannot follow these
-  pub refused_here : (text : List ℕ) (rows : List X) (last : Record) (fault : LoadFault) → kind.AreHeld rows → AreFirst text ((names ∷ map kind.fields rows) ++ last ∷ [])
+  pub refused_here : (text : List ℕ) (rows : List X) (last : Record) (fault : LoadFault) → kind.AreHeld rows
+      → AreFirst text ((names ∷ map kind.fields rows) ++ last ∷ [])
       → (fault ≢ faults.Memory → IsUnread kind.fields kind.IsReadable last fault ⊎ IsUnheld kind rows last fault) → Refuses kind text fault
-  refused_here text rows last fault held first refused = λ other _. inr (record { rows = rows; last = last; records = first; held = held; refused = refused other })
+  refused_here text rows last fault held first refused = λ other _.
+      inr (record { rows = rows; last = last; records = first; held = held; refused = refused other })
 
   -- a row that is held
-  pub given_more : {R : Type 0} (remaining : R → Option (List ℕ)) (text : List ℕ) (rows : List X) (last : Record) (row : X) (reader : Reader R) → last ≡ kind.fields row
-      → HasRead remaining text ((names ∷ map kind.fields rows) ++ last ∷ []) reader → HasRead remaining text (names ∷ map kind.fields (rows ++ row ∷ [])) reader
+  pub given_more : {R : Type 0} (remaining : R → Option (List ℕ)) (text : List ℕ) (rows : List X) (last : Record) (row : X) (reader : Reader R)
+      → last ≡ kind.fields row → HasRead remaining text ((names ∷ map kind.fields rows) ++ last ∷ []) reader
+      → HasRead remaining text (names ∷ map kind.fields (rows ++ row ∷ [])) reader
   given_more remaining text rows last row reader is has =
       let same : (names ∷ map kind.fields rows) ++ last ∷ [] ≡ names ∷ map kind.fields (rows ++ row ∷ []) =
       ap (λ (r : Record). names ∷ (map kind.fields rows ++ r ∷ [])) is ∙ ap (λ (rs : List Record). names ∷ rs) (sym (map-append kind.fields rows (row ∷ []))) in
       subst (λ (records : List Record). HasRead remaining text records reader) same has
 
   -- a text of which less is known
-  pub reads_of : (IsText Known : List ℕ → Type 0) (Holds : List X → Type 0) (result : Result ℕ LoadFault) → ((text : List ℕ) → Known text → IsText text) → ReadsRows kind IsText Holds result → ReadsRows kind Known Holds result
+  pub reads_of : (IsText Known : List ℕ → Type 0) (Holds : List X → Type 0) (result : Result ℕ LoadFault)
+      → ((text : List ℕ) → Known text → IsText text) → ReadsRows kind IsText Holds result → ReadsRows kind Known Holds result
   reads_of IsText Known Holds (Ok count) known (rows, holds, is_count, all) = (rows, holds, is_count, λ text is. all text (known text is))
   reads_of IsText Known Holds (Err fault) known refused = λ text is. refused text (known text is)
 
 -- the records of rows are no part of one that is too long
 module _ {X : Type 0} (kind : RowKind X) (is_kind : IsKind kind) (text : List ℕ) where
-  among : (first : Record) (rows : List X) (few : List Record) (part : Record) (rest : List Record) → may_be_row first ≡ true → All kind.IsReadable rows → first ∷ map kind.fields rows ≡ few ++ part ∷ rest → may_be_row part ≡ true
+  among : (first : Record) (rows : List X) (few : List Record) (part : Record) (rest : List Record) → may_be_row first ≡ true
+      → All kind.IsReadable rows → first ∷ map kind.fields rows ≡ few ++ part ∷ rest → may_be_row part ≡ true
   among first rows [] part rest may readable is = let same : first ≡ part = cc is in rw (← same) may
-  among first [] (head ∷ few) part rest may readable is = absurd (omega (arith, ap (λ (l : List Record). length l) is, length-append few (part ∷ rest)))
+  among first [] (head ∷ few) part rest may readable is =
+      absurd (omega (arith, ap (λ (l : List Record). length l) is, length-append few (part ∷ rest)))
   among first (row ∷ rows) (head ∷ few) part rest may readable is =
       let others : kind.fields row ∷ map kind.fields rows ≡ few ++ part ∷ rest = cc is in
       among (kind.fields row) rows few part rest (is_kind.may row (readable 0 row (omega arith))) (λ i x within. readable (suc i) x (omega arith)) others
 
   -- nor is a text of theirs cut off
-  pub never_cut : (rows : List X) (few : List Record) (last : Record) → kind.AreHeld rows → AreAll text (names ∷ map kind.fields rows) → AreFirst text (few ++ last ∷ []) → most_bytes < record_size last → ⊥
+  pub never_cut : (rows : List X) (few : List Record) (last : Record) → kind.AreHeld rows → AreAll text (names ∷ map kind.fields rows)
+      → AreFirst text (few ++ last ∷ []) → most_bytes < record_size last → ⊥
   never_cut rows few last held all first long =
-      let (rest, is) = first_more text (few ++ last ∷ []) (names ∷ map kind.fields rows) first (all_first text _ all) (none_after text _ (few ++ last ∷ []) all first) in
+      let (rest, is) = begin_all text (names ∷ map kind.fields rows) (few ++ last ∷ []) all first in
       short_enough last (among names rows few last rest refl (is_kind.readable rows held) (is ∙ append_assoc few (last ∷ []) rest)) long
 
   -- so they are read in full
@@ -104,13 +105,15 @@ module _ {X : Type 0} (kind : RowKind X) (is_kind : IsKind kind) (text : List �
   stops_of_front fault stops = by (first_of_front text (names ∷ (map kind.fields stops.rows ++ stops.last ∷ [])) stops.records)
     where
       refused_long : (f : LoadFault) (part last : Record) → most_bytes < record_size part → most_bytes < record_size last
-          → IsUnread kind.fields kind.IsReadable part f ⊎ IsUnheld kind stops.rows part f → IsUnread kind.fields kind.IsReadable last f ⊎ IsUnheld kind stops.rows last f
+          → IsUnread kind.fields kind.IsReadable part f ⊎ IsUnheld kind stops.rows part f
+          → IsUnread kind.fields kind.IsReadable last f ⊎ IsUnheld kind stops.rows last f
       refused_long faults.Csv part last long longer (inl unread) = inl (too_long last longer)
       refused_long faults.Syntax part last long longer (inl unread) = absurd (short_enough part unread.0 long)
       refused_long f part last long longer (inl unread) = absurd unread
       refused_long f part last long longer (inr (row, readable, is, refused)) = absurd (short_enough part (rw is (is_kind.may row readable)) long)
 
-      by : AreFirst text (names ∷ (map kind.fields stops.rows ++ stops.last ∷ [])) ⊎ EndsInPart text (names ∷ (map kind.fields stops.rows ++ stops.last ∷ [])) → StopsAt kind text fault
+      by : AreFirst text (names ∷ (map kind.fields stops.rows ++ stops.last ∷ []))
+          ⊎ EndsInPart text (names ∷ (map kind.fields stops.rows ++ stops.last ∷ [])) → StopsAt kind text fault
       by (inl whole) = record { rows = stops.rows; last = stops.last; records = whole; held = stops.held; refused = stops.refused }
       by (inr cut) =
           let (before, part) = same_ends (names ∷ map kind.fields stops.rows) cut.few stops.last cut.part cut.is in
@@ -135,7 +138,8 @@ module _ {X : Type 0} (kind : RowKind X) (is_kind : IsKind kind) (text : List �
       by (inl whole) = inr (first, whole, differs)
       by (inr cut) =
           let (before, _) = same_ends [] cut.few first cut.part cut.is in
-          inr (cut.last, subst (λ (l : List Record). AreFirst text (l ++ cut.last ∷ [])) (sym before) cut.first, λ same. short_enough cut.last (rw same refl) cut.longer)
+          let first' = subst (λ (l : List Record). AreFirst text (l ++ cut.last ∷ [])) (sym before) cut.first in
+          inr (cut.last, first', λ same. short_enough cut.last (rw same refl) cut.longer)
 
   pub refused_by_front : (fault : LoadFault) → Refuses kind (front_of text) fault → Refuses kind text fault
   refused_by_front fault refused = λ memory read. elim (refused memory read) [

@@ -1,9 +1,8 @@
 -- The text of a count. 44 is the comma, 10 the end of a line.
 use Rattle.std.specs.Prelude.{ℕ, List, [], ◌∷◌, ◌++◌, length, Option, Some, None, codes, decimal}
-use Rattle.std.specs.List.{flat_map}
 use Rattle.zh_returns.specs.declared.entry.Entry.{Entry}
-use Rattle.zh_returns.specs.Payload.{numbers}
 use Rattle.zh_returns.specs.Tally.{Tally, held}
+use Rattle.zh_record_text.specs.Each.{each_to}
 use Rattle.zh_csv.specs.Records.{Record, names}
 
 -- the fields after the first, a comma before each, and the end of the line
@@ -30,11 +29,14 @@ abbrev pub entry_text : ℕ → ℕ → Option Entry → List ℕ
 entry_text municipality list None = []
 entry_text municipality list (Some entry) = line (record_of municipality list entry)
 
+-- that of a list in a municipality
+abbrev pub list_text : Tally → ℕ → ℕ → List ℕ
+list_text tally municipality list = entry_text municipality list (held tally municipality list)
+
 -- the lines of a municipality, list by list
 abbrev pub municipality_text : Tally → ℕ → List ℕ
-municipality_text tally municipality =
-    flat_map (λ list. entry_text municipality list (held tally municipality list)) (numbers 1 (length tally.canton.groups))
+municipality_text tally municipality = each_to (length tally.canton.groups) (list_text tally municipality)
 
 -- the line of the names, and then those of what is held, municipality by municipality
 abbrev pub export_text : Tally → List ℕ
-export_text tally = line names ++ flat_map (municipality_text tally) (numbers 1 (length tally.canton.municipalities))
+export_text tally = line names ++ each_to (length tally.canton.municipalities) (municipality_text tally)

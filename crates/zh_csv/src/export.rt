@@ -1,17 +1,14 @@
 //! The count written as text.
 
-ghost use Rattle.std.specs.Prelude.{◌≡◌, ◌≤◌, length, OnOk, IfOk};
+ghost use Rattle.std.specs.Prelude.{◌≡◌, OnOk, IfOk};
 ghost use Rattle.std.specs.Io.KnownBytes.{Appends};
-ghost use Rattle.std.specs.List.{flat_map};
-ghost use Rattle.zh_returns.specs.Payload.{numbers};
 ghost use Rattle.zh_record_text.specs.Records.{IsBetweenRecords, PutsText};
-ghost use Rattle.zh_csv.specs.Records.{names};
-ghost use Rattle.zh_csv.specs.Export.{line, record_of, entry_text, municipality_text, export_text, votes_field};
+ghost use Rattle.zh_csv.specs.Export.{line, record_of, entry_text, export_text, votes_field};
 
-use csv::{Writer, WriterBuilder};
+use csv::Writer;
 use itoa::Buffer;
 use std::io::Write;
-use zh_record_text::{RecordFault, write_record};
+use zh_record_text::{NumberedRows, RecordFault, write_each, write_record, write_table};
 use zh_returns::{Count, Entry};
 
 /// The field of votes: their numeral, or that the list is withdrawn.
@@ -63,51 +60,60 @@ fn write_held<W: Write + Drop>(
     }
 }
 
-/// Writes what is held in a municipality, list by list.
-fn write_municipality<W: Write + Drop>(
-    writer: &mut Writer<W>,
-    count: &Count<'_>,
+/// What is held in a municipality.
+#[derive(Drop)]
+struct HeldIn<'c> {
+    count: &'c Count<'c>,
     municipality: u32,
-) -> Result<(), RecordFault>
-    requires ready { IsBetweenRecords writer.old }
-    requires from_one { 1 ≤ municipality }
-    requires there { municipality ≤ length count.now.canton.municipalities }
-    ensures { OnOk result (PutsText W.contents (municipality_text count.now municipality) writer.old writer.new) }
-{
-    for place in 0..count.setup().groups() {
-        let list = place + 1;
-        write_held(writer, municipality, list, count.entry(municipality, list))?;
-    }
-    Ok(())
 }
 
-/// Writes what is held, municipality by municipality.
-fn write_entries<W: Write + Drop>(
-    writer: &mut Writer<W>,
-    count: &Count<'_>,
-) -> Result<(), RecordFault>
-    requires { IsBetweenRecords writer.old }
-    ensures { OnOk result (PutsText W.contents
-        (flat_map (municipality_text count.now) (numbers 1 (length count.now.canton.municipalities))) writer.old writer.new) }
-{
-    for place in 0..count.setup().municipalities() {
-        write_municipality(writer, count, place + 1)?;
+impl<'c, W: Write + Drop> NumberedRows<W> for HeldIn<'c> {
+    ghost use Rattle.std.specs.Prelude.{◌≤◌, length};
+    ghost use Rattle.zh_csv.specs.Export.{list_text};
+
+    ghost AreRows = { λ rows. (1 ≤ rows.municipality) × (rows.municipality ≤ length rows.count.now.canton.municipalities) };
+
+    ghost numbers = { λ rows. length rows.count.now.canton.groups };
+
+    ghost text = { λ rows list. list_text rows.count.now rows.municipality list };
+
+    fn last(&self) -> u32 {
+        self.count.setup().groups()
     }
-    Ok(())
+
+    fn write_row(&self, writer: &mut Writer<W>, list: u32) -> Result<(), RecordFault> {
+        let held = self.count.entry(self.municipality, list);
+        write_held(writer, self.municipality, list, held)
+    }
 }
 
-/// Writes the names of the columns.
-fn write_names<W: Write + Drop>(writer: &mut Writer<W>) -> Result<(), RecordFault>
-    requires { IsBetweenRecords writer.old }
-    ensures { OnOk result (PutsText W.contents (line names) writer.old writer.new) }
-{
-    let columns = [
-        b"municipality".as_slice(),
-        b"list".as_slice(),
-        b"number".as_slice(),
-        b"votes".as_slice(),
-    ];
-    write_record(writer, &columns)
+/// What is held, municipality by municipality.
+#[derive(Drop)]
+struct Held<'c> {
+    count: &'c Count<'c>,
+}
+
+impl<'c, W: Write + Drop> NumberedRows<W> for Held<'c> {
+    ghost use Rattle.std.specs.Prelude.{length};
+    ghost use Rattle.zh_csv.specs.Export.{municipality_text};
+
+    ghost AreRows = { λ _. Unit {0} };
+
+    ghost numbers = { λ held. length held.count.now.canton.municipalities };
+
+    ghost text = { λ held m. municipality_text held.count.now m };
+
+    fn last(&self) -> u32 {
+        self.count.setup().municipalities()
+    }
+
+    fn write_row(&self, writer: &mut Writer<W>, municipality: u32) -> Result<(), RecordFault> {
+        let held = HeldIn {
+            count: self.count,
+            municipality,
+        };
+        write_each(writer, &held)
+    }
 }
 
 /// Writes the count: the names of the columns, and then a record for each municipality and list under which something
@@ -115,11 +121,6 @@ fn write_names<W: Write + Drop>(writer: &mut Writer<W>) -> Result<(), RecordFaul
 pub fn write_count<W: Write + Drop>(count: &Count<'_>, writer: W) -> Result<W, RecordFault>
     ensures { IfOk result (λ after. Appends (W.contents writer) (W.contents after) (export_text count.now)) }
 {
-    let mut writer = WriterBuilder::new().from_writer(writer);
-    write_names(&mut writer)?;
-    write_entries(&mut writer, count)?;
-    match writer.into_inner() {
-        Ok(writer) => Ok(writer),
-        Err(_) => Err(RecordFault::Write),
-    }
+    let columns = ["municipality", "list", "number", "votes"];
+    write_table(&columns, &Held { count }, writer)
 }

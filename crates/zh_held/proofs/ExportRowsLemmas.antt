@@ -1,6 +1,6 @@
 -- The rows of a count, and the records of its export, which are those of these rows.
 use Rattle.std.proofs.Common.{◌≡◌, ◌∙◌, ℕ, suc, List, [], ◌∷◌, ◌++◌, map, length, Option, Some, None, refl, sym, ap, subst, arith, All}
-use Rattle.std.specs.List.{flat_map}
+use Rattle.std.specs.List.{flat_map, range_with_len}
 use Rattle.std.proofs.lemmas.List.{append-nil, map-append}
 use Rattle.std.proofs.lemmas.Grind.{flat_map-append}
 use Rattle.csv.specs.Machine.{next_record}
@@ -8,11 +8,10 @@ use Rattle.csv.specs.Reading.{Reached, default_config, strip_bom}
 use Rattle.csv.specs.declared.parser.State.TheVariants as states
 use Rattle.csv.proofs.RoundTrip.{read-write-many}
 use Rattle.zh_returns.specs.declared.entry.Entry.{Entry}
-use Rattle.zh_returns.specs.Payload.{numbers}
 use Rattle.zh_returns.specs.Tally.{Tally, held}
 use Rattle.zh_csv.specs.Records.{Record, AreAll, names}
-use Rattle.zh_csv.specs.Export.{line, entry_text, municipality_text, export_text}
-use Rattle.zh_csv.proofs.CallerLemmas.{ArePlain, list_text, row_text-plain, record_plain, names_plain}
+use Rattle.zh_csv.specs.Export.{line, entry_text, list_text, municipality_text, export_text}
+use Rattle.zh_csv.proofs.CallerLemmas.{ArePlain, row_text-plain, record_plain, names_plain}
 use Rattle.zh_held.specs.declared.row.HeldRow.{HeldRow}
 use Rattle.zh_held.specs.Rows.{held_fields, held_entry, IsHeldRow}
 
@@ -29,11 +28,11 @@ list_rows tally m l = entry_rows m l (held tally m l)
 
 -- those of a municipality, list by list
 abbrev pub municipality_rows : Tally → ℕ → List HeldRow
-municipality_rows tally m = flat_map (list_rows tally m) (numbers 1 (length tally.canton.groups))
+municipality_rows tally m = flat_map (list_rows tally m) (range_with_len 1 (length tally.canton.groups))
 
 -- all rows of a count, municipality by municipality
 abbrev pub export_rows : Tally → List HeldRow
-export_rows tally = flat_map (municipality_rows tally) (numbers 1 (length tally.canton.municipalities))
+export_rows tally = flat_map (municipality_rows tally) (range_with_len 1 (length tally.canton.municipalities))
 
 -- the lines of rows
 abbrev pub lines_of : List HeldRow → List ℕ
@@ -53,11 +52,11 @@ all_lines text rows (n ∷ ns) each =
     ∙ ap (flat_map line) (sym (map-append held_fields (rows n) (flat_map rows ns)))
 
 municipality_lines : (tally : Tally) (m : ℕ) → municipality_text tally m ≡ lines_of (municipality_rows tally m)
-municipality_lines tally m = all_lines (list_text tally m) (list_rows tally m) (numbers 1 (length tally.canton.groups)) (λ l. entry_lines m l (held tally m l))
+municipality_lines tally m = all_lines (list_text tally m) (list_rows tally m) (range_with_len 1 (length tally.canton.groups)) (λ l. entry_lines m l (held tally m l))
 
 export_lines : (tally : Tally) → export_text tally ≡ line names ++ lines_of (export_rows tally)
 export_lines tally =
-    ap (λ (t : List ℕ). line names ++ t) (all_lines (municipality_text tally) (municipality_rows tally) (numbers 1 (length tally.canton.municipalities)) (municipality_lines tally))
+    ap (λ (t : List ℕ). line names ++ t) (all_lines (municipality_text tally) (municipality_rows tally) (range_with_len 1 (length tally.canton.municipalities)) (municipality_lines tally))
 
 -- a line reads back as its record
 line_read : (fields : Record) (tail : List ℕ) → ArePlain fields → next_record default_config states.StartRecord [] [] (line fields ++ tail) ≡ Some (fields, states.StartRecord, tail)

@@ -1,6 +1,8 @@
 -- The rows of a count add up to its totals.
-use Rattle.std.proofs.Common.{◌≡◌, ◌∙◌, ℕ, zero, suc, ◌+◌, ◌<◌, ◌≤◌, ◌^◌, ◌&&◌, ◌||◌, ◌==◌, true, false, List, [], ◌∷◌, ◌++◌, length, Option, Some, None, IfSome, unwrap_or, refl, sym, ap, subst, arith, append_assoc, add-zero}
-use Rattle.std.specs.List.{flat_map, IsDistinct}
+use Rattle.std.proofs.Common.{◌≡◌, ◌∙◌, ℕ, zero, suc, ◌+◌, ◌<◌, ◌≤◌, ◌^◌, ◌&&◌, ◌||◌, ◌==◌, true, false}
+use Rattle.std.proofs.Common.{List, [], ◌∷◌, ◌++◌, length, Option, Some, None, IfSome, unwrap_or, refl, sym, ap, subst, arith, append_assoc}
+use Rattle.std.proofs.Common.{add-zero}
+use Rattle.std.specs.List.{flat_map, range_with_len, IsDistinct}
 use Rattle.std.proofs.lemmas.Bool.Decides.{nat_tests}
 use Rattle.std.proofs.lemmas.List.{append-nil}
 use Rattle.zh_districts.specs.Canton.{has_municipality, stands, constituency_of}
@@ -8,7 +10,6 @@ use Rattle.zh_districts.proofs.CallerLemmas.{municipality_within, list_within, n
 use Rattle.zh_records.proofs.CallerLemmas.{key_test}
 use Rattle.zh_returns.specs.declared.entry.Entry.{Entry}
 use Rattle.zh_returns.specs.Limits.{IsTally, IsEntry, most_votes}
-use Rattle.zh_returns.specs.Payload.{numbers}
 use Rattle.zh_returns.specs.Tally.{Tally, held}
 use Rattle.zh_desks.specs.RowFaults.{unfit, unfit_at}
 use Rattle.zh_totals.specs.Totals.{VoteTotals}
@@ -17,10 +18,10 @@ use Rattle.zh_totals.specs.Changes.{noted}
 use Rattle.zh_totals.specs.Parts.{is_before, held_before}
 use Rattle.zh_totals.proofs.CallerLemmas.{next_noted, before_first, next_not_held, next_municipality, after_last}
 use Rattle.zh_held.specs.declared.row.HeldRow.{HeldRow}
-use Rattle.zh_held.specs.Rows.{as_row, held_key, holds_key, IsHeldRow, AreHeld, sums_of}
+use Rattle.zh_held.specs.Rows.{as_row, holds_key, IsHeldRow, AreHeld, sums_of}
 use Rattle.zh_held.specs.Held.{AreHeldIn}
 use Rattle.zh_csv.specs.Export.{export_text}
-use Rattle.zh_held.proofs.SumLemmas.{change_of, held_more, is_noted}
+use Rattle.zh_held.proofs.SumLemmas.{Follows, change_of, held_more, is_noted}
 use Rattle.zh_held.proofs.RunningLemmas.{key_more}
 use Rattle.zh_held.proofs.ExportRowsLemmas.{entry_row, entry_rows, list_rows, municipality_rows, export_rows, export_records}
 
@@ -88,16 +89,20 @@ not_in_next : (m g a b : ℕ) → is_before (m + 1) 1 (a, b) ≡ false → is_be
 not_in_next m g a b later = grind (arith, nat_tests)
 
 -- the next list: something is held under its key, or nothing is
-one_more : (tally : Tally) (m l : ℕ) (rows : List HeldRow) (entry : Entry) → IsTally tally → held tally m l ≡ Some entry → AreBefore tally m l rows → AreBefore tally m (l + 1) (rows ++ entry_row m l entry ∷ [])
+one_more : (tally : Tally) (m l : ℕ) (rows : List HeldRow) (entry : Entry) → IsTally tally → held tally m l ≡ Some entry
+    → AreBefore tally m l rows → AreBefore tally m (l + 1) (rows ++ entry_row m l entry ∷ [])
 one_more tally m l rows entry limits is before =
     let row = entry_row m l entry in
     let at = entry_at tally m l entry limits is in
-    let readable = row_readable tally m l entry limits at in
-    let fit = row_fit tally m l entry at in
-    let fresh : holds_key rows (held_key row) ≡ false = before.keys m l (not_itself m l) in
-    let noting = is_noted tally.canton rows row limits.canton before.held readable fit fresh in
+    let follows : Follows tally.canton rows row = record {
+      limits = limits.canton;
+      readable = row_readable tally m l entry limits at;
+      fit = row_fit tally m l entry at;
+      fresh = before.keys m l (not_itself m l);
+    } in
+    let noting = is_noted tally.canton rows row before.held follows in
     record {
-      held = held_more tally.canton rows row before.held readable fit fresh;
+      held = held_more tally.canton rows row before.held follows;
       keys = λ a b later.
           let (earlier, other) = not_after m l a b later in
           key_more rows row (a, b) ∙ ap (λ this. this || holds_key rows (a, b)) (key_test a b m l ∙ other) ∙ before.keys a b earlier;
@@ -120,15 +125,15 @@ next_list tally m l rows limits before =
     ] refl
 
 -- so many lists from one on
-next_lists : (tally : Tally) (m first n : ℕ) (rows : List HeldRow) → IsTally tally → AreBefore tally m first rows → AreBefore tally m (first + n) (rows ++ flat_map (list_rows tally m) (numbers first n))
-unfolding numbers
+next_lists : (tally : Tally) (m first n : ℕ) (rows : List HeldRow) → IsTally tally → AreBefore tally m first rows
+    → AreBefore tally m (first + n) (rows ++ flat_map (list_rows tally m) (range_with_len first n))
 next_lists tally m first zero rows limits before =
     subst (λ (l : ℕ). AreBefore tally m l (rows ++ [])) (sym (add-zero first)) (subst (AreBefore tally m first) (sym (append-nil rows)) before)
 next_lists tally m first (suc n) rows limits before =
     let along : first + 1 + n ≡ first + suc n = omega arith in
     let more = next_lists tally m (first + 1) n (rows ++ list_rows tally m first) limits (next_list tally m first rows limits before) in
-    subst (λ (l : ℕ). AreBefore tally m l (rows ++ (list_rows tally m first ++ flat_map (list_rows tally m) (numbers (first + 1) n)))) along
-    (subst (AreBefore tally m (first + 1 + n)) (append_assoc rows (list_rows tally m first) (flat_map (list_rows tally m) (numbers (first + 1) n))) more)
+    subst (λ (l : ℕ). AreBefore tally m l (rows ++ (list_rows tally m first ++ flat_map (list_rows tally m) (range_with_len (first + 1) n)))) along
+    (subst (AreBefore tally m (first + 1 + n)) (append_assoc rows (list_rows tally m first) (flat_map (list_rows tally m) (range_with_len (first + 1) n))) more)
 
 -- the next municipality
 next_one : (tally : Tally) (m : ℕ) (rows : List HeldRow) → IsTally tally → AreBefore tally m 1 rows → AreBefore tally (m + 1) 1 (rows ++ municipality_rows tally m)
@@ -143,15 +148,15 @@ next_one tally m rows limits before =
     }
 
 -- so many municipalities from one on
-next_some : (tally : Tally) (first n : ℕ) (rows : List HeldRow) → IsTally tally → AreBefore tally first 1 rows → AreBefore tally (first + n) 1 (rows ++ flat_map (municipality_rows tally) (numbers first n))
-unfolding numbers
+next_some : (tally : Tally) (first n : ℕ) (rows : List HeldRow) → IsTally tally → AreBefore tally first 1 rows
+    → AreBefore tally (first + n) 1 (rows ++ flat_map (municipality_rows tally) (range_with_len first n))
 next_some tally first zero rows limits before =
     subst (λ (m : ℕ). AreBefore tally m 1 (rows ++ [])) (sym (add-zero first)) (subst (AreBefore tally first 1) (sym (append-nil rows)) before)
 next_some tally first (suc n) rows limits before =
     let along : first + 1 + n ≡ first + suc n = omega arith in
     let more = next_some tally (first + 1) n (rows ++ municipality_rows tally first) limits (next_one tally first rows limits before) in
-    subst (λ (m : ℕ). AreBefore tally m 1 (rows ++ (municipality_rows tally first ++ flat_map (municipality_rows tally) (numbers (first + 1) n)))) along
-    (subst (AreBefore tally (first + 1 + n) 1) (append_assoc rows (municipality_rows tally first) (flat_map (municipality_rows tally) (numbers (first + 1) n))) more)
+    subst (λ (m : ℕ). AreBefore tally m 1 (rows ++ (municipality_rows tally first ++ flat_map (municipality_rows tally) (range_with_len (first + 1) n)))) along
+    (subst (AreBefore tally (first + 1 + n) 1) (append_assoc rows (municipality_rows tally first) (flat_map (municipality_rows tally) (range_with_len (first + 1) n))) more)
 
 all_rows : (tally : Tally) → IsTally tally → AreBefore tally (length tally.canton.municipalities + 1) 1 (export_rows tally)
 all_rows tally limits =

@@ -1,5 +1,6 @@
 -- The rows of an export are a kind of row, and a text has its sums in one way, refused memory and a reader that fails aside.
-use Rattle.std.proofs.Common.{◌≡◌, ◌≤◌, ◌<◌, ◌^◌, ℕ, false, true, List, ◌∷◌, ◌++◌, length, Option, Some, None, IfSome, Result, Ok, Err, refl, sym, ap, ◌∙◌, arith, decimal}
+use Rattle.std.proofs.Common.{◌≡◌, ◌≤◌, ◌<◌, ◌^◌, ℕ, false, true, List, ◌∷◌, ◌++◌, length, Option, Some, None, IfSome}
+use Rattle.std.proofs.Common.{Result, Ok, Err, refl, sym, ap, ◌∙◌, arith, decimal}
 use Rattle.zh_districts.specs.Canton.{Canton}
 use Rattle.zh_desks.specs.RowFaults.{unfit}
 use Rattle.zh_csv.specs.Export.{votes_field}
@@ -42,11 +43,18 @@ is_holding canton = record {
 
 -- what the sums of the front of a text are, those of the text are
 pub adds_up_of_front : (canton : Canton) (text : List ℕ) (held : Result HeldSums LoadFault) → AddsUp canton (front_of text) held → AddsUp canton text held
-adds_up_of_front canton text (Ok sums) is = record { rows = is.rows; records = rows_of_front (holding canton) (is_holding canton) text is.rows is.are.held is.records; are = is.are }
+adds_up_of_front canton text (Ok sums) is = record {
+  rows = is.rows;
+  records = rows_of_front (holding canton) (is_holding canton) text is.rows is.are.held is.records;
+  are = is.are;
+}
 adds_up_of_front canton text (Err fault) refused = refused_by_front (holding canton) (is_holding canton) text fault refused
 
-pub one_holding : (canton : Canton) (text : List ℕ) (held other : Result HeldSums LoadFault) → AddsUp canton text held → AddsUp canton text other → IsOfText held → IsOfText other → held ≡ other
-one_holding canton text = one_reading (holding canton) (is_holding canton) text (AddsUp canton text) (λ sums x. (x.rows, x.records, x.are.held)) same_sums (λ fault refused. refused)
+pub one_holding : (canton : Canton) (text : List ℕ) (held other : Result HeldSums LoadFault)
+    → AddsUp canton text held → AddsUp canton text other → IsOfText held → IsOfText other → held ≡ other
+one_holding canton text =
+    one_reading (holding canton) (is_holding canton) text (AddsUp canton text) (λ sums x. (x.rows, x.records, x.are.held)) same_sums
+    (λ fault refused. refused)
   where
     same_sums : (sums more : HeldSums) (x : AreHeldIn canton text sums) (y : AreHeldIn canton text more) → x.rows ≡ y.rows → sums ≡ more
     same_sums sums more x y rows =

@@ -1,5 +1,6 @@
 -- The count in which rows are held, and its sums, with one row more.
-use Rattle.std.proofs.Common.{◌≡◌, ◌∙◌, ◌≤◌, ◌||◌, ℕ, suc, Bool, true, false, cond, List, [], ◌∷◌, ◌++◌, map, Option, Some, None, IfSome, unwrap_or, All, refl, sym, ap, subst, arith}
+use Rattle.std.proofs.Common.{◌≡◌, ◌∙◌, ◌≤◌, ◌||◌, ℕ, suc, Bool, true, false, cond, List, [], ◌∷◌, ◌++◌, map}
+use Rattle.std.proofs.Common.{Option, Some, None, IfSome, unwrap_or, All, refl, sym, ap, subst, arith}
 use Rattle.std.specs.Option.{option_map_or}
 use Rattle.std.specs.Ordering.{eq_by_cmp}
 use Rattle.std.specs.FinMap as map_of
@@ -75,13 +76,23 @@ tally_of canton (row ∷ rows) limits readable fit =
 pub IsTally-count_of : (canton : Canton) (rows : List HeldRow) → IsCanton canton → AreHeld canton rows → IsTally (count_of canton rows)
 IsTally-count_of canton rows limits are = tally_of canton rows limits are.readable are.fit
 
+-- a row that follows others
+pub record Follows (canton : Canton) (rows : List HeldRow) (row : HeldRow) : Type 0 where
+  pub limits : IsCanton canton
+  pub readable : IsHeldRow row
+  pub fit : unfit canton (as_row row) ≡ None
+  pub fresh : holds_key rows (held_key row) ≡ false
+
 -- one row more
-pub held_more : (canton : Canton) (rows : List HeldRow) (row : HeldRow) → AreHeld canton rows → IsHeldRow row → unfit canton (as_row row) ≡ None → holds_key rows (held_key row) ≡ false → AreHeld canton (rows ++ row ∷ [])
-held_more canton rows row are readable fit fresh = record {
-  readable = All-push IsHeldRow rows row are.readable readable;
-  fit = All-push (λ (r : HeldRow). unfit canton (as_row r) ≡ None) rows row are.fit fit;
-  keys = rw (map-append held_key rows (row ∷ [])) (IsDistinct-push keys_alike (map held_key rows) (held_key row) are.keys fresh);
-}
+pub held_more : (canton : Canton) (rows : List HeldRow) (row : HeldRow) → AreHeld canton rows → Follows canton rows row
+    → AreHeld canton (rows ++ row ∷ [])
+held_more canton rows row are follows =
+    let distinct = IsDistinct-push keys_alike (map held_key rows) (held_key row) are.keys follows.fresh in
+    record {
+      readable = All-push IsHeldRow rows row are.readable follows.readable;
+      fit = All-push (λ (r : HeldRow). unfit canton (as_row r) ≡ None) rows row are.fit follows.fit;
+      keys = rw (map-append held_key rows (row ∷ [])) distinct;
+    }
 
 -- the change that a row is to the sums of those before it
 abbrev pub change_of : Canton → HeldRow → Change
@@ -92,7 +103,8 @@ change_of canton row = record {
   after = unwrap_or row.votes 0;
 }
 
-not_found : (canton : Canton) (rows : List HeldRow) (row : HeldRow) → holds_key rows (held_key row) ≡ false → map_of.get (map_of.from_entries {R = key_cmp} (map keyed rows)) (held_key row) ≡ None
+not_found : (canton : Canton) (rows : List HeldRow) (row : HeldRow) → holds_key rows (held_key row) ≡ false
+    → map_of.get (map_of.from_entries {R = key_cmp} (map keyed rows)) (held_key row) ≡ None
 not_found canton rows row fresh = nothing_held canton rows row.municipality row.list fresh
 
 count_more : (canton : Canton) (rows : List HeldRow) (row : HeldRow) → holds_key rows (held_key row) ≡ false →
@@ -106,15 +118,21 @@ pub record IsNoted (canton : Canton) (rows : List HeldRow) (row : HeldRow) : Typ
   pub can : IsChange (sums_of canton rows) (change_of canton row)
   pub after : noted (sums_of canton rows) (change_of canton row) ≡ sums_of canton (rows ++ row ∷ [])
 
-pub is_noted : (canton : Canton) (rows : List HeldRow) (row : HeldRow) → IsCanton canton → AreHeld canton rows → IsHeldRow row → unfit canton (as_row row) ≡ None → holds_key rows (held_key row) ≡ false → IsNoted canton rows row
-is_noted canton rows row limits are readable fit fresh =
+pub is_noted : (canton : Canton) (rows : List HeldRow) (row : HeldRow) → AreHeld canton rows → Follows canton rows row
+    → IsNoted canton rows row
+is_noted canton rows row are follows =
     let tally = count_of canton rows in
-    let tally_limits = IsTally-count_of canton rows limits are in
-    let is = is_placed canton row readable fit in
-    let none : votes_held tally row.municipality row.list ≡ 0 = ap (λ (o : Option Entry). option_map_or votes_of o 0) (nothing_held canton rows row.municipality row.list fresh) in
-    let same : change_to tally row.municipality row.list (unwrap_or row.votes 0) ≡ change_of canton row =
-    ap (λ (n : ℕ). record { constituency = constituency_of canton row.municipality; list = row.list; before = n; after = unwrap_or row.votes 0 }) none in
+    let m = row.municipality in
+    let l = row.list in
+    let votes = unwrap_or row.votes 0 in
+    let limits = IsTally-count_of canton rows follows.limits are in
+    let is = is_placed canton row follows.readable follows.fit in
+    let nothing = nothing_held canton rows m l follows.fresh in
+    let none : votes_held tally m l ≡ 0 = ap (λ (o : Option Entry). option_map_or votes_of o 0) nothing in
+    let same : change_to tally m l votes ≡ change_of canton row =
+    ap (λ (n : ℕ). record { constituency = constituency_of canton m; list = l; before = n; after = votes }) none in
+    let noting = entry_noted tally m l (held_entry row) limits is.there is.standing in
     record {
-      can = subst (IsChange (sums_of canton rows)) same (votes_can tally row.municipality row.list (unwrap_or row.votes 0) tally_limits is.there is.standing is.votes);
-      after = ap (noted (sums_of canton rows)) (sym same) ∙ sym (entry_noted tally row.municipality row.list (held_entry row) tally_limits is.there is.standing) ∙ ap totals_of (sym (count_more canton rows row fresh));
+      can = subst (IsChange (sums_of canton rows)) same (votes_can tally m l votes limits is.there is.standing is.votes);
+      after = ap (noted (sums_of canton rows)) (sym same) ∙ sym noting ∙ ap totals_of (sym (count_more canton rows row follows.fresh));
     }

@@ -14,7 +14,8 @@ use Rattle.zh_held.specs.declared.row.HeldRow.{HeldRow}
 use Rattle.zh_held.specs.declared.running_sums.RunningSums.{RunningSums}
 use Rattle.zh_held.proofs.FewRowsLemmas.{few_rows}
 
-pub note_taken : (canton : Canton) (rows : List HeldRow) (row : HeldRow) (last : Record) (old new : RunningSums) → IsCanton canton → IsHeldRow row → last ≡ held_fields row → HasTaken canton rows old → (result : Result (Unit {0}) LoadFault)
+pub note_taken : (canton : Canton) (rows : List HeldRow) (row : HeldRow) (last : Record) (old new : RunningSums)
+    → IsCanton canton → IsHeldRow row → last ≡ held_fields row → HasTaken canton rows old → (result : Result (Unit {0}) LoadFault)
     → MatchResult result (λ _. HasTaken canton (rows ++ row ∷ []) new) (λ fault. fault ≢ faults.Memory → row_fault canton rows row ≡ Some fault)
     → MatchResult result (λ _. (length rows < 16384) × ((other : HeldRow) × (last ≡ held_fields other) × HasTaken canton (rows ++ other ∷ []) new))
     (λ fault. AreHeld canton rows × (fault ≢ faults.Memory → IsUnread held_fields IsHeldRow last fault ⊎ IsUnheld (holding canton) rows last fault))

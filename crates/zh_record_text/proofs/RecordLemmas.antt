@@ -5,7 +5,7 @@ use Rattle.std.specs.Io.KnownBytes.{Appends, Keeps, append_known}
 use Rattle.std.proofs.lemmas.List.{append-nil, flat_map_more}
 use Rattle.csv.specs.Writing.{text_written}
 use Rattle.csv.specs.declared.writer.Writer.{Writer}
-use Rattle.zh_record_text.specs.Records.{IsBetweenRecords, PutsText}
+use Rattle.zh_record_text.specs.Records.{HasWritten, IsBetweenRecords, PutsText}
 
 -- bytes, and then more
 pub Appends-join : (a b c : Option (List ℕ)) (xs ys : List ℕ) → Appends a b xs → Appends b c ys → Appends a c (xs ++ ys)
@@ -18,12 +18,18 @@ pub Appends-none : (a : Option (List ℕ)) → Appends a a []
 Appends-none None = tt
 Appends-none (Some kept) = sym (append-nil kept)
 
+-- what was there before nothing was added
+Appends-after_none : (a b : Option (List ℕ)) (xs : List ℕ) → Appends (append_known a []) b xs → Appends a b xs
+Appends-after_none None b xs h = tt
+Appends-after_none (Some kept) None xs h = h
+Appends-after_none (Some kept) (Some more) xs h = h ∙ ap (λ (l : List ℕ). l ++ xs) (append-nil kept)
+
 -- from a writer to what it gives back
-Appends-back : (a b c : Option (List ℕ)) (xs : List ℕ) → Appends (append_known a []) b xs → Keeps b c → Appends a c xs
+pub Appends-back : (a b c : Option (List ℕ)) (xs : List ℕ) → Appends a b xs → Keeps b c → Appends a c xs
 Appends-back None b c xs h k = tt
 Appends-back (Some kept) None c xs h k = absurd h
 Appends-back (Some kept) (Some more) None xs h k = absurd k
-Appends-back (Some kept) (Some more) (Some cs) xs h k = k ∙ h ∙ ap (λ (l : List ℕ). l ++ xs) (append-nil kept)
+Appends-back (Some kept) (Some more) (Some cs) xs h k = k ∙ h
 
 -- no text, and one text after another
 pub Puts-none : {W : Type 0} (contents : W → Option (List ℕ)) (writer : Writer W) → IsBetweenRecords writer → PutsText contents [] writer writer
@@ -40,7 +46,15 @@ pub Puts-push : {W X : Type 0} (contents : W → Option (List ℕ)) (f : X → L
 Puts-push contents f ns n a b c first second =
     subst (λ (text : List ℕ). PutsText contents text a c) (flat_map_more f [] ns n) (Puts-join contents (flat_map f ns) (f n) a b c first second)
 
--- a text that a new writer puts, by the time that it gives back what is underneath
-pub Puts-back : {W : Type 0} (contents : W → Option (List ℕ)) (text : List ℕ) (under : Option (List ℕ)) (a b : Writer W) (back : W) → text_written contents a ≡ append_known under [] → PutsText contents text a b → Keeps (text_written contents b) (contents back) → Appends under (contents back) text
-Puts-back contents text under a b back new puts kept =
-    Appends-back under (text_written contents b) (contents back) text (subst (λ (known : Option (List ℕ)). Appends known (text_written contents b) text) new puts.written) kept
+-- the first text of a new writer, and one more
+pub Written-first : {W : Type 0} (contents : W → Option (List ℕ)) (text : List ℕ) (under : Option (List ℕ)) (a b : Writer W) → text_written contents a ≡ append_known under [] → PutsText contents text a b → HasWritten contents under text b
+Written-first contents text under a b new puts = record {
+  written = Appends-after_none under (text_written contents b) text (subst (λ (known : Option (List ℕ)). Appends known (text_written contents b) text) new puts.written);
+  ready = puts.ready;
+}
+
+pub Written-more : {W : Type 0} (contents : W → Option (List ℕ)) (under : Option (List ℕ)) (text more : List ℕ) (a b : Writer W) → HasWritten contents under text a → PutsText contents more a b → HasWritten contents under (text ++ more) b
+Written-more contents under text more a b before puts = record {
+  written = Appends-join under (text_written contents a) (text_written contents b) text more before.written puts.written;
+  ready = puts.ready;
+}

@@ -23,3 +23,9 @@ pub record IsBetweenRecords {W : Type 0} (writer : Writer W) : Type 0 where
 pub record PutsText {W : Type 0} (contents : W → Option (List ℕ)) (text : List ℕ) (old new : Writer W) : Type 0 where
   pub written : Appends (text_written contents old) (text_written contents new) text
   pub ready : IsBetweenRecords new
+
+-- a writer over what held these bytes has written this text since it was opened, and is between two records
+pub record HasWritten {W : Type 0} (contents : W → Option (List ℕ)) (under : Option (List ℕ)) (text : List ℕ) (writer : Writer W)
+    : Type 0 where
+  pub written : Appends under (text_written contents writer) text
+  pub ready : IsBetweenRecords writer

@@ -39,3 +39,17 @@ pub fn write_record<W: Write + Drop>(
         Err(error) => Err(fault_by(&error)),
     }
 }
+
+/// Writes the record of these names. After an error a front of it may be written.
+pub(crate) fn write_names<W: Write + Drop>(
+    writer: &mut Writer<W>,
+    names: &[&str],
+) -> Result<(), RecordFault>
+    requires { IsBetweenRecords writer.old }
+    ensures { OnOk result (PutsText W.contents (record_text (map (λ name. name.now) names.now)) writer.old writer.new) }
+{
+    match writer.write_record(names.iter().copied()) {
+        Ok(()) => Ok(()),
+        Err(error) => Err(fault_by(&error)),
+    }
+}

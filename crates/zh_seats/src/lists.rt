@@ -1,8 +1,8 @@
 //! The record of a list.
 
 ghost use Rattle.std.specs.Prelude.{◌≤◌, IfOk, OnOk, length};
-ghost use Rattle.zh_record_text.specs.Records.{IsBetweenRecords, PutsText, record_text};
-ghost use Rattle.zh_seats.specs.Lists.{AreTexts, seats_columns, seats_row, standing_row};
+ghost use Rattle.zh_record_text.specs.Records.{IsBetweenRecords, PutsText};
+ghost use Rattle.zh_seats.specs.Lists.{AreTexts, seats_row, standing_row};
 
 use crate::mark::Mark;
 use crate::numbers::{millionths_or_nothing, number_or_nothing};
@@ -13,28 +13,6 @@ use std::alloc::{AllocError, Global};
 use std::io::Write;
 use zh_record_text::{RecordFault, write_record};
 use zh_sheet::Sheet;
-
-/// Writes the names of the columns.
-pub(crate) fn write_header<W: Write + Drop>(writer: &mut Writer<W>) -> Result<(), RecordFault>
-    requires { IsBetweenRecords writer.old }
-    ensures { OnOk result (PutsText W.contents (record_text seats_columns) writer.old writer.new) }
-{
-    let columns = [
-        b"constituency".as_slice(),
-        b"group".as_slice(),
-        b"votes".as_slice(),
-        b"voters".as_slice(),
-        b"seats".as_slice(),
-        b"constituency_divisor".as_slice(),
-        b"group_divisor".as_slice(),
-        b"quotient_cut_off_after_6_digits".as_slice(),
-        b"kind".as_slice(),
-        b"commands".as_slice(),
-        b"constituency_name".as_slice(),
-        b"group_name".as_slice(),
-    ];
-    write_record(writer, &columns)
-}
 
 /// The numbers of a list that there may not be, and those with digits after the dot, as text.
 #[derive(Drop)]

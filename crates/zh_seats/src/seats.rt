@@ -1,51 +1,84 @@
 //! The seats as comma-separated text, written record by record.
 
-ghost use Rattle.std.specs.Prelude.{◌≤◌, IfOk, OnOk, length};
+ghost use Rattle.std.specs.Prelude.{IfOk};
 ghost use Rattle.std.specs.Io.KnownBytes.{Appends};
-ghost use Rattle.zh_record_text.specs.Records.{IsBetweenRecords, PutsText};
-ghost use Rattle.zh_seats.specs.Lists.{standing_rows, standing_rows_in, seats_text};
+ghost use Rattle.zh_seats.specs.Lists.{seats_text};
 
-use crate::lists::{write_header, write_standing};
+use crate::lists::write_standing;
 use crate::mark::Mark;
-use csv::{Writer, WriterBuilder};
+use csv::Writer;
 use std::alloc::Global;
 use std::io::Write;
-use zh_record_text::RecordFault;
+use zh_record_text::{NumberedRows, RecordFault, write_each, write_table};
 use zh_sheet::Sheet;
 
-/// Writes the records of a constituency, one for each list that stands.
-fn write_lists_in<W: Write + Drop>(
+/// The lists that stand in a constituency.
+#[derive(Drop)]
+struct StandingIn<'a, 's> {
     alloc: Global,
-    writer: &mut Writer<W>,
-    sheet: &Sheet<'_>,
+    sheet: &'a Sheet<'s>,
     mark: Mark,
     constituency: u32,
-) -> Result<(), RecordFault>
-    requires ready { IsBetweenRecords writer.old }
-    requires from_one { 1 ≤ constituency }
-    requires there { constituency ≤ length sheet.now.totals.canton.constituencies }
-    ensures { OnOk result (PutsText W.contents (standing_rows_in sheet.now mark constituency) writer.old writer.new) }
-{
-    for place in 0..sheet.setup().groups() {
-        write_standing(alloc, writer, sheet, mark, constituency, place + 1)?;
-    }
-    Ok(())
 }
 
-/// Writes the records of the lists, constituency by constituency.
-fn write_lists<W: Write + Drop>(
-    alloc: Global,
-    writer: &mut Writer<W>,
-    sheet: &Sheet<'_>,
-    mark: Mark,
-) -> Result<(), RecordFault>
-    requires { IsBetweenRecords writer.old }
-    ensures { OnOk result (PutsText W.contents (standing_rows sheet.now mark) writer.old writer.new) }
-{
-    for place in 0..sheet.setup().constituencies() {
-        write_lists_in(alloc, writer, sheet, mark, place + 1)?;
+impl<'a, 's, W: Write + Drop> NumberedRows<W> for StandingIn<'a, 's> {
+    ghost use Rattle.std.specs.Prelude.{◌≤◌, length};
+    ghost use Rattle.zh_seats.specs.Lists.{standing_row};
+
+    ghost AreRows = { λ rows.
+        (1 ≤ rows.constituency) × (rows.constituency ≤ length rows.sheet.now.totals.canton.constituencies) };
+
+    ghost numbers = { λ rows. length rows.sheet.now.totals.canton.groups };
+
+    ghost text = { λ rows g. standing_row rows.sheet.now rows.mark rows.constituency g };
+
+    fn last(&self) -> u32 {
+        self.sheet.setup().groups()
     }
-    Ok(())
+
+    fn write_row(&self, writer: &mut Writer<W>, group: u32) -> Result<(), RecordFault> {
+        write_standing(
+            self.alloc,
+            writer,
+            self.sheet,
+            self.mark,
+            self.constituency,
+            group,
+        )
+    }
+}
+
+/// The lists that stand, constituency by constituency.
+#[derive(Drop)]
+struct Standing<'a, 's> {
+    alloc: Global,
+    sheet: &'a Sheet<'s>,
+    mark: Mark,
+}
+
+impl<'a, 's, W: Write + Drop> NumberedRows<W> for Standing<'a, 's> {
+    ghost use Rattle.std.specs.Prelude.{length};
+    ghost use Rattle.zh_seats.specs.Lists.{standing_rows_in};
+
+    ghost AreRows = { λ _. Unit {0} };
+
+    ghost numbers = { λ rows. length rows.sheet.now.totals.canton.constituencies };
+
+    ghost text = { λ rows d. standing_rows_in rows.sheet.now rows.mark d };
+
+    fn last(&self) -> u32 {
+        self.sheet.setup().constituencies()
+    }
+
+    fn write_row(&self, writer: &mut Writer<W>, constituency: u32) -> Result<(), RecordFault> {
+        let standing = StandingIn {
+            alloc: self.alloc,
+            sheet: self.sheet,
+            mark: self.mark,
+            constituency,
+        };
+        write_each(writer, &standing)
+    }
 }
 
 /// Writes the seats of a sheet, marked so: the names of the columns, and then a record for each list that stands, by
@@ -58,11 +91,19 @@ pub fn write_seats<W: Write + Drop>(
 ) -> Result<W, RecordFault>
     ensures { IfOk result (λ after. Appends (W.contents writer) (W.contents after) (seats_text sheet.now mark)) }
 {
-    let mut writer = WriterBuilder::new().from_writer(writer);
-    write_header(&mut writer)?;
-    write_lists(alloc, &mut writer, sheet, mark)?;
-    match writer.into_inner() {
-        Ok(writer) => Ok(writer),
-        Err(_) => Err(RecordFault::Write),
-    }
+    let columns = [
+        "constituency",
+        "group",
+        "votes",
+        "voters",
+        "seats",
+        "constituency_divisor",
+        "group_divisor",
+        "quotient_cut_off_after_6_digits",
+        "kind",
+        "commands",
+        "constituency_name",
+        "group_name",
+    ];
+    write_table(&columns, &Standing { alloc, sheet, mark }, writer)
 }

@@ -1,5 +1,6 @@
--- The row of a municipality that outweighs others, or none.
-use Rattle.std.proofs.Common.{◌≡◌, ◌*◌, ℕ, true, false, [], refl, sym, ◌∙◌}
+-- The row of a municipality that outweighs others, or none, and its name.
+use Rattle.std.proofs.Common.{◌≡◌, ◌*◌, ℕ, true, false, List, [], Option, Some, None, option_map, refl, sym, ◌∙◌}
+use Rattle.std.specs.Option.{option_map_or}
 use Rattle.zh_returns.specs.Tally.{Tally}
 use Rattle.zh_record_text.specs.Names.{name_of_municipality}
 use Rattle.zh_status.specs.Implausible.{implausible_row, neighbours, outweighing_row, outweighs}
@@ -17,3 +18,8 @@ pub outweighing_one : (tally : Tally) (m : ℕ) (own others : Progress) → own 
 outweighing_one tally m own others is are heavier =
     let some : outweighs (progress_of tally m).votes (neighbours tally m) ≡ true = (λ i. outweighs (sym is i).votes (sym are i)) ∙ heavier in
     (λ i. implausible_row m [] (is i).votes (10 * (are i).votes) (name_of_municipality tally.canton m) []) ∙ rw some refl
+
+-- a name that was found
+pub name_found : {X : Type 0} (f : X → List ℕ) (o : Option X) (name : List ℕ) → option_map f o ≡ Some name → name ≡ option_map_or f o []
+name_found f None name is = absurd cc
+name_found f (Some x) name is = cc

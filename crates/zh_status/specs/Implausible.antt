@@ -1,6 +1,6 @@
 -- Votes that are hardly true: of a return, more than the persons of its constituency can give; of a municipality, more than ten
 -- times those of all others of its constituency together.
-use Rattle.std.specs.Prelude.{ℕ, ◌-◌, ◌*◌, ◌==◌, ◌&&◌, nat_lt, if◌then◌else◌, Bool, List, [], ◌∷◌, ◌++◌, length, slice_index}
+use Rattle.std.specs.Prelude.{◌≡◌, ◌≤◌, ℕ, ◌-◌, ◌*◌, ◌==◌, ◌&&◌, nat_lt, if◌then◌else◌, Bool, List, [], ◌∷◌, ◌++◌, length, slice_index}
 use Rattle.std.specs.Prelude.{Result, Ok, Err, codes, decimal}
 use Rattle.zh_divisors.specs.Shares.{Apportionment}
 use Rattle.zh_districts.specs.Canton.{Canton, constituency_of, persons_of}
@@ -22,6 +22,11 @@ abbrev pub AreFound : Canton → Result Apportionment SeatFault → Type 0
 AreFound canton (Ok shares) = HasSeats canton shares.seats
 AreFound canton (Err refusals.Memory) = ⊥
 AreFound canton (Err refusal) = RefusesTable canton Constituencies (Seats refusal)
+
+-- there are seats for each constituency, and this municipality
+abbrev pub IsSeated : Canton → List ℕ → ℕ → Type 0
+IsSeated canton seats m =
+    (length seats ≡ length canton.constituencies) × (1 ≤ m) × (m ≤ length canton.municipalities)
 
 -- the most votes that a list can have in a constituency with these seats: each person has a vote for each seat
 abbrev pub most_in : Canton → List ℕ → ℕ → ℕ

@@ -30,13 +30,12 @@ abbrev pub progress_row : ℕ → Progress → List ℕ → List ℕ
 progress_row number p name =
     record_text (decimal number ∷ decimal p.held ∷ decimal p.due ∷ state_of p ∷ decimal p.votes ∷ name ∷ [])
 
-abbrev pub municipality_progress : Tally → List ℕ
-municipality_progress tally = each_to (length tally.canton.municipalities)
-    (λ m. progress_row m (progress_of tally m) (name_of_municipality tally.canton m))
+abbrev pub municipality_progress : Tally → ℕ → List ℕ
+municipality_progress tally m = progress_row m (progress_of tally m) (name_of_municipality tally.canton m)
 
-abbrev pub constituency_progress : Tally → List ℕ
-constituency_progress tally = each_to (length tally.canton.constituencies)
-    (λ d. progress_row d (progress_over tally (within tally.canton (Constituency d))) (name_of_constituency tally.canton d))
+abbrev pub constituency_progress : Tally → ℕ → List ℕ
+constituency_progress tally d =
+    progress_row d (progress_over tally (within tally.canton (Constituency d))) (name_of_constituency tally.canton d)
 
 -- the line of a return that is missing
 abbrev pub missing_row : Tally → ℕ → ℕ → List ℕ
@@ -53,8 +52,8 @@ missing_rows tally = each_to (length tally.canton.municipalities) (missing_in ta
 
 -- the lines of a view after the names of its columns
 abbrev pub AreRowsOf : Tally → View → List ℕ → Type 0
-AreRowsOf tally Municipalities rows = rows ≡ municipality_progress tally
-AreRowsOf tally Constituencies rows = rows ≡ constituency_progress tally
+AreRowsOf tally Municipalities rows = rows ≡ each_to (length tally.canton.municipalities) (municipality_progress tally)
+AreRowsOf tally Constituencies rows = rows ≡ each_to (length tally.canton.constituencies) (constituency_progress tally)
 AreRowsOf tally Missing rows = rows ≡ missing_rows tally
 AreRowsOf tally Implausible rows =
     (found : Result Apportionment SeatFault) × AreFound tally.canton found × (rows ≡ implausible_rows tally found)

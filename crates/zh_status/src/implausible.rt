@@ -2,8 +2,8 @@
 
 ghost use Rattle.std.specs.Prelude.{◌≡◌, ◌≤◌, OnOk, length};
 ghost use Rattle.zh_record_text.specs.Records.{IsBetweenRecords, PutsText};
-ghost use Rattle.zh_status.specs.Implausible.{exceeding_in, exceeding_row, implausible_in, implausible_row, implausible_rows, most_in};
-ghost use Rattle.zh_status.specs.Implausible.{AreFound, outweighing_row, outweighs};
+ghost use Rattle.zh_status.specs.Implausible.{IsSeated, exceeding_in, exceeding_row, implausible_row, most_in};
+ghost use Rattle.zh_status.specs.Implausible.{outweighing_row, outweighs};
 ghost use Rattle.zh_status.specs.Progress.{AreFew};
 
 use crate::progress::{Progress, Region, entry_votes, progress_of, progress_within};
@@ -13,7 +13,7 @@ use itoa::Buffer;
 use std::io::Write;
 use zh_districts::Setup;
 use zh_divisors::Shares;
-use zh_record_text::{RecordFault, write_record};
+use zh_record_text::{NumberedRows, RecordFault, write_each, write_record};
 use zh_returns::Count;
 
 /// Votes, and what they are more than.
@@ -94,6 +94,33 @@ fn write_exceeding<W: Write + Drop>(
     )
 }
 
+/// The returns of a municipality that have more votes than there can be.
+#[derive(Drop)]
+struct ExceedingIn<'c> {
+    count: &'c Count<'c>,
+    seats: &'c [u32],
+    municipality: u32,
+}
+
+impl<'c, W: Write + Drop> NumberedRows<W> for ExceedingIn<'c> {
+    ghost use Rattle.std.specs.Prelude.{length};
+    ghost use Rattle.zh_status.specs.Implausible.{IsSeated, exceeding_row};
+
+    ghost AreRows = { λ rows. IsSeated rows.count.now.canton rows.seats.now rows.municipality };
+
+    ghost numbers = { λ rows. length rows.count.now.canton.groups };
+
+    ghost text = { λ rows list. exceeding_row rows.count.now rows.seats.now rows.municipality list };
+
+    fn last(&self) -> u32 {
+        self.count.setup().groups()
+    }
+
+    fn write_row(&self, writer: &mut Writer<W>, list: u32) -> Result<(), RecordFault> {
+        write_exceeding(writer, self.count, self.seats, self.municipality, list)
+    }
+}
+
 /// Writes the returns of a municipality that have more votes than there can be.
 fn write_each_exceeding<W: Write + Drop>(
     writer: &mut Writer<W>,
@@ -102,15 +129,15 @@ fn write_each_exceeding<W: Write + Drop>(
     municipality: u32,
 ) -> Result<(), RecordFault>
     requires ready { IsBetweenRecords writer.old }
-    requires each { length shares.now.seats ≡ length count.now.canton.constituencies }
-    requires from_one { 1 ≤ municipality }
-    requires there { municipality ≤ length count.now.canton.municipalities }
+    requires seated { IsSeated count.now.canton shares.now.seats municipality }
     ensures { OnOk result (PutsText W.contents (exceeding_in count.now (Ok shares.now) municipality) writer.old writer.new) }
 {
-    for place in 0..count.setup().groups() {
-        write_exceeding(writer, count, shares.seats(), municipality, place + 1)?;
-    }
-    Ok(())
+    let exceeding = ExceedingIn {
+        count,
+        seats: shares.seats(),
+        municipality,
+    };
+    write_each(writer, &exceeding)
 }
 
 /// Whether votes are more than ten times those of others, of which there are some, each with returns.
@@ -151,37 +178,31 @@ fn write_outweighing<W: Write + Drop>(
     write_implausible(writer, municipality, b"", excess, name, "")
 }
 
-/// Writes the implausible votes of a municipality.
-fn write_implausible_in<W: Write + Drop>(
-    writer: &mut Writer<W>,
-    count: &Count<'_>,
-    found: &Found,
-    municipality: u32,
-) -> Result<(), RecordFault>
-    requires ready { IsBetweenRecords writer.old }
-    requires found { AreFound count.now.canton found.now }
-    requires from_one { 1 ≤ municipality }
-    requires there { municipality ≤ length count.now.canton.municipalities }
-    ensures { OnOk result (PutsText W.contents (implausible_in count.now found.now municipality) writer.old writer.new) }
-{
-    if let Ok(shares) = found {
-        write_each_exceeding(writer, count, shares, municipality)?;
-    }
-    write_outweighing(writer, count, municipality)
+/// The implausible votes, municipality by municipality.
+#[derive(Drop)]
+pub(crate) struct ImplausibleRows<'c> {
+    pub count: &'c Count<'c>,
+    pub found: &'c Found,
 }
 
-/// Writes the implausible votes, municipality by municipality.
-pub(crate) fn write_all_implausible<W: Write + Drop>(
-    writer: &mut Writer<W>,
-    count: &Count<'_>,
-    found: &Found,
-) -> Result<(), RecordFault>
-    requires ready { IsBetweenRecords writer.old }
-    requires found { AreFound count.now.canton found.now }
-    ensures { OnOk result (PutsText W.contents (implausible_rows count.now found.now) writer.old writer.new) }
-{
-    for place in 0..count.setup().municipalities() {
-        write_implausible_in(writer, count, found, place + 1)?;
+impl<'c, W: Write + Drop> NumberedRows<W> for ImplausibleRows<'c> {
+    ghost use Rattle.std.specs.Prelude.{length};
+    ghost use Rattle.zh_status.specs.Implausible.{AreFound, implausible_in};
+
+    ghost AreRows = { λ rows. AreFound rows.count.now.canton rows.found.now };
+
+    ghost numbers = { λ rows. length rows.count.now.canton.municipalities };
+
+    ghost text = { λ rows m. implausible_in rows.count.now rows.found.now m };
+
+    fn last(&self) -> u32 {
+        self.count.setup().municipalities()
     }
-    Ok(())
+
+    fn write_row(&self, writer: &mut Writer<W>, municipality: u32) -> Result<(), RecordFault> {
+        if let Ok(shares) = self.found {
+            write_each_exceeding(writer, self.count, shares, municipality)?;
+        }
+        write_outweighing(writer, self.count, municipality)
+    }
 }

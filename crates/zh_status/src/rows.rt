@@ -1,59 +1,15 @@
 //! The records of each view.
 
 ghost use Rattle.std.specs.Prelude.{◌≡◌, ◌≤◌, OnOk, length};
-ghost use Rattle.zh_record_text.specs.Records.{IsBetweenRecords, PutsText, record_text};
-ghost use Rattle.zh_status.specs.Status.{columns, missing_row, progress_row, state_of};
+ghost use Rattle.zh_record_text.specs.Records.{IsBetweenRecords, PutsText};
+ghost use Rattle.zh_status.specs.Status.{missing_row, progress_row, state_of};
 
 use crate::progress::{Progress, is_missing};
-use crate::view::View;
 use csv::Writer;
 use itoa::Buffer;
 use std::io::Write;
 use zh_record_text::{RecordFault, write_record};
 use zh_returns::Count;
-
-/// Writes the names of the columns.
-pub(crate) fn write_header<W: Write + Drop>(
-    writer: &mut Writer<W>,
-    view: View,
-) -> Result<(), RecordFault>
-    requires { IsBetweenRecords writer.old }
-    ensures { OnOk result (PutsText W.contents (record_text (columns view)) writer.old writer.new) }
-{
-    match view {
-        View::Missing => {
-            let columns = [
-                b"municipality".as_slice(),
-                b"list".as_slice(),
-                b"municipality_name".as_slice(),
-                b"list_name".as_slice(),
-            ];
-            write_record(writer, &columns)
-        }
-        View::Implausible => {
-            let columns = [
-                b"municipality".as_slice(),
-                b"list".as_slice(),
-                b"votes".as_slice(),
-                b"limit".as_slice(),
-                b"municipality_name".as_slice(),
-                b"list_name".as_slice(),
-            ];
-            write_record(writer, &columns)
-        }
-        View::Municipalities | View::Constituencies => {
-            let columns = [
-                b"number".as_slice(),
-                b"held".as_slice(),
-                b"due".as_slice(),
-                b"state".as_slice(),
-                b"votes".as_slice(),
-                b"name".as_slice(),
-            ];
-            write_record(writer, &columns)
-        }
-    }
-}
 
 /// Whether all of the municipalities are closed, in a word. A constituency may have none.
 fn state_of(progress: &Progress) -> &str

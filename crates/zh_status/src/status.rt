@@ -1,108 +1,126 @@
 //! The views, written row by row.
 
-ghost use Rattle.std.specs.Prelude.{◌≡◌, ◌≤◌, ℕ, List, IfOk, OnOk, length};
+ghost use Rattle.std.specs.Prelude.{List, IfOk, ℕ};
 ghost use Rattle.std.specs.Io.KnownBytes.{Appends};
-ghost use Rattle.zh_record_text.specs.Records.{IsBetweenRecords, PutsText};
-ghost use Rattle.zh_status.specs.Status.{AreRowsOf, IsStatusText, constituency_progress, missing_in, missing_rows, municipality_progress};
+ghost use Rattle.zh_status.specs.Status.{IsStatusText};
 
-use crate::implausible::write_all_implausible;
+use crate::implausible::ImplausibleRows;
 use crate::progress::{Region, progress_of, progress_within};
-use crate::rows::{write_header, write_missing, write_progress};
+use crate::rows::{write_missing, write_progress};
 use crate::seats::found_seats;
 use crate::view::View;
-use csv::{Writer, WriterBuilder};
+use csv::Writer;
 use std::alloc::Global;
 use std::io::Write;
-use zh_record_text::RecordFault;
+use zh_record_text::{NumberedRows, RecordFault, write_each, write_table};
 use zh_returns::Count;
 
-/// Writes how far each municipality has come.
-fn write_municipalities<W: Write + Drop>(
-    writer: &mut Writer<W>,
-    count: &Count<'_>,
-) -> Result<(), RecordFault>
-    requires { IsBetweenRecords writer.old }
-    ensures { OnOk result (PutsText W.contents (municipality_progress count.now) writer.old writer.new) }
-{
-    let setup = count.setup();
-    for place in 0..setup.municipalities() {
-        let municipality = place + 1;
-        let progress = progress_of(count, municipality);
-        let name = setup.municipality_name(municipality);
-        write_progress(writer, municipality, progress, name)?;
-    }
-    Ok(())
+/// How far each municipality has come.
+#[derive(Drop)]
+struct MunicipalityRows<'c> {
+    count: &'c Count<'c>,
 }
 
-/// Writes how far each constituency has come.
-fn write_constituencies<W: Write + Drop>(
-    writer: &mut Writer<W>,
-    count: &Count<'_>,
-) -> Result<(), RecordFault>
-    requires { IsBetweenRecords writer.old }
-    ensures { OnOk result (PutsText W.contents (constituency_progress count.now) writer.old writer.new) }
-{
-    let setup = count.setup();
-    for place in 0..setup.constituencies() {
-        let constituency = place + 1;
-        let progress = progress_within(count, Region::Constituency(constituency));
-        let name = setup.constituency_name(constituency);
-        write_progress(writer, constituency, progress, name)?;
+impl<'c, W: Write + Drop> NumberedRows<W> for MunicipalityRows<'c> {
+    ghost use Rattle.std.specs.Prelude.{length};
+    ghost use Rattle.zh_status.specs.Status.{municipality_progress};
+
+    ghost AreRows = { λ _. Unit {0} };
+
+    ghost numbers = { λ rows. length rows.count.now.canton.municipalities };
+
+    ghost text = { λ rows m. municipality_progress rows.count.now m };
+
+    fn last(&self) -> u32 {
+        self.count.setup().municipalities()
     }
-    Ok(())
+
+    fn write_row(&self, writer: &mut Writer<W>, municipality: u32) -> Result<(), RecordFault> {
+        let progress = progress_of(self.count, municipality);
+        let name = self.count.setup().municipality_name(municipality);
+        write_progress(writer, municipality, progress, name)
+    }
 }
 
-/// Writes the returns that are not there of a municipality.
-fn write_missing_in<W: Write + Drop>(
-    writer: &mut Writer<W>,
-    count: &Count<'_>,
+/// How far each constituency has come.
+#[derive(Drop)]
+struct ConstituencyRows<'c> {
+    count: &'c Count<'c>,
+}
+
+impl<'c, W: Write + Drop> NumberedRows<W> for ConstituencyRows<'c> {
+    ghost use Rattle.std.specs.Prelude.{length};
+    ghost use Rattle.zh_status.specs.Status.{constituency_progress};
+
+    ghost AreRows = { λ _. Unit {0} };
+
+    ghost numbers = { λ rows. length rows.count.now.canton.constituencies };
+
+    ghost text = { λ rows d. constituency_progress rows.count.now d };
+
+    fn last(&self) -> u32 {
+        self.count.setup().constituencies()
+    }
+
+    fn write_row(&self, writer: &mut Writer<W>, constituency: u32) -> Result<(), RecordFault> {
+        let progress = progress_within(self.count, Region::Constituency(constituency));
+        let name = self.count.setup().constituency_name(constituency);
+        write_progress(writer, constituency, progress, name)
+    }
+}
+
+/// The returns of a municipality that are not there.
+#[derive(Drop)]
+struct MissingIn<'c> {
+    count: &'c Count<'c>,
     municipality: u32,
-) -> Result<(), RecordFault>
-    requires ready { IsBetweenRecords writer.old }
-    requires from_one { 1 ≤ municipality }
-    requires there { municipality ≤ length count.now.canton.municipalities }
-    ensures { OnOk result (PutsText W.contents (missing_in count.now municipality) writer.old writer.new) }
-{
-    for place in 0..count.setup().groups() {
-        write_missing(writer, count, municipality, place + 1)?;
-    }
-    Ok(())
 }
 
-/// Writes the returns that are not there, municipality by municipality.
-fn write_all_missing<W: Write + Drop>(
-    writer: &mut Writer<W>,
-    count: &Count<'_>,
-) -> Result<(), RecordFault>
-    requires { IsBetweenRecords writer.old }
-    ensures { OnOk result (PutsText W.contents (missing_rows count.now) writer.old writer.new) }
-{
-    for place in 0..count.setup().municipalities() {
-        write_missing_in(writer, count, place + 1)?;
+impl<'c, W: Write + Drop> NumberedRows<W> for MissingIn<'c> {
+    ghost use Rattle.std.specs.Prelude.{◌≤◌, length};
+    ghost use Rattle.zh_status.specs.Status.{missing_row};
+
+    ghost AreRows = { λ rows. (1 ≤ rows.municipality) × (rows.municipality ≤ length rows.count.now.canton.municipalities) };
+
+    ghost numbers = { λ rows. length rows.count.now.canton.groups };
+
+    ghost text = { λ rows list. missing_row rows.count.now rows.municipality list };
+
+    fn last(&self) -> u32 {
+        self.count.setup().groups()
     }
-    Ok(())
+
+    fn write_row(&self, writer: &mut Writer<W>, list: u32) -> Result<(), RecordFault> {
+        write_missing(writer, self.count, self.municipality, list)
+    }
 }
 
-/// Writes the records of a view.
-fn write_rows<W: Write + Drop>(
-    alloc: Global,
-    writer: &mut Writer<W>,
-    count: &Count<'_>,
-    view: View,
-) -> Result<(), RecordFault>
-    requires { IsBetweenRecords writer.old }
-    ensures { OnOk result ((rows : List ℕ) × AreRowsOf count.now view rows × PutsText W.contents rows writer.old writer.new) }
-{
-    match view {
-        View::Municipalities => write_municipalities(writer, count),
-        View::Constituencies => write_constituencies(writer, count),
-        View::Missing => write_all_missing(writer, count),
-        View::Implausible => {
-            let Ok(found) = found_seats(alloc, count.setup()) else {
-                return Err(RecordFault::Memory);
-            };
-            write_all_implausible(writer, count, &found)
-        }
+/// The returns that are not there, municipality by municipality.
+#[derive(Drop)]
+struct MissingRows<'c> {
+    count: &'c Count<'c>,
+}
+
+impl<'c, W: Write + Drop> NumberedRows<W> for MissingRows<'c> {
+    ghost use Rattle.std.specs.Prelude.{length};
+    ghost use Rattle.zh_status.specs.Status.{missing_in};
+
+    ghost AreRows = { λ _. Unit {0} };
+
+    ghost numbers = { λ rows. length rows.count.now.canton.municipalities };
+
+    ghost text = { λ rows m. missing_in rows.count.now m };
+
+    fn last(&self) -> u32 {
+        self.count.setup().municipalities()
+    }
+
+    fn write_row(&self, writer: &mut Writer<W>, municipality: u32) -> Result<(), RecordFault> {
+        let missing = MissingIn {
+            count: self.count,
+            municipality,
+        };
+        write_each(writer, &missing)
     }
 }
 
@@ -117,11 +135,31 @@ pub fn write_status<W: Write + Drop>(
     ensures { IfOk result
         (λ after. (text : List ℕ) × IsStatusText count.now view text × Appends (W.contents writer) (W.contents after) text) }
 {
-    let mut writer = WriterBuilder::new().from_writer(writer);
-    write_header(&mut writer, view)?;
-    write_rows(alloc, &mut writer, count, view)?;
-    match writer.into_inner() {
-        Ok(writer) => Ok(writer),
-        Err(_) => Err(RecordFault::Write),
+    let progress = ["number", "held", "due", "state", "votes", "name"];
+    match view {
+        View::Municipalities => write_table(&progress, &MunicipalityRows { count }, writer),
+        View::Constituencies => write_table(&progress, &ConstituencyRows { count }, writer),
+        View::Missing => {
+            let columns = ["municipality", "list", "municipality_name", "list_name"];
+            write_table(&columns, &MissingRows { count }, writer)
+        }
+        View::Implausible => {
+            let Ok(found) = found_seats(alloc, count.setup()) else {
+                return Err(RecordFault::Memory);
+            };
+            let columns = [
+                "municipality",
+                "list",
+                "votes",
+                "limit",
+                "municipality_name",
+                "list_name",
+            ];
+            let rows = ImplausibleRows {
+                count,
+                found: &found,
+            };
+            write_table(&columns, &rows, writer)
+        }
     }
 }

@@ -2,7 +2,7 @@
 use Rattle.std.specs.Prelude.{◌≡◌, ◌≤◌, ◌==◌, ℕ, Bool, true, false, List, [], ◌∷◌, length, nat_lt, if◌then◌else◌, codes, decimal}
 use Rattle.zh_districts.specs.Canton.{Canton, constituency_of, stands}
 use Rattle.zh_record_text.specs.Each.{each_to}
-use Rattle.zh_record_text.specs.Records.{record_text}
+use Rattle.zh_record_text.specs.Records.{TableRecord, record_text}
 use Rattle.zh_tables.specs.declared.due.Due.{Due}
 use Rattle.zh_tables.specs.declared.fault.ListFault.{ListFault}
 use Rattle.zh_tables.specs.declared.fault.ListFault.TheVariants as faults
@@ -32,6 +32,10 @@ returns_within canton part m = if is_in canton part m then returns_in canton m e
 -- those of a part of the set-up, municipality by municipality
 abbrev pub returns_due : Canton → Part → List Due
 returns_due canton part = each_to (length canton.municipalities) (returns_within canton part)
+
+-- the names of the columns of their table
+abbrev pub return_columns : TableRecord
+return_columns = codes "municipality" ∷ codes "list" ∷ codes "number" ∷ codes "votes" ∷ []
 
 -- the line of a return: number 1, and its votes to be filled in
 abbrev pub return_row : Due → List ℕ

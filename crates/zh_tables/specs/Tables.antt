@@ -18,7 +18,7 @@ use Rattle.zh_tables.specs.declared.problems.SetupProblems.{SetupProblems}
 use Rattle.zh_tables.specs.declared.table.Part.{Part}
 use Rattle.zh_tables.specs.declared.table.Table.{Table}
 use Rattle.zh_tables.specs.declared.table.Table.TheVariants.{Constituencies, Municipalities, Groups, Lists, Problems, Returns}
-use Rattle.zh_tables.specs.Returns.{HasPart, IsMissing, return_row, returns_due}
+use Rattle.zh_tables.specs.Returns.{HasPart, IsMissing, return_columns, return_row, returns_due}
 
 -- the names of the columns
 abbrev pub header : Table → TableRecord
@@ -27,7 +27,7 @@ header Municipalities = codes "number" ∷ codes "name" ∷ codes "constituency"
 header Groups = codes "number" ∷ codes "name" ∷ []
 header Lists = codes "constituency" ∷ codes "list" ∷ codes "constituency_name" ∷ codes "list_name" ∷ []
 header Problems = codes "problem" ∷ codes "number" ∷ codes "name" ∷ []
-header (Returns part) = codes "municipality" ∷ codes "list" ∷ codes "number" ∷ codes "votes" ∷ []
+header (Returns part) = return_columns
 
 -- the line of a constituency that has these seats
 abbrev pub constituency_row : Canton → ℕ → ℕ → List ℕ
@@ -48,12 +48,6 @@ list_row canton d g =
 abbrev pub constituency_rows : Canton → List ℕ → List ℕ
 constituency_rows canton seats =
     each_to (length canton.constituencies) (λ d. constituency_row canton d (slice_index seats (d - 1)))
-
-abbrev pub municipality_rows : Canton → List ℕ
-municipality_rows canton = each_to (length canton.municipalities) (municipality_row canton)
-
-abbrev pub group_rows : Canton → List ℕ
-group_rows canton = each_to (length canton.groups) (group_row canton)
 
 -- the lists that stand in a constituency
 abbrev pub lists_in : Canton → ℕ → List ℕ
@@ -91,8 +85,8 @@ pub record HasSeats (canton : Canton) (seats : List ℕ) : Type 0 where
 -- the lines of a table after the names of its columns
 abbrev pub AreLines : Canton → Table → List ℕ → Type 0
 AreLines canton Constituencies lines = (seats : List ℕ) × HasSeats canton seats × (lines ≡ constituency_rows canton seats)
-AreLines canton Municipalities lines = lines ≡ municipality_rows canton
-AreLines canton Groups lines = lines ≡ group_rows canton
+AreLines canton Municipalities lines = lines ≡ each_to (length canton.municipalities) (municipality_row canton)
+AreLines canton Groups lines = lines ≡ each_to (length canton.groups) (group_row canton)
 AreLines canton Lists lines = lines ≡ list_rows canton
 AreLines canton Problems lines = (problems : SetupProblems) × AreProblems canton problems × (lines ≡ problem_rows canton problems)
 AreLines canton (Returns part) lines = HasPart canton part × (lines ≡ return_rows canton part)

@@ -1,16 +1,20 @@
 //! The rows of the table of problems.
 
-ghost use Rattle.std.specs.Prelude.{◌≡◌, ◌≤◌, OnOk, length};
-ghost use Rattle.zh_record_text.specs.Records.{IsBetweenRecords, PutsText};
+ghost use Rattle.std.specs.Prelude.{◌≡◌, ◌≤◌, ◌++◌, IfOk, OnOk, length};
+ghost use Rattle.std.specs.Io.KnownBytes.{Appends};
+ghost use Rattle.zh_record_text.specs.Records.{IsBetweenRecords, PutsText, record_text};
 ghost use Rattle.zh_tables.specs.Problems.{AreProblems};
-ghost use Rattle.zh_tables.specs.Tables.{marked_rows, problem_row, problem_rows};
+ghost use Rattle.zh_tables.specs.Tables.{header, marked_rows, problem_row, problem_rows};
+ghost use Rattle.zh_tables.specs.declared.table.Table.TheVariants.{Problems};
 
 use crate::problems::SetupProblems;
 use csv::Writer;
 use itoa::Buffer;
 use std::io::Write;
 use zh_districts::Setup;
-use zh_record_text::{RecordFault, write_record};
+use zh_record_text::{
+    NumberedRows, RecordFault, close_table, open_table, write_each, write_record,
+};
 
 /// Writes the record of this problem of a constituency, if it is marked.
 fn write_problem<W: Write + Drop>(
@@ -39,6 +43,33 @@ fn write_problem<W: Write + Drop>(
     write_record(writer, &fields)
 }
 
+/// A problem, and the constituencies that have it.
+#[derive(Drop)]
+struct MarkedRows<'a> {
+    setup: &'a Setup,
+    problem: &'a [u8],
+    marks: &'a [bool],
+}
+
+impl<'a, W: Write + Drop> NumberedRows<W> for MarkedRows<'a> {
+    ghost use Rattle.std.specs.Prelude.{◌≡◌, length};
+    ghost use Rattle.zh_tables.specs.Tables.{problem_row};
+
+    ghost AreRows = { λ rows. length rows.marks.now ≡ length rows.setup.now.constituencies };
+
+    ghost numbers = { λ rows. length rows.setup.now.constituencies };
+
+    ghost text = { λ rows d. problem_row rows.setup.now rows.problem.now rows.marks.now d };
+
+    fn last(&self) -> u32 {
+        self.setup.constituencies()
+    }
+
+    fn write_row(&self, writer: &mut Writer<W>, constituency: u32) -> Result<(), RecordFault> {
+        write_problem(writer, self.setup, self.problem, self.marks, constituency)
+    }
+}
+
 /// Writes the record of this problem of each constituency that is marked.
 fn write_marked<W: Write + Drop>(
     writer: &mut Writer<W>,
@@ -50,14 +81,16 @@ fn write_marked<W: Write + Drop>(
     requires each { length marks.now ≡ length setup.now.constituencies }
     ensures { OnOk result (PutsText W.contents (marked_rows setup.now problem.now marks.now) writer.old writer.new) }
 {
-    for place in 0..setup.constituencies() {
-        write_problem(writer, setup, problem, marks, place + 1)?;
-    }
-    Ok(())
+    let rows = MarkedRows {
+        setup,
+        problem,
+        marks,
+    };
+    write_each(writer, &rows)
 }
 
 /// Writes the records of these problems, problem by problem.
-pub(crate) fn write_problems<W: Write + Drop>(
+fn write_each_problem<W: Write + Drop>(
     writer: &mut Writer<W>,
     setup: &Setup,
     problems: &SetupProblems,
@@ -77,4 +110,19 @@ pub(crate) fn write_problems<W: Write + Drop>(
         &problems.tied_seats,
     )?;
     Ok(())
+}
+
+/// Writes the table of these problems.
+pub(crate) fn write_problems<W: Write + Drop>(
+    setup: &Setup,
+    problems: &SetupProblems,
+    writer: W,
+) -> Result<W, RecordFault>
+    requires { AreProblems setup.now problems.now }
+    ensures { IfOk result (λ after. Appends (W.contents writer) (W.contents after)
+        (record_text (header Problems) ++ problem_rows setup.now problems.now)) }
+{
+    let mut writer = open_table(&["problem", "number", "name"], writer)?;
+    write_each_problem(&mut writer, setup, problems)?;
+    close_table(writer)
 }

@@ -1,15 +1,16 @@
 //! The table of the returns that are due.
 
-ghost use Rattle.std.specs.Prelude.{OnOk};
+ghost use Rattle.std.specs.Prelude.{◌++◌, IfOk, OnOk};
+ghost use Rattle.std.specs.Io.KnownBytes.{Appends};
 ghost use Rattle.std.specs.List.{flat_map};
-ghost use Rattle.zh_record_text.specs.Records.{IsBetweenRecords, PutsText};
-ghost use Rattle.zh_tables.specs.Returns.{return_row};
+ghost use Rattle.zh_record_text.specs.Records.{IsBetweenRecords, PutsText, record_text};
+ghost use Rattle.zh_tables.specs.Returns.{return_columns, return_row};
 
 use crate::due::Due;
 use csv::Writer;
 use itoa::Buffer;
 use std::io::Write;
-use zh_record_text::{RecordFault, write_record};
+use zh_record_text::{RecordFault, close_table, open_table, write_record};
 
 /// Writes the record of a return: number 1, and its votes to be filled in.
 fn write_return<W: Write + Drop>(writer: &mut Writer<W>, due: &Due) -> Result<(), RecordFault>
@@ -28,7 +29,7 @@ fn write_return<W: Write + Drop>(writer: &mut Writer<W>, due: &Due) -> Result<()
 }
 
 /// Writes the record of each of these returns.
-pub(crate) fn write_returns<W: Write + Drop>(
+fn write_each_return<W: Write + Drop>(
     writer: &mut Writer<W>,
     returns: &[Due],
 ) -> Result<(), RecordFault>
@@ -39,4 +40,14 @@ pub(crate) fn write_returns<W: Write + Drop>(
         write_return(writer, due)?;
     }
     Ok(())
+}
+
+/// Writes the table of these returns.
+pub(crate) fn write_returns<W: Write + Drop>(returns: &[Due], writer: W) -> Result<W, RecordFault>
+    ensures { IfOk result (λ after. Appends (W.contents writer) (W.contents after)
+        (record_text return_columns ++ flat_map return_row returns.now)) }
+{
+    let mut writer = open_table(&["municipality", "list", "number", "votes"], writer)?;
+    write_each_return(&mut writer, returns)?;
+    close_table(writer)
 }

@@ -1,55 +1,14 @@
 //! The rows of each table.
 
 ghost use Rattle.std.specs.Prelude.{◌≤◌, OnOk, length};
-ghost use Rattle.zh_record_text.specs.Records.{IsBetweenRecords, PutsText, record_text};
-ghost use Rattle.zh_tables.specs.Tables.{constituency_row, group_row, header, list_row, municipality_row};
+ghost use Rattle.zh_record_text.specs.Records.{IsBetweenRecords, PutsText};
+ghost use Rattle.zh_tables.specs.Tables.{constituency_row, group_row, list_row, municipality_row};
 
-use crate::table::Table;
 use csv::Writer;
 use itoa::Buffer;
 use std::io::Write;
 use zh_districts::Setup;
 use zh_record_text::{RecordFault, write_record};
-
-/// Writes the names of the columns.
-pub(crate) fn write_header<W: Write + Drop>(
-    writer: &mut Writer<W>,
-    table: Table,
-) -> Result<(), RecordFault>
-    requires { IsBetweenRecords writer.old }
-    ensures { OnOk result (PutsText W.contents (record_text (header table)) writer.old writer.new) }
-{
-    let number = b"number".as_slice();
-    let name = b"name".as_slice();
-    let constituency = b"constituency".as_slice();
-    match table {
-        Table::Constituencies => {
-            let columns = [number, name, b"persons".as_slice(), b"seats".as_slice()];
-            write_record(writer, &columns)
-        }
-        Table::Municipalities => write_record(writer, &[number, name, constituency]),
-        Table::Groups => write_record(writer, &[number, name]),
-        Table::Lists => {
-            let columns = [
-                constituency,
-                b"list".as_slice(),
-                b"constituency_name".as_slice(),
-                b"list_name".as_slice(),
-            ];
-            write_record(writer, &columns)
-        }
-        Table::Problems => write_record(writer, &[b"problem".as_slice(), number, name]),
-        Table::Returns(_) => {
-            let columns = [
-                b"municipality".as_slice(),
-                b"list".as_slice(),
-                number,
-                b"votes".as_slice(),
-            ];
-            write_record(writer, &columns)
-        }
-    }
-}
 
 /// Writes the record of a constituency with these seats.
 pub(crate) fn write_constituency<W: Write + Drop>(

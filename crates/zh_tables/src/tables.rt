@@ -1,137 +1,172 @@
 //! The tables, written row by row.
 
-ghost use Rattle.std.specs.Prelude.{◌≡◌, ◌≤◌, ℕ, List, IfErr, IfOk, OnOk, length};
+ghost use Rattle.std.specs.Prelude.{ℕ, List, IfErr, IfOk};
 ghost use Rattle.std.specs.Io.KnownBytes.{Appends};
-ghost use Rattle.zh_record_text.specs.Records.{IsBetweenRecords, PutsText};
-ghost use Rattle.zh_tables.specs.Tables.{RefusesTable, IsTableText, constituency_rows, group_rows};
-ghost use Rattle.zh_tables.specs.Tables.{list_rows, lists_in, municipality_rows};
+ghost use Rattle.zh_tables.specs.Tables.{RefusesTable, IsTableText};
+ghost use Rattle.zh_tables.specs.declared.table.Table.TheVariants.{Constituencies};
 
 use crate::due::returns_due;
 use crate::fault::ListFault;
 use crate::problem_rows::write_problems;
 use crate::problems::setup_problems;
 use crate::returns::write_returns;
-use crate::rows::{
-    write_constituency, write_group, write_header, write_list_in, write_municipality,
-};
+use crate::rows::{write_constituency, write_group, write_list_in, write_municipality};
 use crate::table::Table;
-use csv::{Writer, WriterBuilder};
+use csv::Writer;
 use std::alloc::Global;
 use std::io::Write;
 use zh_districts::{Setup, seats};
-use zh_record_text::RecordFault;
+use zh_record_text::{NumberedRows, RecordFault, write_each, write_table};
 
-/// Writes the constituencies with these seats.
-fn write_constituencies<W: Write + Drop>(
-    writer: &mut Writer<W>,
-    setup: &Setup,
-    seats: &[u32],
-) -> Result<(), RecordFault>
-    requires ready { IsBetweenRecords writer.old }
-    requires each { length seats.now ≡ length setup.now.constituencies }
-    ensures { OnOk result (PutsText W.contents (constituency_rows setup.now seats.now) writer.old writer.new) }
-{
-    for place in 0..setup.constituencies() {
-        write_constituency(writer, setup, place + 1, seats[place as usize])?;
-    }
-    Ok(())
+/// The constituencies, with these seats.
+#[derive(Drop)]
+struct ConstituencyRows<'a> {
+    setup: &'a Setup,
+    seats: &'a [u32],
 }
 
-/// Writes the municipalities.
-fn write_municipalities<W: Write + Drop>(
-    writer: &mut Writer<W>,
-    setup: &Setup,
-) -> Result<(), RecordFault>
-    requires { IsBetweenRecords writer.old }
-    ensures { OnOk result (PutsText W.contents (municipality_rows setup.now) writer.old writer.new) }
-{
-    for place in 0..setup.municipalities() {
-        write_municipality(writer, setup, place + 1)?;
+impl<'a, W: Write + Drop> NumberedRows<W> for ConstituencyRows<'a> {
+    ghost use Rattle.std.specs.Prelude.{◌≡◌, ◌-◌, length, slice_index};
+    ghost use Rattle.zh_tables.specs.Tables.{constituency_row};
+
+    ghost AreRows = { λ rows. length rows.seats.now ≡ length rows.setup.now.constituencies };
+
+    ghost numbers = { λ rows. length rows.setup.now.constituencies };
+
+    ghost text = { λ rows d. constituency_row rows.setup.now d (slice_index rows.seats.now (d - 1)) };
+
+    fn last(&self) -> u32 {
+        self.setup.constituencies()
     }
-    Ok(())
+
+    fn write_row(&self, writer: &mut Writer<W>, constituency: u32) -> Result<(), RecordFault> {
+        let seats = self.seats[(constituency - 1) as usize];
+        write_constituency(writer, self.setup, constituency, seats)
+    }
 }
 
-/// Writes the groups.
-fn write_groups<W: Write + Drop>(writer: &mut Writer<W>, setup: &Setup) -> Result<(), RecordFault>
-    requires { IsBetweenRecords writer.old }
-    ensures { OnOk result (PutsText W.contents (group_rows setup.now) writer.old writer.new) }
-{
-    for place in 0..setup.groups() {
-        write_group(writer, setup, place + 1)?;
-    }
-    Ok(())
+/// The municipalities.
+#[derive(Drop)]
+struct MunicipalityRows<'a> {
+    setup: &'a Setup,
 }
 
-/// Writes the lists that stand in a constituency.
-fn write_lists_in<W: Write + Drop>(
-    writer: &mut Writer<W>,
-    setup: &Setup,
+impl<'a, W: Write + Drop> NumberedRows<W> for MunicipalityRows<'a> {
+    ghost use Rattle.std.specs.Prelude.{length};
+    ghost use Rattle.zh_tables.specs.Tables.{municipality_row};
+
+    ghost AreRows = { λ _. Unit {0} };
+
+    ghost numbers = { λ rows. length rows.setup.now.municipalities };
+
+    ghost text = { λ rows m. municipality_row rows.setup.now m };
+
+    fn last(&self) -> u32 {
+        self.setup.municipalities()
+    }
+
+    fn write_row(&self, writer: &mut Writer<W>, municipality: u32) -> Result<(), RecordFault> {
+        write_municipality(writer, self.setup, municipality)
+    }
+}
+
+/// The groups.
+#[derive(Drop)]
+struct GroupRows<'a> {
+    setup: &'a Setup,
+}
+
+impl<'a, W: Write + Drop> NumberedRows<W> for GroupRows<'a> {
+    ghost use Rattle.std.specs.Prelude.{length};
+    ghost use Rattle.zh_tables.specs.Tables.{group_row};
+
+    ghost AreRows = { λ _. Unit {0} };
+
+    ghost numbers = { λ rows. length rows.setup.now.groups };
+
+    ghost text = { λ rows g. group_row rows.setup.now g };
+
+    fn last(&self) -> u32 {
+        self.setup.groups()
+    }
+
+    fn write_row(&self, writer: &mut Writer<W>, group: u32) -> Result<(), RecordFault> {
+        write_group(writer, self.setup, group)
+    }
+}
+
+/// The lists that stand in a constituency.
+#[derive(Drop)]
+struct ListsIn<'a> {
+    setup: &'a Setup,
     constituency: u32,
-) -> Result<(), RecordFault>
-    requires ready { IsBetweenRecords writer.old }
-    requires from_one { 1 ≤ constituency }
-    requires there { constituency ≤ length setup.now.constituencies }
-    ensures { OnOk result (PutsText W.contents (lists_in setup.now constituency) writer.old writer.new) }
-{
-    for place in 0..setup.groups() {
-        write_list_in(writer, setup, constituency, place + 1)?;
-    }
-    Ok(())
 }
 
-/// Writes the lists, constituency by constituency.
-fn write_lists<W: Write + Drop>(writer: &mut Writer<W>, setup: &Setup) -> Result<(), RecordFault>
-    requires { IsBetweenRecords writer.old }
-    ensures { OnOk result (PutsText W.contents (list_rows setup.now) writer.old writer.new) }
-{
-    for place in 0..setup.constituencies() {
-        write_lists_in(writer, setup, place + 1)?;
+impl<'a, W: Write + Drop> NumberedRows<W> for ListsIn<'a> {
+    ghost use Rattle.std.specs.Prelude.{◌≤◌, length};
+    ghost use Rattle.zh_tables.specs.Tables.{list_row};
+
+    ghost AreRows = { λ rows. (1 ≤ rows.constituency) × (rows.constituency ≤ length rows.setup.now.constituencies) };
+
+    ghost numbers = { λ rows. length rows.setup.now.groups };
+
+    ghost text = { λ rows g. list_row rows.setup.now rows.constituency g };
+
+    fn last(&self) -> u32 {
+        self.setup.groups()
     }
-    Ok(())
+
+    fn write_row(&self, writer: &mut Writer<W>, group: u32) -> Result<(), RecordFault> {
+        write_list_in(writer, self.setup, self.constituency, group)
+    }
 }
 
-/// Writes a table: the names of its columns, and then its rows.
-fn write_table<W: Write + Drop>(
+/// The lists that stand, constituency by constituency.
+#[derive(Drop)]
+struct ListRows<'a> {
+    setup: &'a Setup,
+}
+
+impl<'a, W: Write + Drop> NumberedRows<W> for ListRows<'a> {
+    ghost use Rattle.std.specs.Prelude.{length};
+    ghost use Rattle.zh_tables.specs.Tables.{lists_in};
+
+    ghost AreRows = { λ _. Unit {0} };
+
+    ghost numbers = { λ rows. length rows.setup.now.constituencies };
+
+    ghost text = { λ rows d. lists_in rows.setup.now d };
+
+    fn last(&self) -> u32 {
+        self.setup.constituencies()
+    }
+
+    fn write_row(&self, writer: &mut Writer<W>, constituency: u32) -> Result<(), RecordFault> {
+        let lists = ListsIn {
+            setup: self.setup,
+            constituency,
+        };
+        write_each(writer, &lists)
+    }
+}
+
+/// Writes the constituencies with their seats.
+fn write_constituencies<W: Write + Drop>(
     alloc: Global,
     setup: &Setup,
-    table: Table,
-    writer: &mut Writer<W>,
-) -> Result<(), ListFault>
-    requires { IsBetweenRecords writer.old }
-    ensures written { OnOk result
-        ((text : List ℕ) × IsTableText setup.now table text × PutsText W.contents text writer.old writer.new) }
-    ensures fault { IfErr result (RefusesTable setup.now table) }
+    writer: W,
+) -> Result<W, ListFault>
+    ensures written { IfOk result
+        (λ after. (text : List ℕ) × IsTableText setup.now Constituencies text × Appends (W.contents writer) (W.contents after) text) }
+    ensures fault { IfErr result (RefusesTable setup.now Constituencies) }
 {
-    match table {
-        Table::Constituencies => {
-            let shares = seats(alloc, setup)?;
-            write_header(writer, table)?;
-            Ok(write_constituencies(writer, setup, shares.seats())?)
-        }
-        Table::Municipalities => {
-            write_header(writer, table)?;
-            Ok(write_municipalities(writer, setup)?)
-        }
-        Table::Groups => {
-            write_header(writer, table)?;
-            Ok(write_groups(writer, setup)?)
-        }
-        Table::Lists => {
-            write_header(writer, table)?;
-            Ok(write_lists(writer, setup)?)
-        }
-        Table::Problems => {
-            let problems = setup_problems(alloc, setup)?;
-            write_header(writer, table)?;
-            Ok(write_problems(writer, setup, &problems)?)
-        }
-        Table::Returns(part) => {
-            part.found_in(setup)?;
-            let due = returns_due(alloc, setup, part)?;
-            write_header(writer, table)?;
-            Ok(write_returns(writer, &due)?)
-        }
-    }
+    let shares = seats(alloc, setup)?;
+    let columns = ["number", "name", "persons", "seats"];
+    let rows = ConstituencyRows {
+        setup,
+        seats: shares.seats(),
+    };
+    Ok(write_table(&columns, &rows, writer)?)
 }
 
 /// Writes a table of the set-up: the names of its columns, and then a record for each of its rows, in order. It gives the
@@ -147,10 +182,26 @@ pub fn write_list<W: Write + Drop>(
         (λ after. (text : List ℕ) × IsTableText setup.now table text × Appends (W.contents writer) (W.contents after) text) }
     ensures fault { IfErr result (RefusesTable setup.now table) }
 {
-    let mut writer = WriterBuilder::new().from_writer(writer);
-    write_table(alloc, setup, table, &mut writer)?;
-    match writer.into_inner() {
-        Ok(writer) => Ok(writer),
-        Err(_) => Err(ListFault::Write),
+    let place = "constituency";
+    match table {
+        Table::Constituencies => write_constituencies(alloc, setup, writer),
+        Table::Municipalities => {
+            let columns = ["number", "name", place];
+            Ok(write_table(&columns, &MunicipalityRows { setup }, writer)?)
+        }
+        Table::Groups => Ok(write_table(&["number", "name"], &GroupRows { setup }, writer)?),
+        Table::Lists => {
+            let columns = [place, "list", "constituency_name", "list_name"];
+            Ok(write_table(&columns, &ListRows { setup }, writer)?)
+        }
+        Table::Problems => {
+            let problems = setup_problems(alloc, setup)?;
+            Ok(write_problems(setup, &problems, writer)?)
+        }
+        Table::Returns(part) => {
+            part.found_in(setup)?;
+            let due = returns_due(alloc, setup, part)?;
+            Ok(write_returns(&due, writer)?)
+        }
     }
 }

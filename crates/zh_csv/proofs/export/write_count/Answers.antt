@@ -1,16 +1,14 @@
-use Rattle.std.proofs.Common.{length, ◌++◌}
-use Rattle.std.specs.List.{flat_map}
-use Rattle.std.specs.Io.KnownBytes.{append_known}
-use Rattle.zh_returns.specs.Payload.{numbers}
-use Rattle.zh_record_text.proofs.CallerLemmas.{Puts-back, Puts-join}
-use Rattle.zh_csv.specs.Export.{line, municipality_text}
+use Rattle.std.proofs.Common.{List, ℕ, ◌++◌, IfOk, length, subst}
+use Rattle.std.specs.Io.KnownBytes.{Appends}
+use Rattle.zh_record_text.specs.Each.{each_to}
+use Rattle.zh_csv.specs.Export.{municipality_text}
 use Rattle.zh_csv.specs.Records.{names}
+use Rattle.zh_csv.proofs.ExportLemmas.{names_plain, row_text-plain}
 use Rattle.zh_csv.proofs.export.write_count.Goals as goal
 
-pub returns-in-Ok : goal.returns-in-Ok
-returns-in-Ok g c =
+pub returns : goal.returns
+returns g c =
     let contents = g.W.Write.contents in
-    let from = c.from_writer-writer.ensures in
-    let rows = flat_map (municipality_text c.args.count.now) (numbers 1 (length c.args.count.now.canton.municipalities)) in
-    let all = Puts-join contents (line names) rows _ _ _ c.in_ok-write_names.ensures c.in_ok-write_entries.ensures in
-    Puts-back contents (line names ++ rows) (contents c.args.writer) _ _ c.in-Ok.writer (λ i. append_known (contents (from.wtr i)) (from.empty i)) all c.in-Ok.ensures.ok
+    let tally = c.args.count.now in
+    let rows = each_to (length tally.canton.municipalities) (municipality_text tally) in
+    subst (λ (first : List ℕ). IfOk c.write_table.result (λ after. Appends (contents c.args.writer) (contents after) (first ++ rows))) (row_text-plain names names_plain) c.write_table.ensures

@@ -26,7 +26,9 @@ pub returns : goal.returns
 returns g c canton holds =
     let found : c.in_ok-next_record.field-0 ≡ true = search rules in
     let same : fields_of c.next_record.new.record ≡ names = search rules in
-    reads_of (g.T.Takes.kind canton) (λ text. HasRead (front_left g.R.Read.remaining) text (names ∷ []) c.next_record.new.reader) (λ text. option_map front_of (g.R.Read.remaining c.args.text) ≡ Some text) _ c.take_rows.result
+    let kind = g.T.Takes.kind canton in
+    reads_of kind (λ text. HasRead (front_left g.R.Read.remaining) text (names ∷ []) c.next_record.new.reader)
+    (λ text. option_map front_of (g.R.Read.remaining c.args.text) ≡ Some text) _ c.take_rows.result
     (λ text known.
     let next = rw (c.in_ok-next_record.was, found) at (c.next_record.ensures text [] (c.reader_of-reader.ensures text known)) in
     subst (λ (r : Record). HasRead (front_left g.R.Read.remaining) text (r ∷ []) c.next_record.new.reader) same next)

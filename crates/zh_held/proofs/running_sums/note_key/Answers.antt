@@ -17,7 +17,12 @@ pub returns-in-Ok-true : goal.returns-in-Ok-true
 returns-in-Ok-true c rows are =
     let key : ℕ × ℕ = (c.args.municipality, c.args.list) in
     let old = c.args.keys.now in
-    let fresh : has_seen old key ≡ false = not_back c.in-Ok-true.field-0 (has_seen old key) c.in-Ok-true.ensures.added ∙ ap not c.in-Ok-true.field-0-test in (
+    let added = not_back c.in-Ok-true.field-0 (has_seen old key) c.in-Ok-true.ensures.added in
+    let fresh : has_seen old key ≡ false = added ∙ ap not c.in-Ok-true.field-0-test in (
       sym (are key) ∙ fresh,
-      λ q. c.in-Ok-true.ensures.updates.0 q ∙ cond_or (eq_by_cmp key_cmp key q) (has_seen old q) ∙ ap (λ b. b || has_seen old q) (keys_alike.symm key q) ∙ ap (λ b. eq_by_cmp key_cmp q key || b) (are q),
+      λ q.
+          c.in-Ok-true.ensures.updates.0 q
+          ∙ cond_or (eq_by_cmp key_cmp key q) (has_seen old q)
+          ∙ ap (λ b. b || has_seen old q) (keys_alike.symm key q)
+          ∙ ap (λ b. eq_by_cmp key_cmp q key || b) (are q),
     )

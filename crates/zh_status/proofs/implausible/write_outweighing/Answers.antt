@@ -6,8 +6,7 @@ use Rattle.zh_record_text.proofs.CallerLemmas.{Puts-none}
 use Rattle.zh_status.specs.Implausible.{implausible_row, neighbours}
 use Rattle.zh_status.specs.Progress.{progress_over, within}
 use Rattle.zh_status.specs.declared.progress.Region.TheVariants.{Others}
-use Rattle.zh_status.proofs.ImplausibleLemmas.{outweighing_none, outweighing_one}
-use Rattle.zh_status.proofs.StatusLemmas.{name_found}
+use Rattle.zh_status.proofs.ImplausibleLemmas.{name_found, outweighing_none, outweighing_one}
 use Rattle.zh_status.proofs.implausible.write_outweighing.Goals as goal
 
 pub returns-then-not-outweighs : goal.returns-then-not-outweighs

@@ -1,16 +1,29 @@
-use Rattle.std.proofs.Common.{◌++◌, refl}
-use Rattle.std.specs.Io.KnownBytes.{append_known}
-use Rattle.zh_record_text.specs.Records.{record_text}
-use Rattle.zh_record_text.proofs.CallerLemmas.{Puts-back, Puts-join}
-use Rattle.zh_status.specs.Status.{columns}
+use Rattle.std.proofs.Common.{length, refl}
+use Rattle.zh_record_text.specs.Each.{each_to}
+use Rattle.zh_status.specs.Implausible.{implausible_rows}
+use Rattle.zh_status.specs.Status.{constituency_progress, missing_rows, municipality_progress}
+use Rattle.zh_status.specs.declared.view.View.TheVariants.{Municipalities, Constituencies, Missing, Implausible}
+use Rattle.zh_status.proofs.StatusLemmas.{status_text}
 use Rattle.zh_status.proofs.status.write_status.Goals as goal
+
+pub returns-in-Municipalities : goal.returns-in-Municipalities
+returns-in-Municipalities g c =
+    let tally = c.args.count.now in
+    let rows = each_to (length tally.canton.municipalities) (municipality_progress tally) in
+    rw c.in-Municipalities.is (status_text g.W.Write.contents c.args.writer tally Municipalities rows _ refl c.write_table.ensures)
+
+pub returns-in-Constituencies : goal.returns-in-Constituencies
+returns-in-Constituencies g c =
+    let tally = c.args.count.now in
+    let rows = each_to (length tally.canton.constituencies) (constituency_progress tally) in
+    rw c.in-Constituencies.is (status_text g.W.Write.contents c.args.writer tally Constituencies rows _ refl c.write_table-in-Constituencies.ensures)
+
+pub returns-in-Missing : goal.returns-in-Missing
+returns-in-Missing g c =
+    rw c.in-Missing.is (status_text g.W.Write.contents c.args.writer c.args.count.now Missing (missing_rows c.args.count.now) _ refl c.write_table-in-Missing.ensures)
 
 pub returns-in-Ok : goal.returns-in-Ok
 returns-in-Ok g c =
-    let contents = g.W.Write.contents in
-    let from = c.from_writer-writer.ensures in
-    let first = record_text (columns c.args.view) in
-    let written = c.in_ok-write_rows.ensures in
-    let rest = written.0 in
-    let all = Puts-join contents first rest _ _ _ c.in_ok-write_header.ensures written.2 in
-    (first ++ rest, (rest, written.1, refl), Puts-back contents (first ++ rest) (contents c.args.writer) _ _ c.in-Ok.writer (λ i. append_known (contents (from.wtr i)) (from.empty i)) all c.in-Ok.ensures.ok)
+    let tally = c.args.count.now in
+    let found = c.in-Ok.found in
+    rw c.in-Implausible.is (status_text g.W.Write.contents c.args.writer tally Implausible (implausible_rows tally found) _ (found, rw c.setup.ensures at c.in-Ok.ensures, refl) c.write_table-in-Implausible.ensures)

@@ -14,10 +14,16 @@ returns-clause-bytes g c =
     let new = c.pass.new.self in
     let buffer = c.read.new.buf in
     let (consumes, ends) = c.in_ok-count.ensures.bytes in
-    let within : c.pass.result ≤ c.in_ok-count.count = omega (arith, c.pass.ensures.count.0, length-take c.in_ok-count.count buffer) in (
-      consumes_front most_read old.point new.point old.left new.left c.in_ok-count.count c.pass.result (g.R.Read.remaining c.args.self.now.inner) (g.R.Read.remaining c.read.new.self) buffer consumes within c.pass.ensures.front,
+    let count = c.in_ok-count.count in
+    let passed = c.pass.result in
+    let before = g.R.Read.remaining c.args.self.now.inner in
+    let after = g.R.Read.remaining c.read.new.self in
+    let taken = length-take count buffer in
+    let within : passed ≤ count = omega (arith, c.pass.ensures.count.0, taken) in (
+      consumes_front most_read old.point new.point old.left new.left count passed before after buffer consumes within c.pass.ensures.front,
       λ none room.
           let some : 0 < old.left = omega (arith, c.if-self-eq0.false) in
-          let nothing = none_passed (length (take c.in_ok-count.count buffer)) c.in_ok-count.count (length buffer) c.pass.result (length-take c.in_ok-count.count buffer) (c.pass.ensures.count.1 some) none room in
-          ends_front most_read new.point new.left (g.R.Read.remaining c.read.new.self) (ends nothing room),
+          let few = c.pass.ensures.count.1 some in
+          let nothing = none_passed (length (take count buffer)) count (length buffer) passed taken few none room in
+          ends_front most_read new.point new.left after (ends nothing room),
     )

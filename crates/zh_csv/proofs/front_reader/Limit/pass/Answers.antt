@@ -8,7 +8,13 @@ loop-place-preserved c = record {
   some = λ first more. absurd (omega (arith, first));
   passed = λ rest.
       let some : 0 < c.loop-place.self.left = omega (arith, c.if-self-eq0.false) in
-      rw (c.count.ensures.0, c.count.ensures.1) (pass_more most_read c.args.self.now.point c.loop-place.self.point c.args.self.now.left c.loop-place.self.left c.loop-place.place c.args.bytes.now rest c.loop-place-test.true some (c.loop-place.invariant.passed rest));
+      let old = c.args.self.now in
+      let now = c.loop-place.self in
+      let place = c.loop-place.place in
+      let bytes = c.args.bytes.now in
+      let passed = c.loop-place.invariant.passed rest in
+      rw (c.count.ensures.0, c.count.ensures.1)
+      (pass_more most_read old.point now.point old.left now.left place bytes rest c.loop-place-test.true some passed);
 }
 
 pub returns-then-self-eq0-clause-front : goal.returns-then-self-eq0-clause-front

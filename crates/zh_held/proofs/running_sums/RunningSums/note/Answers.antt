@@ -1,6 +1,7 @@
 use Rattle.std.proofs.Common.{◌∙◌, subst}
 use Rattle.zh_districts.specs.Canton.{IsCanton}
-use Rattle.zh_held.proofs.RunningLemmas.{Follows, can_take, has_taken, fit_of, change_is}
+use Rattle.zh_held.proofs.RunningLemmas.{can_take, has_taken, fit_of, change_is}
+use Rattle.zh_held.proofs.SumLemmas.{Follows}
 use Rattle.zh_held.proofs.running_sums.RunningSums.note.Goals as goal
 
 pub note-requires : goal.note-requires

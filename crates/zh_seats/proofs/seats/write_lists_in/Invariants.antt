@@ -1,7 +1,0 @@
-use Rattle.zh_record_text.specs.Each.{each_to}
-use Rattle.zh_record_text.specs.Records.{PutsText}
-use Rattle.zh_seats.specs.Lists.{standing_row}
-use Rattle.zh_seats.proofs.seats.write_lists_in.Given as goal
-
-abbrev pub invariant-loop-place : goal.invariant-loop-place
-invariant-loop-place g l = PutsText g.W.Write.contents (each_to l.place (standing_row l.fn.sheet l.fn.mark l.fn.constituency)) l.fn.writer l.writer

@@ -1,0 +1,45 @@
+use Rattle.std.proofs.Common.{List, length, ◌++◌, refl, subst, ◌∙◌}
+use Rattle.std.specs.Io.KnownBytes.{Appends}
+use Rattle.std.specs.List.{flat_map}
+use Rattle.zh_record_text.specs.Each.{each_to}
+use Rattle.zh_record_text.specs.Records.{record_text}
+use Rattle.zh_tables.specs.Returns.{return_columns, return_row}
+use Rattle.zh_tables.specs.Tables.{group_row, list_rows, municipality_row, problem_rows, return_rows}
+use Rattle.zh_tables.specs.declared.due.Due.{Due}
+use Rattle.zh_tables.specs.declared.table.Table.TheVariants.{Groups, Lists, Municipalities, Problems, Returns}
+use Rattle.zh_tables.proofs.TextLemmas.{table_text}
+use Rattle.zh_tables.proofs.tables.write_list.Goals as goal
+
+pub returns-in-Constituencies-clause-written : goal.returns-in-Constituencies-clause-written
+returns-in-Constituencies-clause-written g c = rw c.in-Constituencies.is c.write_constituencies.ensures.written
+
+pub returns-in_ok-write_table-in-Municipalities-clause-written : goal.returns-in_ok-write_table-in-Municipalities-clause-written
+returns-in_ok-write_table-in-Municipalities-clause-written g c =
+    let canton = c.args.setup.now in
+    rw c.in-Municipalities.is (table_text _ _ canton Municipalities (each_to (length canton.municipalities) (municipality_row canton)) refl c.in_ok-write_table-in-Municipalities.ensures)
+
+pub returns-in_ok-write_table-in-Groups-clause-written : goal.returns-in_ok-write_table-in-Groups-clause-written
+returns-in_ok-write_table-in-Groups-clause-written g c =
+    let canton = c.args.setup.now in
+    rw c.in-Groups.is (table_text _ _ canton Groups (each_to (length canton.groups) (group_row canton)) refl c.in_ok-write_table-in-Groups.ensures)
+
+pub returns-in_ok-write_table-in-Lists-clause-written : goal.returns-in_ok-write_table-in-Lists-clause-written
+returns-in_ok-write_table-in-Lists-clause-written g c =
+    let canton = c.args.setup.now in
+    rw c.in-Lists.is (table_text _ _ canton Lists (list_rows canton) refl c.in_ok-write_table-in-Lists.ensures)
+
+pub returns-in_ok-write_problems-in-Problems-clause-written : goal.returns-in_ok-write_problems-in-Problems-clause-written
+returns-in_ok-write_problems-in-Problems-clause-written g c =
+    let canton = c.args.setup.now in
+    let found = c.in_ok-problems-in-Problems in
+    rw c.in-Problems.is (table_text _ _ canton Problems (problem_rows canton found.problems) (found.problems, found.ensures.problems, refl) c.in_ok-write_problems-in-Problems.ensures)
+
+pub returns-in_ok-write_returns-in-Returns-clause-written : goal.returns-in_ok-write_returns-in-Returns-clause-written
+returns-in_ok-write_returns-in-Returns-clause-written g c =
+    let canton = c.args.setup.now in
+    let part = c.in-Returns.part in
+    let old = g.W.Write.contents c.args.writer in
+    let new = g.W.Write.contents c.in_ok-write_returns-in-Returns.field-0 in
+    let written : Appends old new (record_text return_columns ++ return_rows canton part) =
+    subst (λ (due : List Due). Appends old new (record_text return_columns ++ flat_map return_row due)) (c.deref.ensures.value ∙ c.in_ok-due-in-Returns.ensures) c.in_ok-write_returns-in-Returns.ensures in
+    rw c.in-Returns.is (table_text old new canton (Returns part) (return_rows canton part) (c.in_ok-found_in-in-Returns.ensures, refl) written)
