@@ -11,6 +11,7 @@ use Rattle.zh_returns.specs.declared.verdict.Verdict.{Verdict}
 use Rattle.zh_returns.specs.declared.verdict.Verdict.TheVariants.{Accept, Same}
 use Rattle.zh_judgements.specs.Answered.{IsAnswered}
 use Rattle.zh_judgements.specs.Findings.{Finding, counts_of, forecast_of, refuses, stores}
+use Rattle.zh_judgements.specs.declared.judgement.Forecast.{Forecast}
 use Rattle.zh_judgements.specs.declared.judgement.Forecast.TheVariants as forecasts
 
 abbrev pub any_refused : List Finding → Bool
@@ -31,8 +32,15 @@ filter_any p (one ∷ found) = by (p one) refl (filter_any p found)
 count_any : (p : Finding → Bool) (found : List Finding) → nat_lt 0 (count_by p found) ≡ list_any p found
 count_any p found = ap (λ (n : ℕ). nat_lt 0 n) (sym (length-filter p found)) ∙ filter_any p found
 
-pub forecast_is : (found : List Finding) → forecast_of found ≡ (if any_refused found then forecasts.Refused (counts_of found).refused (counts_of found).records else if any_stored found then forecasts.Stores else forecasts.Same)
-forecast_is found = ap (λ (b : Bool). if b then forecasts.Refused (counts_of found).refused (counts_of found).records else if any_stored found then forecasts.Stores else forecasts.Same) (count_any (λ f. refuses f.judgement) found)
+-- the forecast by whether a record is refused
+abbrev pub forecast_where : List Finding → Bool → Forecast
+forecast_where found refused =
+    if refused then forecasts.Refused (counts_of found).refused (counts_of found).records
+    else if any_stored found then forecasts.Stores
+    else forecasts.Same
+
+pub forecast_is : (found : List Finding) → forecast_of found ≡ forecast_where found (any_refused found)
+forecast_is found = ap (forecast_where found) (count_any (λ f. refuses f.judgement) found)
 
 pub answered_refused : (found : List Finding) (refusal : Refusal) → any_refused found ≡ true → IsAnswered (forecast_of found) (replies.Refused refusal)
 answered_refused found refusal is = rw (forecast_is found, is) tt
@@ -43,13 +51,17 @@ answered_stored found accepted none is = rw (forecast_is found, none, is) tt
 pub answered_same : (found : List Finding) → any_refused found ≡ false → any_stored found ≡ false → IsAnswered (forecast_of found) replies.Same
 answered_same found none not = rw (forecast_is found, none, not) tt
 
+-- the first verdict that is a refusal, or this one where none is
+abbrev first_refusal : List Verdict → Verdict → Verdict
+first_refusal verdicts d = unwrap_or (find is_refusal verdicts) d
+
 -- the verdict on all is a refusal where there is one
-some_found : (verdicts : List Verdict) (d : Verdict) → list_any is_refusal verdicts ≡ true → is_refusal (unwrap_or (find is_refusal verdicts) d) ≡ true
+some_found : (verdicts : List Verdict) (d : Verdict) → list_any is_refusal verdicts ≡ true → is_refusal (first_refusal verdicts d) ≡ true
 some_found [] d is = cc is
 some_found (v ∷ verdicts) d is = by (is_refusal v) refl (λ later. some_found verdicts d later) is
   where
-    by : (b : Bool) → is_refusal v ≡ b → (list_any is_refusal verdicts ≡ true → is_refusal (unwrap_or (find is_refusal verdicts) d) ≡ true) → list_any is_refusal (v ∷ verdicts) ≡ true
-        → is_refusal (unwrap_or (find is_refusal (v ∷ verdicts)) d) ≡ true
+    by : (b : Bool) → is_refusal v ≡ b → (list_any is_refusal verdicts ≡ true → is_refusal (first_refusal verdicts d) ≡ true)
+        → list_any is_refusal (v ∷ verdicts) ≡ true → is_refusal (first_refusal (v ∷ verdicts) d) ≡ true
     by true here rest is = rw here here
     by false not rest is = rw not (rest (rw not at is))
 
@@ -57,7 +69,8 @@ none_found : (verdicts : List Verdict) → list_any is_refusal verdicts ≡ fals
 none_found [] is = refl
 none_found (v ∷ verdicts) is = by (is_refusal v) refl (λ later. none_found verdicts later) is
   where
-    by : (b : Bool) → is_refusal v ≡ b → (list_any is_refusal verdicts ≡ false → find is_refusal verdicts ≡ None) → list_any is_refusal (v ∷ verdicts) ≡ false → find is_refusal (v ∷ verdicts) ≡ None
+    by : (b : Bool) → is_refusal v ≡ b → (list_any is_refusal verdicts ≡ false → find is_refusal verdicts ≡ None)
+        → list_any is_refusal (v ∷ verdicts) ≡ false → find is_refusal (v ∷ verdicts) ≡ None
     by true here rest is = let wrong : true ≡ false = rw here at is in cc wrong
     by false not rest is = rw not (rest (rw not at is))
 

@@ -1,5 +1,6 @@
 -- One record more.
-use Rattle.std.proofs.Common.{◌≡◌, ◌<◌, ◌+◌, ◌||◌, ℕ, zero, suc, Some, slice_get, get_or, take, map, List, [], ◌∷◌, ◌++◌, length, refl, sym, ap, ◌∙◌, arith, Bool, append_assoc, if◌then◌else◌}
+use Rattle.std.proofs.Common.{◌≡◌, ◌<◌, ◌+◌, ◌||◌, ℕ, zero, suc, Some, slice_get, get_or, take, map, List, [], ◌∷◌, ◌++◌, length}
+use Rattle.std.proofs.Common.{refl, sym, ap, ◌∙◌, arith, Bool, append_assoc, if◌then◌else◌}
 use Rattle.std.specs.List.{list_any, range_with_len}
 use Rattle.std.specs.Prelude.{count_by}
 use Rattle.std.proofs.lemmas.Grind.{common_steps, flat_map-append}
@@ -9,56 +10,68 @@ use Rattle.zh_districts.specs.Canton.{Canton}
 use Rattle.zh_records.specs.declared.row.Row.{Row}
 use Rattle.zh_returns.specs.Tally.{Tally}
 use Rattle.zh_csv.specs.Records.{Record}
-use Rattle.zh_judgements.specs.Findings.{Finding, judgement, rows_after, rows_kept, findings_on, first_findings, begun, finding_on, counts_of, counts_with, refuses, stores}
+use Rattle.zh_judgements.specs.Findings.{Finding, judgement, rows_after, rows_kept, findings_on, first_findings, begun, finding_on}
+use Rattle.zh_judgements.specs.Findings.{counts_of, counts_with, refuses, stores}
 use Rattle.zh_judgements.specs.Rows.{row_in}
 use Rattle.zh_judgements.specs.Text.{line_of, finding_lines}
 
-pub rows_push : (canton : Canton) (rows : List Row) (records : List Record) (fields : Record) → rows_kept canton rows (records ++ fields ∷ []) ≡ rows_after canton (rows_kept canton rows records) (row_in fields)
+pub rows_push : (canton : Canton) (rows : List Row) (records : List Record) (fields : Record)
+    → rows_kept canton rows (records ++ fields ∷ []) ≡ rows_after canton (rows_kept canton rows records) (row_in fields)
 rows_push canton rows [] fields = refl
 rows_push canton rows (first ∷ records) fields = rows_push canton (rows_after canton rows (row_in first)) records fields
 
--- the finding on a record after these
+-- the finding on a record of this number, after these rows
+abbrev pub finding_after : Tally → List Row → Record → ℕ → Finding
+finding_after tally rows fields number = record { number = number; fields = fields; judgement = judgement tally rows (row_in fields) }
+
+-- the finding on a record after these rows and the rows kept of these records
 abbrev pub next_finding : Tally → ℕ → List Row → List Record → Record → Finding
 next_finding tally number rows records fields =
-    record { number = number + length records; fields = fields; judgement = judgement tally (rows_kept tally.canton rows records) (row_in fields) }
+    finding_after tally (rows_kept tally.canton rows records) fields (number + length records)
 
 -- records after these rows, the first of which has this number
 abbrev pub findings_from : Tally → ℕ → List Row → List Record → List Finding
 findings_from tally number rows [] = []
 findings_from tally number rows (fields ∷ others) =
-    record { number = number; fields = fields; judgement = judgement tally rows (row_in fields) }
-    ∷ findings_from tally (number + 1) (rows_after tally.canton rows (row_in fields)) others
+    finding_after tally rows fields number ∷ findings_from tally (number + 1) (rows_after tally.canton rows (row_in fields)) others
+
+-- at each place from this one on is the finding on a record after those before it
+abbrev AreFound : Tally → ℕ → List Row → List Record → (ℕ → Finding) → ℕ → Type 0
+AreFound tally number rows records finding a =
+    (k : ℕ) → k < length records
+    → finding (a + k) ≡ finding_after tally (rows_kept tally.canton rows (take k records)) (get_or records k []) (number + k)
 
 found_range : (tally : Tally) (number : ℕ) (rows : List Row) (records : List Record) (finding : ℕ → Finding) (a : ℕ)
-    → ((k : ℕ) → k < length records → finding (a + k)
-    ≡ record { number = number + k; fields = get_or records k []; judgement = judgement tally (rows_kept tally.canton rows (take k records)) (row_in (get_or records k [])) })
+    → AreFound tally number rows records finding a
     → map finding (range_with_len a (length records)) ≡ findings_from tally number rows records
 found_range tally number rows [] finding a each = refl
 found_range tally number rows (first ∷ records) finding a each =
     let rows' : List Row = rows_after tally.canton rows (row_in first) in
-    let here : finding a ≡ record { number = number; fields = first; judgement = judgement tally rows (row_in first) } =
-    ap finding (omega arith) ∙ each 0 (omega arith)
-    ∙ ap (λ (n : ℕ). record { number = n; fields = first; judgement = judgement tally rows (row_in first) }) (omega arith) in
-    let next : (k : ℕ) → k < length records → finding (a + 1 + k)
-    ≡ record { number = number + 1 + k; fields = get_or records k []; judgement = judgement tally (rows_kept tally.canton rows' (take k records)) (row_in (get_or records k [])) } =
-    λ k within. ap finding (omega arith) ∙ each (suc k) (omega (arith, within))
-    ∙ ap (λ (n : ℕ). record { number = n; fields = get_or records k []; judgement = judgement tally (rows_kept tally.canton rows' (take k records)) (row_in (get_or records k [])) }) (omega arith) in
+    let here : finding a ≡ finding_after tally rows first number =
+    ap finding (omega arith) ∙ each 0 (omega arith) ∙ ap (finding_after tally rows first) (omega arith) in
+    let next : AreFound tally (number + 1) rows' records finding (a + 1) = λ k within.
+    ap finding (omega arith) ∙ each (suc k) (omega (arith, within))
+    ∙ ap (finding_after tally (rows_kept tally.canton rows' (take k records)) (get_or records k [])) (omega arith) in
     ap (λ (f : Finding). f ∷ map finding (range_with_len (a + 1) (length records))) here
-    ∙ ap (λ (l : List Finding). record { number = number; fields = first; judgement = judgement tally rows (row_in first) } ∷ l) (found_range tally (number + 1) rows' records finding (a + 1) next)
+    ∙ ap (λ (l : List Finding). finding_after tally rows first number ∷ l)
+    (found_range tally (number + 1) rows' records finding (a + 1) next)
 
 -- the findings one after the other
 pub found_in_turn : (tally : Tally) (others : List Record) → findings_on tally others ≡ findings_from tally 2 [] others
-found_in_turn tally others = found_range tally 2 [] others (finding_on tally others) 0 (λ k within. ap (finding_on tally others) (omega arith))
+found_in_turn tally others =
+    found_range tally 2 [] others (finding_on tally others) 0 (λ k within. ap (finding_on tally others) (omega arith))
 
 pushed : (tally : Tally) (number : ℕ) (rows : List Row) (records : List Record) (fields : Record)
-    → findings_from tally number rows (records ++ fields ∷ []) ≡ findings_from tally number rows records ++ next_finding tally number rows records fields ∷ []
-pushed tally number rows [] fields = ap (λ (n : ℕ). record { number = n; fields = fields; judgement = judgement tally rows (row_in fields) } ∷ []) (omega arith)
+    → findings_from tally number rows (records ++ fields ∷ [])
+    ≡ findings_from tally number rows records ++ next_finding tally number rows records fields ∷ []
+pushed tally number rows [] fields = ap (λ (n : ℕ). finding_after tally rows fields n ∷ []) (omega arith)
 pushed tally number rows (first ∷ records) fields =
     let rows' : List Row = rows_after tally.canton rows (row_in first) in
     let rest = pushed tally (number + 1) rows' records fields in
     let n : number + 1 + length records ≡ number + length (first ∷ records) = omega arith in
-    ap (λ (l : List Finding). record { number = number; fields = first; judgement = judgement tally rows (row_in first) } ∷ l)
-    (rest ∙ ap (λ (m : ℕ). findings_from tally (number + 1) rows' records ++ record { number = m; fields = fields; judgement = judgement tally (rows_kept tally.canton rows' records) (row_in fields) } ∷ []) n)
+    let last : ℕ → Finding = finding_after tally (rows_kept tally.canton rows' records) fields in
+    ap (λ (l : List Finding). finding_after tally rows first number ∷ l)
+    (rest ∙ ap (λ (m : ℕ). findings_from tally (number + 1) rows' records ++ last m ∷ []) n)
 
 pub findings_push : (tally : Tally) (others : List Record) (fields : Record)
     → findings_on tally (others ++ fields ∷ []) ≡ findings_on tally others ++ next_finding tally 2 [] others fields ∷ []
@@ -72,7 +85,8 @@ begun_push tally first others fields =
     ap (λ (l : List Finding). first_findings first ++ l) (findings_push tally others fields)
     ∙ sym (append_assoc (first_findings first) (findings_on tally others) (next_finding tally 2 [] others fields ∷ []))
 
-count_push : (p : Finding → Bool) (found : List Finding) (one : Finding) → count_by p (found ++ one ∷ []) ≡ count_by p found + (if p one then 1 else 0)
+count_push : (p : Finding → Bool) (found : List Finding) (one : Finding)
+    → count_by p (found ++ one ∷ []) ≡ count_by p found + (if p one then 1 else 0)
 count_push p [] one = grind (arith, common_steps)
 count_push p (f ∷ found) one = grind (arith, common_steps, count_push p found one)
 

@@ -1,3 +1,4 @@
+mod AnsweredLemmas
 mod AnyLemmas
 pub mod CallerLemmas
 mod FindingLemmas
@@ -5,3 +6,4 @@ mod FrontLemmas
 mod JudgedLemmas
 mod LoadedLemmas
 mod RowLemmas
+mod WholeLemmas

@@ -1,35 +1,37 @@
--- A record read as a row, by its fields alone.
-use Rattle.std.specs.Prelude.{◌==◌, ◌&&◌, ◌^◌, ℕ, nat_lt, if◌then◌else◌, Bool, List, [], ◌∷◌, Option, Some, None}
-use Rattle.std.specs.Prelude.{Result, Ok, Err, decimal}
+-- A record read as a row, by its fields alone: the row whose record it is, if there is one.
+use Rattle.std.specs.Prelude.{◌&&◌, ◌^◌, nat_lt, if◌then◌else◌, Bool, [], get_or, Result, Ok, Err}
 use Rattle.std.specs.Cmp.Lexicographic.{pointwise}
 use Rattle.std.specs.Str.{bytes_eq}
 use Rattle.std.specs.Str.Parse.{digits_value}
 use Rattle.zh_records.specs.declared.row.Row.{Row}
+use Rattle.zh_csv.specs.Load.{fields}
 use Rattle.zh_csv.specs.Records.{Record, names, may_be_row}
 use Rattle.zh_csv.specs.declared.fault.LoadFault.{LoadFault}
 use Rattle.zh_csv.specs.declared.fault.LoadFault.TheVariants as faults
 
--- the number of 32 bits whose numeral a field is
-abbrev pub number_read : List ℕ → Option ℕ
-number_read field =
-    if nat_lt (digits_value 10 field) (2 ^ 32) && bytes_eq field (decimal (digits_value 10 field)) then Some (digits_value 10 field)
-    else None
+-- the row of the numbers that the digits of the fields say
+abbrev pub row_by_digits : Record → Row
+row_by_digits record_fields = record {
+  municipality = digits_value 10 (get_or record_fields 0 []);
+  list = digits_value 10 (get_or record_fields 1 []);
+  number = digits_value 10 (get_or record_fields 2 []);
+  votes = digits_value 10 (get_or record_fields 3 []);
+}
 
--- the row of these numbers; a replacement number is 1 at least
-abbrev pub row_with : Option ℕ → Option ℕ → Option ℕ → Option ℕ → Result Row LoadFault
-row_with (Some municipality) (Some list) (Some number) (Some votes) =
-    if number == 0 then Err faults.Syntax
-    else Ok (record { municipality = municipality; list = list; number = number; votes = votes })
-row_with municipality list number votes = Err faults.Syntax
+-- whether a row can be read: numbers of 32 bits, and a replacement number from 1
+abbrev pub is_readable : Row → Bool
+is_readable row =
+    nat_lt row.municipality (2 ^ 32) && nat_lt row.list (2 ^ 32) && nat_lt 0 row.number && nat_lt row.number (2 ^ 32)
+    && nat_lt row.votes (2 ^ 32)
 
--- the row whose numerals four fields are, or why a record is no row
+-- the row whose record this is, or why it is that of none
 abbrev pub row_in : Record → Result Row LoadFault
-row_in (municipality ∷ list ∷ number ∷ votes ∷ []) =
-    if may_be_row (municipality ∷ list ∷ number ∷ votes ∷ [])
-    then row_with (number_read municipality) (number_read list) (number_read number) (number_read votes)
+row_in record_fields =
+    if is_readable (row_by_digits record_fields) && pointwise bytes_eq record_fields (fields (row_by_digits record_fields))
+    then Ok (row_by_digits record_fields)
+    else if may_be_row record_fields then Err faults.Syntax
     else Err faults.Csv
-row_in fields = Err faults.Csv
 
 -- whether a record is the names of the columns
 abbrev pub has_names : Record → Bool
-has_names fields = pointwise bytes_eq fields names
+has_names record_fields = pointwise bytes_eq record_fields names

@@ -10,7 +10,11 @@ pub returns-in_err-write_finding-clause-front : goal.returns-in_err-write_findin
 returns-in_err-write_finding-clause-front g c =
     let other : fields_of c.args.record.now ≡ names → ⊥ = λ same. search rules in
     let is : c.from_residual.result ≡ Err c.in_err-write_finding.field-0.0 = search rules in
-    rw is (subst (λ (t : List ℕ). BreaksOffLine c.in_err-write_finding.field-0.0 (g.W.Write.contents c.args.out.now) (g.W.Write.contents c.write_finding.new.out) t) (sym (missed_line (fields_of c.args.record.now) other)) c.in_err-write_finding.ensures.front)
+    let fault = c.in_err-write_finding.field-0.0 in
+    let w = g.W.Write.contents c.args.out.now in
+    let w' = g.W.Write.contents c.write_finding.new.out in
+    let line = sym (missed_line (fields_of c.args.record.now) other) in
+    rw is (subst (λ (t : List ℕ). BreaksOffLine fault w w' t) line c.in_err-write_finding.ensures.front)
 
 pub returns-clause-counts : goal.returns-clause-counts
 returns-clause-counts g c =
@@ -20,4 +24,7 @@ returns-clause-counts g c =
 pub returns-clause-all : goal.returns-clause-all
 returns-clause-all g c =
     let other : fields_of c.args.record.now ≡ names → ⊥ = λ same. search rules in
-    subst (λ (t : List ℕ). Appends (g.W.Write.contents c.args.out.now) (g.W.Write.contents c.write_finding.new.out) t) (sym (missed_line (fields_of c.args.record.now) other)) c.in_ok-write_finding.ensures.all
+    let w = g.W.Write.contents c.args.out.now in
+    let w' = g.W.Write.contents c.write_finding.new.out in
+    let line = sym (missed_line (fields_of c.args.record.now) other) in
+    subst (λ (t : List ℕ). Appends w w' t) line c.in_ok-write_finding.ensures.all
