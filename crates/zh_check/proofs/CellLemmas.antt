@@ -1,20 +1,17 @@
 -- Quotients that round, and cells of a table of lists.
-use Rattle.std.proofs.Common.{◌≡◌, ℕ, zero, suc, ◌+◌, ◌-◌, ◌*◌, ◌/◌, ◌%◌, ◌<◌, ◌≤◌, Bool, true, false, List, length, get_or, map, sym, ap, ◌∙◌, inl, inr, arith, mul_comm, subst}
+use Rattle.std.proofs.Common.{◌≡◌, ℕ, zero, suc, ◌+◌, ◌-◌, ◌*◌, ◌/◌, ◌%◌, ◌<◌, ◌≤◌, Bool, true, false, List, length, get_or, sym, ap, ◌∙◌, inl, inr, arith}
 use Rattle.std.specs.Prelude.{◌↔◌}
-use Rattle.std.specs.List.{range_with_len}
 use Rattle.std.proofs.lemmas.Bool.{cases_lt}
-use Rattle.std.proofs.lemmas.List.{get_or-map, length-map}
-use Rattle.std.proofs.lemmas.List.FromFn.{get_or-range_with_len, length-range_with_len}
 use Rattle.std.proofs.lemmas.List.Sums.{count_by_more_no, count_by_more_yes}
-use Rattle.std.proofs.Math.Nat.{div-add-mod', mul-le-mul_left, mul-le-mul_right}
+use Rattle.std.proofs.lemmas.Nat.{div-add-mod', mul-le}
 use Rattle.zh_districts.specs.Canton.{Canton, stands}
 use Rattle.zh_divisors.specs.Rounding.{Rounds}
 use Rattle.zh_matrices.proofs.CallerLemmas.{column_of, row_of}
-use Rattle.zh_records.proofs.CallerLemmas.{HasWidth, in_block}
-use Rattle.zh_check.specs.Cells.{DoFollowAt, DoSeatsFollow, LiesOnHalf, line_of_list}
+use Rattle.zh_check.specs.Cells.{DoSeatsFollow, LiesOnHalf, line_of_list}
 use Rattle.zh_check.specs.Reading.{standing, votes_read}
 use Rattle.zh_check.specs.declared.cells.ShownList.{ShownList}
 use Rattle.zh_check.proofs.SizeLemmas.{length-standing, length-votes}
+use Rattle.zh_check.proofs.TableLemmas.{in_square}
 
 -- a number times 2 s - 1, where s is positive
 below_twice : (s p n : ℕ) → (1 ≤ s → 2 * (s * p) < 2 * n + p) → 1 ≤ s → (2 * s - 1) * p < 2 * n
@@ -23,13 +20,6 @@ below_twice (suc s) p n lt some =
     let odd : 2 * suc s - 1 ≡ 2 * s + 1 = omega arith in
     let less : 2 * (suc s * p) < 2 * n + p = lt some in
     rw odd (omega (arith, less))
-
-twice_below : (s p n : ℕ) → 1 ≤ s → (2 * s - 1) * p < 2 * n → 2 * (s * p) < 2 * n + p
-twice_below zero p n some lt = absurd (omega (arith, some))
-twice_below (suc s) p n some lt =
-    let odd : 2 * suc s - 1 ≡ 2 * s + 1 = omega arith in
-    let less : (2 * s + 1) * p < 2 * n = rw odd at lt in
-    omega (arith, less)
 
 -- a quotient rounds to what it is nearest to
 pub rounds_down : (n p w r : ℕ) → n ≡ w * p + r → 2 * r < p → Rounds n p w
@@ -59,15 +49,11 @@ between a b p lt = elim (cases_lt b a) [
 ]
 
 lower_of : (n p s : ℕ) → Rounds n p s → 2 * (s * p) < 2 * n + p
-lower_of n p s is = elim (cases_lt 0 s) [
-  | inl some ↦ twice_below s p n (omega (arith, some)) (is.above_lower (omega (arith, some)))
-  | inr none ↦
-      let zero_is : s ≡ 0 = omega (arith, none) in
-      let above : 2 * n < (2 * s + 1) * p = is.below_upper in
-      let none_of : (2 * s + 1) * p ≡ (2 * 0 + 1) * p = ap (λ k. (2 * k + 1) * p) zero_is in
-      let nothing : s * p ≡ 0 * p = ap (λ k. k * p) zero_is in
-      omega (arith, above, none_of, nothing)
-]
+lower_of n p zero is = omega (arith, is.below_upper)
+lower_of n p (suc s) is =
+    let odd : 2 * suc s - 1 ≡ 2 * s + 1 = omega arith in
+    let less : (2 * s + 1) * p < 2 * n = rw odd at (is.above_lower (omega arith)) in
+    omega (arith, less)
 
 at_most : (n p s t : ℕ) → Rounds n p s → Rounds n p t → s ≤ t
 at_most n p s t S T = between s t p (omega (arith, lower_of n p s S, T.below_upper))
@@ -110,23 +96,12 @@ follow_half list half follow = elim (cases_lt 0 list.column_divisor) [
 ]
 
 -- whether the list at a place stands
-pub standing_at : (canton : Canton) (k : ℕ) → k < length canton.constituencies * length canton.groups →
+standing_at : (canton : Canton) (k : ℕ) → k < length canton.constituencies * length canton.groups →
     get_or (standing canton) k false ≡ stands canton (k / length canton.groups + 1) (k % length canton.groups + 1)
 standing_at canton k lt =
     let m : ℕ = length canton.constituencies in
     let n : ℕ = length canton.groups in
-    let d : ℕ = k / n in
-    let g : ℕ = k % n in
-    let row_of_flags : ℕ → List Bool = λ d. map (stands canton d) (range_with_len 1 n) in
-    let wide : HasWidth row_of_flags n = record { at = λ d. length-map (range_with_len 1 n) (stands canton d) ∙ length-range_with_len 1 n } in
-    let turned : k ≡ n * d + g = omega (arith, div-add-mod' k n, mul_comm d n) in
-    let row : get_or (range_with_len 1 m) d 0 ≡ d + 1 = get_or-range_with_len 1 m d 0 (row_of m n k lt) ∙ omega arith in
-    let column : get_or (range_with_len 1 n) g 0 ≡ g + 1 = get_or-range_with_len 1 n g 0 (column_of m n k lt) ∙ omega arith in
-    ap (λ p. get_or (standing canton) p false) turned
-    ∙ (in_block row_of_flags n wide (range_with_len 1 m) d g 0 false (omega (arith, row_of m n k lt, length-range_with_len 1 m)) (column_of m n k lt)
-    ∙ (ap (λ e. get_or (row_of_flags e) g false) row
-    ∙ (get_or-map (stands canton (d + 1)) (range_with_len 1 n) g 0 false (omega (arith, column_of m n k lt, length-range_with_len 1 n))
-    ∙ ap (stands canton (d + 1)) column)))
+    ap (λ p. get_or (standing canton) p false) (sym (div-add-mod' k n)) ∙ in_square (stands canton) n m (k / n) (k % n) false (row_of m n k lt) (column_of m n k lt)
 
 -- the line of the next list
 pub next_line_stands : (canton : Canton) (k : ℕ) → k < length canton.constituencies * length canton.groups → get_or (standing canton) k false ≡ true →
@@ -147,29 +122,10 @@ pub place_there : (canton : Canton) (text votes : List ℕ) (k : ℕ) → votes 
 place_there canton text votes k read lt = omega (arith, lt, ap length read, length-votes canton text)
 
 pub few_places : (m n k : ℕ) → m ≤ 69 → n ≤ 69 → k < m * n → k < 4761
-few_places m n k few_rows few_columns lt =
-    let wide : m * n ≤ m * 69 = mul-le-mul_left m few_columns in
-    let high : m * 69 ≤ 69 * 69 = mul-le-mul_right 69 few_rows in
-    omega (arith, lt, wide, high)
+few_places m n k few_rows few_columns lt = let most : m * n ≤ 69 * 69 = mul-le m n 69 69 few_rows few_columns in omega (arith, lt, most)
 
 -- whether the list there stands, by a number of groups
 pub stands_here : (canton : Canton) (k groups : ℕ) (b : Bool) → groups ≡ length canton.groups → k < length canton.constituencies * length canton.groups →
     b ≡ stands canton (k / groups + 1) (k % groups + 1) → get_or (standing canton) k false ≡ b
 stands_here canton k groups b same lt is =
     standing_at canton k lt ∙ (ap (λ n. stands canton (k / n + 1) (k % n + 1)) (sym same) ∙ sym is)
-
--- a list that does not stand follows in any case
-pub hidden_follows : (canton : Canton) (text : List ℕ) (k : ℕ) → get_or (standing canton) k false ≡ false → DoFollowAt canton text k
-hidden_follows canton text k away here = absurd (cc)
-
--- one list more whose seats follow
-pub one_more : (canton : Canton) (text : List ℕ) (place : ℕ) → ((k : ℕ) → k < place → DoFollowAt canton text k) → DoFollowAt canton text place →
-    (k : ℕ) → k < place + 1 → DoFollowAt canton text k
-one_more canton text place before here k lt = elim (cases_lt k place) [
-  | inl less ↦ before k less
-  | inr last ↦ let at : k ≡ place = omega (arith, last, lt) in subst (λ j. DoFollowAt canton text j) (sym at) here
-]
-
--- a test that fails
-pub off_follows : (result : Bool) (P : Type 0) → (result ≡ true) ↔ P → result ≡ false → ¬ P
-off_follows result P both off p = let on : result ≡ true = both.1 p in absurd (cc)

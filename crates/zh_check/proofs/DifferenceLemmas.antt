@@ -1,7 +1,6 @@
 -- Two texts, line by line.
-use Rattle.std.proofs.Common.{◌≡◌, ◌≢◌, ℕ, zero, suc, ◌+◌, ◌<◌, List, [], ◌∷◌, ◌++◌, length, take, refl, sym, ap, ◌∙◌, inl, inr, arith, length-drop, take-append-drop}
+use Rattle.std.proofs.Common.{◌≡◌, ◌≢◌, ℕ, zero, suc, ◌+◌, ◌<◌, List, [], ◌∷◌, ◌++◌, length, take, refl, sym, ap, ◌∙◌, arith, length-drop, take-append-drop}
 use Rattle.std.specs.List.{position_or_len}
-use Rattle.std.proofs.lemmas.Bool.{cases_lt}
 use Rattle.zh_check.specs.Lines.{after_line, after_lines, ends_line, whole_line}
 
 -- one line more
@@ -38,12 +37,3 @@ same_texts (suc n) text expected same end last =
     let rest : after_line text ≡ after_line expected
     = same_texts n (after_line text) (after_line expected) (λ k lt. same (suc k) (omega arith)) end last in
     sym (cut text) ∙ (ap (λ l. l ++ after_line text) first ∙ (ap (λ r. whole_line expected ++ r) rest ∙ cut expected))
-
--- the same lines, and one more
-pub same_more : (n : ℕ) (text expected : List ℕ) → ((k : ℕ) → k < n → whole_line (after_lines k text) ≡ whole_line (after_lines k expected)) →
-    whole_line (after_lines n text) ≡ whole_line (after_lines n expected) →
-    (k : ℕ) → k < n + 1 → whole_line (after_lines k text) ≡ whole_line (after_lines k expected)
-same_more n text expected before here k lt = elim (cases_lt k n) [
-  | inl less ↦ before k less
-  | inr last ↦ let at : k ≡ n = omega arith in rw at here
-]

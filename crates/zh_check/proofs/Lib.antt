@@ -2,15 +2,10 @@ mod CellLemmas
 mod ColumnLemmas
 mod DifferenceLemmas
 mod DigitLemmas
-mod Divisors
 mod FormLemmas
-mod HeldLemmas
 mod LineLemmas
-mod ListLemmas
 mod NumeralLemmas
 mod PartLemmas
-mod PushLemmas
-mod RangeLemmas
 mod ReadLemmas
 mod SeamLemmas
 mod SectionLemmas
@@ -18,7 +13,7 @@ mod SheetLemmas
 mod ShownLemmas
 mod SizeLemmas
 mod SpelledLemmas
-mod StandingLemmas
+mod TableLemmas
 mod TotalLemmas
 mod VerdictLemmas
 mod WordLemmas

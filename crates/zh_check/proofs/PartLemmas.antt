@@ -1,7 +1,7 @@
 -- Lines whose parts are words: they are in their form, and each word is read where it stands.
 use Rattle.std.proofs.Common.{◌≡◌, ℕ, ◌≤◌, Bool, true, false, cond, All, List, [], ◌∷◌, ◌++◌, map, filter, flat_map, refl, sym, ap, ◌∙◌, arith, append_assoc}
 use Rattle.std.specs.Prelude.{not}
-use Rattle.std.proofs.lemmas.Bool.{and_parts}
+use Rattle.std.proofs.lemmas.Bool.{and_parts, not-true}
 use Rattle.std.proofs.lemmas.List.Elements.{All-append, All-cons, All-head, All-tail}
 use Rattle.zh_districts.specs.Canton.{Canton}
 use Rattle.zh_sheet_text.specs.Layout.{IsPartOf, SheetLine}
@@ -37,10 +37,6 @@ line_ends text part [] = refl
 line_ends text part (next ∷ parts) =
     ap (λ t. text part ++ 32 ∷ t) (line_ends text next parts) ∙ sym (append_assoc (text part) (32 ∷ body text (next ∷ parts)) (10 ∷ []))
 
-no_name : (b : Bool) → not b ≡ true → b ≡ false
-no_name true is = absurd (cc)
-no_name false is = refl
-
 kept : {A B : Type 0} (f : A → B) (b : Bool) (x : A) (xs : List A) → cond b (f x ∷ []) [] ++ map f xs ≡ map f (cond b (x ∷ xs) xs)
 kept f true x xs = refl
 kept f false x xs = refl
@@ -61,7 +57,7 @@ module _ (canton : Canton) (text : SheetPart → List ℕ) where
   all_spelled words last (part ∷ []) of laid = last part of.0
   all_spelled words last (part ∷ (next ∷ parts)) of laid =
       let both = and_parts (not (is_name_part part)) (is_laid_out (next ∷ parts)) laid in
-      (words part of.0 (no_name (is_name_part part) both.0), all_spelled words last (next ∷ parts) of.1 both.1)
+      (words part of.0 (not-true (is_name_part part) both.0), all_spelled words last (next ∷ parts) of.1 both.1)
 
   plain : (parts : List SheetPart) → AreSpelled canton text parts → IsPlain (body text parts)
   plain [] are = absurd are

@@ -1,5 +1,5 @@
 -- What is read word by word.
-use Rattle.std.proofs.Common.{◌≡◌, ℕ, ◌+◌, ◌<◌, Bool, cond, List, [], ◌∷◌, ◌++◌, drop, get_or, length, map, refl, sym, ap, ◌∙◌, append_assoc, append-nil}
+use Rattle.std.proofs.Common.{◌≡◌, ℕ, ◌+◌, ◌<◌, Bool, cond, List, [], ◌∷◌, ◌++◌, drop, get_or, length, map, refl, sym, ap, ◌∙◌, append_assoc, append-nil, subst}
 use Rattle.std.proofs.lemmas.List.{at_drop_more, map-append}
 use Rattle.zh_sheet_text.specs.Layout.{SheetLine}
 use Rattle.zh_sheet_text.specs.declared.part.SheetPart.{SheetPart}
@@ -36,23 +36,22 @@ adds_none values = record {
 -- some words, and then others
 pub adds_then : (some others all : (SheetPart → Bool) → List (List ℕ)) (old one new : Values) → ((test : SheetPart → Bool) → some test ++ others test ≡ all test) →
     AddsWords some old one → AddsWords others one new → AddsWords all old new
-adds_then some others all old one new are first second = record {
-  desk = last_then number_of_word (some (is_like Desk)) (others (is_like Desk)) old.head.desk one.head.desk new.head.desk first.desk second.desk
-      ∙ ap (λ ws. latest old.head.desk (map number_of_word ws)) (are (is_like Desk));
-  is_final = last_then is_final_word (some (is_like Kind)) (others (is_like Kind)) old.head.is_final one.head.is_final new.head.is_final first.is_final second.is_final
-      ∙ ap (λ ws. latest old.head.is_final (map is_final_word ws)) (are (is_like Kind));
-  accepted = last_then number_of_word (some (is_like Accepted)) (others (is_like Accepted)) old.head.accepted one.head.accepted new.head.accepted first.accepted second.accepted
-      ∙ ap (λ ws. latest old.head.accepted (map number_of_word ws)) (are (is_like Accepted));
-  rows = all_then number_of_word (some (is_like (ConstituencyDivisor 0))) (others (is_like (ConstituencyDivisor 0))) old.row_divisors.items one.row_divisors.items new.row_divisors.items first.rows second.rows
-      ∙ ap (λ ws. old.row_divisors.items ++ map number_of_word ws) (are (is_like (ConstituencyDivisor 0)));
-  groups = all_then number_of_word (some (is_like (GroupDivisor 0))) (others (is_like (GroupDivisor 0))) old.group_divisors.items one.group_divisors.items new.group_divisors.items
-      first.groups second.groups
-      ∙ ap (λ ws. old.group_divisors.items ++ map number_of_word ws) (are (is_like (GroupDivisor 0)));
-  votes = all_then number_of_word (some (is_like (ListVotes 0 0))) (others (is_like (ListVotes 0 0))) old.votes.items one.votes.items new.votes.items first.votes second.votes
-      ∙ ap (λ ws. old.votes.items ++ map number_of_word ws) (are (is_like (ListVotes 0 0)));
-  seats = all_then seats_of_word (some (is_like (ListSeats 0 0))) (others (is_like (ListSeats 0 0))) old.seats.items one.seats.items new.seats.items first.seats second.seats
-      ∙ ap (λ ws. old.seats.items ++ map seats_of_word ws) (are (is_like (ListSeats 0 0)));
-}
+adds_then some others all old one new are first second =
+    let same : (λ (test : SheetPart → Bool). some test ++ others test) ≡ all = λ i test. are test i in
+    let row : SheetPart → Bool = is_like (ConstituencyDivisor 0) in
+    let group : SheetPart → Bool = is_like (GroupDivisor 0) in
+    let votes : SheetPart → Bool = is_like (ListVotes 0 0) in
+    let seats : SheetPart → Bool = is_like (ListSeats 0 0) in
+    let both : AddsWords (λ test. some test ++ others test) old new = record {
+      desk = last_then number_of_word (some (is_like Desk)) (others (is_like Desk)) old.head.desk one.head.desk new.head.desk first.desk second.desk;
+      is_final = last_then is_final_word (some (is_like Kind)) (others (is_like Kind)) old.head.is_final one.head.is_final new.head.is_final first.is_final second.is_final;
+      accepted = last_then number_of_word (some (is_like Accepted)) (others (is_like Accepted)) old.head.accepted one.head.accepted new.head.accepted first.accepted second.accepted;
+      rows = all_then number_of_word (some row) (others row) old.row_divisors.items one.row_divisors.items new.row_divisors.items first.rows second.rows;
+      groups = all_then number_of_word (some group) (others group) old.group_divisors.items one.group_divisors.items new.group_divisors.items first.groups second.groups;
+      votes = all_then number_of_word (some votes) (others votes) old.votes.items one.votes.items new.votes.items first.votes second.votes;
+      seats = all_then seats_of_word (some seats) (others seats) old.seats.items one.seats.items new.seats.items first.seats second.seats;
+    } in
+    subst (λ words. AddsWords words old new) same both
 
 -- the words that are left, of a line and of a text
 pub next_word : (test : SheetPart → Bool) (parts : List SheetPart) (k : ℕ) (d : SheetPart) (rest : List ℕ) → k < length parts →

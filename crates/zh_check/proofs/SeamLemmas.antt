@@ -1,35 +1,27 @@
 -- A text that is cut at a byte: its lines, and the words of a line.
-use Rattle.std.proofs.Common.{◌≡◌, ℕ, suc, ◌+◌, ◌<◌, ◌≤◌, true, false, All, List, [], ◌∷◌, ◌++◌, length, take, drop, refl, ap, ◌∙◌, arith}
+use Rattle.std.proofs.Common.{◌≡◌, ℕ, ◌+◌, ◌<◌, ◌≤◌, All, List, [], ◌∷◌, ◌++◌, length, get_or, take, drop, refl, ap, sym, ◌∙◌, arith, append_assoc, drop_at, length-append}
 use Rattle.std.specs.Prelude.{◌==◌}
 use Rattle.std.specs.List.{after_first, before_first, position_or_len}
 use Rattle.std.proofs.lemmas.Bool.{eq-eqb, ne_eqb}
-use Rattle.std.proofs.lemmas.List.{take_all}
-use Rattle.std.proofs.lemmas.List.Elements.{All-head, All-tail}
-use Rattle.std.proofs.Math.Seq.{take-append_seam}
+use Rattle.std.proofs.lemmas.List.{get_or_append_left, take_all}
+use Rattle.std.proofs.lemmas.List.Sums.{position_or_len_is}
+use Rattle.std.proofs.Math.Seq.{get_or-append_seam, take-append_seam}
 use Rattle.zh_check.specs.Lines.{after_line, after_word, first_line, leading_word}
 
 -- the place of a byte that stands nowhere before
 seam_at : (c : ℕ) (xs rest : List ℕ) → All (λ b. c < b) xs → position_or_len (λ b. b == c) (xs ++ c ∷ rest) ≡ length xs
-seam_at c [] rest above = let here : (c == c) ≡ true = eq-eqb c c refl in rw here refl
-seam_at c (b ∷ xs) rest above =
-    let high : c < b = All-head (λ b. c < b) b xs above in
-    let more = seam_at c xs rest (All-tail (λ b. c < b) b xs above) in
-    let no : (b == c) ≡ false = ne_eqb b c (λ e. absurd (omega (arith, e, high))) in
-    rw no (omega (arith, more))
+seam_at c xs rest above =
+    position_or_len_is (λ b. b == c) (xs ++ c ∷ rest) (length xs) 0 (omega (arith, length-append xs (c ∷ rest)))
+    (λ k lt. ne_eqb (get_or (xs ++ c ∷ rest) k 0) c (λ e. absurd (omega (arith, e, get_or_append_left xs (c ∷ rest) 0 k lt, above k 0 lt))))
+    (λ there. eq-eqb (get_or (xs ++ c ∷ rest) (length xs) 0) c (get_or-append_seam xs c rest 0))
 
 nowhere : (c : ℕ) (xs : List ℕ) → All (λ b. c < b) xs → position_or_len (λ b. b == c) xs ≡ length xs
-nowhere c [] above = refl
-nowhere c (b ∷ xs) above =
-    let high : c < b = All-head (λ b. c < b) b xs above in
-    let more = nowhere c xs (All-tail (λ b. c < b) b xs above) in
-    let no : (b == c) ≡ false = ne_eqb b c (λ e. absurd (omega (arith, e, high))) in
-    rw no (omega (arith, more))
+nowhere c xs above =
+    position_or_len_is (λ b. b == c) xs (length xs) 0 (omega arith) (λ k lt. ne_eqb (get_or xs k 0) c (λ e. absurd (omega (arith, e, above k 0 lt))))
+    (λ there. absurd (omega (arith, there)))
 
 past_seam : (xs : List ℕ) (y : ℕ) (ys : List ℕ) → drop (length xs + 1) (xs ++ y ∷ ys) ≡ ys
-past_seam [] y ys = refl
-past_seam (x ∷ xs) y ys =
-    let next : suc (length xs) + 1 ≡ suc (length xs + 1) = omega arith in
-    ap (λ n. drop n (x ∷ (xs ++ y ∷ ys))) next ∙ past_seam xs y ys
+past_seam xs y ys = ap (drop (length xs + 1)) (sym (append_assoc xs (y ∷ []) ys)) ∙ drop_at (xs ++ y ∷ []) ys (length xs + 1) (length-append xs (y ∷ []))
 
 seam_front : (c : ℕ) (xs rest : List ℕ) → All (λ b. c < b) xs → before_first (λ b. b == c) (xs ++ c ∷ rest) ≡ xs
 seam_front c xs rest above = ap (λ n. take n (xs ++ c ∷ rest)) (seam_at c xs rest above) ∙ take-append_seam xs (c ∷ rest)

@@ -1,18 +1,20 @@
 -- What is read of the text of a sheet is what the sheet says.
-use Rattle.std.proofs.Common.{◌≡◌, ℕ, ◌+◌, ◌-◌, ◌*◌, ◌^◌, ◌<◌, ◌≤◌, All, Bool, true, false, cond, List, [], ◌∷◌, length, get_or, map, filter, flat_map, min, Option, refl, sym, ap, ◌∙◌, inl, inr, arith, mul_comm, decimal}
-use Rattle.std.specs.Prelude.{codes, nat_lt}
+use Rattle.std.proofs.Common.{◌≡◌, ℕ, ◌+◌, ◌-◌, ◌*◌, ◌^◌, ◌<◌, ◌≤◌, All, Bool, true, false, cond, Option, refl, sym, ap, ◌∙◌, arith, mul_comm, decimal}
+use Rattle.std.proofs.Common.{List, [], ◌∷◌, length, get_or, map, flat_map, min}
+use Rattle.std.specs.Prelude.{codes}
 use Rattle.std.specs.List.{range_with_len}
 use Rattle.std.specs.Option.{option_map_or}
-use Rattle.std.proofs.lemmas.Bool.{cases_lt, le-ltb, lt-ltb}
-use Rattle.std.proofs.lemmas.List.{get_or-map, length-map}
-use Rattle.std.proofs.lemmas.List.FromFn.{get_or-range_with_len, length-range_with_len}
+use Rattle.std.proofs.lemmas.List.{ext_get_or, get_or-map}
+use Rattle.std.proofs.lemmas.List.FromFn.{get_or-map-range_with_len, length-map-range_with_len}
+use Rattle.std.proofs.lemmas.Nat.{mul-add-lt}
+use Rattle.std.proofs.lemmas.Simd.{map-map}
 use Rattle.std.proofs.Math.Nat.{min-eq_left}
 use Rattle.zh_districts.specs.Canton.{Canton, stands}
-use Rattle.zh_records.proofs.CallerLemmas.{HasWidth, in_block}
 use Rattle.zh_sheet.specs.Distribution.{Distribution, IsDistribution, seated_groups}
 use Rattle.zh_sheet.specs.Given.{IsPublished, given_lists}
 use Rattle.zh_sheet.specs.Readings.{column_of, list_seats}
-use Rattle.zh_sheet_text.specs.Layout.{sheet_lines}
+use Rattle.zh_sheet.proofs.CallerLemmas.{seated_are}
+use Rattle.zh_sheet_text.specs.Layout.{SheetLine, sheet_lines}
 use Rattle.zh_sheet_text.specs.SheetText.{divisor_text, part_text, sheet_text}
 use Rattle.zh_sheet_text.specs.declared.part.SheetPart.{SheetPart}
 use Rattle.zh_sheet_text.specs.declared.parts.Head.{Head}
@@ -22,17 +24,16 @@ use Rattle.zh_totals.specs.Totals.{place_in, votes_in}
 use Rattle.zh_totals.proofs.CallerLemmas.{group_most}
 use Rattle.zh_check.specs.Form.{IsFormed}
 use Rattle.zh_check.specs.Lines.{leading_word, number_of_word}
-use Rattle.zh_check.specs.Reading.{column_divisors, group_divisors_read, head_read, is_like, latest, row_divisors_read, seats_in_columns, seats_of_word, seats_read, votes_read, words_at}
-use Rattle.zh_check.proofs.ColumnLemmas.{divisor_at_place, divisor_none, group_count, positives-divisors, seated_divisor}
-use Rattle.zh_check.proofs.Divisors.{divisor_or_0, group_divisors}
-use Rattle.zh_check.proofs.ListLemmas.{all_seats, all_seats_are, all_votes_are}
+use Rattle.zh_check.specs.Reading.{column_divisors, group_divisors_read, head_read, is_like, latest, lists_read, row_divisors_read, seats_in_columns, seats_of_word, seats_read, votes_read, words_at}
+use Rattle.zh_check.proofs.ColumnLemmas.{columns_are, divisor_or_0, group_count, group_divisors, same_seated, seats_at}
 use Rattle.zh_check.proofs.NumeralLemmas.{decimal_read, number_read}
 use Rattle.zh_check.proofs.PartLemmas.{IsShown, all_shown, found_words, lines_formed, lines_read}
-use Rattle.zh_check.proofs.RangeLemmas.{filter_same, flat_same, map_flat, map_same, range_same, tabulated, two_maps}
 use Rattle.zh_check.proofs.SeamLemmas.{no_word, word_alone}
 use Rattle.zh_check.proofs.SectionLemmas.{group_numbers, kinds, only_first, only_groups, only_lists, only_rows, row_numbers}
 use Rattle.zh_check.proofs.ShownLemmas.{group_small, hidden_seats, row_small}
+use Rattle.zh_check.proofs.SizeLemmas.{length-votes}
 use Rattle.zh_check.proofs.SpelledLemmas.{last_spelled, spelled}
+use Rattle.zh_check.proofs.TableLemmas.{in_square, in_table, length-square, length-table, same_table, table}
 use Rattle.zh_check.proofs.WordLemmas.{decimal_word, divisor_or_dash, divisor_word, is_final_word, kind_word, read-divisor, read-divisor_or_dash}
 
 -- what is read of a word that is written
@@ -62,35 +63,41 @@ kind_shown is_final = ap is_final_word (word_alone (cond is_final (codes "final"
 abbrev said : Distribution → ℕ → Bool → ℕ → SheetPart → List ℕ
 said x desk is_final accepted = part_text x (record { desk = desk; is_final = is_final; accepted = accepted })
 
--- a table of numbers that the lines of the lists show
-table_is : {A : Type 0} (canton : Canton) (number : A → ℕ) (word : ℕ → ℕ → A) (value : ℕ → ℕ → ℕ) →
-    ((d g : ℕ) → 1 ≤ d → d ≤ length canton.constituencies → 1 ≤ g → g ≤ length canton.groups → number (word d g) ≡ value d g) →
-    map number (flat_map (λ d. map (word d) (group_numbers canton)) (row_numbers canton)) ≡ flat_map (λ d. map (value d) (group_numbers canton)) (row_numbers canton)
-table_is canton number word value each =
-    let m : ℕ = length canton.constituencies in
-    let n : ℕ = length canton.groups in
-    map_flat number (λ d. map (word d) (range_with_len 1 n)) (range_with_len 1 m)
-    ∙ flat_same (λ d. map number (map (word d) (range_with_len 1 n))) (λ d. map (value d) (range_with_len 1 n)) 1 m (λ d d_low d_high.
-    two_maps number (word d) (range_with_len 1 n)
-    ∙ range_same (λ g. number (word d g)) (value d) 1 n (λ g g_low g_high. each d g d_low (omega (arith, d_high)) g_low (omega (arith, g_high))))
+-- numbers that the words of some lines, and of a table of lines, give
+listed : (number : List ℕ → ℕ) (word : ℕ → List ℕ) (xs : List ℕ) → ((k : ℕ) → k < length xs → number (word (k + 1)) ≡ get_or xs k 0) →
+    map number (map word (range_with_len 1 (length xs))) ≡ xs
+listed number word xs each =
+    let value : ℕ → ℕ = λ k. number (word k) in
+    let long : length (map value (range_with_len 1 (length xs))) ≡ length xs = length-map-range_with_len value 1 (length xs) in
+    map-map number word (range_with_len 1 (length xs))
+    ∙ ext_get_or 0 (map value (range_with_len 1 (length xs))) xs long (λ k lt.
+    get_or-map-range_with_len value 1 (length xs) k (k + 1) 0 (omega (arith, lt, long)) (omega arith) ∙ each k (omega (arith, lt, long)))
 
-abbrev seat_table : Distribution → List ℕ
-seat_table x = flat_map (λ d. map (list_seats x d) (range_with_len 1 (length x.totals.canton.groups))) (range_with_len 1 (length x.totals.canton.constituencies))
+tabled : (number : List ℕ → ℕ) (word : ℕ → ℕ → List ℕ) (columns rows d g : ℕ) → d < rows → g < columns →
+    get_or (map number (table word (range_with_len 1 columns) rows)) (d * columns + g) 0 ≡ number (word (d + 1) (g + 1))
+tabled number word columns rows d g row column =
+    let words : List (List ℕ) = table word (range_with_len 1 columns) rows in
+    let within : d * columns + g < length words = omega (arith, length-square word columns rows, mul-add-lt d columns g rows row column, mul_comm columns rows) in
+    get_or-map number words (d * columns + g) [] 0 within ∙ ap number (in_square word columns rows d g [] row column)
 
 -- the votes of a list that stands or not, and its seats
-votes_shown : (x : Distribution) → IsPublished x → (d g : ℕ) → 1 ≤ d → d ≤ length x.totals.canton.constituencies → 1 ≤ g → g ≤ length x.totals.canton.groups →
-    (b : Bool) → stands x.totals.canton d g ≡ b → number_of_word (leading_word (cond b (decimal (votes_in x.totals d g)) [])) ≡ votes_in x.totals d g
-votes_shown x is d g d_low d_high g_low g_high true here =
-    number_shown (votes_in x.totals d g) (omega (arith, group_most x.totals d g is.distribution.totals d_low d_high g_low g_high))
-votes_shown x is d g d_low d_high g_low g_high false away = nothing_shown ∙ sym (is.votes d d_low d_high g g_low g_high away)
+votes_shown : (x : Distribution) → IsPublished x → (d g : ℕ) → d < length x.totals.canton.constituencies → g < length x.totals.canton.groups →
+    (b : Bool) → stands x.totals.canton (d + 1) (g + 1) ≡ b →
+    number_of_word (leading_word (cond b (decimal (votes_in x.totals (d + 1) (g + 1))) [])) ≡ votes_in x.totals (d + 1) (g + 1)
+votes_shown x is d g row column true here =
+    number_shown (votes_in x.totals (d + 1) (g + 1))
+    (omega (arith, group_most x.totals (d + 1) (g + 1) is.distribution.totals (omega arith) (omega (arith, row)) (omega arith) (omega (arith, column))))
+votes_shown x is d g row column false away =
+    nothing_shown ∙ sym (is.votes (d + 1) (omega arith) (omega (arith, row)) (g + 1) (omega arith) (omega (arith, column)) away)
 
-seats_shown : (x : Distribution) → IsPublished x → (d g : ℕ) → 1 ≤ d → d ≤ length x.totals.canton.constituencies → 1 ≤ g → g ≤ length x.totals.canton.groups →
-    (b : Bool) → stands x.totals.canton d g ≡ b → seats_of_word (leading_word (cond b (decimal (list_seats x d g)) [])) ≡ list_seats x d g
-seats_shown x is d g d_low d_high g_low g_high true here =
-    let few : list_seats x d g ≤ 400 = list_seats_small x is.distribution d g d_low d_high in
-    ap (λ n. min n 400) (number_shown (list_seats x d g) (omega (arith, few))) ∙ min-eq_left few
-seats_shown x is d g d_low d_high g_low g_high false away =
-    ap (λ n. min n 400) nothing_shown ∙ sym (hidden_seats x is d g d_low d_high g_low g_high away)
+seats_shown : (x : Distribution) → IsPublished x → (d g : ℕ) → d < length x.totals.canton.constituencies → g < length x.totals.canton.groups →
+    (b : Bool) → stands x.totals.canton (d + 1) (g + 1) ≡ b →
+    seats_of_word (leading_word (cond b (decimal (list_seats x (d + 1) (g + 1))) [])) ≡ list_seats x (d + 1) (g + 1)
+seats_shown x is d g row column true here =
+    let few : list_seats x (d + 1) (g + 1) ≤ 400 = list_seats_small x is.distribution (d + 1) (g + 1) (omega arith) (omega (arith, row)) in
+    ap (λ n. min n 400) (number_shown (list_seats x (d + 1) (g + 1)) (omega (arith, few))) ∙ min-eq_left few
+seats_shown x is d g row column false away =
+    ap (λ n. min n 400) nothing_shown ∙ sym (hidden_seats x is (d + 1) (g + 1) (omega arith) (omega (arith, row)) (omega arith) (omega (arith, column)) away)
 
 module _ (x : Distribution) (desk : ℕ) (is_final : Bool) (accepted : ℕ) (is : IsDistribution x) (low : 1 ≤ desk) (high : desk ≤ 8) (small : accepted < 2 ^ 64) where
   shown : All (IsShown x.totals.canton (said x desk is_final accepted)) (sheet_lines x.totals.canton)
@@ -103,30 +110,34 @@ module _ (x : Distribution) (desk : ℕ) (is_final : Bool) (accepted : ℕ) (is 
   pub sheet_formed : IsFormed x.totals.canton (sheet_text x desk is_final accepted)
   sheet_formed = sym (lines_formed x.totals.canton (said x desk is_final accepted) (sheet_lines x.totals.canton) shown)
 
-  words : (test : SheetPart → Bool) →
-      words_at test (sheet_lines x.totals.canton) (sheet_text x desk is_final accepted) ≡ flat_map (found_words (said x desk is_final accepted) test) (sheet_lines x.totals.canton)
-  words test = lines_read x.totals.canton (said x desk is_final accepted) test (sheet_lines x.totals.canton) shown
+  -- the words that the lines have at the parts of a kind
+  abbrev in_line : (SheetPart → Bool) → SheetLine → List (List ℕ)
+  in_line test line = found_words (said x desk is_final accepted) test line
+
+  words : (test : SheetPart → Bool) (are : List (List ℕ)) → flat_map (in_line test) (sheet_lines x.totals.canton) ≡ are →
+      words_at test (sheet_lines x.totals.canton) (sheet_text x desk is_final accepted) ≡ are
+  words test are same = lines_read x.totals.canton (said x desk is_final accepted) test (sheet_lines x.totals.canton) shown ∙ same
 
   -- the first line
   pub desk_is : (head_read x.totals.canton (sheet_text x desk is_final accepted)).desk ≡ desk
   desk_is =
+      let first : List (List ℕ) = leading_word (decimal desk) ∷ [] in
       ap (λ ws. latest 0 (map number_of_word ws))
-      (words (is_like Desk) ∙ (kinds (found_words (said x desk is_final accepted) (is_like Desk)) x.totals.canton refl refl refl refl (λ n. refl) refl
-      ∙ only_first x.totals.canton (leading_word (decimal desk) ∷ [])))
+      (words (is_like Desk) first (kinds (in_line (is_like Desk)) x.totals.canton refl refl refl refl (λ n. refl) refl ∙ only_first x.totals.canton first))
       ∙ number_shown desk (omega (arith, high))
 
   pub final_is : (head_read x.totals.canton (sheet_text x desk is_final accepted)).is_final ≡ is_final
   final_is =
+      let first : List (List ℕ) = leading_word (cond is_final (codes "final") (codes "provisional")) ∷ [] in
       ap (λ ws. latest false (map is_final_word ws))
-      (words (is_like Kind) ∙ (kinds (found_words (said x desk is_final accepted) (is_like Kind)) x.totals.canton refl refl refl refl (λ n. refl) refl
-      ∙ only_first x.totals.canton (leading_word (cond is_final (codes "final") (codes "provisional")) ∷ [])))
+      (words (is_like Kind) first (kinds (in_line (is_like Kind)) x.totals.canton refl refl refl refl (λ n. refl) refl ∙ only_first x.totals.canton first))
       ∙ kind_shown is_final
 
   pub accepted_is : (head_read x.totals.canton (sheet_text x desk is_final accepted)).accepted ≡ accepted
   accepted_is =
+      let first : List (List ℕ) = leading_word (decimal accepted) ∷ [] in
       ap (λ ws. latest 0 (map number_of_word ws))
-      (words (is_like Accepted) ∙ (kinds (found_words (said x desk is_final accepted) (is_like Accepted)) x.totals.canton refl refl refl refl (λ n. refl) refl
-      ∙ only_first x.totals.canton (leading_word (decimal accepted) ∷ [])))
+      (words (is_like Accepted) first (kinds (in_line (is_like Accepted)) x.totals.canton refl refl refl refl (λ n. refl) refl ∙ only_first x.totals.canton first))
       ∙ number_shown accepted small
 
   -- the divisors of the constituencies, and those of the groups
@@ -134,114 +145,77 @@ module _ (x : Distribution) (desk : ℕ) (is_final : Bool) (accepted : ℕ) (is 
   rows_are =
       let rows : List ℕ = x.lower.divisors.of_rows in
       let f : ℕ → List ℕ = λ d. leading_word (divisor_text (get_or rows (d - 1) 0)) in
-      let long : length rows ≡ length x.totals.canton.constituencies = is.limits.rows.one_each in
+      let test : SheetPart → Bool = is_like (ConstituencyDivisor 0) in
       ap (map number_of_word)
-      (words (is_like (ConstituencyDivisor 0)) ∙ (kinds (found_words (said x desk is_final accepted) (is_like (ConstituencyDivisor 0))) x.totals.canton refl refl refl refl (λ n. refl) refl
-      ∙ only_rows x.totals.canton f))
-      ∙ (two_maps number_of_word f (row_numbers x.totals.canton)
-      ∙ (ap (λ m. map (λ d. number_of_word (f d)) (range_with_len 1 m)) (sym long)
-      ∙ tabulated (λ d. number_of_word (f d)) rows (λ k lt.
+      (words test (map f (row_numbers x.totals.canton)) (kinds (in_line test) x.totals.canton refl refl refl refl (λ n. refl) refl ∙ only_rows x.totals.canton f))
+      ∙ (ap (λ m. map number_of_word (map f (range_with_len 1 m))) (sym is.limits.rows.one_each)
+      ∙ listed number_of_word f rows (λ k lt.
       let place : k + 1 - 1 ≡ k = omega arith in
-      divisor_shown (get_or rows (k + 1 - 1) 0) (row_small x is (k + 1 - 1)) ∙ ap (λ j. get_or rows j 0) place)))
+      divisor_shown (get_or rows (k + 1 - 1) 0) (row_small x is (k + 1 - 1)) ∙ ap (λ j. get_or rows j 0) place))
 
   groups_are : group_divisors_read x.totals.canton (sheet_text x desk is_final accepted) ≡ group_divisors x (length x.totals.canton.groups)
   groups_are =
       let f : ℕ → List ℕ = λ g. leading_word (said x desk is_final accepted (GroupDivisor g)) in
+      let test : SheetPart → Bool = is_like (GroupDivisor 0) in
+      let same : (g : ℕ) → number_of_word (f g) ≡ divisor_or_0 x g
+      = λ g. dash_shown (λ k. get_or x.lower.divisors.of_columns k 0) (column_of x g) (group_small x is g) in
       ap (map number_of_word)
-      (words (is_like (GroupDivisor 0)) ∙ (kinds (found_words (said x desk is_final accepted) (is_like (GroupDivisor 0))) x.totals.canton refl refl refl refl (λ n. refl) refl
-      ∙ only_groups x.totals.canton f))
-      ∙ (two_maps number_of_word f (group_numbers x.totals.canton)
-      ∙ map_same (λ g. number_of_word (f g)) (divisor_or_0 x) (group_numbers x.totals.canton)
-      (λ g. dash_shown (λ k. get_or x.lower.divisors.of_columns k 0) (column_of x g) (group_small x is g)))
+      (words test (map f (group_numbers x.totals.canton)) (kinds (in_line test) x.totals.canton refl refl refl refl (λ n. refl) refl ∙ only_groups x.totals.canton f))
+      ∙ (map-map number_of_word f (group_numbers x.totals.canton) ∙ (λ i. map (λ g. same g i) (group_numbers x.totals.canton)))
 
   -- the votes of the lists, and their seats
   pub votes_are : IsPublished x → votes_read x.totals.canton (sheet_text x desk is_final accepted) ≡ x.totals.votes
   votes_are published =
+      let m : ℕ = length x.totals.canton.constituencies in
+      let n : ℕ = length x.totals.canton.groups in
       let f : ℕ → ℕ → List ℕ = λ d g. leading_word (cond (stands x.totals.canton d g) (decimal (votes_in x.totals d g)) []) in
-      ap (map number_of_word)
-      (words (is_like (ListVotes 0 0)) ∙ (kinds (found_words (said x desk is_final accepted) (is_like (ListVotes 0 0))) x.totals.canton refl refl refl refl (λ n. refl) refl ∙ only_lists x.totals.canton f))
-      ∙ (table_is x.totals.canton number_of_word f (votes_in x.totals)
-      (λ d g d_low d_high g_low g_high. votes_shown x published d g d_low d_high g_low g_high (stands x.totals.canton d g) refl)
-      ∙ all_votes_are x is)
+      let test : SheetPart → Bool = is_like (ListVotes 0 0) in
+      let read = words test (table f (range_with_len 1 n) m) (kinds (in_line test) x.totals.canton refl refl refl refl (λ n. refl) refl ∙ only_lists x.totals.canton f) in
+      same_table m n _ x.totals.votes (length-votes x.totals.canton (sheet_text x desk is_final accepted)) is.totals.one_each (λ d g row column.
+      let down : d + 1 - 1 ≡ d = omega arith in
+      let along : g + 1 - 1 ≡ g = omega arith in
+      ap (λ ws. get_or (map number_of_word ws) (d * n + g) 0) read
+      ∙ (tabled number_of_word f n m d g row column
+      ∙ (votes_shown x published d g row column (stands x.totals.canton (d + 1) (g + 1)) refl
+      ∙ (ap (λ r. get_or x.totals.votes (r * n + (g + 1 - 1)) 0) down ∙ ap (λ c. get_or x.totals.votes (d * n + c) 0) along))))
 
-  seats_are : IsPublished x → seats_read x.totals.canton (sheet_text x desk is_final accepted) ≡ seat_table x
-  seats_are published =
+  seats_are : IsPublished x → (d g : ℕ) → d < length x.totals.canton.constituencies → 1 ≤ g → g ≤ length x.totals.canton.groups →
+      get_or (seats_read x.totals.canton (sheet_text x desk is_final accepted)) (place_in x.totals.canton (d + 1) g) 0 ≡ list_seats x (d + 1) g
+  seats_are published d g row from_one there =
+      let m : ℕ = length x.totals.canton.constituencies in
+      let n : ℕ = length x.totals.canton.groups in
       let f : ℕ → ℕ → List ℕ = λ d g. leading_word (cond (stands x.totals.canton d g) (decimal (list_seats x d g)) []) in
-      ap (map seats_of_word)
-      (words (is_like (ListSeats 0 0)) ∙ (kinds (found_words (said x desk is_final accepted) (is_like (ListSeats 0 0))) x.totals.canton refl refl refl refl (λ n. refl) refl ∙ only_lists x.totals.canton f))
-      ∙ table_is x.totals.canton seats_of_word f (list_seats x)
-      (λ d g d_low d_high g_low g_high. seats_shown x published d g d_low d_high g_low g_high (stands x.totals.canton d g) refl)
+      let test : SheetPart → Bool = is_like (ListSeats 0 0) in
+      let read = words test (table f (range_with_len 1 n) m) (kinds (in_line test) x.totals.canton refl refl refl refl (λ n. refl) refl ∙ only_lists x.totals.canton f) in
+      let down : d + 1 - 1 ≡ d = omega arith in
+      let along : g - 1 + 1 ≡ g = omega (arith, from_one) in
+      let column : g - 1 < n = omega (arith, from_one, there) in
+      ap (λ ws. get_or (map seats_of_word ws) ((d + 1 - 1) * n + (g - 1)) 0) read
+      ∙ (ap (λ r. get_or (map seats_of_word (table f (range_with_len 1 n) m)) (r * n + (g - 1)) 0) down
+      ∙ (tabled seats_of_word f n m d (g - 1) row column
+      ∙ (seats_shown x published d (g - 1) row column (stands x.totals.canton (d + 1) (g - 1 + 1)) refl ∙ ap (list_seats x (d + 1)) along)))
 
-columns_are : (x : Distribution) → IsDistribution x → column_divisors (group_divisors x (length x.totals.canton.groups)) ≡ x.lower.divisors.of_columns
-columns_are x is = ap (λ n. column_divisors (group_divisors x n)) (sym (group_count x is)) ∙ positives-divisors x is
+  -- the seats of the lists in the columns of the seated groups
+  in_columns : IsPublished x →
+      seats_in_columns x.totals.canton (group_divisors x (length x.upper.seats)) (seats_read x.totals.canton (sheet_text x desk is_final accepted)) ≡ x.lower.seats
+  in_columns published =
+      let m : ℕ = length x.totals.canton.constituencies in
+      let seated : List ℕ = seated_groups x.upper.seats in
+      let seats : List ℕ = seats_read x.totals.canton (sheet_text x desk is_final accepted) in
+      let f : ℕ → ℕ → ℕ = λ d g. get_or seats (place_in x.totals.canton d g) 0 in
+      ap (λ gs. table f gs m) (same_seated x is)
+      ∙ same_table m (length seated) (table f seated m) x.lower.seats (length-table f seated m) is.lower.one_each (λ d j row column.
+      let group = seated_are x.upper.seats j 0 column in
+      in_table f seated m d j 0 row column
+      ∙ (seats_are published d (get_or seated j 0) row group.from_one (omega (arith, group.there, group_count x is)) ∙ seats_at x is d j column))
 
-table_at : (x : Distribution) (d g : ℕ) → 1 ≤ d → d ≤ length x.totals.canton.constituencies → 1 ≤ g → g ≤ length x.totals.canton.groups →
-    get_or (seat_table x) (place_in x.totals.canton d g) 0 ≡ list_seats x d g
-table_at x d g d_low d_high g_low g_high =
-    let m : ℕ = length x.totals.canton.constituencies in
-    let n : ℕ = length x.totals.canton.groups in
-    let row : ℕ → List ℕ = λ d. map (list_seats x d) (range_with_len 1 n) in
-    let wide : HasWidth row n = record { at = λ d. length-map (range_with_len 1 n) (list_seats x d) ∙ length-range_with_len 1 n } in
-    let turned : (d - 1) * n + (g - 1) ≡ n * (d - 1) + (g - 1) = omega (arith, mul_comm (d - 1) n) in
-    let row_number : get_or (range_with_len 1 m) (d - 1) 0 ≡ d = get_or-range_with_len 1 m (d - 1) 0 (omega arith) ∙ omega arith in
-    let column_number : get_or (range_with_len 1 n) (g - 1) 0 ≡ g = get_or-range_with_len 1 n (g - 1) 0 (omega arith) ∙ omega arith in
-    ap (λ p. get_or (seat_table x) p 0) turned
-    ∙ (in_block row n wide (range_with_len 1 m) (d - 1) (g - 1) 0 0 (omega (arith, length-range_with_len 1 m)) (omega arith)
-    ∙ (ap (λ e. get_or (row e) (g - 1) 0) row_number
-    ∙ (get_or-map (list_seats x d) (range_with_len 1 n) (g - 1) 0 0 (omega (arith, length-range_with_len 1 n)) ∙ ap (list_seats x d) column_number)))
-
--- a group has a divisor exactly where it has seats
-same_test : (x : Distribution) → IsDistribution x → (g : ℕ) → 1 ≤ g → g ≤ length x.totals.canton.groups →
-    nat_lt 0 (get_or (group_divisors x (length x.totals.canton.groups)) (g - 1) 0) ≡ nat_lt 0 (get_or x.upper.seats (g - 1) 0)
-same_test x is g low high =
-    let n : ℕ = length x.totals.canton.groups in
-    let p : ℕ = g - 1 in
-    let within : p < length x.upper.seats = omega (arith, low, high, group_count x is) in
-    let here : get_or (group_divisors x n) p 0 ≡ divisor_or_0 x (p + 1) = divisor_at_place x n p (omega (arith, low, high)) in
-    elim (cases_lt 0 (get_or x.upper.seats p 0)) [
-      | inl some ↦
-          lt-ltb 0 (get_or (group_divisors x n) p 0) (omega (arith, here, seated_divisor x is p within some))
-          ∙ sym (lt-ltb 0 (get_or x.upper.seats p 0) some)
-      | inr none ↦
-          le-ltb 0 (get_or (group_divisors x n) p 0) (omega (arith, here, divisor_none x p none))
-          ∙ sym (le-ltb 0 (get_or x.upper.seats p 0) none)
-    ]
-
-in_columns : (x : Distribution) → IsDistribution x →
-    seats_in_columns x.totals.canton (group_divisors x (length x.totals.canton.groups)) (seat_table x) ≡ all_seats x
-in_columns x is =
-    let m : ℕ = length x.totals.canton.constituencies in
-    let n : ℕ = length x.totals.canton.groups in
-    let divisors : List ℕ = group_divisors x n in
-    let long : length divisors ≡ n = length-map (range_with_len 1 n) (divisor_or_0 x) ∙ length-range_with_len 1 n in
-    let test : ℕ → Bool = λ g. nat_lt 0 (get_or divisors (g - 1) 0) in
-    let seated : ℕ → Bool = λ g. nat_lt 0 (get_or x.upper.seats (g - 1) 0) in
-    flat_same (λ d. map (λ g. get_or (seat_table x) (place_in x.totals.canton d g) 0) (seated_groups divisors))
-    (λ d. map (list_seats x d) (seated_groups x.upper.seats)) 1 m (λ d d_low d_high.
-    ap (λ k. map (λ g. get_or (seat_table x) (place_in x.totals.canton d g) 0) (filter test (range_with_len 1 k))) long
-    ∙ (filter_same (λ g. get_or (seat_table x) (place_in x.totals.canton d g) 0) (list_seats x d) test seated 1 n
-    (λ g g_low g_high. same_test x is g g_low (omega arith))
-    (λ g g_low g_high. table_at x d g d_low (omega arith) g_low (omega arith))
-    ∙ ap (λ k. map (list_seats x d) (filter seated (range_with_len 1 k))) (sym (group_count x is))))
-
--- the seats and divisors of the lists
-pub lower_is : (x : Distribution) (desk : ℕ) (is_final : Bool) (accepted : ℕ) → IsPublished x → 1 ≤ desk → desk ≤ 8 → accepted < 2 ^ 64 →
-    x.lower ≡ given_lists
-    (seats_in_columns x.totals.canton (group_divisors_read x.totals.canton (sheet_text x desk is_final accepted)) (seats_read x.totals.canton (sheet_text x desk is_final accepted)))
-    (row_divisors_read x.totals.canton (sheet_text x desk is_final accepted))
-    (column_divisors (group_divisors_read x.totals.canton (sheet_text x desk is_final accepted)))
-lower_is x desk is_final accepted published low high small =
-    let is : IsDistribution x = published.distribution in
-    let canton : Canton = x.totals.canton in
-    let text : List ℕ = sheet_text x desk is_final accepted in
-    let divisors : group_divisors_read canton text ≡ group_divisors x (length canton.groups) = groups_are x desk is_final accepted is low high small in
-    let seats : seats_in_columns canton (group_divisors_read canton text) (seats_read canton text) ≡ x.lower.seats
-    = ap (λ ds. seats_in_columns canton ds (seats_read canton text)) divisors
-    ∙ (ap (seats_in_columns canton (group_divisors x (length canton.groups))) (seats_are x desk is_final accepted is low high small published)
-    ∙ (in_columns x is ∙ all_seats_are x is)) in
-    let rows : row_divisors_read canton text ≡ x.lower.divisors.of_rows = rows_are x desk is_final accepted is low high small in
-    let columns : column_divisors (group_divisors_read canton text) ≡ x.lower.divisors.of_columns = ap column_divisors divisors ∙ columns_are x is in
-    ap (λ d. record { seats = x.lower.seats; divisors = d }) is.divisors
-    ∙ (ap (λ s. given_lists s x.lower.divisors.of_rows x.lower.divisors.of_columns) (sym seats)
-    ∙ (ap (λ r. given_lists (seats_in_columns canton (group_divisors_read canton text) (seats_read canton text)) r x.lower.divisors.of_columns) (sym rows)
-    ∙ ap (given_lists (seats_in_columns canton (group_divisors_read canton text) (seats_read canton text)) (row_divisors_read canton text)) (sym columns)))
+  -- the seats and divisors of the lists
+  pub lower_is : IsPublished x → x.lower ≡ lists_read x.totals.canton (sheet_text x desk is_final accepted)
+  lower_is published =
+      let canton : Canton = x.totals.canton in
+      let text : List ℕ = sheet_text x desk is_final accepted in
+      let divisors : group_divisors_read canton text ≡ group_divisors x (length x.upper.seats) = groups_are ∙ ap (group_divisors x) (sym (group_count x is)) in
+      let seats : seats_in_columns canton (group_divisors_read canton text) (seats_read canton text) ≡ x.lower.seats
+      = ap (λ ds. seats_in_columns canton ds (seats_read canton text)) divisors ∙ in_columns published in
+      let columns : column_divisors (group_divisors_read canton text) ≡ x.lower.divisors.of_columns = ap column_divisors divisors ∙ columns_are x is in
+      ap (λ d. record { seats = x.lower.seats; divisors = d }) is.divisors ∙ (λ i. given_lists (sym seats i) (sym rows_are i) (sym columns i))

@@ -13,7 +13,7 @@ use Rattle.zh_sheet.specs.Readings.{column_of, list_seats}
 use Rattle.zh_sheet.proofs.CallerLemmas.{at_seated_votes}
 use Rattle.zh_sheet_text.proofs.CallerLemmas.{each_at_most}
 use Rattle.zh_totals.specs.Totals.{votes_in}
-use Rattle.zh_check.proofs.Divisors.{divisor_or_0}
+use Rattle.zh_check.proofs.ColumnLemmas.{divisor_or_0}
 
 nothing_below : (n v c : ℕ) → n < 2 * (v * c) → v ≡ 0 → ⊥
 nothing_below n v c lt none =

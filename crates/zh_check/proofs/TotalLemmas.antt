@@ -1,9 +1,8 @@
 -- Sums of the seats of lists, by constituency and by group.
-use Rattle.std.proofs.Common.{◌≡◌, ℕ, ◌+◌, ◌*◌, ◌<◌, ◌≤◌, All, List, [], ◌∷◌, length, get_or, map, Option, Some, None, inr, sym, ap, ◌∙◌, arith}
+use Rattle.std.proofs.Common.{◌≡◌, ℕ, ◌+◌, ◌*◌, ◌≤◌, All, List, [], ◌∷◌, length, get_or, map, Option, Some, None, inr, sym, ap, ◌∙◌, arith}
 use Rattle.std.proofs.lemmas.List.Elements.{All-cons, All-nil}
-use Rattle.std.proofs.Math.Nat.{mul-le-mul_right}
 use Rattle.zh_districts.specs.Canton.{Canton}
-use Rattle.zh_divisors.proofs.CallerLemmas.{sum_to-ext}
+use Rattle.zh_divisors.specs.Sums.{sum_to}
 use Rattle.zh_sheet_text.specs.Layout.{sheet_lines}
 use Rattle.zh_sheet_text.specs.declared.part.SheetPart.TheVariants.{ListSeats}
 use Rattle.zh_check.specs.Lines.{after_lines, first_line}
@@ -20,34 +19,21 @@ few_of (word ∷ words) = All-cons (λ s. s ≤ 400) (seats_of_word word) (map s
 pub few_read : (canton : Canton) (text : List ℕ) → All (λ s. s ≤ 400) (seats_read canton text)
 few_read canton text = few_of (words_at (is_like (ListSeats 0 0)) (sheet_lines canton) text)
 
--- the places of a row and of a column
-pub row_there : (m n d g : ℕ) → d < m → g < n → d * n + g * 1 < m * n
-row_there m n d g there within =
-    let next : (d + 1) * n ≤ m * n = mul-le-mul_right n (omega (arith, there)) in
-    omega (arith, next, within)
-
-pub column_there : (m n g d : ℕ) → g < n → d < m → g * 1 + d * n < m * n
-column_there m n g d within there =
-    let next : (d + 1) * n ≤ m * n = mul-le-mul_right n (omega (arith, there)) in
-    omega (arith, next, within)
-
 -- the sums that are taken
 pub row_sum : (canton : Canton) (text seats : List ℕ) (groups : ℕ) → seats ≡ seats_read canton text → groups ≡ length canton.groups → (d : ℕ) →
     spaced_sum seats (d * groups) groups 1 ≡ constituency_sum canton text d
 row_sum canton text seats groups read same d =
-    ap (λ n. spaced_sum seats (d * n) n 1) same
-    ∙ sum_to-ext (length canton.groups) (λ k. get_or seats (d * length canton.groups + k * 1) 0) (λ g. get_or (seats_read canton text) (d * length canton.groups + g) 0)
-    (λ k lt. let place : d * length canton.groups + k * 1 ≡ d * length canton.groups + k = omega arith in
-    ap (λ p. get_or seats p 0) place ∙ ap (λ xs. get_or xs (d * length canton.groups + k) 0) read)
+    let n : ℕ = length canton.groups in
+    let place : (k : ℕ) → d * n + k * 1 ≡ d * n + k = λ k. omega arith in
+    ap (λ xs. spaced_sum xs (d * groups) groups 1) read
+    ∙ (ap (λ w. spaced_sum (seats_read canton text) (d * w) w 1) same ∙ (λ i. sum_to n (λ k. get_or (seats_read canton text) (place k i) 0)))
 
 pub column_sum : (canton : Canton) (text seats : List ℕ) (rows columns : ℕ) → seats ≡ seats_read canton text → rows ≡ length canton.constituencies →
     columns ≡ length canton.groups → (g : ℕ) → spaced_sum seats (g * 1) rows columns ≡ group_sum canton text g
-column_sum canton text seats rows columns read same_rows same g =
-    ap (λ n. spaced_sum seats (g * 1) rows n) same
-    ∙ (ap (λ m. spaced_sum seats (g * 1) m (length canton.groups)) same_rows
-    ∙ sum_to-ext (length canton.constituencies) (λ k. get_or seats (g * 1 + k * length canton.groups) 0) (λ d. get_or (seats_read canton text) (d * length canton.groups + g) 0)
-    (λ k lt. let place : g * 1 + k * length canton.groups ≡ k * length canton.groups + g = omega arith in
-    ap (λ p. get_or seats p 0) place ∙ ap (λ xs. get_or xs (k * length canton.groups + g) 0) read))
+column_sum canton text seats rows columns read tall wide g =
+    let place : (k : ℕ) → g * 1 + k * length canton.groups ≡ k * length canton.groups + g = λ k. omega arith in
+    ap (λ xs. spaced_sum xs (g * 1) rows columns) read
+    ∙ ((λ i. spaced_sum (seats_read canton text) (g * 1) (tall i) (wide i)) ∙ (λ i. sum_to (length canton.constituencies) (λ k. get_or (seats_read canton text) (place k i) 0)))
 
 -- the first sum that is not met
 pub off_among : (sum their : ℕ → ℕ) (totals text : List ℕ) (before line : ℕ) (unmet : Unmet) (off : OffTotal) → ((k : ℕ) → sum k ≡ their k) →

@@ -4,12 +4,12 @@ use Rattle.std.specs.Prelude.{IfSome}
 use Rattle.zh_districts.specs.Canton.{Canton}
 use Rattle.zh_matrices.specs.SeatMatrix.{SeatMatrix}
 use Rattle.zh_sheet.specs.Distribution.{Distribution}
-use Rattle.zh_sheet.specs.Given.{IsGiven, IsPublished, given_lists}
+use Rattle.zh_sheet.specs.Given.{IsGiven, IsPublished}
 use Rattle.zh_sheet_text.specs.Layout.{sheet_lines}
 use Rattle.zh_totals.specs.Totals.{VoteTotals}
 use Rattle.zh_sheet_text.specs.declared.part.SheetPart.TheVariants.{Accepted}
 use Rattle.zh_check.specs.Lines.{number_of_word}
-use Rattle.zh_check.specs.Reading.{column_divisors, group_divisors_read, head_read, is_like, latest, lists_read, row_divisors_read, seats_in_columns, seats_read, totals_read, words_at}
+use Rattle.zh_check.specs.Reading.{head_read, is_like, latest, lists_read, totals_read, words_at}
 use Rattle.zh_check.specs.Form.{FindsOffForm, IsFormed, IsOffForm}
 use Rattle.zh_check.specs.Others.{FindsOtherVotes, HasHeldVotes, HasOtherVotes}
 use Rattle.zh_check.specs.declared.checked.OtherVotes.{OtherVotes}
@@ -20,18 +20,6 @@ use Rattle.zh_check.specs.declared.checked.SheetVerdict.TheVariants as verdicts
 use Rattle.zh_check.specs.declared.checked.WrongLine.{WrongLine}
 use Rattle.zh_check.specs.declared.checked.RightSheet.{RightSheet}
 use Rattle.zh_check.proofs.SheetLemmas.{accepted_is, desk_is, final_is, lower_is, sheet_formed, votes_are}
-
--- what follows from what is read
-pub same_lists : (canton : Canton) (text divisors table rows seats columns : List ℕ) → divisors ≡ group_divisors_read canton text → table ≡ seats_read canton text →
-    rows ≡ row_divisors_read canton text → seats ≡ seats_in_columns canton divisors table → columns ≡ column_divisors divisors →
-    given_lists seats rows columns ≡ lists_read canton text
-same_lists canton text divisors table rows seats columns divisors_are table_is rows_are seats_are columns_are =
-    let all_seats : seats ≡ seats_in_columns canton (group_divisors_read canton text) (seats_read canton text)
-    = seats_are ∙ (ap (λ ds. seats_in_columns canton ds table) divisors_are ∙ ap (seats_in_columns canton (group_divisors_read canton text)) table_is) in
-    ap (λ s. given_lists s rows columns) all_seats
-    ∙ (ap (λ r. given_lists (seats_in_columns canton (group_divisors_read canton text) (seats_read canton text)) r columns) rows_are
-    ∙ ap (given_lists (seats_in_columns canton (group_divisors_read canton text) (seats_read canton text)) (row_divisors_read canton text))
-    (columns_are ∙ ap column_divisors divisors_are))
 
 -- seats that do not follow
 pub no_sheet : (canton : Canton) (text : List ℕ) (totals : VoteTotals) (lists : SeatMatrix) → totals ≡ totals_read canton text → lists ≡ lists_read canton text →
@@ -44,7 +32,8 @@ no_sheet canton text totals lists votes seats given = record {
 -- the sheet that follows
 pub one_sheet : (canton : Canton) (text : List ℕ) (totals : VoteTotals) (lists : SeatMatrix) (x : Distribution) (desk : ℕ) (is_final : Bool) (accepted : ℕ) →
     totals ≡ totals_read canton text → lists ≡ lists_read canton text → IsGiven totals lists (Some x) →
-    1 ≤ desk → desk ≤ 8 → desk ≡ (head_read canton text).desk → is_final ≡ (head_read canton text).is_final → accepted ≡ (head_read canton text).accepted → FindsSheet canton text (Some (record { sheet = x; desk = desk; is_final = is_final; accepted = accepted }))
+    1 ≤ desk → desk ≤ 8 → desk ≡ (head_read canton text).desk → is_final ≡ (head_read canton text).is_final → accepted ≡ (head_read canton text).accepted →
+    FindsSheet canton text (Some (record { sheet = x; desk = desk; is_final = is_final; accepted = accepted }))
 one_sheet canton text totals lists x desk is_final accepted votes seats given low high desk_same final_same accepted_same = record {
   some = record {
     votes = given.votes ∙ votes;
@@ -61,11 +50,7 @@ one_sheet canton text totals lists x desk is_final accepted votes seats given lo
       let desks : desk ≡ c.desk = desk_same ∙ sym is.read in
       let kinds : is_final ≡ c.is_final = final_same ∙ sym is.is_final in
       let counts : accepted ≡ c.accepted = accepted_same ∙ sym is.accepted in
-      ap Some
-      (ap (λ s. record { sheet = s; desk = desk; is_final = is_final; accepted = accepted }) sheet
-      ∙ (ap (λ d. record { sheet = c.sheet; desk = d; is_final = is_final; accepted = accepted }) desks
-      ∙ (ap (λ f. record { sheet = c.sheet; desk = c.desk; is_final = f; accepted = accepted }) kinds
-      ∙ ap (λ a. record { sheet = c.sheet; desk = c.desk; is_final = c.is_final; accepted = a }) counts)));
+      λ i. Some (record { sheet = sheet i; desk = desks i; is_final = kinds i; accepted = counts i });
 }
 
 -- a number that is read has at most 64 bits
@@ -84,7 +69,7 @@ own_text c desk accepted published =
     record {
       votes = ap (λ v. record { canton = c.sheet.totals.canton; votes = v })
           (sym (votes_are c.sheet c.desk c.is_final c.accepted is desk.0 desk.1 small published));
-      lists = lower_is c.sheet c.desk c.is_final c.accepted published desk.0 desk.1 small;
+      lists = lower_is c.sheet c.desk c.is_final c.accepted is desk.0 desk.1 small published;
       meets = published;
       desk = desk;
       read = sym (desk_is c.sheet c.desk c.is_final c.accepted is desk.0 desk.1 small);

@@ -1,9 +1,10 @@
-use Rattle.std.proofs.Common.{◌≡◌, ◌∙◌, ℕ, ◌+◌, ◌-◌, ◌≤◌, true, false, length, get_or, sym, ap, subst, arith}
+use Rattle.std.proofs.Common.{◌≡◌, ◌∙◌, ℕ, ◌+◌, ◌-◌, ◌≤◌, true, false, length, get_or, sym, ap, subst, arith, below_more}
+use Rattle.std.proofs.lemmas.Bool.{iff_false}
 use Rattle.zh_check.specs.Cells.{DoFollowAt, DoSeatsFollow, IsOffAs}
 use Rattle.zh_check.specs.Lines.{after_lines, first_line}
 use Rattle.zh_check.specs.Reading.{standing}
 use Rattle.zh_check.specs.declared.cells.ShownList.{ShownList}
-use Rattle.zh_check.proofs.CellLemmas.{few_places, hidden_follows, next_line_hidden, next_line_stands, off_follows, one_more, place_there}
+use Rattle.zh_check.proofs.CellLemmas.{few_places, next_line_hidden, next_line_stands, place_there}
 use Rattle.zh_check.proofs.SizeLemmas.{length-votes}
 use Rattle.zh_check.proofs.cells.first_off_list.Goals as goal
 use Rattle.zh_check.proofs.cells.first_off_list.Goals.{then-stands_at+else-not-do_seats_follow, else-stands_at}
@@ -39,7 +40,7 @@ returns-then-not-do_seats_follow c =
     record {
       place = k;
       there = place_there canton text c.as_slice-votes.result.now k (c.as_slice-votes.ensures.value ∙ c.requires.votes) c.loop-place-test.true;
-      not = λ follows. off_follows c.do_seats_follow.result _ c.do_seats_follow.ensures c.if-not-do_seats_follow.true
+      not = λ follows. iff_false c.do_seats_follow.ensures c.if-not-do_seats_follow.true
           (subst (λ (l : ShownList). DoSeatsFollow l) (sym c.list_at-list.ensures) (follows here));
       before = c.loop-place.invariant.follow;
       line = number ∙ c.loop-place.invariant.line;
@@ -60,13 +61,13 @@ loop-place-preserved c =
           record {
             line = omega (arith, w.before-is, c.loop-place.invariant.line, next_line_stands canton k there (sym c.stands_at.ensures ∙ w.if-stands_at.true));
             few = omega (arith, w.before-is, c.loop-place.invariant.few);
-            follow = one_more canton text k c.loop-place.invariant.follow follows;
+            follow = below_more (DoFollowAt canton text) k c.loop-place.invariant.follow follows;
           }
       | else-stands_at w ↦
           let away : get_or (standing canton) k false ≡ false = sym c.stands_at.ensures ∙ w.if-stands_at.false in
           record {
             line = omega (arith, w.before-is, c.loop-place.invariant.line, next_line_hidden canton k there away);
             few = omega (arith, w.before-is, c.loop-place.invariant.few);
-            follow = one_more canton text k c.loop-place.invariant.follow (hidden_follows canton text k away);
+            follow = below_more (DoFollowAt canton text) k c.loop-place.invariant.follow (λ here. absurd (cc));
           }
     ]

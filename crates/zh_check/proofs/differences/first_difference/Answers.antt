@@ -1,6 +1,6 @@
-use Rattle.std.proofs.Common.{◌≡◌, [], length, refl, ap, sym, ◌∙◌, arith}
-use Rattle.zh_check.specs.Lines.{after_line, first_line, whole_line}
-use Rattle.zh_check.proofs.DifferenceLemmas.{lines_more, same_more, same_texts, shorter}
+use Rattle.std.proofs.Common.{◌≡◌, [], length, refl, ap, sym, ◌∙◌, arith, below_more}
+use Rattle.zh_check.specs.Lines.{after_line, after_lines, first_line, whole_line}
+use Rattle.zh_check.proofs.DifferenceLemmas.{lines_more, same_texts, shorter}
 use Rattle.zh_check.proofs.differences.first_difference.Goals as goal
 
 pub loop-others-smaller : goal.loop-others-smaller
@@ -14,7 +14,7 @@ loop-others-preserved c =
       lines = c.next.ensures.rest ∙ (ap after_line before.lines ∙ sym (lines_more c.loop-others.before c.args.text.now));
       others = c.next-in-loop-others.ensures.rest ∙ (ap after_line before.others ∙ sym (lines_more c.loop-others.before c.args.expected.now));
       shown = c.next-in-loop-others-2.ensures.rest ∙ (ap after_line before.shown ∙ sym (lines_more c.loop-others.before c.args.shown.now));
-      same = same_more c.loop-others.before c.args.text.now c.args.expected.now before.same
+      same = below_more (λ k. whole_line (after_lines k c.args.text.now) ≡ whole_line (after_lines k c.args.expected.now)) c.loop-others.before before.same
           (sym (ap whole_line before.lines) ∙ (c.loop-others-test.ensures.same refl ∙ ap whole_line before.others));
       few = omega (arith, before.few, ap length c.next.ensures.rest, shorter c.loop-others.lines (c.loop-others-test.ensures.there refl));
     }

@@ -1,8 +1,7 @@
-use Rattle.std.proofs.Common.{◌<◌, ◌++◌, All, length, append-nil, ap, sym, ◌∙◌, subst, arith}
-use Rattle.std.proofs.lemmas.List.{drop_all}
+use Rattle.std.proofs.Common.{◌<◌, ◌++◌, All, length, ap, sym, ◌∙◌, subst, arith}
 use Rattle.zh_sheet_text.specs.Layout.{IsPartOf, SheetLine, end_line, sheet_lines}
 use Rattle.zh_sheet_text.proofs.CallerLemmas.{parts_at}
-use Rattle.zh_check.specs.Form.{in_forms, line_form}
+use Rattle.zh_check.specs.Form.{line_form}
 use Rattle.zh_check.specs.Lines.{after_if}
 use Rattle.zh_check.proofs.FormLemmas.{line_put}
 use Rattle.zh_check.proofs.form.formed.Goals as goal
@@ -19,11 +18,3 @@ loop-place-preserved c =
     line_put canton (sheet_lines canton) c.loop-place.place end_line c.loop-place.found.items c.push_line.new.text.items c.loop-place.lines c.push_line.new.lines _ there
     c.loop-place.invariant (c.in_ok-push_line.ensures.put ∙ ap (λ line. c.loop-place.found.items ++ line_form canton line c.loop-place.lines) c.line_at.ensures)
     (c.in_ok-push_line.ensures.rest ∙ ap (λ (line : SheetLine). after_if line.is_there c.loop-place.lines) c.line_at.ensures)
-
-pub returns : goal.returns
-returns c =
-    let canton = c.args.setup.now in
-    sym (append-nil c.loop-place.found.items)
-    ∙ (ap (λ ls. c.loop-place.found.items ++ in_forms canton ls c.loop-place.lines)
-    (sym (drop_all c.loop-place.place (sheet_lines canton) (omega (arith, c.loop-place-test.false, c.line_count-place-end.ensures.count))))
-    ∙ c.loop-place.invariant)

@@ -1,5 +1,5 @@
-use Rattle.std.proofs.Common.{◌≡◌, ℕ, ◌-◌, ◌^◌, [], ◌∷◌, min, take, get_or, ap, sym, ◌∙◌, arith}
-use Rattle.std.proofs.lemmas.List.{take_all, take_more}
+use Rattle.std.proofs.Common.{ℕ, ◌-◌, ◌^◌, [], ◌∷◌, min, take, get_or, ap, sym, ◌∙◌, arith}
+use Rattle.std.proofs.lemmas.List.{take_more}
 use Rattle.zh_check.specs.Lines.{digits_after}
 use Rattle.zh_check.proofs.DigitLemmas.{after_append}
 use Rattle.zh_check.proofs.lines.number_of_word.Goals as goal
@@ -10,8 +10,3 @@ loop-byte-preserved c =
     c.with_digit-number.ensures (digits_after 0 (take i c.args.word.now)) c.loop-byte.invariant
     ∙ ap (λ n. min n (2 ^ 64 - 1))
     (sym (after_append (take i c.args.word.now) (get_or c.args.word.now i 0 ∷ []) 0) ∙ ap (digits_after 0) (sym (take_more c.args.word.now i 0 (omega arith))))
-
-pub returns : goal.returns
-returns c =
-    let whole : take c.loop-byte.byte-index c.args.word.now ≡ c.args.word.now = take_all c.loop-byte.byte-index c.args.word.now (omega arith) in
-    c.loop-byte.invariant ∙ ap (λ w. min (digits_after 0 w) (2 ^ 64 - 1)) whole

@@ -1,8 +1,9 @@
-use Rattle.std.proofs.Common.{◌≡◌, ℕ, ◌+◌, ◌*◌, ◌<◌, ◌≤◌, All, length, sym, ap, subst, arith}
+use Rattle.std.proofs.Common.{◌≡◌, ℕ, ◌+◌, ◌*◌, ◌<◌, ◌≤◌, All, length, sym, ap, subst, arith, mul_comm}
+use Rattle.std.proofs.lemmas.Nat.{mul-add-lt}
 use Rattle.zh_check.specs.Reading.{lines_above}
 use Rattle.zh_check.specs.Totals.{group_sum, spaced_sum}
 use Rattle.zh_check.proofs.SizeLemmas.{length-seats}
-use Rattle.zh_check.proofs.TotalLemmas.{column_sum, column_there, few_read, off_among}
+use Rattle.zh_check.proofs.TotalLemmas.{column_sum, few_read, off_among}
 use Rattle.zh_check.proofs.reasons.first_off_group.Goals as goal
 
 pub first_unmet-requires-clause-few : goal.first_unmet-requires-clause-few
@@ -13,9 +14,8 @@ first_unmet-requires-clause-there c line k lt within =
     let m : ℕ = length c.args.setup.now.constituencies in
     let n : ℕ = length c.args.setup.now.groups in
     let place : line * 1 + k * c.groups-columns.result ≡ line * 1 + k * n = ap (λ g. line * 1 + k * g) c.groups-columns.ensures.count in
-    let there : line * 1 + k * n < m * n
-    = column_there m n line k (omega (arith, lt, c.requires.totals)) (omega (arith, within, c.constituencies-rows.ensures.count)) in
-    omega (arith, place, there, ap length c.requires.seats, length-seats c.args.setup.now c.args.text.now)
+    let there : k * n + line < n * m = mul-add-lt k n line m (omega (arith, within, c.constituencies-rows.ensures.count)) (omega (arith, lt, c.requires.totals)) in
+    omega (arith, place, there, mul_comm m n, ap length c.requires.seats, length-seats c.args.setup.now c.args.text.now)
 
 pub returns : goal.returns
 returns c =

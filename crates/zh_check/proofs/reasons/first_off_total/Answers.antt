@@ -4,7 +4,7 @@ use Rattle.std.proofs.lemmas.Result.{IfOk-weaker}
 use Rattle.zh_totals.specs.GivenVotes.{AreTotalsOf}
 use Rattle.zh_totals.specs.Totals.{VoteTotals}
 use Rattle.zh_check.specs.Reading.{lines_above, totals_read}
-use Rattle.zh_check.specs.Totals.{AreConstituencySeats, AreGroupSeats, AreMet, FindsConstituencySeats, FindsGroupSeats, FindsOffAmong, FindsOffTotal, HaveNoGroupSeats, constituency_sum, group_sum}
+use Rattle.zh_check.specs.Totals.{AreConstituencySeats, AreGroupSeats, AreMet, FindsGroupSeats, FindsOffAmong, FindsOffTotal, HaveNoGroupSeats, constituency_sum, group_sum}
 use Rattle.zh_check.proofs.TotalLemmas.{groups_found}
 use Rattle.zh_check.proofs.reasons.first_off_total.Goals as goal
 
@@ -17,7 +17,7 @@ returns-in-Some-4 c =
     let given : VoteTotals = record { canton = canton; votes = c.args.values.votes.items } in
     let totals = subst (λ t. AreTotalsOf given t) c.in-Some-3.is c.in_ok-totals.ensures in
     let read : c.in-Some-3.totals ≡ totals_read canton text = totals.0 ∙ ap (λ v. record { canton = canton; votes = v }) c.requires.votes in
-    let have : AreConstituencySeats canton rows = subst (λ f. FindsConstituencySeats canton f) c.in-Some.is c.in_ok-rows.ensures in
+    let have : AreConstituencySeats canton rows = rw c.in-Some.is at c.in_ok-rows.ensures in
     let found = subst (λ f. FindsGroupSeats c.in-Some-3.totals c.seats-2.result.now (option_map (λ u. u.items) f)) c.in-Some-4.is c.in_ok-columns.ensures in
     let groups : AreGroupSeats (totals_read canton text) rows upper
     = subst (λ t. AreGroupSeats t rows upper) read (subst (λ r. AreGroupSeats c.in-Some-3.totals r upper) c.seats-2.ensures found) in
@@ -42,7 +42,7 @@ returns c =
     let none = subst (λ f. FindsOffAmong (constituency_sum canton text) c.seats.result.now text (1 + lines_above canton) f) c.in_default-2.is c.in_ok-off.ensures in
     inr (record {
       seats = rows;
-      follow = subst (λ f. FindsConstituencySeats canton f) c.in-Some.is c.in_ok-rows.ensures;
+      follow = rw c.in-Some.is at c.in_ok-rows.ensures;
       met = subst (λ r. AreMet (constituency_sum canton text) r) c.seats.ensures none;
       groups = inr (inl (subst (λ t. HaveNoGroupSeats t) read found));
     })
