@@ -1,4 +1,5 @@
--- What an answer says that is a sheet, or reports a tie.
+-- What an answer says that is a sheet, or reports a tie. To a line without a command it is one of a few, which are gone through one
+-- by one; to a command it is the report of an outcome, which is neither.
 use Rattle.std.proofs.Common.{◌≡◌, ◌≢◌, ℕ, Bool, true, false, Option, Some, None, Result, Ok, Err, refl, sym, subst}
 use Rattle.zh_records.specs.declared.command.Command.{Command}
 use Rattle.zh_returns.specs.Tally.{Tally}
@@ -42,6 +43,10 @@ pub record StoresNone (totals : VoteTotals) (answer : Answer) : Type 0 where
   pub fair : IsFair totals answer
   pub unstored : (number : ℕ) → answer ≢ answers.Reply (Stored number)
 
+-- so is each answer that may be given
+abbrev pub AllStoreNone : VoteTotals → (Answer → Type 0) → Type 0
+AllStoreNone totals May = (answer : Answer) → May answer → StoresNone totals answer
+
 -- a reply that reports no tie
 fair_reply : (totals : VoteTotals) (reply : Reply) → ¬ IsTie (answers.Reply reply) → IsFair totals (answers.Reply reply)
 fair_reply totals reply none = record { sheet = λ sheet is_final is. absurd cc; tie = λ tie. absurd (none tie) }
@@ -66,7 +71,10 @@ pub same_fair : (totals : VoteTotals) (a b : Answer) → a ≡ b → StoresNone 
 same_fair totals a b is fair = subst (StoresNone totals) (sym is) fair
 
 -- a reply to what gives no command, where there is no sheet
-tie_fair : (totals : VoteTotals) (reply : Reply) → ((number : ℕ) → answers.Reply reply ≢ answers.Reply (Stored number)) → LeaveNoSeats totals → StoresNone totals (answers.Reply reply)
+tie_fair : (totals : VoteTotals) (reply : Reply)
+    → ((number : ℕ) → answers.Reply reply ≢ answers.Reply (Stored number))
+    → LeaveNoSeats totals
+    → StoresNone totals (answers.Reply reply)
 tie_fair totals reply other none = record { fair = record { sheet = λ sheet is_final is. absurd cc; tie = λ tie. none }; unstored = other }
 
 -- a sheet, or why there is none
@@ -94,8 +102,9 @@ made_fair totals is_final (Ok sheet) made = record {
 }
 made_fair totals is_final (Err fault) made = fault_fair totals fault made
 
-given_fair : (tally : Tally) (is_final : Bool) (answer : Answer) → MayGive tally is_final answer → StoresNone (totals_of tally) answer
-given_fair tally is_final answer (made, is, same) = same_fair (totals_of tally) answer (answer_with is_final made) same (made_fair (totals_of tally) is_final made is)
+given_fair : (tally : Tally) (is_final : Bool) → AllStoreNone (totals_of tally) (MayGive tally is_final)
+given_fair tally is_final answer (made, is, same) =
+    same_fair (totals_of tally) answer (answer_with is_final made) same (made_fair (totals_of tally) is_final made is)
 
 -- a plain reply reports neither
 plain_unmarked : (reply : Reply) → is_plain reply ≡ true → ¬ IsMarked (answers.Reply reply)
@@ -125,26 +134,33 @@ outcome_plain outcomes.Spent = λ no. no
 outcome_plain outcomes.Device = λ no. no
 outcome_plain outcomes.Broken = λ no. no
 
-where_fair : (broken : Bool) (tally : Tally) (batches : desks.Held) (line : Line) (answer : Answer) → MayAnswerWhere broken tally batches line answer → StoresNone (totals_of tally) answer
+where_fair : (broken : Bool) (tally : Tally) (batches : desks.Held) (line : Line)
+    → AllStoreNone (totals_of tally) (MayAnswerWhere broken tally batches line)
 where_fair true tally batches line answer may = same_fair (totals_of tally) answer _ may (plain (totals_of tally) _ (λ no. no))
 where_fair false tally batches line answer may =
     without_command tally (λ request answer. StoresNone (totals_of tally) answer) (answered_fair tally) batches line.desk line.request answer may
 
-pub may_fair : (office : Office) (reading : Result Line LineFault) (answer : Answer) → MayAnswer office reading answer → StoresNone (totals_of office.ledger.tally) answer
-may_fair office (Err lines.Syntax) answer may = same_fair (totals_of office.ledger.tally) answer _ may (plain (totals_of office.ledger.tally) _ (λ no. no))
-may_fair office (Err lines.Desk) answer may = same_fair (totals_of office.ledger.tally) answer _ may (plain (totals_of office.ledger.tally) _ (λ no. no))
+pub may_fair : (office : Office) (reading : Result Line LineFault) → AllStoreNone (totals_of office.ledger.tally) (MayAnswer office reading)
+may_fair office (Err lines.Syntax) answer may = same_fair _ answer _ may (plain (totals_of office.ledger.tally) _ (λ no. no))
+may_fair office (Err lines.Desk) answer may = same_fair _ answer _ may (plain (totals_of office.ledger.tally) _ (λ no. no))
 may_fair office (Ok line) answer may = where_fair office.ledger.store.broken office.ledger.tally office.held line answer may
 
 -- What is done in answer is fair to the count after it.
-pub acts_fair : (old new : OnDisk Ledger) (command : Option Command) (May : Answer → Type 0) (answer : Answer) (more : Log) → ((a : Answer) → May a → StoresNone (totals_of old.holder.tally) a) → Acts old command May answer more new
+pub acts_fair : (old new : OnDisk Ledger) (command : Option Command) (May : Answer → Type 0) (answer : Answer) (more : Log)
+    → AllStoreNone (totals_of old.holder.tally) May
+    → Acts old command May answer more new
     → IsFair (totals_of new.holder.tally) answer
-acts_fair old new None May answer more fair (may, none, same) = subst (λ (o : OnDisk Ledger). IsFair (totals_of o.holder.tally) answer) (sym same) (fair answer may).fair
+acts_fair old new None May answer more fair (may, none, same) =
+    subst (λ (o : OnDisk Ledger). IsFair (totals_of o.holder.tally) answer) (sym same) (fair answer may).fair
 acts_fair old new (Some command) May answer more fair (by, logs) =
     let totals = totals_of new.holder.tally in
     subst (IsFair totals) (sym by.reply) (fair_reply totals (reply_to by.outcome) (outcome_plain by.outcome))
 
 -- `stored` is the answer to a command.
-pub acts_stored : (old new : OnDisk Ledger) (command : Option Command) (May : Answer → Type 0) (answer : Answer) (more : Log) → ((a : Answer) → May a → StoresNone (totals_of old.holder.tally) a) → Acts old command May answer more new
-    → (number : ℕ) → answer ≡ answers.Reply (Stored number) → command ≢ None
+pub acts_stored : (old new : OnDisk Ledger) (command : Option Command) (May : Answer → Type 0) (answer : Answer) (more : Log)
+    → AllStoreNone (totals_of old.holder.tally) May
+    → Acts old command May answer more new
+    → (number : ℕ) → answer ≡ answers.Reply (Stored number)
+    → command ≢ None
 acts_stored old new None May answer more fair (may, none, same) number is = absurd ((fair answer may).unstored number is)
 acts_stored old new (Some command) May answer more fair (by, logs) number is = λ no. absurd cc

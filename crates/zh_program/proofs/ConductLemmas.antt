@@ -1,4 +1,5 @@
--- What is kept by an office that was opened on a disk, or refused.
+-- What is kept by an office that was opened on a disk, or refused: the headline, where a count stood on the disk, and no exchange,
+-- where none did. What holds of the opening, of each exchange since and of the end is put together.
 use Rattle.std.proofs.Common.{◌≡◌, ℕ, List, [], Ok, Err, IsTrue, refl, sym, ◌∙◌, ap, subst}
 use Rattle.zh_disk.specs.Disk.{Trail, Leaves, fresh_trail}
 use Rattle.zh_disk.specs.History.{History}
@@ -17,37 +18,55 @@ use Rattle.zh_program.specs.Order.{Conversation}
 use Rattle.zh_program.specs.Stopped.{Always}
 use Rattle.zh_program.proofs.EmptyLemmas.{always_now}
 use Rattle.zh_program.proofs.HeadlineLemmas.{headline_of}
-use Rattle.zh_program.proofs.OrderLemmas.{IsTold, talking}
+use Rattle.zh_program.proofs.OrderLemmas.{IsTold}
 use Rattle.zh_program.proofs.OpensLemmas.{opening_always, opening_holds, started}
-use Rattle.zh_program.proofs.TurnLemmas.{AreTurns, IsAt, at_rest}
+use Rattle.zh_program.proofs.TalkLemmas.{talking}
+use Rattle.zh_program.proofs.TurnLemmas.{AreTurns, AtRest, IsAt, at_rest}
 use Rattle.zh_ledger.proofs.CallerLemmas.{has_none}
+
+-- so it is where the disk was honest, and began with bytes that hold a count within the limits
+abbrev pub WhereHeld : History → History → (Tally → List ℕ → Type 0) → Type 0
+WhereHeld first last P = IsTrue last.honest → (bytes : List ℕ) → first.trail ≡ fresh_trail bytes
+    → (tally : Tally) → IsCanton tally.canton → Holds tally bytes → P tally bytes
+
+-- and so where it began with bytes in which no such count stands
+abbrev pub WhereNoneStood : History → History → Type 0 → Type 0
+WhereNoneStood first last P = IsTrue last.honest → (bytes : List ℕ) → first.trail ≡ fresh_trail bytes
+    → ((tally : Tally) → IsCanton tally.canton → ¬ HoldsFramed tally bytes) → P
 
 -- what is kept of a disk that began with the one history and has the other, where these exchanges came after its opening, in this
 -- conversation; and where no count stood there were none
 pub record Keeps (canton : Canton) (first last : History) (talk : Conversation) (xs : List Exchange) : Type 0 where
-  pub on_a_count : IsTrue last.honest → (bytes : List ℕ) → first.trail ≡ fresh_trail bytes → (tally : Tally) → IsCanton tally.canton → Holds tally bytes
-      → Headline tally (fresh_trail bytes) talk xs
-  pub idle : IsTrue last.honest → (bytes : List ℕ) → first.trail ≡ fresh_trail bytes → ((tally : Tally) → IsCanton tally.canton → ¬ HoldsFramed tally bytes) → xs ≡ []
+  pub on_a_count : WhereHeld first last (λ tally bytes. Headline tally (fresh_trail bytes) talk xs)
+  pub idle : WhereNoneStood first last (xs ≡ [])
 
 -- how an office goes on from its start
 abbrev pub GoesOnTo : OnDisk Office → List Exchange → OnDisk Office → Type 0
 GoesOnTo start xs end = (tally : Tally) → IsTrue end.history.honest → IsAt tally start.history.trail [] start
     → AreTurns tally start.history.trail [] xs × IsAt tally start.history.trail xs end
 
-pub opened_keeps : (canton : Canton) (first last : History) (start end : OnDisk Office) (xs : List Exchange) (old new : Streams) → IsCanton canton → IsFrom canton first last start end → GoesOnTo start xs end → IsTold xs (talking old new start.history.trail last.trail)
+pub opened_keeps : (canton : Canton) (first last : History) (start end : OnDisk Office) (xs : List Exchange) (old new : Streams)
+    → IsCanton canton
+    → IsFrom canton first last start end
+    → GoesOnTo start xs end
+    → IsTold xs (talking old new start.history.trail last.trail)
     → Keeps canton first last (talking old new start.history.trail last.trail) xs
 opened_keeps canton first last start end xs old new limits from goes told = record { on_a_count = kept; idle = stood }
   where
-    kept : IsTrue last.honest → (bytes : List ℕ) → first.trail ≡ fresh_trail bytes → (tally : Tally) → IsCanton tally.canton → Holds tally bytes → Headline tally (fresh_trail bytes) (talking old new start.history.trail last.trail) xs
+    kept : WhereHeld first last (λ tally bytes. Headline tally (fresh_trail bytes) (talking old new start.history.trail last.trail) xs)
     kept honest bytes fresh tally own holds =
-        let at = started canton first start from.begun (from.honest honest) bytes fresh tally limits own holds in
-        let then = goes tally (subst (λ (h : History). IsTrue h.honest) (sym from.ended) honest) at in
-        headline_of tally (fresh_trail bytes) (talking old new start.history.trail last.trail) xs (opening_always canton first start from.begun (from.honest honest) bytes fresh tally limits own holds) then.0
-        (then.1.disk ∙ ap (λ (h : History). h.trail) from.ended) told
+        let talk = talking old new start.history.trail last.trail in
+        let honest_start = from.honest honest in
+        let honest_end = subst (λ (h : History). IsTrue h.honest) (sym from.ended) honest in
+        let opening = opening_always canton first start from.begun honest_start bytes fresh tally limits own holds in
+        let at = started canton first start from.begun honest_start bytes fresh tally limits own holds in
+        let then = goes tally honest_end at in
+        headline_of tally (fresh_trail bytes) talk xs opening then.0 (then.1.disk ∙ ap (λ (h : History). h.trail) from.ended) told
 
-    stood : IsTrue last.honest → (bytes : List ℕ) → first.trail ≡ fresh_trail bytes → ((tally : Tally) → IsCanton tally.canton → ¬ HoldsFramed tally bytes) → xs ≡ []
+    stood : WhereNoneStood first last (xs ≡ [])
     stood honest bytes fresh none =
-        let opens = subst (λ (t : Trail). Opens canton (Ok start.holder.ledger) t start.history.trail) fresh (from.begun.opening.call.did (from.honest honest)) in
+        let did = from.begun.opening.call.did (from.honest honest) in
+        let opens = subst (λ (t : Trail). Opens canton (Ok start.holder.ledger) t start.history.trail) fresh did in
         absurd (none start.holder.ledger.tally (subst IsCanton (sym from.begun.opening.ready.set_up) limits) opens.opened.stood)
 
 -- an office to which nothing is given
@@ -55,15 +74,26 @@ pub nothing_given : (start : OnDisk Office) → GoesOnTo start [] start
 nothing_given start tally honest at = (at_rest tally start.history.trail [] start at, at)
 
 -- a disk of which each image still holds the count
-pub unchanged_keeps : (canton : Canton) (first last : History) (old new : Streams) → IsTold [] (talking old new last.trail last.trail)
-    → (IsTrue last.honest → (bytes : List ℕ) → first.trail ≡ fresh_trail bytes → (tally : Tally) → IsCanton tally.canton → Holds tally bytes → Always (Holds tally) (fresh_trail bytes) last.trail) → Keeps canton first last (talking old new last.trail last.trail) []
+pub unchanged_keeps : (canton : Canton) (first last : History) (old new : Streams)
+    → IsTold [] (talking old new last.trail last.trail)
+    → WhereHeld first last (λ tally bytes. Always (Holds tally) (fresh_trail bytes) last.trail)
+    → Keeps canton first last (talking old new last.trail last.trail) []
 unchanged_keeps canton first last old new told still = record { on_a_count = kept; idle = λ honest bytes fresh none. refl }
   where
-    kept : IsTrue last.honest → (bytes : List ℕ) → first.trail ≡ fresh_trail bytes → (tally : Tally) → IsCanton tally.canton → Holds tally bytes → Headline tally (fresh_trail bytes) (talking old new last.trail last.trail) []
+    kept : WhereHeld first last (λ tally bytes. Headline tally (fresh_trail bytes) (talking old new last.trail last.trail) [])
     kept honest bytes fresh tally own holds =
         let opening = still honest bytes fresh tally own holds in
-        headline_of tally (fresh_trail bytes) (talking old new last.trail last.trail) [] opening (λ c image. has_none tally [] c (always_now (Holds tally) (fresh_trail bytes) last.trail opening c image)) refl told
+        let rested : AtRest tally last.trail [] = λ c image. has_none tally [] c (always_now (Holds tally) (fresh_trail bytes) last.trail opening c image) in
+        headline_of tally (fresh_trail bytes) (talking old new last.trail last.trail) [] opening rested refl told
 
-pub refused_keeps : (canton : Canton) (first last : History) (fault : OpenFault) (old new : Streams) → IsCanton canton → Opening canton first last (Err fault) → IsTold [] (talking old new last.trail last.trail) → Keeps canton first last (talking old new last.trail last.trail) []
-refused_keeps canton first last fault old new limits opening told = unchanged_keeps canton first last old new told (λ honest bytes fresh tally own holds.
-    opening_holds canton bytes tally limits own holds last.trail (subst (λ (t : Trail). Leaves (MayLeave canton t.now.bytes) t last.trail) fresh (opening.call.did honest).moments))
+pub refused_keeps : (canton : Canton) (first last : History) (fault : OpenFault) (old new : Streams)
+    → IsCanton canton
+    → Opening canton first last (Err fault)
+    → IsTold [] (talking old new last.trail last.trail)
+    → Keeps canton first last (talking old new last.trail last.trail) []
+refused_keeps canton first last fault old new limits opening told = unchanged_keeps canton first last old new told still
+  where
+    still : WhereHeld first last (λ tally bytes. Always (Holds tally) (fresh_trail bytes) last.trail)
+    still honest bytes fresh tally own holds =
+        let left = subst (λ (t : Trail). Leaves (MayLeave canton t.now.bytes) t last.trail) fresh (opening.call.did honest).moments in
+        opening_holds canton bytes tally limits own holds last.trail left

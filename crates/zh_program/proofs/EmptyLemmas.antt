@@ -1,7 +1,8 @@
--- What a formatting leaves.
+-- What a formatting leaves: at each moment the bytes that the disk began with or, if these were blank, blank bytes or the empty
+-- count. The moments of the opening, of the closing of the gate, of the writing and of the opening of the gate are joined.
 use Rattle.std.proofs.Common.{◌≡◌, ◌⊎◌, inl, inr, ⊎_elim, ℕ, List, [], ◌∷◌, ◌++◌, Result, refl, sym, ◌∙◌, ap, subst, append_assoc}
 use Rattle.std.specs.Prelude.{All}
-use Rattle.std.proofs.lemmas.List.Elements.{All-nil, All-cons, All-head, All-tail}
+use Rattle.std.proofs.lemmas.List.Elements.{All-nil, All-cons, All-head, All-tail, All-append}
 use Rattle.zh_disk.specs.Disk.{Leaves, Moment, Trail, fresh_trail, settled}
 use Rattle.zh_districts.specs.Canton.{Canton, IsCanton}
 use Rattle.zh_districts.specs.Spelling.{setup_spelling}
@@ -38,10 +39,6 @@ new_holds canton limits c formatted = record {
   };
 }
 
-all-append : {X : Type 0} (P : X → Type 0) (xs ys : List X) → All P xs → All P ys → All P (xs ++ ys)
-all-append P [] ys one other = other
-all-append P (x ∷ xs) ys one other = All-cons P x (xs ++ ys) (All-head P x xs one) (all-append P xs ys (All-tail P x xs one) other)
-
 all_front : {X : Type 0} (P : X → Type 0) (xs ys : List X) → All P (xs ++ ys) → All P xs
 all_front P [] ys all = All-nil P
 all_front P (x ∷ xs) ys all = All-cons P x xs (All-head P x (xs ++ ys) all) (all_front P xs ys (All-tail P x (xs ++ ys) all))
@@ -52,10 +49,12 @@ always_join P a b c one other = record {
   between = other.between ++ one.between;
   run = other.run ∙ ap (λ (l : List Moment). other.between ++ l) one.run ∙ sym (append_assoc other.between one.between (a.now ∷ a.past));
   each = subst (All (AtMoment P)) (sym (append_assoc other.between one.between (a.now ∷ []))) (
-      all-append (AtMoment P) other.between (one.between ++ a.now ∷ []) (all_front (AtMoment P) other.between (b.now ∷ []) other.each) one.each);
+      All-append (AtMoment P) other.between (one.between ++ a.now ∷ []) (all_front (AtMoment P) other.between (b.now ∷ []) other.each) one.each);
 }
 
-pub now_first : (P : List ℕ → Type 0) (a b : Trail) (between : List Moment) → b.now ∷ b.past ≡ between ++ a.now ∷ a.past → All (AtMoment P) (between ++ a.now ∷ []) → AtMoment P b.now
+pub now_first : (P : List ℕ → Type 0) (a b : Trail) (between : List Moment) → b.now ∷ b.past ≡ between ++ a.now ∷ a.past
+    → All (AtMoment P) (between ++ a.now ∷ [])
+    → AtMoment P b.now
 now_first P a b [] run each = let same : b.now ≡ a.now = cc in subst (AtMoment P) (sym same) (All-head (AtMoment P) a.now [] each)
 now_first P a b (m ∷ ms) run each = let same : b.now ≡ m = cc in subst (AtMoment P) (sym same) (All-head (AtMoment P) m (ms ++ a.now ∷ []) each)
 
@@ -77,7 +76,9 @@ module _ (canton : Canton) (limits : IsCanton canton) (first : List ℕ) where
   kept_or_blank : IsBlank first → (d c : List ℕ) → Left d → KeptOrBlank d c → Left c
   kept_or_blank blank d c left by = ⊎_elim (λ same. subst Left (sym same) left) (λ now. inr (blank, inl now)) by
 
-  formats_left : IsBlank first → (old new : Trail) → AtMoment Left old.now → Formats (setup_spelling canton) (payload_spelling Two (empty canton)) old new → Always Left old new
+  formats_left : IsBlank first → (old new : Trail) → AtMoment Left old.now
+      → Formats (setup_spelling canton) (payload_spelling Two (empty canton)) old new
+      → Always Left old new
   formats_left blank old new start formats =
       let closing = always_left KeptOrBlank Left old formats.closed formats.closing (λ d c image by. kept_or_blank blank d c (start d image) by) start in
       let writing = always_left (λ d c. IsBlank c) Left formats.closed formats.written formats.writing (λ d c image by. inr (blank, inl by)) (always_now Left old formats.closed closing) in
@@ -95,7 +96,10 @@ module _ (canton : Canton) (limits : IsCanton canton) (first : List ℕ) where
       by.after
 
 -- a disk that held a count is left as it was
-pub not_formatted : (canton : Canton) (tally : Tally) (bytes : List ℕ) (result : Result (Unit {0}) TaskFault) (last : Trail) → Holds tally bytes → FormatsBlank canton result (fresh_trail bytes) last → Always (Holds tally) (fresh_trail bytes) last
+pub not_formatted : (canton : Canton) (tally : Tally) (bytes : List ℕ) (result : Result (Unit {0}) TaskFault) (last : Trail)
+    → Holds tally bytes
+    → FormatsBlank canton result (fresh_trail bytes) last
+    → Always (Holds tally) (fresh_trail bytes) last
 not_formatted canton tally bytes result last holds by =
     let opened = always_left (Settles bytes) (Holds tally) (fresh_trail bytes) by.opened by.opening
     (λ d c image is. subst (Holds tally) (sym is.1) holds) (λ c image. subst (Holds tally) (sym (only_image bytes c image)) holds)

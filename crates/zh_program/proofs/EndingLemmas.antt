@@ -10,6 +10,10 @@ use Rattle.zh_program.specs.Program.{MetFault, ends}
 use Rattle.zh_program.specs.Paths.{fault_path}
 use Rattle.zh_program.specs.Reports.{report_text}
 
+-- this status tells of a fault that the task met, if it met one: it is not 0
+abbrev pub TellsOfFault : ℕ → Result (Unit {0}) TaskFault → Type 0
+TellsOfFault status result = (fault : TaskFault) → result ≡ Err fault → status ≢ 0
+
 module _ (of : Known) where
   -- a task that ended with status 0 was done, and nothing more is said of it
   pub was_done : (task : Task) (old after new : WorldOf of) (result : Result (Unit {0}) TaskFault) (used : Option (UsedOf of)) (status : ℕ)
@@ -22,7 +26,9 @@ module _ (of : Known) where
   pub met_fault : (task : Task) (old after new : WorldOf of) (result : Result (Unit {0}) TaskFault) (used : Option (UsedOf of)) (status : ℕ)
       → Does of task old after (ends result used) → MatchResult result (λ _. (status ≡ 0) × (new ≡ after)) (λ _. status ≡ 1)
       → new ≡ record after { faults = new.faults; remark = new.remark } → (result ≡ Err faults.Refused → new ≡ after)
-      → IfErr result (λ fault. fault ≢ faults.Refused → BecameOf new.remark (of.errors.contents after.faults) (of.errors.contents new.faults) (report_text (fault_path task fault) fault)) → status ≡ 1
+      → IfErr result (λ fault. fault ≢ faults.Refused
+      → BecameOf new.remark (of.errors.contents after.faults) (of.errors.contents new.faults) (report_text (fault_path task fault) fault))
+      → status ≡ 1
       → MetFault of task old new used
   met_fault task old after new (Ok done) used status does by rest refused reported one = absurd cc
   met_fault task old after new (Err fault) used status does by rest refused reported one = record {
@@ -34,8 +40,10 @@ module _ (of : Known) where
     refused = λ is. refused (ap Err is);
   }
 
--- a fault leaves another status than 0
-pub fails : (result : Result (Unit {0}) TaskFault) (status : ℕ) (same : Type 0) → MatchResult result (λ _. (status ≡ 0) × same) (λ _. status ≡ 1) → (fault : TaskFault) → result ≡ Err fault → status ≢ 0
+-- so does that by which a task ends
+pub fails : (result : Result (Unit {0}) TaskFault) (status : ℕ) (same : Type 0)
+    → MatchResult result (λ _. (status ≡ 0) × same) (λ _. status ≡ 1)
+    → TellsOfFault status result
 fails (Ok done) status same by fault is = absurd cc
 fails (Err other) status same by fault is = λ zero. let wrong : ◌≡◌ {A = ℕ} 0 1 = sym zero ∙ by in absurd cc
 

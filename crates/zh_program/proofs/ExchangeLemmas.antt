@@ -1,26 +1,18 @@
--- Exchanges, one after the other.
-use Rattle.std.proofs.Common.{◌≡◌, List, [], ◌∷◌, ◌++◌, refl, sym, ◌∙◌, ap, append_assoc, add_assoc, zero-add, Option, Some, None}
+-- Exchanges, one after the other: the log, the disk and what the desks hold after one more.
+use Rattle.std.proofs.Common.{◌≡◌, List, [], ◌∷◌, ◌++◌, Option, Some, None, refl, sym, ◌∙◌, ap}
 use Rattle.zh_disk.specs.Disk.{Trail}
 use Rattle.zh_records.specs.declared.command.Command.{Command}
 use Rattle.zh_desks.specs.Batches.{Held}
 use Rattle.zh_ledger.specs.Ledger.{Ledger}
-use Rattle.zh_ledger.specs.Submissions.{Log, OnDisk, followed_by, logged, nothing}
+use Rattle.zh_ledger.specs.Submissions.{Log, OnDisk, followed_by, logged}
 use Rattle.zh_ledger.specs.declared.outcome.Outcome.{Outcome}
 use Rattle.zh_ledger.specs.declared.outcome.Outcome.TheVariants as outcomes
 use Rattle.zh_ledger.proofs.CallerLemmas.{log_none}
 use Rattle.zh_answers.specs.Requests.{Acts, reply_to}
 use Rattle.zh_answers.specs.declared.answer.Answer.{Answer}
 use Rattle.zh_answers.specs.declared.answer.Answer.TheVariants as answers
+use Rattle.zh_office.proofs.CallerLemmas.{followed_by-assoc, nothing-followed_by}
 use Rattle.zh_program.specs.Exchanges.{Exchange, disk_by, held_by, held_then, log_by, log_of}
-
-nothing-followed_by : (log : Log) → followed_by nothing log ≡ log
-nothing-followed_by log = λ i. record { accepted = log.accepted; acknowledged = zero-add log.acknowledged i }
-
-followed_by-assoc : (a b c : Log) → followed_by (followed_by a b) c ≡ followed_by a (followed_by b c)
-followed_by-assoc a b c = λ i. record {
-  accepted = append_assoc a.accepted b.accepted c.accepted i;
-  acknowledged = add_assoc a.acknowledged b.acknowledged c.acknowledged i;
-}
 
 -- one exchange more
 pub log_more : (xs : List Exchange) (x : Exchange) → log_of (xs ++ x ∷ []) ≡ followed_by (log_of xs) (log_by x.command x.answer)
@@ -30,7 +22,9 @@ log_more (y ∷ ys) x =
 
 pub log_append : (xs ys : List Exchange) → log_of (xs ++ ys) ≡ followed_by (log_of xs) (log_of ys)
 log_append [] ys = sym (nothing-followed_by (log_of ys))
-log_append (x ∷ xs) ys = ap (followed_by (log_by x.command x.answer)) (log_append xs ys) ∙ sym (followed_by-assoc (log_by x.command x.answer) (log_of xs) (log_of ys))
+log_append (x ∷ xs) ys =
+    let one = log_by x.command x.answer in
+    ap (followed_by one) (log_append xs ys) ∙ sym (followed_by-assoc one (log_of xs) (log_of ys))
 
 pub disk_more : (t : Trail) (xs : List Exchange) (x : Exchange) → disk_by t (xs ++ x ∷ []) ≡ x.disk
 disk_more t [] x = refl
@@ -49,7 +43,9 @@ reported command outcomes.Spent = refl
 reported command outcomes.Device = refl
 reported command outcomes.Broken = refl
 
-pub acts_log : (old new : OnDisk Ledger) (command : Option Command) (May : Answer → Type 0) (answer : Answer) (more : Log) → Acts old command May answer more new → log_by command answer ≡ more
+pub acts_log : (old new : OnDisk Ledger) (command : Option Command) (May : Answer → Type 0) (answer : Answer) (more : Log)
+    → Acts old command May answer more new
+    → log_by command answer ≡ more
 acts_log old new None May answer more (may, none, same) = sym none
 acts_log old new (Some command) May answer more (by, logs) =
     ap (log_by (Some command)) by.reply ∙ reported command by.outcome ∙ sym (logs ∙ by.submission.logs)

@@ -1,8 +1,10 @@
--- What the promise excludes.
-use Rattle.std.proofs.Common.{◌≡◌, ◌≢◌, ◌⊎◌, inl, inr, ⊎_elim, ◌<◌, ◌≤◌, ◌+◌, ◌-◌, ◌*◌, ℕ, zero, suc, true, false, nat_le, List, [], ◌∷◌, ◌++◌, length, take, refl, sym, ◌∙◌, ap, subst, arith, append_assoc, append-nil, length-take, Option, Some, None}
+-- What the promise excludes. All that is accepted was judged acceptable, command after command, so a count says after how many of
+-- them it is: two first parts of the accepted commands of which one image holds the count are equally long.
+use Rattle.std.proofs.Common.{◌≡◌, ◌≢◌, ◌⊎◌, ◌<◌, ◌≤◌, ◌+◌, ◌-◌, ◌*◌, ℕ, zero, suc, List, [], ◌∷◌, ◌++◌, length, take, Option, Some, None}
+use Rattle.std.proofs.Common.{inl, inr, ⊎_elim, refl, sym, ◌∙◌, ap, subst, arith, append_assoc, append-nil, length-take}
 use Rattle.std.proofs.lemmas.List.{append_cancel_right, take_all}
 use Rattle.std.proofs.Math.Nat.{mul-le-mul_right}
-use Rattle.std.proofs.lemmas.Bool.Decides.{leb_tells}
+use Rattle.std.proofs.lemmas.Bool.{cases_lt}
 use Rattle.std.specs.Prelude.{All}
 use Rattle.std.proofs.lemmas.List.Elements.{All-tail}
 use Rattle.zh_disk.specs.Disk.{IsImage, Moment, Trail}
@@ -61,7 +63,8 @@ after_canton t [] = refl
 after_canton t (c ∷ cs) = after_canton (step t c) cs ∙ on_verdict_canton (judge t c) (changed t c) t refl
 
 -- an exchange adds one command at most
-pub one_at_most : (command : Option Command) (answer : Answer) → ((log_by command answer).accepted ≡ []) ⊎ ((c : Command) × ((log_by command answer).accepted ≡ c ∷ []))
+pub one_at_most : (command : Option Command) (answer : Answer)
+    → ((log_by command answer).accepted ≡ []) ⊎ ((c : Command) × ((log_by command answer).accepted ≡ c ∷ []))
 one_at_most None answer = inl refl
 one_at_most (Some c) (answers.Reply (Stored number)) = inr (c, refl)
 one_at_most (Some c) (answers.Reply (Refused refusals.Device)) = inr (c, refl)
@@ -69,7 +72,8 @@ one_at_most (Some c) answer = inl refl
 
 -- two images for counts of one set-up hold one count
 pub same_held : (c : List ℕ) (t u : Tally) → Holds t c → Holds u c → t.canton ≡ u.canton → t ≡ u
-same_held c t u one other own = (one_count c one.content other.content one.end other.end one.format other.format t u one.clean.framed other.clean.framed one.stands other.stands own).1
+same_held c t u one other own =
+    (one_count c one.content other.content one.end other.end one.format other.format t u one.clean.framed other.clean.framed one.stands other.stands own).1
 
 -- what is so at each moment is so where a stop comes
 all_back : {X : Type 0} (P : X → Type 0) (xs ys : List X) → All P (xs ++ ys) → All P ys
@@ -80,59 +84,105 @@ pub always_at : (P : List ℕ → Type 0) (old new : Trail) (c : List ℕ) → A
 always_at P old new c always stop =
     let later = stop.due.0 in
     let before = stop.begun.0 in
-    let run : later ++ (before ++ old.now ∷ old.past) ≡ always.between ++ old.now ∷ old.past = ap (λ (l : List Moment). later ++ l) (sym stop.begun.1) ∙ sym stop.due.1 ∙ always.run in
-    let parts : later ++ before ≡ always.between = append_cancel_right (later ++ before) always.between (old.now ∷ old.past) (append_assoc later before (old.now ∷ old.past) ∙ run) in
-    let each : All (AtMoment P) ((later ++ before) ++ old.now ∷ []) = subst (λ (l : List Moment). All (AtMoment P) (l ++ old.now ∷ [])) (sym parts) always.each in
-    let from : All (AtMoment P) (before ++ old.now ∷ []) = all_back (AtMoment P) later (before ++ old.now ∷ []) (subst (All (AtMoment P)) (append_assoc later before (old.now ∷ [])) each) in
+    let earlier = old.now ∷ old.past in
+    let run : later ++ (before ++ earlier) ≡ always.between ++ earlier
+    = ap (λ (l : List Moment). later ++ l) (sym stop.begun.1) ∙ sym stop.due.1 ∙ always.run in
+    let parts : later ++ before ≡ always.between
+    = append_cancel_right (later ++ before) always.between earlier (append_assoc later before earlier ∙ run) in
+    let each : All (AtMoment P) ((later ++ before) ++ old.now ∷ [])
+    = subst (λ (l : List Moment). All (AtMoment P) (l ++ old.now ∷ [])) (sym parts) always.each in
+    let from : All (AtMoment P) (before ++ old.now ∷ [])
+    = all_back (AtMoment P) later (before ++ old.now ∷ []) (subst (All (AtMoment P)) (append_assoc later before (old.now ∷ [])) each) in
     now_first P old stop.at before stop.begun.1 from c stop.image
 
+-- an image holds the count after so many of the commands that these exchanges accept
+abbrev pub HoldsAfter : Tally → List Exchange → ℕ → List ℕ → Type 0
+HoldsAfter tally xs n c = Holds (after tally (take n (log_of xs).accepted)) c
+
 module _ (tally : Tally) (before : Trail) (talk : Conversation) (exchanges : List Exchange) (promise : Headline tally before talk exchanges) where
-  judged_from : (done xs rest : List Exchange) → exchanges ≡ done ++ (xs ++ rest) → AreJudged tally (log_of done).accepted → AreJudged tally (log_of (done ++ xs)).accepted
+  -- where all that is accepted by some exchanges was judged acceptable, so was all by one more
+  judged_one : (done rest : List Exchange) (x : Exchange) → exchanges ≡ done ++ x ∷ rest
+      → AreJudged tally (log_of done).accepted
+      → AreJudged tally (log_of (done ++ x ∷ [])).accepted
+  judged_one done rest x is judged =
+      let accepted = (log_of done).accepted in
+      let others = (log_by x.command x.answer).accepted in
+      let both : AreJudged tally (accepted ++ others)
+      = ⊎_elim
+      (λ none. subst (λ (cs : List Command). AreJudged tally (accepted ++ cs)) (sym none) (subst (AreJudged tally) (sym (append-nil accepted)) judged))
+      (λ one.
+      let by = promise.accepted done rest x is one.0 one.1 in
+      let count : count_by tally (log_of done) ≡ after tally accepted
+      = ap (after tally) (take_all (log_of done).acknowledged accepted (omega (arith, by.1))) in
+      let accept : judge (after tally accepted) one.0 ≡ verdicts.Accept = subst (λ (t : Tally). judge t one.0 ≡ verdicts.Accept) count by.0 in
+      subst (λ (cs : List Command). AreJudged tally (accepted ++ cs)) (sym one.1) (judged_more tally accepted one.0 judged accept))
+      (one_at_most x.command x.answer) in
+      subst (λ (l : Log). AreJudged tally l.accepted) (sym (log_more done x)) both
+
+  judged_from : (done xs rest : List Exchange) → exchanges ≡ done ++ (xs ++ rest)
+      → AreJudged tally (log_of done).accepted
+      → AreJudged tally (log_of (done ++ xs)).accepted
   judged_from done [] rest is judged = subst (λ (d : List Exchange). AreJudged tally (log_of d).accepted) (sym (append-nil done)) judged
   judged_from done (x ∷ xs) rest is judged =
       subst (λ (d : List Exchange). AreJudged tally (log_of d).accepted) (append_assoc done (x ∷ []) xs)
-      (judged_from (done ++ x ∷ []) xs rest (is ∙ sym (append_assoc done (x ∷ []) (xs ++ rest))) (
-      subst (λ (l : Log). AreJudged tally l.accepted) (sym (log_more done x)) (⊎_elim
-      (λ none. subst (λ (cs : List Command). AreJudged tally ((log_of done).accepted ++ cs)) (sym none) (subst (AreJudged tally) (sym (append-nil (log_of done).accepted)) judged))
-      (λ one.
-      let by = promise.accepted done (xs ++ rest) x is one.0 one.1 in
-      let count : count_by tally (log_of done) ≡ after tally (log_of done).accepted = ap (after tally) (take_all (log_of done).acknowledged (log_of done).accepted (omega (arith, by.1))) in
-      subst (λ (cs : List Command). AreJudged tally ((log_of done).accepted ++ cs)) (sym one.1)
-      (judged_more tally (log_of done).accepted one.0 judged (subst (λ (t : Tally). judge t one.0 ≡ verdicts.Accept) count by.0)))
-      (one_at_most x.command x.answer))
-      ))
+      (judged_from (done ++ x ∷ []) xs rest (is ∙ sym (append_assoc done (x ∷ []) (xs ++ rest))) (judged_one done (xs ++ rest) x is judged))
 
   pub all_judged : (done rest : List Exchange) → exchanges ≡ done ++ rest → AreJudged tally (log_of done).accepted
   all_judged done rest is = judged_from [] done rest is tt
 
+  -- two first parts of the accepted commands are equally long where one image holds the counts after both
+  pub same_length : (done rest others more : List Exchange) (c : List ℕ) (m n : ℕ) → exchanges ≡ done ++ rest → exchanges ≡ others ++ more
+      → m ≤ length (log_of done).accepted
+      → n ≤ length (log_of others).accepted
+      → HoldsAfter tally done m c
+      → HoldsAfter tally others n c
+      → m ≡ n
+  same_length done rest others more c m n is are within within' holds holds' =
+      let xs = (log_of done).accepted in
+      let ys = (log_of others).accepted in
+      let canton = after_canton tally (take m xs) ∙ sym (after_canton tally (take n ys)) in
+      let same : after tally (take m xs) ≡ after tally (take n ys) = same_held c _ _ holds holds' canton in
+      let one = judged_number tally (take m xs) (judged_take tally m xs (all_judged done rest is)) in
+      let other = judged_number tally (take n ys) (judged_take tally n ys (all_judged others more are)) in
+      omega (arith, within, within', length-take m xs, length-take n ys, one, other, ap (λ (t : Tally). t.accepted) same)
+
   -- no image without the last acknowledged command
-  pub none_lost : (done rest : List Exchange) (c : List ℕ) (n : ℕ) → exchanges ≡ done ++ rest → IsImage (disk_by talk.first.disk done).now c → n < (log_of done).acknowledged → n ≤ length (log_of done).accepted → Holds (after tally (take n (log_of done).accepted)) c → ⊥
+  pub none_lost : (done rest : List Exchange) (c : List ℕ) (n : ℕ) → exchanges ≡ done ++ rest
+      → IsImage (disk_by talk.first.disk done).now c
+      → n < (log_of done).acknowledged
+      → n ≤ length (log_of done).accepted
+      → HoldsAfter tally done n c
+      → ⊥
   none_lost done rest c n is image fewer within holds =
-      let commands = (log_of done).accepted in
       let some = promise.stopped_between done rest is c image in
-      let judged = all_judged done rest is in
-      let same : after tally (take n commands) ≡ after tally (take some.number commands) = same_held c _ _ holds some.holds (after_canton tally (take n commands) ∙ sym (after_canton tally (take some.number commands))) in
-      let one = judged_number tally (take n commands) (judged_take tally n commands judged) in
-      let other = judged_number tally (take some.number commands) (judged_take tally some.number commands judged) in
-      omega (arith, fewer, within, some.at_least, some.within, length-take n commands, length-take some.number commands, one, other, ap (λ (t : Tally). t.accepted) same)
+      let same = same_length done rest done rest c n some.number is is within some.within holds some.holds in
+      omega (arith, same, fewer, some.at_least)
 
   -- none of another count than that after a prefix of what is accepted by then, with all that was acknowledged before
-  pub none_other : (done rest : List Exchange) (x : Exchange) (c : List ℕ) (count : Tally) → exchanges ≡ done ++ x ∷ rest → StopsWithin (disk_by talk.first.disk done) x.disk c → Holds count c → count.canton ≡ tally.canton
-      → ((n : ℕ) → (log_of done).acknowledged ≤ n → n ≤ length (log_of (done ++ x ∷ [])).accepted → count ≢ after tally (take n (log_of (done ++ x ∷ [])).accepted)) → ⊥
+  pub none_other : (done rest : List Exchange) (x : Exchange) (c : List ℕ) (count : Tally) → exchanges ≡ done ++ x ∷ rest
+      → StopsWithin (disk_by talk.first.disk done) x.disk c
+      → Holds count c
+      → count.canton ≡ tally.canton
+      → ((n : ℕ) → (log_of done).acknowledged ≤ n → n ≤ length (log_of (done ++ x ∷ [])).accepted
+      → count ≢ after tally (take n (log_of (done ++ x ∷ [])).accepted))
+      → ⊥
   none_other done rest x c count is stop holds own other =
       let commands = (log_of (done ++ x ∷ [])).accepted in
-      let some = always_at (HasSome tally commands (log_of done).acknowledged) (disk_by talk.first.disk done) x.disk c (promise.stopped_within done rest x is) stop in
-      other some.number some.at_least some.within (same_held c count (after tally (take some.number commands)) holds some.holds (own ∙ sym (after_canton tally (take some.number commands))))
+      let least = (log_of done).acknowledged in
+      let some = always_at (HasSome tally commands least) (disk_by talk.first.disk done) x.disk c (promise.stopped_within done rest x is) stop in
+      let there = after tally (take some.number commands) in
+      other some.number some.at_least some.within (same_held c count there holds some.holds (own ∙ sym (after_canton tally (take some.number commands))))
 
 -- what rounds lies on no half
 pub none_on_half : (n p s k : ℕ) → Rounds n p s → 2 * n ≡ (2 * k + 1) * p → ⊥
 none_on_half n p s k rounds half = ⊎_elim
-    (λ (more : s ≤ k). let le : (2 * s + 1) * p ≤ (2 * k + 1) * p = mul-le-mul_right p (omega arith) in omega (arith, le, half, rounds.below_upper))
-    (λ (less : k < s). let le : (2 * k + 1) * p ≤ (2 * s - 1) * p = mul-le-mul_right p (omega arith) in omega (arith, le, half, rounds.above_lower (omega (arith, less))))
-    (le_or_lt s k)
-  where
-    le_or_lt : (a b : ℕ) → (a ≤ b) ⊎ (b < a)
-    le_or_lt a b = ⊎_elim (λ (h : (nat_le a b ≡ true) × (a ≤ b)). inl h.1) (λ (h : (nat_le a b ≡ false) × (b < a)). inr h.1) (leb_tells a b)
+    (λ (less : k < s).
+    let le : (2 * k + 1) * p ≤ (2 * s - 1) * p = mul-le-mul_right p (omega arith) in
+    omega (arith, le, half, rounds.above_lower (omega (arith, less))))
+    (λ (more : s ≤ k).
+    let le : (2 * s + 1) * p ≤ (2 * k + 1) * p = mul-le-mul_right p (omega arith) in
+    omega (arith, le, half, rounds.below_upper))
+    (cases_lt k s)
 
 -- no verdict is both
 pub none_new : (verdict : Verdict) → verdict ≡ verdicts.Accept → verdict ≡ verdicts.Same → ⊥

@@ -8,14 +8,17 @@ mod TurnLemmas
 mod RunLemmas
 mod OpensLemmas
 mod OrderLemmas
+mod TalkLemmas
 mod HeadlineLemmas
 mod EmptyLemmas
 mod ConductLemmas
 mod ServedLemmas
 mod LoadedLemmas
+mod BeginningLemmas
 mod PartLemmas
 mod TouchLemmas
 mod PromiseLemmas
 mod RehearsalLemmas
 mod ExcludeLemmas
+mod FrontLemmas
 mod ToldLemmas

@@ -1,7 +1,10 @@
--- What a load has answered and kept.
-use Rattle.std.proofs.Common.{◌≡◌, ◌≢◌, inl, inr, ℕ, Bool, true, false, List, [], ◌∷◌, Option, Some, None, Result, Err, Ok, refl, sym, subst}
+-- What a load has answered and kept. Its text is the one exchange, with the reply as its answer; there is none where the file gave
+-- no text, or no office was opened.
+use Rattle.std.proofs.Common.{◌≡◌, ◌≢◌, ◌⊎◌, inl, inr, ℕ, Bool, true, false, List, [], ◌∷◌, Option, Some, None, Result, Err, Ok, refl, sym, subst}
 use Rattle.std.proofs.lemmas.List.{append-nil}
+use Rattle.std.specs.Prelude.{flat_map}
 use Rattle.std.specs.Io.KnownBytes.{Appends, Keeps as KeepsBytes}
+use Rattle.std.proofs.KnownBytes.{Appends-nil}
 use Rattle.zh_disk.specs.Disk.{Trail}
 use Rattle.zh_disk.specs.History.{History}
 use Rattle.zh_districts.specs.Canton.{Canton, IsCanton}
@@ -28,18 +31,21 @@ use Rattle.zh_tasks.specs.declared.fault.TaskFault.{TaskFault}
 use Rattle.zh_tasks.specs.declared.fault.TaskFault.TheVariants as faults
 use Rattle.zh_tasks.specs.declared.file.TaskFile.TheVariants as files
 use Rattle.zh_world.specs.declared.fault.FileFault.{FileFault}
-use Rattle.zh_program.specs.Due.{AnswerText}
-use Rattle.zh_program.specs.Exchanges.{Exchange, IsReadRight, command_given}
+use Rattle.zh_program.specs.Due.{AnswerText, IsCutShort}
+use Rattle.zh_program.specs.Exchanges.{Exchange, command_given, text_of, IsReadRight}
 use Rattle.zh_program.specs.Exchanges.Given.{text}
 use Rattle.zh_program.specs.Order.{Conversation}
-use Rattle.zh_program.proofs.AnsweredLemmas.{IsMarked, StoresNone, plain, same_fair}
+use Rattle.zh_program.proofs.AnsweredLemmas.{AllStoreNone, IsMarked, plain, same_fair}
 use Rattle.zh_program.proofs.ConductLemmas.{GoesOnTo, Keeps, nothing_given, opened_keeps, refused_keeps}
-use Rattle.zh_program.proofs.OrderLemmas.{IsTold, talking, told_none}
-use Rattle.zh_program.proofs.ServedLemmas.{appends_none}
-use Rattle.zh_program.proofs.TurnLemmas.{at_rest, one_is, one_then}
+use Rattle.zh_program.proofs.EndingLemmas.{TellsOfFault}
+use Rattle.zh_program.proofs.OrderLemmas.{IsTold}
+use Rattle.zh_program.proofs.TalkLemmas.{IsSilent, talking, told_none}
+use Rattle.zh_program.proofs.TurnLemmas.{at_rest, one_more}
 
 -- what is loaded is read right
-text_right : (canton : Canton) (bytes : Option (List ℕ)) (failed : Bool) (loaded : Result (List Row) LoadFault) → LoadsFrom canton bytes failed loaded → IsReadRight canton (text bytes loaded)
+text_right : (canton : Canton) (bytes : Option (List ℕ)) (failed : Bool) (loaded : Result (List Row) LoadFault)
+    → LoadsFrom canton bytes failed loaded
+    → IsReadRight canton (text bytes loaded)
 text_right canton bytes failed (Err fault) by = tt
 text_right canton None failed (Ok rows) by = (by.rows, tt)
 text_right canton (Some known) failed (Ok rows) by = (by.rows, (by.known known refl).0)
@@ -58,12 +64,15 @@ reply_plain true loaded = λ no. no
 reply_plain false (Err fault) = refused_plain fault
 reply_plain false (Ok rows) = λ no. no
 
-text_gives : (broken : Bool) (held : Held) (bytes : Option (List ℕ)) (loaded : Result (List Row) LoadFault) → broken ≡ false → command_loaded broken loaded ≡ command_given held (text bytes loaded)
+text_gives : (broken : Bool) (held : Held) (bytes : Option (List ℕ)) (loaded : Result (List Row) LoadFault) → broken ≡ false
+    → command_loaded broken loaded ≡ command_given held (text bytes loaded)
 text_gives true held bytes loaded is = absurd cc
 text_gives false held bytes (Ok rows) is = refl
 text_gives false held bytes (Err fault) is = refl
 
-abbrev pub exchange_of_text : (old : OnDisk Office) (bytes : Option (List ℕ)) (failed : Bool) (reply : Reply) (new : OnDisk Office) → LoadTurn old bytes failed reply new → Exchange
+abbrev pub exchange_of_text : (old : OnDisk Office) (bytes : Option (List ℕ)) (failed : Bool) (reply : Reply) (new : OnDisk Office)
+    → LoadTurn old bytes failed reply new
+    → Exchange
 exchange_of_text old bytes failed reply new turn = record {
   given = text bytes turn.loaded;
   command = command_loaded old.holder.ledger.store.broken turn.loaded;
@@ -73,21 +82,29 @@ exchange_of_text old bytes failed reply new turn = record {
 }
 
 -- an office that met no fault is given a text
-text_goes : (start : OnDisk Office) (bytes : Option (List ℕ)) (failed : Bool) (reply : Reply) (end : OnDisk Office) (turn : LoadTurn start bytes failed reply end) → start.holder.ledger.store.broken ≡ false
+text_goes : (start : OnDisk Office) (bytes : Option (List ℕ)) (failed : Bool) (reply : Reply) (end : OnDisk Office)
+    (turn : LoadTurn start bytes failed reply end)
+    → start.holder.ledger.store.broken ≡ false
     → GoesOnTo start (exchange_of_text start bytes failed reply end turn ∷ []) end
 text_goes start bytes failed reply end turn whole tally honest at =
     let opened = start.history.trail in
     let broken = start.holder.ledger.store.broken in
-    let May : Answer → Type 0 = λ a. a ≡ answers.Reply (load_reply broken turn.loaded) in
     let totals = totals_of start.holder.ledger.tally in
-    let fair : (a : Answer) → May a → StoresNone totals a = λ a may. same_fair totals a (answers.Reply (load_reply broken turn.loaded)) may (plain totals (load_reply broken turn.loaded) (reply_plain broken turn.loaded)) in
-    let read : IsReadRight tally.canton (text bytes turn.loaded) = text_right tally.canton bytes failed turn.loaded (subst (λ (t : Tally). LoadsFrom t.canton bytes failed turn.loaded) at.sound.count (turn.loads whole)) in
-    let gives = text_gives broken start.holder.held bytes turn.loaded whole in
-    let one = one_is tally opened [] start end (text bytes turn.loaded) (command_loaded broken turn.loaded) May (answers.Reply reply) turn.log at honest turn.acts fair read gives turn.held in
-    let then = one_then tally opened [] start end (text bytes turn.loaded) (command_loaded broken turn.loaded) May (answers.Reply reply) turn.log at honest turn.acts fair read gives turn.held in
-    ((at_rest tally opened [] start at, one, at_rest tally opened (exchange_of_text start bytes failed reply end turn ∷ []) end then), then)
+    let loaded = turn.loaded in
+    let command = command_loaded broken loaded in
+    let told : Reply = load_reply broken loaded in
+    let May : Answer → Type 0 = λ a. a ≡ answers.Reply told in
+    let fair : AllStoreNone totals May = λ a may. same_fair totals a (answers.Reply told) may (plain totals told (reply_plain broken loaded)) in
+    let loads : LoadsFrom tally.canton bytes failed loaded
+    = subst (λ (t : Tally). LoadsFrom t.canton bytes failed loaded) at.sound.count (turn.loads whole) in
+    let read = text_right tally.canton bytes failed loaded loads in
+    let gives = text_gives broken start.holder.held bytes loaded whole in
+    let x = exchange_of_text start bytes failed reply end turn in
+    let one = one_more tally opened [] start end x.given command May x.answer turn.log at honest turn.acts fair read gives turn.held in
+    ((at_rest tally opened [] start at, one.0, at_rest tally opened (x ∷ []) end one.1), one.1)
 
-module _ (known : Option (List ℕ)) (source : GivenText) (old new : Streams) (read : KeepsBytes known source.bytes) (status : ℕ) (canton : Canton) (limits : IsCanton canton) (first last : History) where
+module _ (known : Option (List ℕ)) (source : GivenText) (old new : Streams) (read : KeepsBytes known source.bytes) (status : ℕ)
+    (canton : Canton) (limits : IsCanton canton) (first last : History) where
   -- the exchange of a load, if there was one, in its conversation, and what is kept
   pub record HasAnswered : Type 0 where
     pub exchanges : List Exchange
@@ -96,35 +113,35 @@ module _ (known : Option (List ℕ)) (source : GivenText) (old new : Streams) (r
     pub told : IsTold exchanges (talking old new opened last.trail)
     pub kept : Keeps canton first last (talking old new opened last.trail) exchanges
 
-  -- nothing was read from the input, written or noted
-  pub record IsSilent : Type 0 where
-    pub left : new.left ≡ old.left
-    pub written : new.written ≡ old.written
-    pub film : new.film ≡ []
-
-  none_due : (opened : Trail) → status ≢ 0 → IsSilent → AnswerText known (talking old new opened last.trail) status []
-  none_due opened failed same = record { bytes = source.bytes; read = read; loaded = inl (refl, failed); written = inl (subst (λ (v : Option (List ℕ)). Appends old.written v []) (sym same.written) (appends_none old.written)) }
+  none_due : (opened : Trail) → status ≢ 0 → IsSilent old new → AnswerText known (talking old new opened last.trail) status []
+  none_due opened failed silent = record {
+    bytes = source.bytes;
+    read = read;
+    loaded = inl (refl, failed);
+    written = inl (subst (λ (w : Option (List ℕ)). Appends old.written w []) (sym silent.written) (Appends-nil old.written));
+  }
 
   -- the file gave no text
-  none_given : status ≢ 0 → IsSilent → IsOnlyOpened (IsFrom canton first last) → HasAnswered
-  none_given failed same (start, from) =
+  none_given : status ≢ 0 → IsSilent old new → IsOnlyOpened (IsFrom canton first last) → HasAnswered
+  none_given failed silent (start, from) =
       let opened = start.history.trail in
-      let told : IsTold [] (talking old new opened last.trail) = subst (λ (h : History). IsTold [] (talking old new opened h.trail)) from.ended (told_none old new opened same.left same.written same.film) in
+      let told : IsTold [] (talking old new opened last.trail)
+      = subst (λ (h : History). IsTold [] (talking old new opened h.trail)) from.ended (told_none old new opened silent) in
       record {
         exchanges = [];
         opened = opened;
-        due = none_due opened failed same;
+        due = none_due opened failed silent;
         told = told;
         kept = opened_keeps canton first last start start [] old new limits from (nothing_given start) told;
       }
 
-  pub refused_answered : (fault : OpenFault) → status ≢ 0 → IsSilent → Opening canton first last (Err fault) → HasAnswered
-  refused_answered fault failed same opening =
-      let told = told_none old new last.trail same.left same.written same.film in
+  pub refused_answered : (fault : OpenFault) → status ≢ 0 → IsSilent old new → Opening canton first last (Err fault) → HasAnswered
+  refused_answered fault failed silent opening =
+      let told = told_none old new last.trail silent in
       record {
         exchanges = [];
         opened = last.trail;
-        due = none_due last.trail failed same;
+        due = none_due last.trail failed silent;
         told = told;
         kept = refused_keeps canton first last fault old new limits opening told;
       }
@@ -141,41 +158,39 @@ module _ (known : Option (List ℕ)) (source : GivenText) (old new : Streams) (r
     told = subst (λ (h : History). IsTold (x ∷ []) (talking old new by.start.history.trail h.trail)) by.spans.ended by.order.follow
 
     kept : Keeps canton first last talk (x ∷ [])
-    kept = opened_keeps canton first last by.start by.end (x ∷ []) old new limits by.spans (text_goes by.start source.bytes source.failed reply by.end by.turn by.spans.begun.opening.ready.whole) told
+    kept =
+        let goes = text_goes by.start source.bytes source.failed reply by.end by.turn by.spans.begun.opening.ready.whole in
+        opened_keeps canton first last by.start by.end (x ∷ []) old new limits by.spans goes told
+
+    has_answered : Appends old.written new.written (flat_map text_of (x ∷ [])) ⊎ ((status ≢ 0) × IsCutShort talk (x ∷ [])) → HasAnswered
+    has_answered written = record {
+      exchanges = x ∷ [];
+      opened = by.start.history.trail;
+      due = record { bytes = source.bytes; read = read; loaded = inr (x, by.turn.loaded, refl, refl); written = written };
+      told = told;
+      kept = kept;
+    }
 
     reply_written : Appends old.written new.written (printed reply) → HasAnswered
-    reply_written written = record {
-      exchanges = x ∷ [];
-      opened = by.start.history.trail;
-      due = record { bytes = source.bytes; read = read; loaded = inr (x, by.turn.loaded, refl, refl); written = inl (subst (Appends old.written new.written) (sym (append-nil (printed reply))) written) };
-      told = told;
-      kept = kept;
-    }
+    reply_written written = has_answered (inl (subst (Appends old.written new.written) (sym (append-nil (printed reply))) written))
 
     reply_part : status ≢ 0 → WritesPart old.written new.written (printed reply) → HasAnswered
-    reply_part failed part = record {
-      exchanges = x ∷ [];
-      opened = by.start.history.trail;
-      due = record {
-        bytes = source.bytes;
-        read = read;
-        loaded = inr (x, by.turn.loaded, refl, refl);
-        written = inr (failed, record { whole = []; last = x; all = refl; front = part.front; part = part.part; written = part.written });
-      };
-      told = told;
-      kept = kept;
-    }
+    reply_part failed part =
+        has_answered (inr (failed, record { whole = []; last = x; all = refl; front = part.front; part = part.part; written = part.written }))
 
-  text_done : (result : Result (Unit {0}) TaskFault) → ((fault : TaskFault) → result ≡ Err fault → status ≢ 0) → LoadsText source old new (IsFrom canton first last) result → HasAnswered
+  text_done : (result : Result (Unit {0}) TaskFault) → TellsOfFault status result → LoadsText source old new (IsFrom canton first last) result → HasAnswered
   text_done (Ok done) failed (reply, taken, by) = reply_written reply by.replied by.written
   text_done (Err faults.Refused) failed (refusal, by) = reply_written (Refused refusal) by.replied by.written
   text_done (Err faults.Faulted) failed (reply, by) = reply_written reply by.replied by.written
   text_done (Err faults.Write) failed (reply, by, part) = reply_part reply by (failed faults.Write refl) part
   text_done (Err fault) failed by = absurd by
 
-  pub load_done : (Met : FileFault → Type 0) (unwritten : Type 0) → (unwritten → IsSilent) → (result : Result (Unit {0}) TaskFault) → ((fault : TaskFault) → result ≡ Err fault → status ≢ 0)
-      → LoadsFile Met unwritten (LoadsText source old new) (IsFrom canton first last) result → HasAnswered
-  load_done Met unwritten same (Err (faults.Unopened files.Csv cause)) failed by = none_given (failed (faults.Unopened files.Csv cause) refl) (same by.1) by.2
-  load_done Met unwritten same (Err faults.CsvFile) failed by = none_given (failed faults.CsvFile refl) (same by.0) by.1
-  load_done Met unwritten same (Err faults.Memory) failed by = none_given (failed faults.Memory refl) (same by.0) by.1
-  load_done Met unwritten same result failed by = text_done result failed by
+  pub load_done : (Met : FileFault → Type 0) (unwritten : Type 0) → (unwritten → IsSilent old new)
+      → (result : Result (Unit {0}) TaskFault)
+      → TellsOfFault status result
+      → LoadsFile Met unwritten (LoadsText source old new) (IsFrom canton first last) result
+      → HasAnswered
+  load_done Met unwritten silent (Err (faults.Unopened files.Csv cause)) failed by = none_given (failed (faults.Unopened files.Csv cause) refl) (silent by.1) by.2
+  load_done Met unwritten silent (Err faults.CsvFile) failed by = none_given (failed faults.CsvFile refl) (silent by.0) by.1
+  load_done Met unwritten silent (Err faults.Memory) failed by = none_given (failed faults.Memory refl) (silent by.0) by.1
+  load_done Met unwritten silent result failed by = text_done result failed by

@@ -1,19 +1,21 @@
--- The exchanges of a conversation that is in order.
-use Rattle.std.proofs.Common.{◌≡◌, ◌≤◌, ◌⊎◌, inl, inr, ⊎_elim, ◌+◌, ℕ, List, [], ◌∷◌, ◌++◌, map, length, length-append, take, refl, sym, ◌∙◌, ap, subst, arith, append_assoc, Option}
+-- The exchanges of a conversation that is in order. An office keeps the order of its steps; since these are the exchanges, each part
+-- of the steps is one of the exchanges, and the order is told anew by how many exchanges are answered.
+use Rattle.std.proofs.Common.{◌≡◌, ◌≤◌, ◌⊎◌, ◌+◌, ℕ, List, [], ◌∷◌, ◌++◌, map, length, take, Option}
+use Rattle.std.proofs.Common.{inl, inr, ⊎_elim, refl, sym, ◌∙◌, ap, subst, arith, append_assoc, length-append}
 use Rattle.std.proofs.Math.Seq.{take-append-add, take-append_seam, take-length}
-use Rattle.std.proofs.lemmas.List.{append-nil}
+use Rattle.std.proofs.lemmas.List.{append-nil, length-map, map-append}
+use Rattle.std.proofs.lemmas.List.Concat.{flat_map-append}
 use Rattle.std.specs.Prelude.{flat_map}
 use Rattle.std.specs.Io.KnownBytes.{Appends}
-use Rattle.std.proofs.KnownBytes.{Appends-nil, Appends-trans}
+use Rattle.std.proofs.KnownBytes.{Appends-trans}
 use Rattle.zh_disk.specs.Disk.{IsImage, Trail}
-use Rattle.zh_film.specs.Frames.{Frame, InOrder, now_at}
+use Rattle.zh_film.specs.Frames.{Frame, InOrder}
 use Rattle.zh_records.specs.declared.command.Command.{Command}
 use Rattle.zh_returns.specs.Tally.{Tally}
 use Rattle.zh_ledger.specs.Images.{HasSome}
 use Rattle.zh_ledger.specs.Submissions.{Log}
 use Rattle.zh_office.specs.Order as steps
 use Rattle.zh_office.specs.Order.{ComesAfter, IsDone, Step, disk_after, texts}
-use Rattle.zh_tasks.specs.Run.{Streams}
 use Rattle.zh_program.specs.Exchanges.{Exchange, disk_by, line_in, log_of, text_of}
 use Rattle.zh_program.specs.Order.{AnswersBeforeReading, Conversation, KeepsWhatIsTold, Throughout}
 use Rattle.zh_program.specs.Stopped.{Always}
@@ -41,14 +43,6 @@ disk_in t (x ∷ xs) = disk_in x.disk xs
 lines_in : (xs : List Exchange) → map (λ (s : Step). s.line) (map step_in xs) ≡ map (λ (x : Exchange). line_in x.given) xs
 lines_in [] = refl
 lines_in (x ∷ xs) = ap (λ (l : List (Option (List ℕ))). line_in x.given ∷ l) (lines_in xs)
-
-length_in : (xs : List Exchange) → length (map step_in xs) ≡ length xs
-length_in [] = refl
-length_in (x ∷ xs) = omega (arith, length_in xs)
-
-pub steps-append : (xs ys : List Exchange) → map step_in (xs ++ ys) ≡ map step_in xs ++ map step_in ys
-steps-append [] ys = refl
-steps-append (x ∷ xs) ys = ap (λ (l : List Step). step_in x ∷ l) (steps-append xs ys)
 
 -- where steps have a first part, exchanges have it
 record HasParts (xs : List Exchange) (front back : List Step) : Type 0 where
@@ -97,13 +91,14 @@ module _ (xs : List Exchange) (first a b : Frame) (by : ComesAfter (map step_in 
       let told : texts by.done ≡ flat_map text_of f.done = ap texts (sym f.front_is) ∙ texts_in f.done in
       let others : texts by.one ≡ flat_map text_of n.done = ap texts (sym n.front_is) ∙ texts_in n.done in
       let before : disk_after first.disk by.done ≡ disk_by first.disk f.done = ap (disk_after first.disk) (sym f.front_is) ∙ disk_in first.disk f.done in
-      let both : map step_in (f.done ++ n.done) ≡ by.done ++ by.one = steps-append f.done n.done ∙ ap (λ (l : List Step). l ++ map step_in n.done) f.front_is ∙ ap (λ (l : List Step). by.done ++ l) n.front_is in
+      let both : map step_in (f.done ++ n.done) ≡ by.done ++ by.one
+      = map-append step_in f.done n.done ∙ ap (λ (l : List Step). l ++ map step_in n.done) f.front_is ∙ ap (λ (l : List Step). by.done ++ l) n.front_is in
       record {
         done = f.done;
         one = n.done;
         rest = n.rest;
         parts = f.parts ∙ ap (λ (l : List Exchange). f.done ++ l) n.parts;
-        single = omega (arith, by.single, length_in n.done, ap length n.front_is);
+        single = omega (arith, by.single, length-map n.done step_in, ap length n.front_is);
         written = subst (Appends first.written a.written) told by.written;
         disk = by.disk ∙ ap (disk_after first.disk) (sym both) ∙ disk_in first.disk (f.done ++ n.done);
         moves = ⊎_elim
@@ -147,7 +142,8 @@ next_part xs done (x ∷ (y ∷ more)) rest parts single = absurd (omega (arith,
 -- what each moment of the disk has
 module _ (tally : Tally) (first : Frame) (xs : List Exchange) (turns : AreTurns tally first.disk [] xs) (a b : Frame) where
   -- an image that has some of the commands by then has some of those with one exchange more
-  has_next : (done one rest : List Exchange) → xs ≡ done ++ (one ++ rest) → length one ≤ 1 → (least : ℕ) (c : List ℕ) → HasSome tally (log_of (done ++ one)).accepted least c
+  has_next : (done one rest : List Exchange) → xs ≡ done ++ (one ++ rest) → length one ≤ 1 → (least : ℕ) (c : List ℕ)
+      → HasSome tally (log_of (done ++ one)).accepted least c
       → HasSome tally (log_of (take (length done + 1) xs)).accepted least c
   has_next done one rest parts single least c some =
       let next = next_part xs done one rest parts single in
@@ -156,7 +152,9 @@ module _ (tally : Tally) (first : Frame) (xs : List Exchange) (turns : AreTurns 
       subst (λ (cs : List Command). HasSome tally cs least c) (sym logs) (has_front tally (log_of (done ++ one)).accepted (log_of next.0).accepted least c some)
 
   -- while the disk is at work on one more, or on none
-  at_work : (done one rest : List Exchange) → xs ≡ done ++ (one ++ rest) → length one ≤ 1 → b.disk ≡ disk_by first.disk (done ++ one) → a.disk ≡ disk_by first.disk done
+  at_work : (done one rest : List Exchange) → xs ≡ done ++ (one ++ rest) → length one ≤ 1
+      → b.disk ≡ disk_by first.disk (done ++ one)
+      → a.disk ≡ disk_by first.disk done
       → Always (HasSome tally (log_of (take (length done + 1) xs)).accepted (log_of done).acknowledged) a.disk b.disk
   at_work done [] rest parts single disk still =
       let same : b.disk ≡ a.disk = disk ∙ ap (disk_by first.disk) (append-nil done) ∙ sym still in
@@ -174,16 +172,14 @@ module _ (tally : Tally) (first : Frame) (xs : List Exchange) (turns : AreTurns 
   at_work done (x ∷ (y ∷ more)) rest parts single disk still = absurd (omega (arith, single))
 
   -- while an answer is written
-  at_rest_of : (done one rest : List Exchange) → xs ≡ done ++ (one ++ rest) → length one ≤ 1 → b.disk ≡ disk_by first.disk (done ++ one) → a.disk ≡ b.disk
+  at_rest_of : (done one rest : List Exchange) → xs ≡ done ++ (one ++ rest) → length one ≤ 1
+      → b.disk ≡ disk_by first.disk (done ++ one)
+      → a.disk ≡ b.disk
       → Always (HasSome tally (log_of (take (length done + 1) xs)).accepted (log_of (done ++ one)).acknowledged) a.disk b.disk
   at_rest_of done one rest parts single disk rests =
       let rested = at_any tally first.disk [] (done ++ one) rest xs turns (parts ∙ sym (append_assoc done one rest)) in
       always_same (HasSome tally (log_of (take (length done + 1) xs)).accepted (log_of (done ++ one)).acknowledged) a.disk b.disk (sym rests)
       (λ c image. has_next done one rest parts single (log_of (done ++ one)).acknowledged c (rested c (subst (λ (t : Trail). IsImage t.now c) (rests ∙ disk) image)))
-
-  flat-append : (ys zs : List Exchange) → flat_map text_of (ys ++ zs) ≡ flat_map text_of ys ++ flat_map text_of zs
-  flat-append [] zs = refl
-  flat-append (y ∷ ys) zs = ap (λ (l : List ℕ). text_of y ++ l) (flat-append ys zs) ∙ sym (append_assoc (text_of y) (flat_map text_of ys) (flat_map text_of zs))
 
   module _ (by : Comes xs first a b) where
     seam : take (length by.done) xs ≡ by.done
@@ -212,9 +208,11 @@ module _ (tally : Tally) (first : Frame) (xs : List Exchange) (turns : AreTurns 
     keeps_told w =
         let both : take (length (by.done ++ by.one)) xs ≡ by.done ++ by.one
         = ap (take (length (by.done ++ by.one))) (by.parts ∙ sym (append_assoc by.done by.one by.rest)) ∙ take-append_seam (by.done ++ by.one) by.rest in
-        let written = flat_map text_of by.done ++ w.text in
+        let before = flat_map text_of by.done in
+        let written = before ++ w.text in
         let whole : flat_map text_of (take (length (by.done ++ by.one)) xs) ≡ written ++ w.more
-        = ap (flat_map text_of) both ∙ flat-append by.done by.one ∙ ap (λ (l : List ℕ). flat_map text_of by.done ++ l) (sym w.front) ∙ sym (append_assoc (flat_map text_of by.done) w.text w.more) in
+        = ap (flat_map text_of) both ∙ flat_map-append text_of by.done by.one
+        ∙ ap (λ (l : List ℕ). before ++ l) (sym w.front) ∙ sym (append_assoc before w.text w.more) in
         record {
           replied = length by.done;
           answered = answered;
@@ -230,7 +228,9 @@ module _ (tally : Tally) (first : Frame) (xs : List Exchange) (turns : AreTurns 
     keeps : KeepsWhatIsTold tally xs first a b
     keeps = ⊎_elim (λ (w : IsDone (disk_by first.disk by.done) a b). keeps_done w) (λ (w : steps.IsTold (flat_map text_of by.one) a b). keeps_told w) by.moves
 
-in_order_map : (P Q : Frame → Frame → Type 0) → ((a b : Frame) → P a b → Q a b) → (first : Frame) (film : List Frame) (last : Frame) → InOrder P first film last → InOrder Q first film last
+in_order_map : (P Q : Frame → Frame → Type 0) → ((a b : Frame) → P a b → Q a b) → (first : Frame) (film : List Frame) (last : Frame)
+    → InOrder P first film last
+    → InOrder Q first film last
 in_order_map P Q so first [] last order = so first last order
 in_order_map P Q so first (f ∷ film) last order = (so f last order.0, in_order_map P Q so first film f order.1)
 
@@ -243,24 +243,3 @@ pub order_of : (tally : Tally) (talk : Conversation) (xs : List Exchange) → Ar
 order_of tally talk xs turns told =
     in_order_map (ComesAfter (map step_in xs) talk.first) (λ a b. KeepsWhatIsTold tally xs talk.first a b × AnswersBeforeReading xs talk.first a b)
     (λ a b by. (keeps tally talk.first xs turns a b (comes xs talk.first a b by), before_reading xs talk.first a b by)) talk.first talk.noted talk.last told
-
--- the conversation from these streams to those, in which the disk went from the one trail to the other
-abbrev pub talking : Streams → Streams → Trail → Trail → Conversation
-talking old new opened last = record { first = now_at old.left old.written opened; noted = new.film; last = now_at new.left new.written last }
-
--- nothing is read, done or written
-pub told_none : (old new : Streams) (t : Trail) → new.left ≡ old.left → new.written ≡ old.written → new.film ≡ [] → IsTold [] (talking old new t t)
-told_none old new t unread unwritten blank =
-    let first = now_at old.left old.written t in
-    subst (λ (fs : List Frame). InOrder (ComesAfter [] first) first fs (now_at new.left new.written t)) (sym blank) (record {
-      done = [];
-      one = [];
-      rest = [];
-      parts = refl;
-      single = omega arith;
-      written = Appends-nil old.written;
-      disk = refl;
-      moves = inl (record { still = refl; unwritten = unwritten });
-      unread = λ is. unread;
-      answered = λ asks. absurd cc;
-    })

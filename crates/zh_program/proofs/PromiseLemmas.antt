@@ -1,6 +1,8 @@
--- What the program has done that hands a disk over, by its task.
-use Rattle.std.proofs.Common.{◌≡◌, ◌≢◌, ⊎_elim, ℕ, List, Option, Some, None, Result, Err, IsTrue, refl, sym, ◌∙◌, ap, subst, codes}
+-- What the program has done that hands a disk over, by its task. Only a task on a disk hands one over; what it has done with it
+-- stays so when the program says how it ended.
+use Rattle.std.proofs.Common.{◌≡◌, ℕ, List, Option, Some, None, Result, IsTrue, refl, sym, ◌∙◌, ap, subst, codes}
 use Rattle.std.specs.Prelude.{IsSomeAnd, is_some, option_map}
+use Rattle.zh_disk.specs.Disk.{fresh_trail}
 use Rattle.zh_disk.specs.History.{History}
 use Rattle.zh_disk.specs.declared.memory.MemoryDisk.{MemoryDisk}
 use Rattle.zh_districts.specs.Canton.{Canton, IsCanton}
@@ -14,33 +16,39 @@ use Rattle.zh_arguments.specs.declared.arguments.Paths.{Paths}
 use Rattle.zh_arguments.specs.declared.arguments.Task.{Task}
 use Rattle.zh_arguments.specs.declared.arguments.Task.TheVariants as tasks
 use Rattle.zh_arguments.specs.declared.arguments.Task.TheVariants.{Rehearse, Format, Run, Load}
+use Rattle.zh_returns.specs.Tally.{Tally}
 use Rattle.zh_world.specs.Files.{Begins}
 use Rattle.zh_world.specs.declared.world.Remark.{Remark}
 use Rattle.zh_tasks.specs.DryRun.{HasDryRun}
 use Rattle.zh_tasks.specs.Format.{Formatted}
 use Rattle.zh_tasks.specs.Load.{HasLoaded}
-use Rattle.zh_tasks.specs.OnDisk.{HasUsed, UsesFilm}
+use Rattle.zh_tasks.specs.OnDisk.{UsesFilm}
 use Rattle.zh_tasks.specs.Run.{Ran}
 use Rattle.zh_tasks.specs.Query.{MayShow}
 use Rattle.zh_tasks.specs.Reading.{MakesReading}
 use Rattle.zh_tasks.specs.Shown.{Shows}
 use Rattle.zh_tasks.specs.Tasks.{Does}
-use Rattle.zh_tasks.specs.World.{FilmedOf, Known, ObservedOf, UsedOf, WorldOf, finding, making}
+use Rattle.zh_tasks.specs.World.{FilmedOf, Known, UsedOf, WorldOf, finding, making}
 use Rattle.zh_tasks.specs.declared.fault.TaskFault.{TaskFault}
 use Rattle.zh_tasks.specs.declared.used.Used.TheVariants.{Disk, Rehearsal}
 use Rattle.zh_program.specs.Due.{talk_of}
 use Rattle.zh_program.specs.Program.{disk_path, ends}
 use Rattle.zh_program.specs.Promise.{Promise}
 use Rattle.zh_program.specs.Stopped.{MakesEmpty}
+use Rattle.zh_program.proofs.BeginningLemmas.{held_made, known_fresh, known_made}
+use Rattle.zh_program.proofs.EndingLemmas.{TellsOfFault}
 use Rattle.zh_program.proofs.OrderLemmas.{awaited_of}
 use Rattle.zh_program.proofs.TouchLemmas.{unfilmed}
-use Rattle.zh_program.proofs.PartLemmas.{HasDone, format_part, known_fresh, held_made, known_made, load_part, made_empty, read_part, run_part, setup_limits}
+use Rattle.zh_program.proofs.PartLemmas.{AnswersNone, Doing, HasDone, IsDoneOn, by_disk, setup_limits}
+use Rattle.zh_program.proofs.PartLemmas.{format_part, load_part, made_empty, read_part, run_part}
 
 at_path : (rows : List Row) (paths : Paths) (path : List ℕ) → Some paths.disk.now ≡ Some path → ArePaths rows paths → path ≡ path_in (codes "disk") rows
 at_path rows paths path on are = let is : paths.disk.now ≡ path = cc in sym is ∙ are.1
 
 -- what a command asks for on a disk, and the path of the disk
-asked_on : (given : Option (Text × List Row)) (task : Task) (path : List ℕ) → disk_path task ≡ Some path → Names given task → IsSomeAnd given (λ command. AsksOnDisk command task × (path ≡ path_in (codes "disk") command.1))
+asked_on : (given : Option (Text × List Row)) (task : Task) (path : List ℕ) → disk_path task ≡ Some path
+    → Names given task
+    → IsSomeAnd given (λ command. AsksOnDisk command task × (path ≡ path_in (codes "disk") command.1))
 asked_on None task path on asks = let wrong : disk_path Rehearse ≡ Some path = ap disk_path (sym asks) ∙ on in absurd cc
 asked_on (Some given) task path on asks = at (paths_of task) refl
   where
@@ -50,9 +58,15 @@ asked_on (Some given) task path on asks = at (paths_of task) refl
         let disk : Some paths.disk.now ≡ Some path = sym (ap (option_map (λ (p : Paths). p.disk.now)) is) ∙ on in
         ((ap is_some is, asks), at_path given.1 paths path disk (asked_at given task paths is asks))
 
+-- a task that formats no disk
+abbrev IsNoFormat : Task → Type 0
+IsNoFormat task = (paths : Paths) → task ≡ Format paths → ⊥
+
 module _ (of : Known) where
   -- the promise, of the disk that was handed over, and its film
-  module _ (arguments : List (List ℕ)) (old after : WorldOf of) (said : of.Errors) (remark : Remark) (status : ℕ) (result : Result (Unit {0}) TaskFault) (failed : (fault : TaskFault) → result ≡ Err fault → status ≢ 0) (used : Option (UsedOf of)) (filmed : FilmedOf of) (handed : used ≡ Some (Disk filmed)) where
+  module _ (arguments : List (List ℕ)) (old after : WorldOf of) (said : of.Errors) (remark : Remark)
+      (status : ℕ) (result : Result (Unit {0}) TaskFault) (failed : TellsOfFault status result)
+      (used : Option (UsedOf of)) (filmed : FilmedOf of) (handed : used ≡ Some (Disk filmed)) where
     abbrev new : WorldOf of
     new = record after { faults = said; remark = remark }
 
@@ -65,60 +79,81 @@ module _ (of : Known) where
     none_rehearsed : {X : Type 0} → (film : Film of.Input of.Output MemoryDisk) → used ≡ Some (Rehearsal film) → X
     none_rehearsed film is = let wrong : Some (Disk filmed) ≡ Some (Rehearsal film) = sym handed ∙ is in absurd cc
 
-    found : (task : Task) → AsksFor arguments task → (paths : Paths) → disk_path task ≡ Some paths.disk.now → ((p : Paths) → task ≡ Format p → ⊥) → (canton : Canton) → (first : of.Disk) → Begins (of.files.disk_at old.files paths.disk.now) (of.disks.history first)
-        → HasDone of task old new status canton (of.disks.history first) filmed → Promise of arguments old new status filmed
-    found task asked paths on other canton first begins by = record {
-      task = task;
-      asked = asked_on (command_in arguments) task paths.disk.now on asked.1;
-      path = paths.disk.now;
-      exchanges = by.exchanges;
-      opened = by.opened;
-      due = by.due;
-      awaited = awaited_of (talk_of of task old new by.opened filmed) by.exchanges by.told;
-      on_a_count = λ honest bytes is tally own holds. by.kept.on_a_count honest bytes (known_fresh (of.files.disk_at old.files paths.disk.now) (of.disks.history first) bytes begins is) tally own holds;
-      idle = λ honest bytes is none. by.kept.idle honest bytes (known_fresh (of.files.disk_at old.files paths.disk.now) (of.disks.history first) bytes begins is) none;
-      formatted = λ p is. absurd (other p is);
-    }
+    -- what is said of a task once it is done changes nothing of what it has done
+    said_after : (task : Task) (canton : Canton) (first : History) → HasDone of task old after status canton first filmed
+        → HasDone of task old new status canton first filmed
+    said_after (Run paths) canton first by = record { exchanges = by.exchanges; opened = by.opened; due = by.due; told = by.told; kept = by.kept }
+    said_after (Load paths csv) canton first by = record { exchanges = by.exchanges; opened = by.opened; due = by.due; told = by.told; kept = by.kept }
+    said_after task canton first by = record { exchanges = by.exchanges; opened = by.opened; due = by.due; told = by.told; kept = by.kept }
+
+    found : (task : Task) → AsksFor arguments task → (paths : Paths) → disk_path task ≡ Some paths.disk.now → IsNoFormat task
+        → (canton : Canton) (first : of.Disk) → Begins (of.files.disk_at old.files paths.disk.now) (of.disks.history first)
+        → HasDone of task old new status canton (of.disks.history first) filmed
+        → Promise of arguments old new status filmed
+    found task asked paths on other canton first begins by =
+        let known = of.files.disk_at old.files paths.disk.now in
+        let began = of.disks.history first in
+        let fresh : (bytes : List ℕ) → known ≡ Some bytes → began.trail ≡ fresh_trail bytes
+        = λ bytes is. known_fresh known began bytes begins is in
+        record {
+          task = task;
+          asked = asked_on (command_in arguments) task paths.disk.now on asked.1;
+          path = paths.disk.now;
+          exchanges = by.exchanges;
+          opened = by.opened;
+          due = by.due;
+          awaited = awaited_of (talk_of of task old new by.opened filmed) by.exchanges by.told;
+          on_a_count = λ honest bytes is tally own holds. by.kept.on_a_count honest bytes (fresh bytes is) tally own holds;
+          idle = λ honest bytes is none. by.kept.idle honest bytes (fresh bytes is) none;
+          formatted = λ p is. absurd (other p is);
+        }
 
     -- of a task whose disk is one that there is
-    found_on : (task : Task) → AsksFor arguments task → (paths : Paths) → disk_path task ≡ Some paths.disk.now → ((p : Paths) → task ≡ Format p → ⊥) → ((canton : Canton) (first : History) → HasDone of task old after status canton first filmed → HasDone of task old new status canton first filmed)
-        → (DoesOn : Canton → WorldOf of × of.Disk → WorldOf of × of.Disk → Result (Unit {0}) TaskFault × ObservedOf of → Type 0)
-        → ((uses : HasUsed (finding of.files of.disks) paths old after (λ canton before end film. DoesOn canton before end (result, film)) used) → IsCanton uses.canton → HasDone of task old after status uses.canton (of.disks.history uses.first) (record { disk = uses.last; observed = uses.observed }))
-        → UsesFilm (finding of.files of.disks) paths old after DoesOn (ends result used) → Promise of arguments old new status filmed
-    found_on task asked paths on other said_after DoesOn part by = ⊎_elim {B = HasUsed (finding of.files of.disks) paths old after (λ canton before end film. DoesOn canton before end (result, film)) used} {C = Promise of arguments old new status filmed}
-        (λ early. none_early early.none)
+    found_on : (task : Task) → AsksFor arguments task → (paths : Paths) → disk_path task ≡ Some paths.disk.now → IsNoFormat task
+        → (DoesOn : Doing of)
+        → ((uses : IsDoneOn of (finding of.files of.disks) paths old after DoesOn (ends result used)) → IsCanton uses.canton
+        → HasDone of task old after status uses.canton (of.disks.history uses.first) (record { disk = uses.last; observed = uses.observed }))
+        → UsesFilm (finding of.files of.disks) paths old after DoesOn (ends result used)
+        → Promise of arguments old new status filmed
+    found_on task asked paths on other DoesOn part by =
+        by_disk of (finding of.files of.disks) paths old after DoesOn (ends result used) by
+        (λ none. none_early none)
         (λ uses.
-        let limits = setup_limits (of.files.text_at old.files paths.setup.now) uses.canton uses.began.setup in
-        let here = subst (HasDone of task old after status uses.canton (of.disks.history uses.first)) (same_disk (record { disk = uses.last; observed = uses.observed }) uses.used) (part uses limits) in
-        found task asked paths on other uses.canton uses.first uses.began.begins (said_after uses.canton (of.disks.history uses.first) here))
-        by
+        let canton = uses.canton in
+        let began = of.disks.history uses.first in
+        let last : FilmedOf of = record { disk = uses.last; observed = uses.observed } in
+        let limits = setup_limits (of.files.text_at old.files paths.setup.now) canton uses.began.setup in
+        let here = subst (HasDone of task old after status canton began) (same_disk last uses.used) (part uses limits) in
+        found task asked paths on other canton uses.first uses.began.begins (said_after task canton began here))
 
-    promise_said : (task : Task) → AsksFor arguments task → Does of task old after (ends result used) → Promise of arguments old new status filmed
-    promise_said Rehearse asked by = none_rehearsed by.film by.used
-    promise_said (tasks.List setup table) asked by = none_early by.0
-    promise_said (tasks.SheetSeats setup sheet layout) asked by = none_early by.0
-    promise_said (tasks.Check paths) asked by = none_early by.0
-    promise_said (Run paths) asked by = found_on (Run paths) asked paths refl (λ p is. absurd cc) (λ canton first here. record { exchanges = here.exchanges; opened = here.opened; due = here.due; told = here.told; kept = here.kept }) (Ran of)
-        (λ uses limits. run_part of old after uses.files uses.first uses.last uses.observed uses.canton limits status result failed paths uses.does) by
-    promise_said (Load paths csv) asked by = found_on (Load paths csv) asked paths refl (λ p is. absurd cc) (λ canton first here. record { exchanges = here.exchanges; opened = here.opened; due = here.due; told = here.told; kept = here.kept }) (HasLoaded of csv.now)
-        (λ uses limits. load_part of old after uses.files uses.first uses.last uses.observed uses.canton limits status result failed paths csv uses.began.calls.texts uses.does) by
-    promise_said (tasks.DryRun paths csv) asked by = found_on (tasks.DryRun paths csv) asked paths refl (λ p is. absurd cc) (λ canton first here. record { exchanges = here.exchanges; opened = here.opened; due = here.due; told = here.told; kept = here.kept }) (unfilmed (MakesReading of (HasDryRun of csv.now)))
-        (λ uses limits. read_part of old after uses.files uses.first uses.last uses.observed uses.canton limits status result failed (tasks.DryRun paths csv) (λ text_at talk. refl) (λ opened. refl) (HasDryRun of csv.now) uses.does) by
-    promise_said (tasks.Show paths query) asked by = found_on (tasks.Show paths query) asked paths refl (λ p is. absurd cc) (λ canton first here. record { exchanges = here.exchanges; opened = here.opened; due = here.due; told = here.told; kept = here.kept }) (unfilmed (MakesReading of (λ tally. Shows of (MayShow query tally))))
-        (λ uses limits. read_part of old after uses.files uses.first uses.last uses.observed uses.canton limits status result failed (tasks.Show paths query) (λ text_at talk. refl) (λ opened. refl) (λ tally. Shows of (MayShow query tally)) uses.does) by
-    promise_said (Format paths) asked by = ⊎_elim {B = HasUsed (making of.files of.disks) paths old after (λ canton before end film. Formatted of canton before end result) used} {C = Promise of arguments old new status filmed}
-        (λ early. none_early early.none)
-        (λ uses.
-        let limits = setup_limits (of.files.text_at old.files paths.setup.now) uses.canton uses.began.setup in
+    -- of one that reads what is held
+    found_reading : (task : Task) → AsksFor arguments task → (paths : Paths) → disk_path task ≡ Some paths.disk.now → IsNoFormat task
+        → AnswersNone of task
+        → (Reads : Tally → WorldOf of → WorldOf of → Result (Unit {0}) TaskFault → Type 0)
+        → UsesFilm (finding of.files of.disks) paths old after (unfilmed (MakesReading of Reads)) (ends result used)
+        → Promise of arguments old new status filmed
+    found_reading task asked paths on other none Reads by = found_on task asked paths on other (unfilmed (MakesReading of Reads))
+        (λ uses limits.
+        read_part of old after uses.files uses.first uses.last uses.observed uses.canton limits status result failed task none Reads uses.does) by
+
+    -- of a formatting, whose disk may have been made
+    found_made : (paths : Paths) → AsksFor arguments (Format paths)
+        → IsDoneOn of (making of.files of.disks) paths old after (unfilmed (Formatted of)) (ends result used)
+        → Promise of arguments old new status filmed
+    found_made paths asked uses =
+        let canton = uses.canton in
         let known = of.files.disk_at old.files paths.disk.now in
+        let began = of.disks.history uses.first in
+        let limits = setup_limits (of.files.text_at old.files paths.setup.now) canton uses.began.setup in
         let this = same_disk (record { disk = uses.last; observed = uses.observed }) uses.used in
-        let part = format_part of old after uses.files uses.first uses.last uses.observed uses.canton limits status result failed paths uses.does in
-        let here = subst (HasDone of (Format paths) old after status uses.canton (of.disks.history uses.first)) this part in
-        let empties : IsTrue (of.disks.history filmed.disk).honest → (bytes : List ℕ) → known ≡ Some bytes → MakesEmpty bytes status (of.disks.history filmed.disk).trail
-        = subst (λ (d : FilmedOf of). IsTrue (of.disks.history d.disk).honest → (bytes : List ℕ) → known ≡ Some bytes → MakesEmpty bytes status (of.disks.history d.disk).trail) this
-        (made_empty of old after uses.files uses.first uses.last uses.observed uses.canton limits status result failed uses.does known uses.began.begins) in
-        let first_honest : IsTrue (of.disks.history filmed.disk).honest → IsTrue (of.disks.history uses.first).honest
-        = subst (λ (d : FilmedOf of). IsTrue (of.disks.history d.disk).honest → IsTrue (of.disks.history uses.first).honest) this uses.does.call.kept in
+        let part = format_part of old after uses.files uses.first uses.last uses.observed canton limits status result failed paths uses.does in
+        let here = subst (HasDone of (Format paths) old after status canton began) this part in
+        let Empties : FilmedOf of → Type 0
+        = λ d. IsTrue (of.disks.history d.disk).honest → (bytes : List ℕ) → known ≡ Some bytes → MakesEmpty bytes status (of.disks.history d.disk).trail in
+        let made = made_empty of old after uses.files uses.first uses.last uses.observed canton limits status result failed uses.does in
+        let empties : Empties filmed = subst Empties this (made known uses.began.begins) in
+        let honest_first : IsTrue (of.disks.history filmed.disk).honest → IsTrue began.honest
+        = subst (λ (d : FilmedOf of). IsTrue (of.disks.history d.disk).honest → IsTrue began.honest) this uses.does.call.kept in
         record {
           task = Format paths;
           asked = asked_on (command_in arguments) (Format paths) paths.disk.now refl asked.1;
@@ -127,15 +162,42 @@ module _ (of : Known) where
           opened = here.opened;
           due = here.due;
           awaited = awaited_of (talk_of of (Format paths) old new here.opened filmed) here.exchanges here.told;
-          on_a_count = λ honest bytes is tally own holds. here.kept.on_a_count honest bytes (held_made tally bytes (of.disks.history uses.first).trail holds
-              (known_made known (of.disks.history uses.first) bytes uses.began.begins (first_honest honest) is)) tally own holds;
+          on_a_count = λ honest bytes is tally own holds.
+              let fresh = held_made tally bytes began.trail holds (known_made known began bytes uses.began.begins (honest_first honest) is) in
+              here.kept.on_a_count honest bytes fresh tally own holds;
           idle = λ honest bytes is none. here.due;
           formatted = λ p is honest bytes known_is. empties honest bytes known_is;
-        })
-        by
+        }
+
+    promise_said : (task : Task) → AsksFor arguments task → Does of task old after (ends result used) → Promise of arguments old new status filmed
+    promise_said Rehearse asked by = none_rehearsed by.film by.used
+    promise_said (tasks.List setup table) asked by = none_early by.0
+    promise_said (tasks.SheetSeats setup sheet layout) asked by = none_early by.0
+    promise_said (tasks.Check paths) asked by = none_early by.0
+    promise_said (Run paths) asked by = found_on (Run paths) asked paths refl (λ p is. absurd cc) (Ran of)
+        (λ uses limits. run_part of old after uses.files uses.first uses.last uses.observed uses.canton limits status result failed paths uses.does) by
+    promise_said (Load paths csv) asked by = found_on (Load paths csv) asked paths refl (λ p is. absurd cc) (HasLoaded of csv.now)
+        (λ uses limits.
+        load_part of old after uses.files uses.first uses.last uses.observed uses.canton limits status result failed paths csv
+        uses.began.calls.texts uses.does) by
+    promise_said (tasks.DryRun paths csv) asked by =
+        let none : AnswersNone of (tasks.DryRun paths csv) = record { due = λ text_at talk status. refl; apart = λ old after opened used. refl } in
+        found_reading (tasks.DryRun paths csv) asked paths refl (λ p is. absurd cc) none (HasDryRun of csv.now) by
+    promise_said (tasks.Show paths query) asked by =
+        let none : AnswersNone of (tasks.Show paths query) = record { due = λ text_at talk status. refl; apart = λ old after opened used. refl } in
+        found_reading (tasks.Show paths query) asked paths refl (λ p is. absurd cc) none (λ tally. Shows of (MayShow query tally)) by
+    promise_said (Format paths) asked by =
+        by_disk of (making of.files of.disks) paths old after (unfilmed (Formatted of)) (ends result used) by
+        (λ none. none_early none)
+        (λ uses. found_made paths asked uses)
 
   -- the promise of a task of which no more changed after it than what was said of it
-  pub promise_of : (arguments : List (List ℕ)) (old after new : WorldOf of) → new ≡ record after { faults = new.faults; remark = new.remark } → (status : ℕ) (result : Result (Unit {0}) TaskFault)
-      → ((fault : TaskFault) → result ≡ Err fault → status ≢ 0) → (used : Option (UsedOf of)) (filmed : FilmedOf of) → used ≡ Some (Disk filmed) → (task : Task) → AsksFor arguments task → Does of task old after (ends result used) → Promise of arguments old new status filmed
+  pub promise_of : (arguments : List (List ℕ)) (old after new : WorldOf of) → new ≡ record after { faults = new.faults; remark = new.remark }
+      → (status : ℕ) (result : Result (Unit {0}) TaskFault) → TellsOfFault status result
+      → (used : Option (UsedOf of)) (filmed : FilmedOf of) → used ≡ Some (Disk filmed)
+      → (task : Task) → AsksFor arguments task
+      → Does of task old after (ends result used)
+      → Promise of arguments old new status filmed
   promise_of arguments old after new rest status result failed used filmed handed task asked by =
-      subst (λ (w : WorldOf of). Promise of arguments old w status filmed) (sym rest) (promise_said arguments old after new.faults new.remark status result failed used filmed handed task asked by)
+      let said = promise_said arguments old after new.faults new.remark status result failed used filmed handed task asked by in
+      subst (λ (w : WorldOf of). Promise of arguments old w status filmed) (sym rest) said

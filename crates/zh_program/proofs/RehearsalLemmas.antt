@@ -1,8 +1,7 @@
--- What a rehearsal has read and answered.
-use Rattle.std.proofs.Common.{◌≡◌, ◌≢◌, ◌∙◌, ℕ, [], map, Option, Some, None, Result, Err, ⊎_elim, refl, sym, ap, subst}
+-- What a rehearsal has read and answered. No other task hands over the film of a disk in memory.
+use Rattle.std.proofs.Common.{◌≡◌, ◌∙◌, ℕ, [], map, Option, Some, None, Result, Err, refl, sym, ap, subst}
 use Rattle.zh_disk.specs.Disk.{fresh_trail}
 use Rattle.zh_disk.specs.declared.memory.MemoryDisk.{MemoryDisk}
-use Rattle.zh_districts.specs.Canton.{Canton}
 use Rattle.zh_film.specs.Frames.{frame_of}
 use Rattle.zh_film.specs.Scenes.{scenes}
 use Rattle.zh_film.specs.declared.film.Film.{Film}
@@ -12,21 +11,24 @@ use Rattle.zh_arguments.specs.declared.arguments.Task.TheVariants as tasks
 use Rattle.zh_tasks.specs.DryRun.{HasDryRun}
 use Rattle.zh_tasks.specs.Format.{Formatted}
 use Rattle.zh_tasks.specs.Load.{HasLoaded}
-use Rattle.zh_tasks.specs.OnDisk.{HasUsed, UsesFilm}
+use Rattle.zh_tasks.specs.OnDisk.{UsesFilm}
 use Rattle.zh_tasks.specs.Rehearse.{IsRehearsal, Rehearsed as HasRehearsed, Rehearses, in_memory, rehearsal_shown}
 use Rattle.zh_tasks.specs.Run.{Ran, Serves, Streams, streams_of}
 use Rattle.zh_tasks.specs.Query.{MayShow}
 use Rattle.zh_tasks.specs.Reading.{MakesReading}
 use Rattle.zh_tasks.specs.Shown.{Shows}
 use Rattle.zh_tasks.specs.Tasks.{Does}
-use Rattle.zh_tasks.specs.World.{FilmedOf, Known, ObservedOf, Sight, UsedOf, WorldOf, finding, making}
+use Rattle.zh_tasks.specs.World.{FilmedOf, Known, Sight, UsedOf, WorldOf, finding, making}
 use Rattle.zh_tasks.specs.declared.fault.TaskFault.{TaskFault}
 use Rattle.zh_tasks.specs.declared.fault.TaskFault.TheVariants as faults
 use Rattle.zh_tasks.specs.declared.used.Used.TheVariants.{Disk, Rehearsal}
 use Rattle.zh_program.specs.Program.{ends}
 use Rattle.zh_program.specs.Promise.{RehearsalPromise}
-use Rattle.zh_program.proofs.OrderLemmas.{awaited_of, talking, told_none}
+use Rattle.zh_program.proofs.EndingLemmas.{TellsOfFault}
+use Rattle.zh_program.proofs.OrderLemmas.{awaited_of}
+use Rattle.zh_program.proofs.PartLemmas.{Doing, by_disk}
 use Rattle.zh_program.proofs.ServedLemmas.{none_due, serve_done}
+use Rattle.zh_program.proofs.TalkLemmas.{IsSilent, talking, told_none}
 use Rattle.zh_program.proofs.TouchLemmas.{unfilmed}
 
 -- what was done is served, or nothing was done
@@ -39,23 +41,29 @@ by_case nothing old new (Err (faults.Open fault)) by none serves = none (faults.
 by_case nothing old new result by none serves = serves by
 
 module _ (of : Known) where
-  rehearsed : (old after : WorldOf of) (film : Film of.Input of.Output MemoryDisk) (status : ℕ) (result : Result (Unit {0}) TaskFault) → ((fault : TaskFault) → result ≡ Err fault → status ≢ 0)
-      → HasRehearsed ((after.input ≡ old.input) × (after.output ≡ old.output) × (scenes film ≡ [])) (streams_of of old []) (streams_of of after (rehearsal_shown of film)) result → RehearsalPromise of old after status film
+  -- nothing was read, written or filmed
+  abbrev IsUntouched : WorldOf of → WorldOf of → Film of.Input of.Output MemoryDisk → Type 0
+  IsUntouched old after film = (after.input ≡ old.input) × (after.output ≡ old.output) × (scenes film ≡ [])
+
+  rehearsed : (old after : WorldOf of) (film : Film of.Input of.Output MemoryDisk) (status : ℕ) (result : Result (Unit {0}) TaskFault)
+      → TellsOfFault status result
+      → HasRehearsed (IsUntouched old after film) (streams_of of old []) (streams_of of after (rehearsal_shown of film)) result
+      → RehearsalPromise of old after status film
   rehearsed old after film status result failed by =
       let before = streams_of of old [] in
       let now = streams_of of after (rehearsal_shown of film) in
-      by_case ((after.input ≡ old.input) × (after.output ≡ old.output) × (scenes film ≡ [])) before now result by
-      (λ fault is nothing.
-      let left : now.left ≡ before.left = ap of.readers.remaining nothing.0 in
-      let written : now.written ≡ before.written = ap of.writers.contents nothing.1 in
-      let blank : now.film ≡ [] = ap (map (frame_of of.readers of.writers in_memory)) nothing.2 in
+      by_case (IsUntouched old after film) before now result by
+      (λ fault is same.
+      let blank : now.film ≡ [] = ap (map (frame_of of.readers of.writers in_memory)) same.2 in
+      let silent : IsSilent before now
+      = record { left = ap of.readers.remaining same.0; written = ap of.writers.contents same.1; film = blank } in
       let at = fresh_trail [] in
       record {
         exchanges = [];
         opened = at;
         last = at;
-        due = none_due before now status at (failed fault is) left written;
-        awaited = awaited_of (talking before now at at) [] (told_none before now at left written blank);
+        due = none_due before now status at (failed fault is) silent;
+        awaited = awaited_of (talking before now at at) [] (told_none before now at silent);
       })
       (λ serves.
       let served = serve_done before now status IsRehearsal result failed serves in
@@ -68,18 +76,21 @@ module _ (of : Known) where
       })
 
   -- only a rehearsal hands over such a film
-  module _ (old after : WorldOf of) (status : ℕ) (result : Result (Unit {0}) TaskFault) (failed : (fault : TaskFault) → result ≡ Err fault → status ≢ 0) (used : Option (UsedOf of)) (film : Film of.Input of.Output MemoryDisk) (handed : used ≡ Some (Rehearsal film)) where
+  module _ (old after : WorldOf of) (status : ℕ) (result : Result (Unit {0}) TaskFault) (failed : TellsOfFault status result)
+      (used : Option (UsedOf of)) (film : Film of.Input of.Output MemoryDisk) (handed : used ≡ Some (Rehearsal film)) where
     none_other : {X : Type 0} → used ≡ None → X
     none_other is = let wrong : Some (Rehearsal film) ≡ None = sym handed ∙ is in absurd cc
 
     none_filmed : {X : Type 0} (filmed : FilmedOf of) → used ≡ Some (Disk filmed) → X
     none_filmed filmed is = let wrong : Some (Rehearsal film) ≡ Some (Disk filmed) = sym handed ∙ is in absurd cc
 
-    on_a_disk : {X : Type 0} (sight : Sight of.Folder of.Text of.Disk of.Right) (paths : Paths) (DoesOn : Canton → WorldOf of × of.Disk → WorldOf of × of.Disk → Result (Unit {0}) TaskFault × ObservedOf of → Type 0) → UsesFilm sight paths old after DoesOn (ends result used) → X
-    on_a_disk {X} sight paths DoesOn by = ⊎_elim {B = HasUsed sight paths old after (λ canton before end film. DoesOn canton before end (result, film)) used} {C = X}
-        (λ early. none_other early.none)
+    on_a_disk : {X : Type 0} (sight : Sight of.Folder of.Text of.Disk of.Right) (paths : Paths) (DoesOn : Doing of)
+        → UsesFilm sight paths old after DoesOn (ends result used)
+        → X
+    on_a_disk sight paths DoesOn by =
+        by_disk of sight paths old after DoesOn (ends result used) by
+        (λ none. none_other none)
         (λ uses. none_filmed (record { disk = uses.last; observed = uses.observed }) uses.used)
-        by
 
     rehearsed_after : Rehearses of old after (ends result used) → RehearsalPromise of old after status film
     rehearsed_after by =
@@ -98,7 +109,10 @@ module _ (of : Known) where
     said (tasks.Format paths) by = on_a_disk (making of.files of.disks) paths (unfilmed (Formatted of)) by
 
     -- and no more changed after it than what was said of it
-    pub rehearsed_of : (new : WorldOf of) → new ≡ record after { faults = new.faults; remark = new.remark } → (task : Task) → Does of task old after (ends result used) → RehearsalPromise of old new status film
+    pub rehearsed_of : (new : WorldOf of) → new ≡ record after { faults = new.faults; remark = new.remark }
+        → (task : Task) → Does of task old after (ends result used)
+        → RehearsalPromise of old new status film
     rehearsed_of new rest task by =
         let here = said task by in
-        subst (λ (w : WorldOf of). RehearsalPromise of old w status film) (sym rest) (record { exchanges = here.exchanges; opened = here.opened; last = here.last; due = here.due; awaited = here.awaited })
+        subst (λ (w : WorldOf of). RehearsalPromise of old w status film) (sym rest)
+        (record { exchanges = here.exchanges; opened = here.opened; last = here.last; due = here.due; awaited = here.awaited })

@@ -1,4 +1,4 @@
--- The exchanges of a run.
+-- The exchanges of a run: one for each line, in order, and its text is theirs.
 use Rattle.std.proofs.Common.{◌≡◌, ℕ, List, [], ◌∷◌, ◌++◌, map, refl, sym, ◌∙◌, ap, subst, append_assoc, IsTrue, Option, Some}
 use Rattle.std.proofs.lemmas.List.{append-nil}
 use Rattle.std.specs.Prelude.{flat_map}
@@ -9,7 +9,7 @@ use Rattle.zh_office.specs.Office.{Office}
 use Rattle.zh_office.specs.Runs.{Runs, text_after}
 use Rattle.zh_office.proofs.CallerLemmas.{run_honest}
 use Rattle.zh_program.specs.Exchanges.{Exchange, line_in, text_of}
-use Rattle.zh_program.proofs.TurnLemmas.{AreTurns, IsAt, IsOne, at_rest, exchange_of, turn_one, turn_then}
+use Rattle.zh_program.proofs.TurnLemmas.{AreTurns, IsAt, IsOne, at_rest, exchange_of, turn_more}
 
 -- the texts of the answers
 abbrev pub texts_of : List Exchange → List ℕ
@@ -25,12 +25,14 @@ exchanges_of old (bytes ∷ lines) out log new run =
     exchange_of old bytes run.answer run.mid run.turn ∷ exchanges_of run.mid lines run.rest run.others new run.follows
 
 -- they are those of its lines
-pub lines_are : (old : OnDisk Office) (lines : List (List ℕ)) (out : List ℕ) (log : Log) (new : OnDisk Office) (run : Runs old lines out log new) → map line_in_exchange (exchanges_of old lines out log new run) ≡ map Some lines
+pub lines_are : (old : OnDisk Office) (lines : List (List ℕ)) (out : List ℕ) (log : Log) (new : OnDisk Office) (run : Runs old lines out log new)
+    → map line_in_exchange (exchanges_of old lines out log new run) ≡ map Some lines
 lines_are old [] out log new run = refl
 lines_are old (bytes ∷ lines) out log new run = ap (λ (xs : List (Option (List ℕ))). Some bytes ∷ xs) (lines_are run.mid lines run.rest run.others new run.follows)
 
 -- and what it writes is their texts
-pub texts_are : (old : OnDisk Office) (lines : List (List ℕ)) (out : List ℕ) (log : Log) (new : OnDisk Office) (run : Runs old lines out log new) → texts_of (exchanges_of old lines out log new run) ≡ out
+pub texts_are : (old : OnDisk Office) (lines : List (List ℕ)) (out : List ℕ) (log : Log) (new : OnDisk Office) (run : Runs old lines out log new)
+    → texts_of (exchanges_of old lines out log new run) ≡ out
 texts_are old [] out log new run = sym run.wrote
 texts_are old (bytes ∷ lines) out log new run =
     ap (λ (rest : List ℕ). text_after bytes run.answer run.mid ++ rest) (texts_are run.mid lines run.rest run.others new run.follows) ∙ sym run.wrote
@@ -44,22 +46,29 @@ module _ (tally : Tally) (opened : Trail) where
     turns-append (done ++ x ∷ []) xs ys one.2 (subst (λ (d : List Exchange). AreTurns tally opened d ys) (sym (append_assoc done (x ∷ []) xs)) other),
   )
 
-  pub run_turns : (done : List Exchange) (old : OnDisk Office) (lines : List (List ℕ)) (out : List ℕ) (log : Log) (new : OnDisk Office) (run : Runs old lines out log new) → IsTrue new.history.honest → IsAt tally opened done old
+  pub run_turns : (done : List Exchange) (old : OnDisk Office) (lines : List (List ℕ)) (out : List ℕ) (log : Log) (new : OnDisk Office)
+      (run : Runs old lines out log new)
+      → IsTrue new.history.honest
+      → IsAt tally opened done old
       → AreTurns tally opened done (exchanges_of old lines out log new run) × IsAt tally opened (done ++ exchanges_of old lines out log new run) new
   run_turns done old [] out log new run honest at =
       let same : IsAt tally opened done new = subst (IsAt tally opened done) (sym run.same) at in
       (at_rest tally opened done old at, subst (λ (d : List Exchange). IsAt tally opened d new) (sym (append-nil done)) same)
   run_turns done old (bytes ∷ lines) out log new run honest at =
+      let x = exchange_of old bytes run.answer run.mid run.turn in
+      let xs = exchanges_of run.mid lines run.rest run.others new run.follows in
       let mid_honest = run_honest run.mid lines run.rest run.others new honest run.follows in
-      let one = turn_one tally opened done old bytes run.answer run.mid run.turn mid_honest at in
-      let then = turn_then tally opened done old bytes run.answer run.mid run.turn mid_honest at in
-      let rest = run_turns (done ++ exchange_of old bytes run.answer run.mid run.turn ∷ []) run.mid lines run.rest run.others new run.follows honest then in (
-        (at_rest tally opened done old at, one, rest.0),
-        subst (λ (d : List Exchange). IsAt tally opened d new) (append_assoc done (exchange_of old bytes run.answer run.mid run.turn ∷ []) (exchanges_of run.mid lines run.rest run.others new run.follows)) rest.1,
+      let one = turn_more tally opened done old bytes run.answer run.mid run.turn mid_honest at in
+      let rest = run_turns (done ++ x ∷ []) run.mid lines run.rest run.others new run.follows honest one.1 in (
+        (at_rest tally opened done old at, one.0, rest.0),
+        subst (λ (d : List Exchange). IsAt tally opened d new) (append_assoc done (x ∷ []) xs) rest.1,
       )
 
   -- and one exchange more
-  pub turns_more : (done xs : List Exchange) (x : Exchange) (new : OnDisk Office) → AreTurns tally opened done xs → IsOne tally opened (done ++ xs) x → (before : OnDisk Office) → IsAt tally opened (done ++ xs) before → IsAt tally opened ((done ++ xs) ++ x ∷ []) new
+  pub turns_more : (done xs : List Exchange) (x : Exchange) (before after : OnDisk Office)
+      → AreTurns tally opened done xs
+      → IsAt tally opened (done ++ xs) before
+      → IsOne tally opened (done ++ xs) x × IsAt tally opened ((done ++ xs) ++ x ∷ []) after
       → AreTurns tally opened done (xs ++ x ∷ [])
-  turns_more done xs x new are one before at then =
-      turns-append done xs (x ∷ []) are (at_rest tally opened (done ++ xs) before at, one, at_rest tally opened ((done ++ xs) ++ x ∷ []) new then)
+  turns_more done xs x before after are at one =
+      turns-append done xs (x ∷ []) are (at_rest tally opened (done ++ xs) before at, one.0, at_rest tally opened ((done ++ xs) ++ x ∷ []) after one.1)

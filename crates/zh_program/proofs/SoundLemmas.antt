@@ -1,5 +1,7 @@
--- What a command leaves of a disk, on which a ledger keeps the count after those before it.
-use Rattle.std.proofs.Common.{◌≡◌, inl, ⊎_elim, ℕ, ◌+◌, ◌≤◌, List, [], ◌∷◌, ◌++◌, length, take, refl, sym, ◌∙◌, ap, subst, arith, length-append, add-zero, Bool, true, false, IsTrue, Option, Some, None}
+-- What a command leaves of a disk, on which a ledger keeps the count after those before it. Each image has the count before the
+-- command or the one after it, and so that after some first part of the accepted commands, with all that are acknowledged.
+use Rattle.std.proofs.Common.{◌≡◌, ℕ, ◌+◌, ◌≤◌, List, [], ◌∷◌, ◌++◌, length, take, Bool, true, false, IsTrue, Option, Some, None}
+use Rattle.std.proofs.Common.{inl, ⊎_elim, refl, sym, ◌∙◌, ap, subst, arith, length-append, add-zero}
 use Rattle.std.proofs.lemmas.List.{take_all, take-append-le, append-nil}
 use Rattle.std.proofs.Math.Seq.{take-append-add}
 use Rattle.std.specs.Prelude.{IfSome}
@@ -75,7 +77,10 @@ pub record GoesOnBy (tally : Tally) (log more : Log) (old new : OnDisk Ledger) :
   pub moments : Always (HasSome tally (log.accepted ++ more.accepted) log.acknowledged) old.history.trail new.history.trail
 
 -- where nothing is done
-quiet : (tally : Tally) (log : Log) (old new : OnDisk Ledger) → IsSoundBy tally log old → new.holder ≡ old.holder → new.history.trail ≡ old.history.trail → GoesOnBy tally log nothing old new
+quiet : (tally : Tally) (log : Log) (old new : OnDisk Ledger) → IsSoundBy tally log old
+    → new.holder ≡ old.holder
+    → new.history.trail ≡ old.history.trail
+    → GoesOnBy tally log nothing old new
 quiet tally log old new sound holder trail = record {
   sound = subst (λ (l : Log). IsSoundBy tally l new) (sym (log_none log)) (record {
     count = ap (λ (s : Ledger). s.tally) holder ∙ sound.count;
@@ -115,13 +120,18 @@ module _ (tally : Tally) (log : Log) (old new : OnDisk Ledger) (command : Comman
   moments = subst (λ (n : ℕ). Always (HasSome tally all n) old.history.trail new.history.trail) (add-zero log.acknowledged)
       (always_left (KeepsOrSteps old.holder command) (HasSome tally all (log.acknowledged + 0)) old.history.trail new.history.trail leaves by_image at_start)
 
-  stored_on : new.holder ≡ stored old.holder command → Moves (Stores old.holder command) old.history.trail.now new.history.trail.now → GoesOnBy tally log (record { accepted = command ∷ []; acknowledged = 1 }) old new
+  stored_on : new.holder ≡ stored old.holder command
+      → Moves (Stores old.holder command) old.history.trail.now new.history.trail.now
+      → GoesOnBy tally log (record { accepted = command ∷ []; acknowledged = 1 }) old new
   stored_on becomes moves =
-      let known : (c : List ℕ) → IsImage new.history.trail.now c → HoldsLedger (stored old.holder command) c = λ c image. let from = moves c image in from.2 (whole.images from.0 from.1) in
+      let known : (c : List ℕ) → IsImage new.history.trail.now c → HoldsLedger (stored old.holder command) c
+      = λ c image. let from = moves c image in from.2 (whole.images from.0 from.1) in
+      let more : after (after tally log.accepted) (command ∷ []) ≡ after tally all = sym (after-append tally log.accepted (command ∷ [])) in
+      let every : take (log.acknowledged + 1) all ≡ all
+      = take_all (log.acknowledged + 1) all (omega (arith, whole.all, length-append log.accepted (command ∷ []))) in
       record {
         sound = record {
-          count = ap (λ (s : Ledger). s.tally) becomes ∙ ap (λ (t : Tally). step t command) counts_all ∙ sym (after-append tally log.accepted (command ∷ []))
-              ∙ ap (after tally) (sym (take_all (log.acknowledged + 1) all (omega (arith, whole.all, length-append log.accepted (command ∷ [])))));
+          count = ap (λ (s : Ledger). s.tally) becomes ∙ ap (λ (t : Tally). step t command) counts_all ∙ more ∙ ap (after tally) (sym every);
           each = λ c image. has_more 1 c (has_one old.holder command c (holds_kept (stored old.holder command) c (known c image)));
           whole = λ still. record {
             all = omega (arith, whole.all, length-append log.accepted (command ∷ []));
@@ -131,17 +141,22 @@ module _ (tally : Tally) (log : Log) (old new : OnDisk Ledger) (command : Comman
         moments = moments;
       }
 
-  failed_on : new.holder.tally ≡ old.holder.tally → new.holder.store.broken ≡ true → GoesOnBy tally log (record { accepted = command ∷ []; acknowledged = 0 }) old new
-  failed_on same broken = record {
-    sound = record {
-      count = same ∙ counts_all ∙ ap (after tally) (sym (append-nil log.accepted) ∙ sym (take-append-add log.accepted (command ∷ []) 0) ∙ ap (λ (n : ℕ). take (n + 0) all) (sym whole.all));
-      each = λ c image.
-          let from = leaves_now (KeepsOrSteps old.holder command) old.history.trail new.history.trail (λ x kept. inl (holds_kept old.holder x kept)) leaves c image in
-          by_image from.0 c from.1 from.2;
-      whole = λ still. absurd cc;
-    };
-    moments = moments;
-  }
+  failed_on : new.holder.tally ≡ old.holder.tally
+      → new.holder.store.broken ≡ true
+      → GoesOnBy tally log (record { accepted = command ∷ []; acknowledged = 0 }) old new
+  failed_on same broken =
+      let front : take (length log.accepted + 0) all ≡ log.accepted = take-append-add log.accepted (command ∷ []) 0 ∙ append-nil log.accepted in
+      let acknowledged : take (log.acknowledged + 0) all ≡ log.accepted = ap (λ (n : ℕ). take (n + 0) all) whole.all ∙ front in
+      record {
+        sound = record {
+          count = same ∙ counts_all ∙ ap (after tally) (sym acknowledged);
+          each = λ c image.
+              let from = leaves_now (KeepsOrSteps old.holder command) old.history.trail new.history.trail (λ x kept. inl (holds_kept old.holder x kept)) leaves c image in
+              by_image from.0 c from.1 from.2;
+          whole = λ still. absurd cc;
+        };
+        moments = moments;
+      }
 
 -- a command that is stored, or meets a fault, meets no broken ledger
 stored_whole : (b : Bool) (s : Ledger) (c : Command) (k : ℕ) → MayResultWhere b s c (Stored k) → b ≡ false
@@ -152,39 +167,57 @@ device_whole : (b : Bool) (s : Ledger) (c : Command) → MayResultWhere b s c De
 device_whole true s c results = absurd cc
 device_whole false s c results = refl
 
-outcome_goes_on : (tally : Tally) (log : Log) (old new : OnDisk Ledger) (command : Command) (outcome : Outcome) → IsSoundBy tally log old → MayResult old.holder command outcome → Becomes old.holder command outcome new.holder
-    → LeavesBy old.holder command outcome old.history.trail new.history.trail → GoesOnBy tally log (logged command outcome) old new
+outcome_goes_on : (tally : Tally) (log : Log) (old new : OnDisk Ledger) (command : Command) (outcome : Outcome)
+    → IsSoundBy tally log old
+    → MayResult old.holder command outcome
+    → Becomes old.holder command outcome new.holder
+    → LeavesBy old.holder command outcome old.history.trail new.history.trail
+    → GoesOnBy tally log (logged command outcome) old new
 outcome_goes_on tally log old new command (Stored k) sound results becomes leaves =
     stored_on tally log old new command sound (sound.whole (stored_whole old.holder.store.broken old.holder command k results)) leaves.0 becomes leaves.1
 outcome_goes_on tally log old new command Device sound results becomes leaves =
     failed_on tally log old new command sound (sound.whole (device_whole old.holder.store.broken old.holder command results)) leaves becomes.tally becomes.broken
 outcome_goes_on tally log old new command outcome sound results becomes leaves = quiet tally log old new sound becomes leaves
 
-pub acts_goes_on : (tally : Tally) (log : Log) (old new : OnDisk Ledger) (command : Option Command) (May : Answer → Type 0) (answer : Answer) (more : Log) → IsSoundBy tally log old → IsTrue new.history.honest
-    → Acts old command May answer more new → GoesOnBy tally log more old new
+pub acts_goes_on : (tally : Tally) (log : Log) (old new : OnDisk Ledger)
+    (command : Option Command) (May : Answer → Type 0) (answer : Answer) (more : Log)
+    → IsSoundBy tally log old
+    → IsTrue new.history.honest
+    → Acts old command May answer more new
+    → GoesOnBy tally log more old new
 acts_goes_on tally log old new None May answer more sound honest (may, none, same) =
-    subst (λ (l : Log). GoesOnBy tally log l old new) (sym none) (quiet tally log old new sound (ap (λ (o : OnDisk Ledger). o.holder) same) (ap (λ (o : OnDisk Ledger). o.history.trail) same))
+    let holder = ap (λ (o : OnDisk Ledger). o.holder) same in
+    let trail = ap (λ (o : OnDisk Ledger). o.history.trail) same in
+    subst (λ (l : Log). GoesOnBy tally log l old new) (sym none) (quiet tally log old new sound holder trail)
 acts_goes_on tally log old new (Some command) May answer more sound honest (by, logs) =
     subst (λ (l : Log). GoesOnBy tally log l old new) (sym (logs ∙ by.submission.logs))
     (outcome_goes_on tally log old new command by.outcome sound by.submission.results by.submission.after (by.submission.call.did honest).leaves)
 
 -- What is accepted was judged acceptable.
-accepted_by : (v : Verdict) (s : Ledger) (c d : Command) (outcome : Outcome) → judge s.tally c ≡ v → MayFollow v s c outcome → (logged c outcome).accepted ≡ d ∷ [] → judge s.tally d ≡ verdicts.Accept
+accepted_by : (v : Verdict) (s : Ledger) (c d : Command) (outcome : Outcome) → judge s.tally c ≡ v
+    → MayFollow v s c outcome
+    → (logged c outcome).accepted ≡ d ∷ []
+    → judge s.tally d ≡ verdicts.Accept
 accepted_by verdicts.Accept s c d (Stored k) is may same = let e : c ≡ d = cc in subst (λ (x : Command). judge s.tally x ≡ verdicts.Accept) e is
 accepted_by verdicts.Accept s c d Device is may same = let e : c ≡ d = cc in subst (λ (x : Command). judge s.tally x ≡ verdicts.Accept) e is
 accepted_by verdicts.Accept s c d outcome is may same = absurd cc
 accepted_by verdicts.Same s c d outcome is may same = let wrong : [] ≡ d ∷ [] = subst (λ (o : Outcome). (logged c o).accepted ≡ d ∷ []) may same in absurd cc
 accepted_by (verdicts.Refused w) s c d outcome is may same = let wrong : [] ≡ d ∷ [] = subst (λ (o : Outcome). (logged c o).accepted ≡ d ∷ []) may same in absurd cc
 
-accepted_where : (b : Bool) (s : Ledger) (c d : Command) (outcome : Outcome) → MayResultWhere b s c outcome → (logged c outcome).accepted ≡ d ∷ [] → (judge s.tally d ≡ verdicts.Accept) × (b ≡ false)
+accepted_where : (b : Bool) (s : Ledger) (c d : Command) (outcome : Outcome) → MayResultWhere b s c outcome
+    → (logged c outcome).accepted ≡ d ∷ []
+    → (judge s.tally d ≡ verdicts.Accept) × (b ≡ false)
 accepted_where true s c d outcome may same = let wrong : [] ≡ d ∷ [] = subst (λ (o : Outcome). (logged c o).accepted ≡ d ∷ []) may same in absurd cc
 accepted_where false s c d outcome may same = (accepted_by (judge s.tally c) s c d outcome refl may same, refl)
 
-pub acts_accepted : (old new : OnDisk Ledger) (command : Option Command) (May : Answer → Type 0) (answer : Answer) (more : Log) (d : Command) → Acts old command May answer more new → more.accepted ≡ d ∷ []
+pub acts_accepted : (old new : OnDisk Ledger) (command : Option Command) (May : Answer → Type 0) (answer : Answer) (more : Log) (d : Command)
+    → Acts old command May answer more new
+    → more.accepted ≡ d ∷ []
     → (judge old.holder.tally d ≡ verdicts.Accept) × (old.holder.store.broken ≡ false)
 acts_accepted old new None May answer more d (may, none, same) is = let wrong : [] ≡ d ∷ [] = sym (ap (λ (l : Log). l.accepted) none) ∙ is in absurd cc
 acts_accepted old new (Some command) May answer more d (by, logs) is =
-    accepted_where old.holder.store.broken old.holder command d by.outcome by.submission.results (sym (ap (λ (l : Log). l.accepted) (logs ∙ by.submission.logs)) ∙ is)
+    let one : (logged command by.outcome).accepted ≡ d ∷ [] = sym (ap (λ (l : Log). l.accepted) (logs ∙ by.submission.logs)) ∙ is in
+    accepted_where old.holder.store.broken old.holder command d by.outcome by.submission.results one
 
 -- A command is answered `same` only where it is judged the same.
 same_stores : (spent : Bool) (accepted : ℕ) → MayStoreWhere spent accepted Same → ⊥
@@ -204,9 +237,12 @@ reports_same : (outcome : Outcome) → answers.Reply (reply_to outcome) ≡ answ
 reports_same Same is = refl
 reports_same outcome is = absurd cc
 
-pub acts_same : (old new : OnDisk Ledger) (command : Option Command) (May : Answer → Type 0) (answer : Answer) (more : Log) → Acts old command May answer more new → answer ≡ answers.Reply replies.Same
+pub acts_same : (old new : OnDisk Ledger) (command : Option Command) (May : Answer → Type 0) (answer : Answer) (more : Log)
+    → Acts old command May answer more new
+    → answer ≡ answers.Reply replies.Same
     → IfSome command (λ c. judge old.holder.tally c ≡ verdicts.Same)
 acts_same old new None May answer more acts is = tt
 acts_same old new (Some command) May answer more (by, logs) is =
+    let same : by.outcome ≡ Same = reports_same by.outcome (sym by.reply ∙ is) in
     same_where old.holder.store.broken old.holder command
-    (subst (λ (outcome : Outcome). MayResult old.holder command outcome) (reports_same by.outcome (sym by.reply ∙ is)) by.submission.results)
+    (subst (λ (outcome : Outcome). MayResult old.holder command outcome) same by.submission.results)

@@ -35,8 +35,10 @@ module _ {I O E F T D R : Type 0} where
   -- what a task does with its disk touches nothing at all
   uses_touch : (sight : Sight F T D R) (paths : Paths) (old new : World I O E F)
       (DoesOn : Canton → World I O E F × D → World I O E F × D → Result (Unit {0}) TaskFault × Observed I O D T → Type 0) (ended : Ended (Result (Unit {0}) TaskFault) (Used I O D T))
-      → ((canton : Canton) (before after : World I O E F × D) (observed : Observed I O D T) → DoesOn canton before after (ended.result, observed) → sight.files.places after.0.files ≡ sight.files.places before.0.files)
-      → UsesFilm sight paths old new DoesOn ended → Touches (Some paths.disk.now) (sight.files.places old.files) (sight.files.places new.files)
+      → ((canton : Canton) (before after : World I O E F × D) (observed : Observed I O D T) → DoesOn canton before after (ended.result, observed)
+      → sight.files.places after.0.files ≡ sight.files.places before.0.files)
+      → UsesFilm sight paths old new DoesOn ended
+      → Touches (Some paths.disk.now) (sight.files.places old.files) (sight.files.places new.files)
   uses_touch sight paths old new DoesOn ended stays by = ⊎_elim
       (λ early. early.touches)
       (λ uses. before_stay (TouchesOnly paths.disk.now) (sight.files.places old.files) (sight.files.places uses.files) (sight.files.places new.files)

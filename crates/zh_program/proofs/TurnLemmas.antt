@@ -1,4 +1,5 @@
--- What an office leaves of its disk that is given one thing after the other.
+-- What an office leaves of its disk that is given one thing after the other: what is so of each exchange by those before it, as
+-- long as the office is where these have led it.
 use Rattle.std.proofs.Common.{◌≡◌, ◌≢◌, ℕ, List, [], ◌∷◌, ◌++◌, length, refl, sym, ◌∙◌, ap, subst, append_assoc, IsTrue, Option, None, Result, Ok, Err}
 use Rattle.std.proofs.lemmas.List.{append-nil}
 use Rattle.std.specs.Prelude.{IfSome}
@@ -22,7 +23,7 @@ use Rattle.zh_office.specs.Runs.{Turn, its_ledger}
 use Rattle.zh_program.specs.Exchanges.{Exchange, Given, IsReadRight, command_given, count_by, disk_by, held_by, held_then, log_by, log_of}
 use Rattle.zh_program.specs.Exchanges.Given.{line}
 use Rattle.zh_program.specs.Stopped.{Always}
-use Rattle.zh_program.proofs.AnsweredLemmas.{IsFair, StoresNone, acts_fair, acts_stored, may_fair}
+use Rattle.zh_program.proofs.AnsweredLemmas.{AllStoreNone, IsFair, acts_fair, acts_stored, may_fair}
 use Rattle.zh_program.proofs.ExchangeLemmas.{acts_log, disk_more, held_more, log_more}
 use Rattle.zh_program.proofs.SoundLemmas.{GoesOnBy, IsSoundBy, acts_accepted, acts_goes_on, acts_same}
 
@@ -34,7 +35,8 @@ AtRest tally opened done = (c : List ℕ) → IsImage (disk_by opened done).now 
 pub record IsOne (tally : Tally) (opened : Trail) (done : List Exchange) (x : Exchange) : Type 0 where
   pub read : IsReadRight tally.canton x.given
   pub command : x.command ≡ command_given (held_by no_batches done) x.given
-  pub accepted : (command : Command) → (log_by x.command x.answer).accepted ≡ command ∷ [] → (judge (count_by tally (log_of done)) command ≡ verdicts.Accept) × ((log_of done).acknowledged ≡ length (log_of done).accepted)
+  pub accepted : (command : Command) → (log_by x.command x.answer).accepted ≡ command ∷ []
+      → (judge (count_by tally (log_of done)) command ≡ verdicts.Accept) × ((log_of done).acknowledged ≡ length (log_of done).accepted)
   pub counted : x.count ≡ count_by tally (log_of (done ++ x ∷ []))
   pub stored : (number : ℕ) → x.answer ≡ answers.Reply (Stored number) → x.command ≢ None
   pub same : x.answer ≡ answers.Reply Same → IfSome x.command (λ c. judge (count_by tally (log_of done)) c ≡ verdicts.Same)
@@ -56,9 +58,12 @@ pub at_rest : (tally : Tally) (opened : Trail) (done : List Exchange) (o : OnDis
 at_rest tally opened done o at c image = at.sound.each c (subst (λ (t : Trail). IsImage t.now c) at.disk image)
 
 -- something is given, and answered
-module _ (tally : Tally) (opened : Trail) (done : List Exchange) (old new : OnDisk Office) (given : Given) (command : Option Command) (May : Answer → Type 0) (answer : Answer) (more : Log) (at : IsAt tally opened done old)
-    (honest : IsTrue new.history.honest) (acts : Acts (its_ledger old) command May answer more (its_ledger new)) (fair : (a : Answer) → May a → StoresNone (totals_of old.holder.ledger.tally) a)
-    (read : IsReadRight tally.canton given) (gives : command ≡ command_given old.holder.held given) (held : new.holder.held ≡ held_then old.holder.held given answer) where
+module _ (tally : Tally) (opened : Trail) (done : List Exchange) (old new : OnDisk Office)
+    (given : Given) (command : Option Command) (May : Answer → Type 0) (answer : Answer) (more : Log)
+    (at : IsAt tally opened done old) (honest : IsTrue new.history.honest)
+    (acts : Acts (its_ledger old) command May answer more (its_ledger new)) (fair : AllStoreNone (totals_of old.holder.ledger.tally) May)
+    (read : IsReadRight tally.canton given) (gives : command ≡ command_given old.holder.held given)
+    (held : new.holder.held ≡ held_then old.holder.held given answer) where
   abbrev x : Exchange
   x = record { given = given; command = command; answer = answer; count = new.holder.ledger.tally; disk = new.history.trail }
 
@@ -71,28 +76,35 @@ module _ (tally : Tally) (opened : Trail) (done : List Exchange) (old new : OnDi
   logs : log_of (done ++ x ∷ []) ≡ followed_by (log_of done) more
   logs = log_more done x ∙ ap (followed_by (log_of done)) log_is
 
-  pub one_then : IsAt tally opened (done ++ x ∷ []) new
+  one_then : IsAt tally opened (done ++ x ∷ []) new
   one_then = record {
     disk = disk_more opened done x;
     held = held_more no_batches done x ∙ ap (λ (h : Held). held_then h given answer) at.held ∙ sym held;
     sound = subst (λ (l : Log). IsSoundBy tally l (its_ledger new)) (sym logs) goes_on.sound;
   }
 
-  pub one_is : IsOne tally opened done x
+  one_is : IsOne tally opened done x
   one_is = record {
     read = read;
     command = gives ∙ ap (λ (h : Held). command_given h given) (sym at.held);
     accepted = λ d is.
-        let by = acts_accepted (its_ledger old) (its_ledger new) command May answer more d acts (sym (ap (λ (l : Log). l.accepted) log_is) ∙ is) in
+        let one : more.accepted ≡ d ∷ [] = sym (ap (λ (l : Log). l.accepted) log_is) ∙ is in
+        let by = acts_accepted (its_ledger old) (its_ledger new) command May answer more d acts one in
         (subst (λ (t : Tally). judge t d ≡ verdicts.Accept) at.sound.count by.0, (at.sound.whole by.1).all);
     counted = one_then.sound.count;
     stored = acts_stored (its_ledger old) (its_ledger new) command May answer more fair acts;
-    same = λ is. subst (λ (t : Tally). IfSome command (λ c. judge t c ≡ verdicts.Same)) at.sound.count (acts_same (its_ledger old) (its_ledger new) command May answer more acts is);
+    same = λ is.
+        let judged = acts_same (its_ledger old) (its_ledger new) command May answer more acts is in
+        subst (λ (t : Tally). IfSome command (λ c. judge t c ≡ verdicts.Same)) at.sound.count judged;
     stopped =
         subst (λ (t : Trail). Always (HasSome tally (log_of (done ++ x ∷ [])).accepted (log_of done).acknowledged) t new.history.trail) (sym at.disk)
         (subst (λ (l : Log). Always (HasSome tally l.accepted (log_of done).acknowledged) old.history.trail new.history.trail) (sym logs) goes_on.moments);
     fair = acts_fair (its_ledger old) (its_ledger new) command May answer more fair acts;
   }
+
+  -- it is one exchange more, and leads the office on
+  pub one_more : IsOne tally opened done x × IsAt tally opened (done ++ x ∷ []) new
+  one_more = (one_is, one_then)
 
 -- the exchange of a line
 abbrev pub exchange_of : (old : OnDisk Office) (bytes : List ℕ) (answer : Answer) (new : OnDisk Office) → Turn old bytes answer new → Exchange
@@ -104,23 +116,30 @@ exchange_of old bytes answer new turn = record {
   disk = new.history.trail;
 }
 
-line_gives : (office : Office) (bytes : List ℕ) (reading : Result Line LineFault) → command_read office reading ≡ command_given office.held (line bytes reading)
+line_gives : (office : Office) (bytes : List ℕ) (reading : Result Line LineFault)
+    → command_read office reading ≡ command_given office.held (line bytes reading)
 line_gives office bytes (Ok read) = refl
 line_gives office bytes (Err fault) = refl
 
-line_held : (held : Held) (bytes : List ℕ) (reading : Result Line LineFault) (answer : Answer) → batches_after held reading answer ≡ held_then held (line bytes reading) answer
+line_held : (held : Held) (bytes : List ℕ) (reading : Result Line LineFault) (answer : Answer)
+    → batches_after held reading answer ≡ held_then held (line bytes reading) answer
 line_held held bytes (Ok read) answer = refl
 line_held held bytes (Err fault) answer = refl
 
-module _ (tally : Tally) (opened : Trail) (done : List Exchange) (old : OnDisk Office) (bytes : List ℕ) (answer : Answer) (new : OnDisk Office) (turn : Turn old bytes answer new) (honest : IsTrue new.history.honest)
-    (at : IsAt tally opened done old) where
-  pub turn_one : IsOne tally opened done (exchange_of old bytes answer new turn)
-  turn_one = one_is tally opened done old new (line bytes turn.reading) (command_read old.holder turn.reading) (MayAnswer old.holder turn.reading) answer turn.log at honest turn.acts (may_fair old.holder turn.reading)
-      turn.reads (line_gives old.holder bytes turn.reading) (turn.held ∙ line_held old.holder.held bytes turn.reading answer)
-
-  pub turn_then : IsAt tally opened (done ++ exchange_of old bytes answer new turn ∷ []) new
-  turn_then = one_then tally opened done old new (line bytes turn.reading) (command_read old.holder turn.reading) (MayAnswer old.holder turn.reading) answer turn.log at honest turn.acts (may_fair old.holder turn.reading)
-      turn.reads (line_gives old.holder bytes turn.reading) (turn.held ∙ line_held old.holder.held bytes turn.reading answer)
+-- a line is one exchange more
+pub turn_more : (tally : Tally) (opened : Trail) (done : List Exchange) (old : OnDisk Office) (bytes : List ℕ) (answer : Answer) (new : OnDisk Office)
+    (turn : Turn old bytes answer new)
+    → IsTrue new.history.honest
+    → IsAt tally opened done old
+    → IsOne tally opened done (exchange_of old bytes answer new turn) × IsAt tally opened (done ++ exchange_of old bytes answer new turn ∷ []) new
+turn_more tally opened done old bytes answer new turn honest at =
+    let given = line bytes turn.reading in
+    let command = command_read old.holder turn.reading in
+    let May : Answer → Type 0 = MayAnswer old.holder turn.reading in
+    let fair = may_fair old.holder turn.reading in
+    let gives = line_gives old.holder bytes turn.reading in
+    let held = turn.held ∙ line_held old.holder.held bytes turn.reading answer in
+    one_more tally opened done old new given command May answer turn.log at honest turn.acts fair turn.reads gives held
 
 module _ (tally : Tally) (opened : Trail) where
   -- what is so of each in turn is so wherever it stands

@@ -1,5 +1,6 @@
 -- The lines of a sheet, place by place.
-use Rattle.std.proofs.Common.{◌≡◌, ℕ, zero, suc, ◌+◌, ◌-◌, ◌*◌, ◌/◌, ◌%◌, ◌<◌, ◌≤◌, All, IfSome, Bool, true, false, ◌&&◌, Option, Some, None, List, [], ◌∷◌, ◌++◌, length, get_or, map, flat_map, refl, sym, ap, ◌∙◌, subst, inl, inr, arith, mul_comm, length-append}
+use Rattle.std.proofs.Common.{◌≡◌, ℕ, zero, suc, ◌+◌, ◌-◌, ◌*◌, ◌/◌, ◌%◌, ◌<◌, ◌≤◌, Bool, true, false, ◌&&◌, Option, Some, None, IfSome}
+use Rattle.std.proofs.Common.{List, [], ◌∷◌, ◌++◌, length, get_or, map, flat_map, All, refl, sym, ap, ◌∙◌, subst, inl, inr, arith, mul_comm, length-append}
 use Rattle.std.specs.List.{range_with_len}
 use Rattle.std.specs.Option.{option_map_or}
 use Rattle.std.specs.Prelude.{not, slice_get}
@@ -11,7 +12,8 @@ use Rattle.std.proofs.Math.Nat.{div-add-mod', mul-le-mul_left, mul-le-mul_right}
 use Rattle.zh_districts.specs.Canton.{Canton, Constituency, IsCanton}
 use Rattle.zh_matrices.proofs.CallerLemmas.{column_of, row_of}
 use Rattle.zh_records.proofs.CallerLemmas.{HasWidth, in_block, length-blocks}
-use Rattle.zh_sheet_text.specs.Layout.{IsPartOf, IsUpTo, SheetLine, constituency_line, end_line, group_line, head_line, house_line, key_line, label_text, lines_below, list_line, quorum_line, sheet_lines}
+use Rattle.zh_sheet_text.specs.Layout.{IsPartOf, IsUpTo, SheetLine, label_text, lines_below, sheet_lines}
+use Rattle.zh_sheet_text.specs.Layout.{constituency_line, end_line, group_line, head_line, house_line, key_line, list_line, quorum_line}
 use Rattle.zh_sheet_text.specs.declared.part.Label.TheVariants as labels
 use Rattle.zh_sheet_text.specs.declared.part.SheetPart.{SheetPart}
 use Rattle.zh_sheet_text.specs.declared.part.SheetPart.TheVariants.{Fixed, Kind, SeatsKey, UpperKey, ConstituencyDivisor, ConstituencyName, TakesPart, GroupDivisor, GroupName}
@@ -199,7 +201,9 @@ group_fine canton is g low high =
 list_fine : (canton : Canton) → IsCanton canton → (d g : ℕ) → 1 ≤ d → d < 1 + length canton.constituencies → 1 ≤ g → g < 1 + length canton.groups →
     IsLineOf canton (list_line canton d g)
 list_fine canton is d g low high from_one there =
-    let here : IsUpTo (length canton.constituencies) d × IsUpTo (length canton.groups) g = (record { from_one = low; there = omega (arith, high) }, record { from_one = from_one; there = omega (arith, there) }) in
+    let row : IsUpTo (length canton.constituencies) d = record { from_one = low; there = omega (arith, high) } in
+    let column : IsUpTo (length canton.groups) g = record { from_one = from_one; there = omega (arith, there) } in
+    let here : IsUpTo (length canton.constituencies) d × IsUpTo (length canton.groups) g = (row, column) in
     record {
       parts = (tt, (omega (arith, high, is.constituencies.1), (omega (arith, there, is.groups.1), (tt, (here, (tt, (here, (tt, (here, tt)))))))));
       short = omega arith;

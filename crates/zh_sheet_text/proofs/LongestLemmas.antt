@@ -1,5 +1,6 @@
 -- How long the text of a sheet is at most: 1,094 lines of 256 bytes.
-use Rattle.std.proofs.Common.{◌≡◌, ◌∙◌, ℕ, zero, suc, ◌+◌, ◌-◌, ◌*◌, ◌^◌, ◌<◌, ◌≤◌, ◌==◌, Bool, cond, true, false, All, IsTrue, Option, Some, None, List, [], ◌∷◌, ◌++◌, length, get_or, map, decimal, codes, refl, ap, sym, arith, length-append, inl, inr}
+use Rattle.std.proofs.Common.{◌≡◌, ℕ, zero, suc, ◌+◌, ◌-◌, ◌*◌, ◌^◌, ◌<◌, ◌≤◌, ◌==◌, Bool, cond, true, false, IsTrue, Option, Some, None}
+use Rattle.std.proofs.Common.{List, [], ◌∷◌, ◌++◌, length, get_or, map, All, decimal, codes, refl, ap, sym, ◌∙◌, inl, inr, arith, length-append}
 use Rattle.std.specs.Prelude.{slice_get, sum}
 use Rattle.std.specs.List.{flat_map}
 use Rattle.std.specs.Option.{option_map_or}
@@ -25,7 +26,10 @@ use Rattle.zh_sheet_text.specs.Layout.{IsPartOf, IsUpTo, SheetLine, mark_before,
 use Rattle.zh_sheet_text.specs.SheetText.{divisor_text, line_text, part_text, joined_parts, sheet_text}
 use Rattle.zh_sheet_text.specs.declared.parts.Head.{Head}
 use Rattle.zh_sheet_text.specs.declared.part.SheetPart.{SheetPart}
-use Rattle.zh_sheet_text.specs.declared.part.SheetPart.TheVariants.{Fixed, Number, Desk, Kind, Accepted, SeatsKey, UpperKey, ConstituencySeats, ConstituencyVotes, ConstituencyDivisor, ConstituencyName, TakesPart, GroupVoters, GroupSeats, GroupDivisor, GroupName, ListVotes, ListVoters, ListSeats}
+use Rattle.zh_sheet_text.specs.declared.part.SheetPart.TheVariants.{Fixed, Number, Desk, Kind, Accepted, SeatsKey, UpperKey}
+use Rattle.zh_sheet_text.specs.declared.part.SheetPart.TheVariants.{ConstituencySeats, ConstituencyVotes, ConstituencyDivisor, ConstituencyName}
+use Rattle.zh_sheet_text.specs.declared.part.SheetPart.TheVariants.{TakesPart, GroupVoters, GroupSeats, GroupDivisor, GroupName}
+use Rattle.zh_sheet_text.specs.declared.part.SheetPart.TheVariants.{ListVotes, ListVoters, ListSeats}
 use Rattle.zh_sheet_text.proofs.DivisorLemmas.{digits, divisor}
 use Rattle.zh_sheet_text.proofs.EachLemmas.{Each, each_more}
 use Rattle.zh_sheet_text.proofs.LayoutLemmas.{IsLineOf, all_lines, few_lines, most, most_of}
@@ -78,7 +82,9 @@ participant_at_most (n ∷ numbers) (true ∷ taking) most (suc k) each = partic
 participant_at_most (n ∷ numbers) (false ∷ taking) most k each = participant_at_most numbers taking most k (λ i. each (suc i))
 
 -- a group that takes part has at most the seats of all of these, and another one has none
-seats_within : (numbers : List ℕ) (taking : List Bool) (k : ℕ) → length taking ≡ length numbers → ((place : ℕ) → slice_get taking place ≡ Some false → get_or numbers place 0 ≡ 0) → get_or numbers k 0 ≤ sum (of_participants numbers taking)
+seats_within : (numbers : List ℕ) (taking : List Bool) (k : ℕ) → length taking ≡ length numbers
+    → ((place : ℕ) → slice_get taking place ≡ Some false → get_or numbers place 0 ≡ 0)
+    → get_or numbers k 0 ≤ sum (of_participants numbers taking)
 seats_within [] taking k same others = omega arith
 seats_within (n ∷ numbers) [] k same others = absurd (omega arith)
 seats_within (n ∷ numbers) (true ∷ taking) zero same others = omega (arith, sum_by-cons (λ x. x) n (of_participants numbers taking))
@@ -129,9 +135,14 @@ module _ (x : Distribution) (is : IsDistribution x) where
 
   sum_small : (g : ℕ) → 1 ≤ g → g ≤ length x.totals.canton.groups → voter_sum x.totals x.seats.seats g ≤ 10 ^ 14
   sum_small g from_one there =
-      let each : (i : ℕ) → i < length x.totals.canton.constituencies → voter_number (votes_in x.totals (i + 1) g) (get_or x.seats.seats i 0) ≤ constituency_votes x.totals (i + 1) =
-      λ i within. omega (arith, voter_number-le (votes_in x.totals (i + 1) g) (get_or x.seats.seats i 0) (is.seats.each i (omega (arith, one_seat_each))), group_within x.totals (i + 1) g from_one there) in
-      let all = sum_to-le (length x.totals.canton.constituencies) (λ i. voter_number (votes_in x.totals (i + 1) g) (get_or x.seats.seats i 0)) (λ i. constituency_votes x.totals (i + 1)) each in
+      let count : ℕ = length x.totals.canton.constituencies in
+      let voters : ℕ → ℕ = λ i. voter_number (votes_in x.totals (i + 1) g) (get_or x.seats.seats i 0) in
+      let votes : ℕ → ℕ = λ i. constituency_votes x.totals (i + 1) in
+      let few : (i : ℕ) → i < count → voters i ≤ votes_in x.totals (i + 1) g
+      = λ i within. voter_number-le (votes_in x.totals (i + 1) g) (get_or x.seats.seats i 0) (is.seats.each i (omega (arith, within, one_seat_each))) in
+      let each : (i : ℕ) → i < count → voters i ≤ votes i
+      = λ i within. omega (arith, few i within, group_within x.totals (i + 1) g from_one there) in
+      let all = sum_to-le count voters votes each in
       omega (arith, all, is.totals.most)
 
   voters_small : (k : ℕ) → get_or x.voters k 0 ≤ 10 ^ 14

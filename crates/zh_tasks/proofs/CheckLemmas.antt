@@ -3,41 +3,23 @@ use Rattle.std.proofs.Common.{◌≡◌, ◌≤◌, ℕ, List, length, take, Opt
 use Rattle.std.proofs.lemmas.List.{length-take, take_all}
 use Rattle.zh_checks.specs.Checks.{Inputs, WritesCheck, check_text}
 use Rattle.zh_csv.specs.declared.fault.LoadFault.{LoadFault}
-use Rattle.zh_csv.specs.declared.fault.LoadFault.TheVariants as loads
 use Rattle.zh_districts.specs.Canton.{Canton}
-use Rattle.zh_held.specs.Faults.{named}
 use Rattle.zh_held.specs.Held.{IsHolding}
 use Rattle.zh_held.specs.declared.held_reader.HeldSums.{HeldSums}
-use Rattle.zh_returns.specs.declared.verdict.Reason.TheVariants as reasons
 use Rattle.zh_verdicts.specs.declared.writer.VerdictFault.{VerdictFault}
 use Rattle.zh_verdicts.specs.declared.writer.VerdictFault.TheVariants as of_verdict
 use Rattle.zh_world.specs.declared.files.Files.{Ghosts as Files}
 use Rattle.zh_tasks.specs.World.{AreCalls}
-use Rattle.zh_tasks.specs.Check.{Answers, AreSumsAt, HeldFaultAs, IsOfHeld, IsOfSheet, LacksSheetFile, ReadsHeld, VerdictFaultAs}
+use Rattle.zh_tasks.specs.Check.{Answers, HeldFaultAs, IsOfHeld, IsOfSheet, LacksSheetFile, ReadsHeld, VerdictFaultAs}
 use Rattle.zh_world.specs.declared.fault.FileFault.{FileFault}
 use Rattle.zh_tasks.specs.declared.fault.TaskFault.{TaskFault}
 use Rattle.zh_tasks.specs.declared.fault.TaskFault.TheVariants as faults
 use Rattle.zh_tasks.proofs.LoadLemmas.{writes_front}
 use Rattle.zh_tasks.proofs.TextLemmas.{no_calls}
 
--- a fault of no record, and of no read
-other_fault : (why : LoadFault) → named why ≡ None → (why ≡ loads.Read → ⊥) → why ≡ loads.Memory
-other_fault loads.Csv none read = absurd (cc none)
-other_fault loads.Syntax none read = absurd (cc none)
-other_fault (loads.Judged reasons.Municipality) none read = absurd (cc none)
-other_fault (loads.Judged reasons.List) none read = absurd (cc none)
-other_fault (loads.Judged reason) none read = absurd (cc none)
-other_fault (loads.Row fault) none read = absurd (cc none)
-other_fault loads.Memory none read = refl
-other_fault loads.Read none read = absurd (read refl)
-
--- the sums that were read are those of the export, where its bytes are known
-sums_known : (known : Option (List ℕ)) (canton : Canton) (sums : HeldSums) → IsHolding canton (λ bytes. known ≡ Some bytes) (Ok sums) → AreSumsAt known canton sums
-sums_known None canton sums held = held.sums
-sums_known (Some text) canton sums held = held.known text refl
-
--- and so is what is wrong with it
-pub wrong_known : (known : Option (List ℕ)) (canton : Canton) (Met : FileFault → Type 0) (why : LoadFault) (fault : TaskFault) → IsHolding canton (λ bytes. known ≡ Some bytes) (Err why) → HeldFaultAs why fault → IsOfHeld known canton Met fault
+-- what is wrong with a record of an export is so, where its bytes are known
+pub wrong_known : (known : Option (List ℕ)) (canton : Canton) (Met : FileFault → Type 0) (why : LoadFault) (fault : TaskFault)
+    → IsHolding canton (λ bytes. known ≡ Some bytes) (Err why) → HeldFaultAs why fault → IsOfHeld known canton Met fault
 wrong_known known canton Met why faults.HeldFile held is = tt
 wrong_known known canton Met why faults.Memory held is = tt
 wrong_known None canton Met why (faults.Held record_fault) held is = tt

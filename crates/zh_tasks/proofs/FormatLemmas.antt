@@ -1,31 +1,47 @@
 -- What a formatting leaves that looks at the disk first, by what it finds there.
-use Rattle.std.proofs.Common.{◌≡◌, ℕ, List, nat_lt, inl, inr, refl, subst, Ok, Err}
+use Rattle.std.proofs.Common.{◌≡◌, ℕ, List, nat_lt, inl, inr, refl, subst, Result, Ok, Err, IsErrOf}
 use Rattle.zh_districts.specs.Canton.{Canton}
 use Rattle.zh_disk.specs.History.{History, Call}
 use Rattle.zh_disk.proofs.CallerLemmas.{followed, handed, leaves_none, no_call}
 use Rattle.zh_journal.specs.Place.{Rest}
 use Rattle.zh_snapshot.specs.Calls.{OpensStore}
 use Rattle.zh_snapshot.specs.Faults.{store_format_fails, store_open_fails}
+use Rattle.zh_snapshot.specs.Image.{IsBlank}
 use Rattle.zh_snapshot.specs.Store.{State}
+use Rattle.zh_snapshot.specs.declared.fault.OpenFault.{OpenFault}
 use Rattle.zh_snapshot.specs.declared.fault.OpenFault.TheVariants as opening
 use Rattle.zh_ledger.specs.Opening.{MakesNew}
 use Rattle.zh_tables.specs.Problems.{AreProblems, problem_count, problems_line}
 use Rattle.zh_tables.specs.declared.problems.SetupProblems.{SetupProblems}
 use Rattle.zh_tasks.specs.Format.{FormatsBlank, SaysIf, SaysProblems, format_fails}
+use Rattle.zh_tasks.specs.declared.fault.TaskFault.{TaskFault}
 use Rattle.zh_tasks.specs.declared.fault.TaskFault.TheVariants as formatting
+
+-- the disk was only opened
+only_opened : (canton : Canton) (a b : History) {found : Result (State × Rest) OpenFault} (fault : TaskFault) → OpensStore found a.trail b.trail
+    → (IsErrOf {T = Unit {0}} (Err fault) formatting.InUse → IsBlank a.trail.now.bytes → ⊥) → FormatsBlank canton (Err fault) a.trail b.trail
+only_opened canton a b fault opens in_use = record {
+  opened = b.trail;
+  opening = opens.moments;
+  after = inl refl;
+  blank = tt;
+  formatted = tt;
+  settled = tt;
+  in_use = in_use;
+}
 
 module _ (canton : Canton) {a b : History} where
   pub device_reported : Call store_open_fails OpensStore a b (Err opening.Device) → Call format_fails (FormatsBlank canton) a b (Err formatting.Device)
-  device_reported = handed refl (λ h opens. record { opened = b.trail; opening = opens.moments; after = inl refl; blank = tt; formatted = tt; settled = tt; in_use = λ is. absurd cc })
+  device_reported = handed refl (λ h opens. only_opened canton a b formatting.Device opens (λ is. absurd cc))
 
   pub memory_reported : Call store_open_fails OpensStore a b (Err opening.Memory) → Call format_fails (FormatsBlank canton) a b (Err formatting.Memory)
-  memory_reported = handed refl (λ h opens. record { opened = b.trail; opening = opens.moments; after = inl refl; blank = tt; formatted = tt; settled = tt; in_use = λ is. absurd cc })
+  memory_reported = handed refl (λ h opens. only_opened canton a b formatting.Memory opens (λ is. absurd cc))
 
   pub damaged_in_use : Call store_open_fails OpensStore a b (Err opening.Damaged) → Call format_fails (FormatsBlank canton) a b (Err formatting.InUse)
-  damaged_in_use = handed refl (λ h opens. record { opened = b.trail; opening = opens.moments; after = inl refl; blank = tt; formatted = tt; settled = tt; in_use = λ is. (opens.found.read.damaged refl).0 })
+  damaged_in_use = handed refl (λ h opens. only_opened canton a b formatting.InUse opens (λ is. (opens.found.read.damaged refl).0))
 
   pub store_in_use : {found : State × Rest} → Call store_open_fails OpensStore a b (Ok found) → Call format_fails (FormatsBlank canton) a b (Err formatting.InUse)
-  store_in_use = handed refl (λ h opens. record { opened = b.trail; opening = opens.moments; after = inl refl; blank = tt; formatted = tt; settled = tt; in_use = λ is blank. blank opens.found.read.framed.2.gate })
+  store_in_use = handed refl (λ h opens. only_opened canton a b formatting.InUse opens (λ is blank. blank opens.found.read.framed.2.gate))
 
 module _ (canton : Canton) {a b c : History} (opened : Call store_open_fails OpensStore a b (Err opening.Blank)) where
   pub blank_formatted : Call store_format_fails (MakesNew canton) b c (Ok tt) → Call format_fails (FormatsBlank canton) a c (Ok tt)

@@ -22,7 +22,8 @@ use Rattle.zh_office.proofs.CallerLemmas.{acts_submitted}
 use Rattle.zh_tasks.specs.Opened.{IsFrom, KeepsAll}
 
 -- a text that is loaded is one command, or none
-pub load_is_logged : (old : OnDisk Office) (text : Option (List ℕ)) (failed : Bool) (reply : Reply) (new : OnDisk Office) (turn : LoadTurn old text failed reply new) → IsTrue new.history.honest → IsLogged (its_ledger old) turn.log (its_ledger new)
+pub load_is_logged : (old : OnDisk Office) (text : Option (List ℕ)) (failed : Bool) (reply : Reply) (new : OnDisk Office)
+    (turn : LoadTurn old text failed reply new) → IsTrue new.history.honest → IsLogged (its_ledger old) turn.log (its_ledger new)
 load_is_logged old text failed reply new turn honest =
     let run = acts_submitted (its_ledger old) (command_loaded old.holder.ledger.store.broken turn.loaded) _ _ turn.log (its_ledger new) turn.acts in
     submits_logged (its_ledger old) run.0 turn.log (its_ledger new) honest run.2
@@ -55,7 +56,10 @@ module _ (canton : Canton) (first last : History) (start end : OnDisk Office) (l
       (λ moved. migrated_holds canton first.trail.now.bytes f tally (sym own_canton ∙ from.begun.opening.ready.set_up) holds moved) by
 
   any_moment : Leaves (λ old new. HasSome tally log.accepted 0 new) first.trail end.history.trail
-  any_moment = leaves_join (MayLeave canton first.trail.now.bytes) (ComesToHave start.holder.ledger log.accepted 0) (λ old new. HasSome tally log.accepted 0 new) first.trail start.history.trail end.history.trail opens.moments logs.each_moment
+  any_moment =
+      let Opened = MayLeave canton first.trail.now.bytes in
+      let Came = ComesToHave start.holder.ledger log.accepted 0 in
+      leaves_join Opened Came (λ old new. HasSome tally log.accepted 0 new) first.trail start.history.trail end.history.trail opens.moments logs.each_moment
       (λ x f image by. has_none tally log.accepted f (still_holds f by.1))
       (λ x f image by. (first.trail.now.bytes, image_now first.trail.now, has 0 x f image by))
 

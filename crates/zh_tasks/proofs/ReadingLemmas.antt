@@ -10,7 +10,8 @@ use Rattle.zh_tasks.specs.declared.fault.TaskFault.{TaskFault}
 use Rattle.zh_tasks.specs.declared.fault.TaskFault.TheVariants as faults
 
 -- its fault is not one of opening the office
-pub with_reading : (canton : Canton) (first last : History) (nothing : Type 0) (Does : (OnDisk Office → OnDisk Office → Type 0) → Result (Unit {0}) TaskFault → Type 0) (result : Result (Unit {0}) TaskFault)
+pub with_reading : (canton : Canton) (first last : History) (nothing : Type 0)
+    (Does : (OnDisk Office → OnDisk Office → Type 0) → Result (Unit {0}) TaskFault → Type 0) (result : Result (Unit {0}) TaskFault)
     → IfErr result IsOfReading → Does (IsFrom canton first last) result → WithOffice canton first last nothing Does result
 with_reading canton first last nothing Does (Ok done) calm by = by
 with_reading canton first last nothing Does (Err (faults.Open fault)) calm by = absurd calm

@@ -15,7 +15,8 @@ use Rattle.zh_tasks.specs.declared.fault.TaskFault.{TaskFault}
 use Rattle.zh_tasks.specs.declared.fault.TaskFault.TheVariants as faults
 
 -- a fault of serving
-pub broke_off : (old new : Streams) (Spans : OnDisk Office → OnDisk Office → Type 0) (start end : OnDisk Office) (result : Result ℕ ServeFault) (fault : ServeFault) → Spans start end → result ≡ Err fault
+pub broke_off : (old new : Streams) (Spans : OnDisk Office → OnDisk Office → Type 0) (start end : OnDisk Office) (result : Result ℕ ServeFault) (fault : ServeFault)
+    → Spans start end → result ≡ Err fault
     → (IsErrOf result serving.Read → ServesEnded (beside old start) (beside new end))
     → (IsErrOf result serving.Write → ServesFront (beside old start) (beside new end))
     → (IsErrOf result serving.Turns → ServesEnded (beside old start) (beside new end))
@@ -56,7 +57,8 @@ module _ (old new : Streams) (Spans Spans' : OnDisk Office → OnDisk Office →
   serves_as (Err fault) by = absurd by
 
 -- what was done with an office, where its fault is not one of opening it
-pub with_office : (canton : Canton) (first last : History) (nothing : Type 0) (Does : (OnDisk Office → OnDisk Office → Type 0) → Result (Unit {0}) TaskFault → Type 0) (result : Result (Unit {0}) TaskFault)
+pub with_office : (canton : Canton) (first last : History) (nothing : Type 0)
+    (Does : (OnDisk Office → OnDisk Office → Type 0) → Result (Unit {0}) TaskFault → Type 0) (result : Result (Unit {0}) TaskFault)
     → ((fault : OpenFault) → Does (IsFrom canton first last) (Err (faults.Open fault)) → ⊥)
     → Does (IsFrom canton first last) result → WithOffice canton first last nothing Does result
 with_office canton first last nothing Does (Ok done) never by = by

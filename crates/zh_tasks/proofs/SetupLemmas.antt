@@ -1,5 +1,6 @@
 -- A set-up, and the text that it is read from.
-use Rattle.std.proofs.Common.{◌≡◌, ◌≢◌, ◌<◌, ◌≤◌, ◌∙◌, ℕ, List, [], ◌++◌, length, take, Bool, true, false, Option, Some, None, Result, Ok, Err, IfSome, IfOk, refl, sym, ap, subst, arith, nat_le, ⊎_elim, cond, ◌&&◌, inl, inr}
+use Rattle.std.proofs.Common.{◌≡◌, ◌≢◌, ◌<◌, ◌≤◌, ◌∙◌, refl, sym, ap, subst, arith, ⊎_elim, inl, inr}
+use Rattle.std.proofs.Common.{ℕ, nat_le, List, [], ◌++◌, length, take, Bool, true, false, cond, ◌&&◌, Option, Some, None, Ok, Err, IfSome}
 use Rattle.std.proofs.lemmas.Bool.{cases_lt}
 use Rattle.std.proofs.lemmas.Bool.Decides.{leb_tells}
 use Rattle.std.proofs.lemmas.List.{length-take, take_all}
@@ -7,7 +8,6 @@ use Rattle.std.specs.Option.{option_map}
 use Rattle.zh_districts.specs.Canton.{Canton, IsCanton}
 use Rattle.std.specs.Str.{is_utf8}
 use Rattle.zh_setups.specs.SetupText.{reading_of}
-use Rattle.zh_setups.specs.declared.fault.SetupFault.{SetupFault}
 use Rattle.zh_setups.specs.declared.fault.SetupFault.TheVariants.{Memory, Text}
 use Rattle.zh_setups.specs.declared.fault.SetupRefusal.{SetupRefusal}
 use Rattle.zh_setups.specs.Refusals.{IsPlaced}
@@ -21,7 +21,8 @@ use Rattle.zh_tasks.specs.declared.fault.TaskFault.TheVariants as faults
 front_of : (all front before text : List ℕ) → text ≡ before ++ front → before ≡ [] → front ≡ take 1048577 all → text ≡ take 1048577 all
 front_of all front before text is none cut = is ∙ ap (λ (l : List ℕ). l ++ front) none ∙ cut
 
-pub front_known : (known read : Option (List ℕ)) (limit : ℕ) (before text : List ℕ) → read ≡ known → limit ≡ 1048577 → before ≡ [] → IfSome (option_map (take limit) read) (λ xs. text ≡ before ++ xs) → IsFrontAt known text
+pub front_known : (known read : Option (List ℕ)) (limit : ℕ) (before text : List ℕ) → read ≡ known → limit ≡ 1048577 → before ≡ []
+    → IfSome (option_map (take limit) read) (λ xs. text ≡ before ++ xs) → IsFrontAt known text
 front_known None read limit before text is at_most none front = tt
 front_known (Some all) (Some xs) limit before text is at_most none front =
     let same : xs ≡ all = cc in
@@ -35,10 +36,12 @@ unless : {X : Type 0} (b c : Bool) (x y : X) → b ≡ false → cond (b && c) x
 unless true c x y is = absurd cc
 unless false c x y is = refl
 
+-- too many bytes stand for no set-up
+no_text : (bytes : List ℕ) → nat_le (length bytes) 1048576 ≡ false → reading_of bytes ≡ Err Text
+no_text bytes is = unless (nat_le (length bytes) 1048576) (is_utf8 bytes) _ (Err Text) is
+
 long : (front : List ℕ) (canton : Canton) → nat_le (length front) 1048576 ≡ false → reading_of front ≡ Ok canton → ⊥
-long front canton is reading =
-    let none : reading_of front ≡ Err Text = unless (nat_le (length front) 1048576) (is_utf8 front) _ (Err Text) is in
-    differ (sym none ∙ reading)
+long front canton is reading = differ (sym (no_text front is) ∙ reading)
   where
     differ : Err Text ≡ Ok canton → ⊥
     differ h = cc
@@ -52,10 +55,6 @@ setup_known (Some all) front canton is reading limits =
     let same = whole all front is (short (length front) (λ h. long front canton h reading)) in
     (limits, subst (λ (l : List ℕ). reading_of l ≡ Ok canton) same reading)
 
-pub setup_read : (known : Option (List ℕ)) (front text : List ℕ) (result : Result Canton SetupFault) → IsFrontAt known front → text ≡ front → IfOk result (λ canton. reading_of text ≡ Ok canton) → IfOk result IsCanton → IfOk result (IsSetupAt known)
-setup_read known front text (Ok canton) is same reading limits = setup_known known front canton is (subst (λ (l : List ℕ). reading_of l ≡ Ok canton) same reading) limits
-setup_read known front text (Err fault) is same reading limits = tt
-
 -- a fault of the set-up comes before a task has a disk
 pub is_early : (text : Option (List ℕ)) (Met OfDisk : FileFault → Type 0) (fault : TaskFault) → IsOfSetup text Met fault → IsEarly text Met OfDisk fault
 is_early text Met OfDisk (faults.Unopened files.Setup cause) is = is
@@ -64,14 +63,14 @@ is_early text Met OfDisk (faults.Setup refusal) is = is
 is_early text Met OfDisk faults.Memory is = tt
 is_early text Met OfDisk fault is = absurd is
 
+not_short : (n : ℕ) → 1048576 < n → nat_le n 1048576 ≡ false
+not_short n long = ⊎_elim (λ (h : (nat_le n 1048576 ≡ true) × (n ≤ 1048576)). absurd (omega arith)) (λ (h : (nat_le n 1048576 ≡ false) × (1048576 < n)). h.0) (leb_tells n 1048576)
+
 -- a front that is cut off stands for no set-up, and so does its text
 cut : (all front : List ℕ) → front ≡ take 1048577 all → 1048576 < length all → (reading_of front ≡ Err Text) × (reading_of all ≡ Err Text) × (1048576 < length front)
 cut all front is long =
     let many : 1048576 < length front = omega (arith, length-take 1048577 all, ap length is) in
-    (unless (nat_le (length front) 1048576) (is_utf8 front) _ (Err Text) (not_short (length front) many), unless (nat_le (length all) 1048576) (is_utf8 all) _ (Err Text) (not_short (length all) long), many)
-  where
-    not_short : (n : ℕ) → 1048576 < n → nat_le n 1048576 ≡ false
-    not_short n long = ⊎_elim (λ (h : (nat_le n 1048576 ≡ true) × (n ≤ 1048576)). absurd (omega arith)) (λ (h : (nat_le n 1048576 ≡ false) × (1048576 < n)). h.0) (leb_tells n 1048576)
+    (no_text front (not_short (length front) many), no_text all (not_short (length all) long), many)
 
 placed_long : (all front : List ℕ) (refusal : SetupRefusal) → 1048576 < length all → 1048576 < length front → IsPlaced front refusal → IsPlaced all refusal
 placed_long all front refusal long many placed = elim placed [
@@ -83,7 +82,8 @@ placed_long all front refusal long many placed = elim placed [
 ]
 
 -- what refuses the front of a text that was read refuses the text
-pub setup_refused : (known : Option (List ℕ)) (front text : List ℕ) (refusal : SetupRefusal) → IsFrontAt known front → text ≡ front → (refusal.fault ≢ Memory → reading_of text ≡ Err refusal.fault) → IsPlaced text refusal → RefusesSetup known refusal
+pub setup_refused : (known : Option (List ℕ)) (front text : List ℕ) (refusal : SetupRefusal) → IsFrontAt known front → text ≡ front
+    → (refusal.fault ≢ Memory → reading_of text ≡ Err refusal.fault) → IsPlaced text refusal → RefusesSetup known refusal
 setup_refused None front text refusal is same fault placed = tt
 setup_refused (Some all) front text refusal is same fault placed = elim (cases_lt 1048576 (length all)) [
   | inl long ↦

@@ -30,7 +30,8 @@ module _ (of : Known) (old new : WorldOf of) where
   writes_calm (Nothing why) (Err faults.Refused) by = tt
   writes_calm (Nothing why) (Err fault) by = absurd by
 
-  pub shows : (May : Shown → Type 0) (shown : Shown) (result : Result (Unit {0}) TaskFault) → May shown → OnlyWrites old new → WritesShown of old new shown result → Shows of May old new result
+  pub shows : (May : Shown → Type 0) (shown : Shown) (result : Result (Unit {0}) TaskFault)
+      → May shown → OnlyWrites old new → WritesShown of old new shown result → Shows of May old new result
   shows May shown (Ok done) may rest by = (shown, may, rest, by)
   shows May shown (Err faults.Memory) may rest by = absurd (needs_none shown by)
   shows May shown (Err fault) may rest by = (shown, may, rest, by)

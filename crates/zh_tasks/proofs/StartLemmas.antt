@@ -26,7 +26,8 @@ held_by bytes tally stood x j clean =
     record { content = x; end = j; format = stood.format; clean = clean; stands = subst (λ (y : Content). StandsFor stood.format y tally) alike.0 stood.stands }
 
 -- an office that was opened has begun
-pub starts : (canton : Canton) (first : History) (start : OnDisk Office) → Opening canton first start.history (Ok start.holder.ledger) → start.holder.held ≡ no_batches → IsStart canton first start
+pub starts : (canton : Canton) (first : History) (start : OnDisk Office)
+    → Opening canton first start.history (Ok start.holder.ledger) → start.holder.held ≡ no_batches → IsStart canton first start
 starts canton first start opening held = record {
   opening = opening;
   held = held;
@@ -46,14 +47,16 @@ begun_at canton first last start begun honest s e this = record {
 }
 
 -- what is left of a disk after an office was opened on it, is left of it from before
-pub leaves_after : (canton : Canton) (first mid last : History) (ledger : Ledger) (result : Result (Unit {0}) TaskFault) → Opening canton first mid (Ok ledger) → LeavesDisk mid last result → LeavesDisk first last result
+pub leaves_after : (canton : Canton) (first mid last : History) (ledger : Ledger) (result : Result (Unit {0}) TaskFault)
+    → Opening canton first mid (Ok ledger) → LeavesDisk mid last result → LeavesDisk first last result
 leaves_after canton first mid last ledger result opening leaves = record {
   kept = λ honest. opening.call.kept (leaves.kept honest);
   later = omega (arith, opening.call.counts.later, leaves.later);
   cause = at result leaves.cause;
 }
   where
-    at : (r : Result (Unit {0}) TaskFault) → IfErr r (λ fault. IsOfDevice fault → HasRisen mid.failures last.failures) → IfErr r (λ fault. IsOfDevice fault → HasRisen first.failures last.failures)
+    at : (r : Result (Unit {0}) TaskFault) → IfErr r (λ fault. IsOfDevice fault → HasRisen mid.failures last.failures)
+        → IfErr r (λ fault. IsOfDevice fault → HasRisen first.failures last.failures)
     at (Ok done) cause = tt
     at (Err fault) cause = λ is. risen_since first.failures mid.failures last.failures opening.call.counts.later (cause is)
 

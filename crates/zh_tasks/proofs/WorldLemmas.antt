@@ -24,7 +24,8 @@ disk_after files path old mid new one other touches = record {
 }
 
 -- what is known of a disk stays so with a call before it
-pub known_before : {F : Type 0} (at : F → List ℕ → Option (List ℕ)) (old mid : F) (path : List ℕ) (P : Option (List ℕ) → Type 0) → at mid ≡ at old → P (at mid path) → P (at old path)
+pub known_before : {F : Type 0} (at : F → List ℕ → Option (List ℕ)) (old mid : F) (path : List ℕ) (P : Option (List ℕ) → Type 0)
+    → at mid ≡ at old → P (at mid path) → P (at old path)
 known_before at old mid path P same by = subst (λ (f : List ℕ → Option (List ℕ)). P (f path)) same by
 
 -- a fault of opening the disk is early

@@ -14,7 +14,7 @@ use zh_verdicts::VerdictFault;
 use zh_world::{FileCause, FileFault};
 
 /// The fault of a task, in the order of the manual.
-#[derive(Clone, Copy, Debug, PartialEq, Eq)]
+#[derive(Clone, Copy)]
 pub enum TaskFault {
     /// A file could not be opened or made, and why.
     Unopened(TaskFile, FileCause),

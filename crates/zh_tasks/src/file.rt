@@ -1,7 +1,7 @@
 //! The files of a task.
 
 /// A file that a task is given.
-#[derive(Clone, Copy, Debug, PartialEq, Eq)]
+#[derive(Clone, Copy)]
 pub enum TaskFile {
     Setup,
     Disk,

@@ -4,7 +4,7 @@ use zh_setups::FaultPlace;
 use zh_world::FileCause;
 
 /// Where a task met its fault, or why.
-#[derive(Clone, Copy, Debug, PartialEq, Eq)]
+#[derive(Clone, Copy)]
 pub enum TaskPlace {
     /// Why a file was not opened.
     Cause(FileCause),

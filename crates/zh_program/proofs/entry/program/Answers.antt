@@ -9,12 +9,22 @@ use Rattle.zh_program.proofs.entry.program.Goals as goal
 pub returns-in-Ok-clause-done : goal.returns-in-Ok-clause-done
 returns-in-Ok-clause-done g c = λ zero.
     let of = known g.I.Read g.O.Write g.E.Write g.F.Files g.F.Disk.Disk in
-    (c.in-Ok.task, c.in-Ok.ensures, was_done of c.in-Ok.task c.args.world.now c.carry_out-result.new.world c.end.new.world c.carry_out-result.result.result c.carry_out-result.result.used c.end.result c.carry_out-result.ensures c.end.ensures.status zero)
+    let task = c.in-Ok.task in
+    let after = c.carry_out-result.new.world in
+    let ended = c.carry_out-result.result in
+    let done = was_done of task c.args.world.now after c.end.new.world ended.result ended.used c.end.result c.carry_out-result.ensures c.end.ensures.status zero in
+    (task, c.in-Ok.ensures, done)
 
 pub returns-in-Ok-clause-fault : goal.returns-in-Ok-clause-fault
 returns-in-Ok-clause-fault g c = λ one.
     let of = known g.I.Read g.O.Write g.E.Write g.F.Files g.F.Disk.Disk in
-    inr (c.in-Ok.task, c.in-Ok.ensures, met_fault of c.in-Ok.task c.args.world.now c.carry_out-result.new.world c.end.new.world c.carry_out-result.result.result c.carry_out-result.result.used c.end.result c.carry_out-result.ensures c.end.ensures.status c.end.ensures.rest c.end.ensures.refused c.end.ensures.reported one)
+    let task = c.in-Ok.task in
+    let after = c.carry_out-result.new.world in
+    let ended = c.carry_out-result.result in
+    let end = c.end.ensures in
+    let met = met_fault of task c.args.world.now after c.end.new.world ended.result ended.used c.end.result c.carry_out-result.ensures
+    end.status end.rest end.refused end.reported one in
+    inr (task, c.in-Ok.ensures, met)
 
 pub returns-in-Err-clause-fault : goal.returns-in-Err-clause-fault
 returns-in-Err-clause-fault g c = λ one. inl ((record { rest = c.refuse.ensures.rest; none = refl }, c.refuse.ensures.reported one))
@@ -36,7 +46,10 @@ returns-in-Ok-clause-rehearsed g c = λ film used.
 pub returns-in-Ok-clause-touches : goal.returns-in-Ok-clause-touches
 returns-in-Ok-clause-touches g c =
     let of = known g.I.Read g.O.Write g.E.Write g.F.Files g.F.Disk.Disk in
-    inr (c.in-Ok.task, c.in-Ok.ensures, touched_after of c.in-Ok.task c.args.world.now c.carry_out-result.new.world c.end.new.world c.carry_out-result.result c.carry_out-result.ensures c.end.ensures.rest)
+    let task = c.in-Ok.task in
+    let after = c.carry_out-result.new.world in
+    let touched = touched_after of task c.args.world.now after c.end.new.world c.carry_out-result.result c.carry_out-result.ensures c.end.ensures.rest in
+    inr (task, c.in-Ok.ensures, touched)
 
 pub returns-in-Err-clause-touches : goal.returns-in-Err-clause-touches
 returns-in-Err-clause-touches g c = inl (ap (λ w. w.files) c.refuse.ensures.rest)

@@ -12,17 +12,22 @@ use Rattle.zh_program.specs.Exchanges.{count_by, log_of}
 use Rattle.zh_program.proofs.laws.headline_excludes.Goals as goal
 
 pub returns-clause-lost : goal.returns-clause-lost
-returns-clause-lost c = λ tally before talk exchanges done rest image n promise is at fewer within holds. none_lost tally before talk exchanges promise done rest image n is at fewer within holds
+returns-clause-lost c = λ tally before talk exchanges done rest image n promise is at fewer within holds.
+    none_lost tally before talk exchanges promise done rest image n is at fewer within holds
 
 pub returns-clause-skipped : goal.returns-clause-skipped
-returns-clause-skipped c = λ tally count before talk exchanges done rest x image promise is stop holds own other. none_other tally before talk exchanges promise done rest x image count is stop holds own other
+returns-clause-skipped c = λ tally count before talk exchanges done rest x image promise is stop holds own other.
+    none_other tally before talk exchanges promise done rest x image count is stop holds own other
 
 pub returns-clause-nothing_stored : goal.returns-clause-nothing_stored
 returns-clause-nothing_stored c = λ tally before talk exchanges done rest x number promise is answer none. promise.stored done rest x is number answer none
 
 pub returns-clause-not_same : goal.returns-clause-not_same
 returns-clause-not_same c = λ tally before talk exchanges done rest x command promise is answer given accepted.
-    none_new (judge (count_by tally (log_of done)) command) accepted (subst (λ (d : Option Command). IfSome d (λ e. judge (count_by tally (log_of done)) e ≡ verdicts.Same)) given (promise.same done rest x is answer))
+    let count = count_by tally (log_of done) in
+    let same : judge count command ≡ verdicts.Same
+    = subst (λ (d : Option Command). IfSome d (λ e. judge count e ≡ verdicts.Same)) given (promise.same done rest x is answer) in
+    none_new (judge count command) accepted same
 
 pub returns-clause-other_count : goal.returns-clause-other_count
 returns-clause-other_count c = λ tally before talk exchanges done rest x sheet is_final promise is answer other.

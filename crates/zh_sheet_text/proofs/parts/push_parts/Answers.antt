@@ -13,7 +13,14 @@ loop-place-preserved c =
       text = marked_put c.loop-place.page c.push_part.new.page c.push.new.self _ (joined_parts text (drop k parts)) (joined_parts text (drop (k + 1) parts)) _ _
           c.loop-place.invariant.text (at_drop_more (joined_parts text) parts k _ c.loop-place-test.true) c.push_part.ensures.text
           (c.push.ensures ∙ ap (λ m. c.push_part.new.page ++ m) (c.mark_after.ensures ∙ ap (λ m. m ∷ []) (last_of parts k c.loop-place-test.true)));
-      short = omega (arith, c.loop-place.invariant.short, c.push_part.ensures.short, ap length c.push.ensures, ap length c.mark_after.ensures, length-append c.push_part.new.page c.mark_after.result.now);
+      short = omega (
+        arith,
+        c.loop-place.invariant.short,
+        c.push_part.ensures.short,
+        ap length c.push.ensures,
+        ap length c.mark_after.ensures,
+        length-append c.push_part.new.page c.mark_after.result.now,
+      );
     }
 
 pub returns : goal.returns

@@ -8,11 +8,16 @@ use Rattle.zh_tasks.proofs.WorldLemmas.{disk_after, found_early, known_before, m
 use Rattle.zh_tasks.proofs.on_disk.begin.Goals as goal
 
 pub returns-clause-began : goal.returns-clause-began
-returns-clause-began g c = record {
-  setup = c.in_ok-setup.ensures.setup;
-  calls = disk_after g.F.Files c.args.paths.disk.now c.args.files.now c.setup_at.new.files c.disk_at.new.files c.setup_at.ensures.call c.disk_at.ensures.call c.disk_at.ensures.touches;
-  begins = known_before g.F.Files.disk_at c.args.files.now c.setup_at.new.files c.args.paths.disk.now (λ (k : Option (List ℕ)). BeginsAt c.args.missing k (g.F.Disk.Disk.history c.in_ok-disk.disk)) c.setup_at.ensures.call.disks c.in_ok-disk.ensures.begins;
-}
+returns-clause-began g c =
+    let path = c.args.paths.disk.now in
+    let old = c.args.files.now in
+    let mid = c.setup_at.new.files in
+    let Begins = λ (known : Option (List ℕ)). BeginsAt c.args.missing known (g.F.Disk.Disk.history c.in_ok-disk.disk) in
+    record {
+      setup = c.in_ok-setup.ensures.setup;
+      calls = disk_after g.F.Files path old mid c.disk_at.new.files c.setup_at.ensures.call c.disk_at.ensures.call c.disk_at.ensures.touches;
+      begins = known_before g.F.Files.disk_at old mid path Begins c.setup_at.ensures.call.disks c.in_ok-disk.ensures.begins;
+    }
 
 pub returns-in_err-setup-clause-early : goal.returns-in_err-setup-clause-early
 returns-in_err-setup-clause-early g c =

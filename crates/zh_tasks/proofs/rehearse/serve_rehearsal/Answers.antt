@@ -10,7 +10,10 @@ returns-in_err-format_blank g c =
 
 pub returns : goal.returns
 returns g c =
-    rehearsed _ _ _ c.in_ok-setup.setup (memory_history c.format_blank.new.disk) (memory_history c.serve_on.new.disk) c.serve_on.result c.in_ok-setup.ensures refl (c.in_ok-format_blank.ensures.call.did refl).formatted c.serve_on.ensures.served
+    let first = memory_history c.format_blank.new.disk in
+    let last = memory_history c.serve_on.new.disk in
+    let formatted = (c.in_ok-format_blank.ensures.call.did refl).formatted in
+    rehearsed _ _ _ c.in_ok-setup.setup first last c.serve_on.result c.in_ok-setup.ensures refl formatted c.serve_on.ensures.served
 
 pub serve_on-requires : goal.serve_on-requires
 serve_on-requires g c = c.requires

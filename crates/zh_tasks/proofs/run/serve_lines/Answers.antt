@@ -21,11 +21,15 @@ returns-clause-disk g c = record { kept = c.serve.ensures.disk.kept; later = c.s
 pub returns-in_err-serve-clause-served : goal.returns-in_err-serve-clause-served
 returns-in_err-serve-clause-served g c =
     let is : c.from_residual.result ≡ Err (faults.Serve c.in_err-serve.field-0.0) = search rules in
+    let last = g.D.Disk.history c.serve.new.disk in
     let start = on_disk c.args.office.now (g.D.Disk.history c.args.disk.now) in
-    let end = on_disk c.serve.new.self (g.D.Disk.history c.serve.new.disk) in
+    let end = on_disk c.serve.new.self last in
     let shown = frames g.I.Read g.O.Write g.D.Disk in
-    let this : IsThis start (g.D.Disk.history c.serve.new.disk) start end = (refl, refl) in
-    rw is (broke_off (streams (g.I.Read.remaining c.args.input.now) (g.O.Write.contents c.args.out.now) (shown c.args.film.now)) (streams (g.I.Read.remaining c.serve.new.reader) (g.O.Write.contents c.serve.new.writer) (shown c.serve.new.film)) (IsThis start (g.D.Disk.history c.serve.new.disk)) start end c.serve.result c.in_err-serve.field-0.0 this (search rules) c.serve.ensures.read c.serve.ensures.write c.serve.ensures.turns)
+    let old = streams (g.I.Read.remaining c.args.input.now) (g.O.Write.contents c.args.out.now) (shown c.args.film.now) in
+    let new = streams (g.I.Read.remaining c.serve.new.reader) (g.O.Write.contents c.serve.new.writer) (shown c.serve.new.film) in
+    let this : IsThis start last start end = (refl, refl) in
+    let did = c.serve.ensures in
+    rw is (broke_off old new (IsThis start last) start end c.serve.result c.in_err-serve.field-0.0 this (search rules) did.read did.write did.turns)
 
 pub returns-then-faulted-clause-served : goal.returns-then-faulted-clause-served
 returns-then-faulted-clause-served g c = record {
