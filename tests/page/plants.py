@@ -13,7 +13,7 @@ import seals
 HERE = pathlib.Path(__file__).resolve().parent
 PAGE = HERE.parents[1] / "page"
 # So many are tried at once.
-AT_ONCE = os.cpu_count() or 2
+AT_ONCE = len(os.sched_getaffinity(0))
 
 # What is wrong, the file, the test that has to see it, the line's right text, and the wrong one.
 PLANTS = [

@@ -40,8 +40,8 @@ def answer(setup, sheet, held=None):
 
 
 def answers(cases):
-    """What it answers on each of these, in their order; as many are asked at once as the machine has cores."""
-    with concurrent.futures.ThreadPoolExecutor(os.cpu_count()) as pool:
+    """What it answers on each of these, in their order; as many are asked at once as there are processors."""
+    with concurrent.futures.ThreadPoolExecutor(len(os.sched_getaffinity(0))) as pool:
         return list(pool.map(lambda case: answer(*case), cases))
 
 
