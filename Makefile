@@ -17,8 +17,8 @@ example:
 night:
 	@examples/canton/run $(SEED)
 
-test: proofs
-	@tests/page.sh
+test:
+	@scripts/test page
 
 proofs:
 	@scripts/test

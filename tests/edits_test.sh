@@ -175,7 +175,8 @@ renamed_one() {
     edit zh_low count.sum_is_called_total "old: let mut sum = 0;" "new: let mut total = 0;" "old: sum = next(place);" \
         "new: total = next(place);" "old:     sum" "new:     total"
 }
-commit() { git -C "$room/tree" -c user.name=test -c user.email=test@test commit -qm "$1" -- "${@:2}"; }
+commit() { git -C "$room/tree" -c user.name=test -c user.email=test@test commit -q "$@"; }
+empty_commits() { for ((; $1; )); do commit --allow-empty -m "nothing"; set -- $(($1 - 1)); done; }
 changed="crates that changed since their wrong bodies were tried"
 
 cp -r . "$tool"
@@ -192,8 +193,19 @@ expect "libraries of other sources are not taken" 0 "the sources changed meanwhi
 says "those of the same sources are" "$note"
 
 # What is tried again: the sums are those that the run above kept.
-git -C "$room/tree" add -A && git -C "$room/tree" -c user.name=test -c user.email=test@test commit -qm "all"
+git -C "$room/tree" add -A && commit -m "all"
 expect "nothing changed: the one in turn, and the one with the fewest" 0 "$changed: none; others: zh_high" --differ
+
+# A crate with more wrong bodies than are tried at once: half of them in each turn.
+refused=$room/tree/crates/zh_low/out/refused
+sed -i 's/^MOST_OF_A_CRATE = 30/MOST_OF_A_CRATE = 3/' "$tool/edited/tree.py"
+rm "$refused" && empty_commits 1
+expect "a large crate in its turn" 0 "zh_low: 2 of 2 refused at a goal of their own"
+says "is tried in part" "$changed: none; others: zh_high zh_low (2 of 4)"
+empty_commits 2 && "$tool/edits" --top "$room/tree" > "$room/printed" && echo "$(wc -l < "$refused") refused" > "$room/printed"
+says "and its others the next time" "4 refused"
+cp edited/tree.py "$tool/edited" && git -C "$room/tree" reset -q --hard HEAD~3
+
 mv "$room/tree/tests/wrong_bodies/zh_low/step_of_three.edit" "$room/tree/crates/zh_low/must-fail"
 expect "a wrong body in the other folder is the same" 0 "$changed: none" --differ
 sed -i 's/    n + 1/    1 + n/' "$room/tree/crates/zh_low/src/lib.rt"
@@ -207,8 +219,8 @@ git -C "$room/tree" checkout -q .
 sed -i '/^fn stepped/,/^}/s/n ≤ 100/n ≤ 101/' "$room/tree/crates/zh_low/src/lib.rt"
 expect "a private clause changed: its crate" 0 "$changed: zh_low; others" --differ
 git -C "$room/tree" checkout -q .
-commit "a page" README.md 2> /dev/null
-echo '// more' >> "$room/tree/crates/zh_low/src/lib.rt" && commit "a comment" crates/zh_low
+commit -m "a page" -- README.md 2> /dev/null
+echo '// more' >> "$room/tree/crates/zh_low/src/lib.rt" && commit -m "a comment" -- crates/zh_low
 expect "one more commit: the last crate that was touched, and the first in turn" 0 "$changed: zh_low; others: none" --differ
 for number in 1 2 3 4 5; do
     mkdir -p "$room"/tree/{crates/zh_more$number/src,tests/wrong_bodies/zh_more$number}

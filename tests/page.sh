@@ -41,5 +41,5 @@ echo "== the card for a desk: two pages"
 scripts/card || exit 1
 echo "== wrong lines planted in the page"
 /usr/bin/python3 tests/page/plants.py || exit 1
-echo "== the module of the page, made twice"
+echo "== the module of the page, made anew"
 page/module --check

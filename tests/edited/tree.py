@@ -9,6 +9,8 @@ from edited.edit import edits_of
 from edited.functions import without_bodies
 
 PARTS = ("src", "specs", "proofs")
+# So many wrong bodies are tried of a crate that did not change.
+MOST_OF_A_CRATE = 30
 
 
 class Tree:
@@ -166,3 +168,10 @@ def two_more(tree):
     fewest = [min(touched, key=lambda it: len(tree.edits(it)))] if touched else []
     in_turn = tree.with_edits[tree.commits() % len(tree.with_edits)] if tree.with_edits else None
     return list(dict.fromkeys([*fewest, *filter(None, [in_turn])]))
+
+
+def share(tree, crate):
+    """A crate's wrong bodies, or of more than MOST_OF_A_CRATE a part, another one each time that the crate has its turn."""
+    edits, turn = tree.edits(crate), tree.commits() // len(tree.with_edits)
+    parts = -(-len(edits) // MOST_OF_A_CRATE)
+    return edits[turn % parts :: parts]

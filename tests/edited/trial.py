@@ -129,10 +129,10 @@ def try_batches(prover, seed, crate, batches, kept, say):
                 say(f"{crate.name}: {len(crate.outcomes)} of {crate.number} tried, after {round(time.monotonic() - began)} s")
 
 
-def try_crate(tree, prover, name, folder, jobs, anew, say):
-    """Tries the wrong bodies of a crate, all anew or those that no run refused, in a folder that is there for that. Its first check may
-    take so many jobs."""
-    edits, began, kept = tree.edits(name), time.monotonic(), Refused(tree, name)
+def try_crate(tree, prover, name, edits, folder, jobs, anew, say):
+    """Tries these wrong bodies of a crate, all anew or those that no run refused, in a folder that is there for that. Its first check
+    may take so many jobs."""
+    began, kept = time.monotonic(), Refused(tree, name)
     crate, found, refused = Crate(name, len(edits)), [], set() if anew else kept.read()
     for edit in edits:
         try:
