@@ -31,6 +31,21 @@ fn listed(alloc: Global, folder: &MemoryFolder<()>) -> io::Result<String> {
     Ok(text)
 }
 
+/// Whether these stand there.
+fn stand(alloc: Global, folder: &MemoryFolder<()>, there: &str) -> io::Result<bool> {
+    Ok(listed(alloc, folder)?.as_str() == there)
+}
+
+/// What an opening of the disk at a path reports.
+fn opened(folder: &mut MemoryFolder<()>, path: &str) -> Option<FileFault> {
+    open(folder, (), path).err()
+}
+
+/// The same where one may be made.
+fn made(folder: &mut MemoryFolder<()>, path: &str) -> Option<FileFault> {
+    open_or_make(folder, (), path).err()
+}
+
 #[test]
 fn an_opening_fails_at_each_call(rt: HostRuntime) -> Result<(), Fail> {
     // the calls of the folder and of the file that pass, what is reported, and what stands there then
@@ -63,14 +78,8 @@ fn an_opening_fails_at_each_call(rt: HostRuntime) -> Result<(), Fail> {
         let mut folder = with_file(rt.alloc(), DISK_LENGTH)?;
         folder.calls = calls;
         folder.file_calls = file_calls;
-        assert!(rt;
-            open(&mut folder, (), "d").err() == fault,
-            "{calls} {file_calls}"
-        );
-        assert!(rt;
-            listed(rt.alloc(), &folder)?.as_str() == there,
-            "{calls} {file_calls}"
-        );
+        let right = opened(&mut folder, "d") == fault && stand(rt.alloc(), &folder, there)?;
+        assert!(rt; right, "{calls} {file_calls}");
     }
     Ok(())
 }
@@ -99,14 +108,8 @@ fn a_making_fails_at_each_call(rt: HostRuntime) -> Result<(), Fail> {
         let mut folder = MemoryFolder::new(rt.alloc());
         folder.calls = calls;
         folder.file_calls = file_calls;
-        assert!(rt;
-            open_or_make(&mut folder, (), "d").err() == fault,
-            "{calls} {file_calls}"
-        );
-        assert!(rt;
-            listed(rt.alloc(), &folder)?.as_str() == there,
-            "{calls} {file_calls}"
-        );
+        let right = made(&mut folder, "d") == fault && stand(rt.alloc(), &folder, there)?;
+        assert!(rt; right, "{calls} {file_calls}");
     }
     Ok(())
 }
@@ -123,16 +126,15 @@ fn no_disk_is_left_alone(rt: HostRuntime) -> Result<(), Fail> {
             Some(FileFault::Size(1_118_721)),
         ),
     ];
-    for (length, found, made) in cases {
+    for (length, found, fault) in cases {
         let mut folder = with_file(rt.alloc(), length)?;
         let before = listed(rt.alloc(), &folder)?;
-        assert!(rt; open(&mut folder, (), "d").err() == found, "{length}");
-        assert!(rt; listed(rt.alloc(), &folder)? == before, "{length}");
-        assert!(rt;
-            open_or_make(&mut folder, (), "d").err() == made,
-            "{length}"
-        );
-        assert!(rt; listed(rt.alloc(), &folder)? == before, "{length}");
+        let is_left = opened(&mut folder, "d") == found
+            && stand(rt.alloc(), &folder, before.as_str())?;
+        assert!(rt; is_left, "{length}");
+        let is_left = made(&mut folder, "d") == fault
+            && stand(rt.alloc(), &folder, before.as_str())?;
+        assert!(rt; is_left, "{length}");
     }
     Ok(())
 }
@@ -143,10 +145,10 @@ fn the_cause_says_what_stands_there(rt: HostRuntime) -> Result<(), Fail> {
     folder.put("pipe", Stood::Other)?;
     let missing = Some(FileFault::Device(FileCause::Missing));
     let special = Some(FileFault::Device(FileCause::Special));
-    assert!(rt; open(&mut folder, (), "no.disk").err() == missing);
-    assert!(rt; open(&mut folder, (), "pipe").err() == special);
-    assert!(rt; open_or_make(&mut folder, (), "pipe").err() == special);
-    assert!(rt; listed(rt.alloc(), &folder)?.as_str() == "d 1118720");
+    assert!(rt; opened(&mut folder, "no.disk") == missing);
+    assert!(rt; opened(&mut folder, "pipe") == special);
+    assert!(rt; made(&mut folder, "pipe") == special);
+    assert!(rt; stand(rt.alloc(), &folder, "d 1118720")?);
     Ok(())
 }
 
@@ -154,13 +156,13 @@ fn the_cause_says_what_stands_there(rt: HostRuntime) -> Result<(), Fail> {
 fn a_lock_is_refused(rt: HostRuntime) -> Result<(), Fail> {
     let mut folder = with_file(rt.alloc(), DISK_LENGTH)?;
     folder.is_busy = true;
-    assert!(rt; open(&mut folder, (), "d").err() == Some(FileFault::Busy));
-    assert!(rt; open_or_make(&mut folder, (), "d").err() == Some(FileFault::Busy));
+    assert!(rt; opened(&mut folder, "d") == Some(FileFault::Busy));
+    assert!(rt; made(&mut folder, "d") == Some(FileFault::Busy));
     // and one with bytes is kept beside a disk
     folder.is_busy = false;
     let companion = vec![in rt.alloc(); 7]?;
     folder.put("d-wal", Stood::File(companion))?;
-    assert!(rt; open(&mut folder, (), "d").is_ok());
-    assert!(rt; listed(rt.alloc(), &folder)?.as_str() == "d 1118720, d-wal 1");
+    assert!(rt; opened(&mut folder, "d").is_none());
+    assert!(rt; stand(rt.alloc(), &folder, "d 1118720, d-wal 1")?);
     Ok(())
 }
