@@ -1,6 +1,5 @@
 #!/usr/bin/env python3
-"""Counts the shape of the crates: how their definitions are named, how long lines are, how often a clause is said; and the
-words of the pages.
+"""Counts the shape of the crates: how their definitions are named, how long lines are, how often a clause is said.
 
 The argument is the repository's folder. There, tests/shape/limits has the most that each count may be, and the crates
 that are not counted, and tests/shape/exceptions what is let through, under a line with its reason that ends with ':'.
@@ -17,7 +16,6 @@ them, or 'line FILE' for a file whose lines may be longer. One that nothing need
 - The lines of a definition are those that are neither empty nor a comment.
 - A clause is all that stands between the braces of an `ensures`, with its name, whatever its lines.
   A method of a trait that an `impl` gives clauses of its own has to repeat the trait's: that counts as no repetition.
-- A page is README.md or a file of docs/. Its words are what blanks part, as `wc -w` counts, tables and blocks included.
 
 The last line is 'N passed, M failed', by counts. The status is 1 if one failed.
 """
@@ -186,11 +184,6 @@ def count_clauses(report, clauses):
     report.count("ensures clauses", len(clauses))
 
 
-def count_words(report, top):
-    for page in [*top.glob("README.md"), *sorted(top.glob("docs/*.md"))]:
-        report.count(f"words of {page.relative_to(top)}", len(page.read_text(encoding="utf-8").split()))
-
-
 def main(folder):
     top = Path(folder)
     tree = Tree(top)
@@ -209,7 +202,6 @@ def main(folder):
     count_lines(report, files)
     count_members(report, files)
     count_clauses(report, [it for it in tree.clauses if it.crate in counted])
-    count_words(report, top)
     print(f"{report.passed} passed, {report.failed} failed")
     return report.failed > 0
 
