@@ -10,7 +10,7 @@ import stat
 import sys
 import tempfile
 
-from room import PROGRAM, SCRIPTS, Room, run, same, that, until
+from room import PROGRAM, SCRIPTS, Room, main, same, that, until
 
 # Where the office or the desk is killed: before this line.
 OFFICE_MOMENTS = ["self.at_work = record = dataclasses.replace(record, line=self.lines)",
@@ -439,4 +439,4 @@ TESTS = [office_is_killed, start_is_killed, desk_is_killed, batch_is_brought_bac
 
 
 if __name__ == "__main__":
-    sys.exit(run([it for it in TESTS if len(sys.argv) == 1 or it.__name__ in sys.argv[1:]], at_once=4) > 0)
+    sys.exit(main(TESTS, at_once=4))

@@ -12,7 +12,7 @@ import sys
 import threading
 import time
 
-from room import TOP, Process, Room, run, same, that, until
+from room import TOP, Process, Room, main, same, that, until
 
 sys.path.insert(0, str(TOP / "examples/canton"))
 from canton import Canton, Chance
@@ -231,4 +231,4 @@ def a_key_is_a_desk():
 
 
 if __name__ == "__main__":
-    sys.exit(run([it for it in (a_key_is_a_desk, side_by_side) if len(sys.argv) == 1 or it.__name__ in sys.argv[1:]]) > 0)
+    sys.exit(main([a_key_is_a_desk, side_by_side]))

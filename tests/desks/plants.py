@@ -1,8 +1,18 @@
-"""Wrong lines, planted one by one in a copy of the scripts: each has to make a test of fast.py fail. The last line is
-'N passed, M failed'."""
+"""Wrong lines, planted one by one in a copy of the scripts of desks/: each has to make its test fail. They stand in tests/desks/plants,
+each in a file that is named after the mistake:
+
+  file: zhcount-desk
+  seen by: fast.py torn_line
+  old: the right text, which stands in the file once; of several lines each has an 'old:' of its own
+  new: the wrong text, likewise
+
+Where a mistake can't change what anybody sees, 'changes nothing:' and the reason stand in place of 'seen by:', and no test is run.
+Names as arguments choose some. JOBS is how many run at once, 4 where it is not set. The last line is 'N passed, M failed', and how
+many change nothing."""
 import concurrent.futures
 import os
 import pathlib
+import re
 import shutil
 import subprocess
 import sys
@@ -10,72 +20,75 @@ import tempfile
 
 HERE = pathlib.Path(__file__).resolve().parent
 SCRIPTS = HERE.parents[1] / "desks"
-
-# What is wrong, the file, the test that has to see it, the line's right text, and the wrong one.
-PLANTS = [
-    ("torn_line_is_sent", "zhcount-desk", "torn_line",
-     'say(f"not sent, since its end is missing: {escaped(self.terminal.rest[:120])}")',
-     "self.answer(self.terminal.rest)"),
-    ("close_is_repeated_after_a_stop", "zhcount-desk", "stop_keeps_a_command",
-     'NEVER_REPEATED = ("close", "reopen")',
-     "NEVER_REPEATED = ()"),
-    ("desk_speaks_for_another", "zhcount-office", "for_itself",
-     'self.zhcount.answer(f"{desk} ".encode() + unescaped(message.text))',
-     'self.zhcount.answer((b"" if message.text[:1].isdigit() else f"{desk} ".encode()) + unescaped(message.text))'),
-    ("desk_may_be_taken_twice", "zhcount-desk", "second_connection",
-     "fcntl.flock(self.fd, fcntl.LOCK_EX | fcntl.LOCK_NB)",
-     "pass"),
-    ("line_is_kept_after_it_was_sent", "zhcount-desk", "desk_is_killed",
-     "if keep:",
-     "if False:"),
-    ("committed_batch_is_brought_back", "zhcount-desk", "batch_is_brought_back",
-     're.match(r"stored|same", record.answer)',
-     'record.answer == "same"'),
-    ("rows_are_not_repeated", "zhcount-desk", "batch_is_brought_back",
-     "if self.rows is None:\n            return []",
-     "if self.rows is not None:\n            return []"),
-    ("repetition_is_not_marked", "zhcount-desk", "start_is_killed",
-     'answer = in_doubt(self.exchange("again", message.text))',
-     'answer = in_doubt(self.exchange("new", message.text))'),
-    ("device_is_an_answer", "zhcount-office", "no_answers",
-     '("refused device", "refused reopen-disk")',
-     '("refused reopen-disk",)'),
-    ("unanswered_line_is_forgotten", "zhcount-office", "start_is_killed",
-     "if record.is_line() and (record.start, record.line) not in answered:",
-     "if False:"),
-    ("two_offices_in_a_folder", "zhcount-office", "what_does_not_belong_together",
-     "fcntl.flock(self.lock, fcntl.LOCK_EX | fcntl.LOCK_NB)",
-     "pass"),
-    ("replay_believes_answers", "zhcount_replay.py", "replays",
-     "if answer != noted:",
-     "if False:"),
-]
+FIELDS = ("file", "seen by", "changes nothing", "old", "new")
 
 
-def seen(plant):
-    """Whether the test fails with this line in place of the right one, and what it says."""
-    _, file, test, right, wrong = plant
-    with tempfile.TemporaryDirectory() as room:
-        shutil.copytree(SCRIPTS, room, dirs_exist_ok=True)
-        path = pathlib.Path(room) / file
-        text = path.read_text()
-        if text.count(right) != 1:
-            return False, "the right line does not stand there once"
-        path.write_text(text.replace(right, wrong))
-        ran = subprocess.run([sys.executable, str(HERE / "fast.py"), test], env={**os.environ, "DESKS": room, "PATIENCE": "15"},
-                             stdout=subprocess.PIPE, stderr=subprocess.STDOUT, text=True)
-        return ran.returncode == 1 and "FAIL  " in ran.stdout, f"{test}: {ran.stdout.splitlines()[0].split(': ', 1)[-1][:160]}"
+class Faulty(Exception):
+    """Why a plant can't be tried."""
 
 
-def main():
-    with concurrent.futures.ThreadPoolExecutor(4) as pool:
-        outcomes = list(pool.map(seen, PLANTS))
-    for (title, *_), (is_seen, said) in zip(PLANTS, outcomes):
-        print(f"{'ok  ' if is_seen else 'FAIL'}  {title}: {said}", flush=True)
-    failed = sum(not is_seen for is_seen, _ in outcomes)
-    print(f"{len(PLANTS) - failed} passed, {failed} failed")
-    sys.exit(failed > 0)
+def plant_in(path):
+    """The fields of a plant, each with its text."""
+    found = {}
+    for line in path.read_text().splitlines():
+        name, colon, text = line.partition(":")
+        if name not in FIELDS or not colon:
+            raise Faulty(f"this line is none of a plant: {line[:80]}")
+        found[name] = f"{found[name]}\n{text[1:]}" if name in found else text[1:]
+    if not {"file", "old", "new"} <= found.keys() or ("seen by" in found) == ("changes nothing" in found):
+        raise Faulty("it needs a file, an old and a new text, and a test that sees it or the reason why it changes nothing")
+    return found
+
+
+def copied(plant, room):
+    """Puts a copy of the scripts with this plant into the room."""
+    shutil.copytree(SCRIPTS, room, dirs_exist_ok=True)
+    path = pathlib.Path(room) / plant["file"]
+    text = path.read_text()
+    if text.count(plant["old"]) != 1:
+        raise Faulty(f"the right text stands in {plant['file']} {text.count(plant['old'])} times, not once")
+    path.write_text(text.replace(plant["old"], plant["new"]))
+
+
+def outcome(path):
+    """The word for a plant, and what is said of it."""
+    try:
+        plant = plant_in(path)
+        with tempfile.TemporaryDirectory(prefix="plant-") as room:
+            copied(plant, room)
+            if "changes nothing" in plant:
+                return "none", plant["changes nothing"].replace("\n", " ")
+            return tried(plant["seen by"], room)
+    except (Faulty, OSError) as it:
+        return "FAIL", str(it)
+
+
+def tried(test, scripts):
+    """Whether a test fails with these scripts, and what it says."""
+    if not re.fullmatch(r"\w+\.py \w+", test):
+        raise Faulty(f"'seen by: {test}' is no file with a test in it")
+    name, function = test.split(" ")
+    ran = subprocess.run([sys.executable, str(HERE / name), function], env={**os.environ, "DESKS": scripts, "PATIENCE": "15"},
+                         stdout=subprocess.PIPE, stderr=subprocess.STDOUT, text=True)
+    failed = re.search(r"^FAIL  .*?: (.*)", ran.stdout, re.MULTILINE)
+    if ran.returncode == 1 and failed:
+        return "ok", f"{function}: {failed[1][:160]}"
+    return "FAIL", f"{test} does not see it, status {ran.returncode}: {ran.stdout[-160:].strip()}"
+
+
+def main(names):
+    paths = sorted((HERE / "plants").glob("*.edit"))
+    if strange := set(names) - {it.stem for it in paths}:
+        sys.exit(f"there is no plant {', '.join(sorted(strange))}")
+    paths = [it for it in paths if not names or it.stem in names]
+    counts = dict.fromkeys(("ok", "FAIL", "none"), 0)
+    with concurrent.futures.ThreadPoolExecutor(int(os.environ.get("JOBS", "4"))) as pool:
+        for path, (word, said) in zip(paths, pool.map(outcome, paths)):
+            counts[word] += 1
+            print(f"{word:<5} {path.stem}: {said}", flush=True)
+    print(f"{counts['ok']} passed, {counts['FAIL']} failed" + (f"; {counts['none']} change nothing" if counts["none"] else ""))
+    sys.exit(counts["FAIL"] > 0)
 
 
 if __name__ == "__main__":
-    main()
+    main(sys.argv[1:])

@@ -230,19 +230,33 @@ def export_of(records):
     return "".join(line + "\n" for line in lines)
 
 
+class Skipped(Exception):
+    """Why a test can't be tried here."""
+
+
 def run(tests, at_once=1):
     """Runs functions without arguments, each named by its first line. How many failed."""
-    def fault(test):
+    def outcome(test):
         try:
             test()
+        except Skipped as it:
+            return "skipped", str(it)
         except (AssertionError, OSError, subprocess.SubprocessError) as wrong:
-            return str(wrong) or "failed"
-        return ""
+            return "FAIL", str(wrong) or "failed"
+        return "ok", ""
 
-    failed = 0
+    counts = dict.fromkeys(("ok", "FAIL", "skipped"), 0)
     with concurrent.futures.ThreadPoolExecutor(at_once) as pool:
-        for test, wrong in zip(tests, pool.map(fault, tests)):
-            failed += wrong != ""
-            print(f"FAIL  {test.__doc__}: {wrong}" if wrong else f"ok    {test.__doc__}", flush=True)
-    print(f"{len(tests) - failed} passed, {failed} failed")
-    return failed
+        for test, (word, said) in zip(tests, pool.map(outcome, tests)):
+            counts[word] += 1
+            print(f"{word:<5} {test.__doc__}{': ' * bool(said)}{said}", flush=True)
+    print(f"{counts['ok']} passed, {counts['FAIL']} failed" + (f", {counts['skipped']} skipped" if counts["skipped"] else ""))
+    return counts["FAIL"]
+
+
+def main(tests, at_once=1):
+    """Runs these tests, or those that the arguments name; the status of the whole."""
+    by_name, names = {it.__name__: it for it in tests}, sys.argv[1:]
+    if strange := [it for it in names if it not in by_name]:
+        sys.exit(f"there is no test {', '.join(strange)}; there are {', '.join(by_name)}")
+    return int(run([by_name[it] for it in names] or tests, at_once) > 0)
