@@ -1,6 +1,6 @@
 #!/usr/bin/env bash
-# Tests of `make run` and `make build`: which program is run, and called proved. They use a small copy of the repository
-# and a stand-in for the toolchain, so they prove nothing and take seconds. The last line is 'N passed, M failed'.
+# Tests of `make run` and `make build`: which program is run, and called proved, and which crate is refused. They use a small copy of
+# the repository and a stand-in for the toolchain, so they prove nothing and take seconds. The last line is 'N passed, M failed'.
 set -u
 cd "$(dirname "$0")/.." || exit 2
 room=$(mktemp -d) || exit 2
@@ -116,6 +116,13 @@ rm refused
 (rm -f log; PAUSE=5 make -s build > log 2>&1 & job=$!; at_work; echo "new text" > crates/zh_low/src/lib.rt; wait "$job") 2> noise
 expect "a source changed while make build ran: unproved" "unproved: 1 open" answer
 expect "made anew, it is proved" "proved new text: 1 open" sh -c "make -s build > log; printf '1 open\n' | make -s run"
+
+# refused COMMAND..: its status, and what it says of a crate that is not there.
+refused() { "$@" > said 2>&1; echo "status $?: $(grep -c "no crate 'zhcuont'" said)"; }
+expect "make build of a crate that is not there" "status 2: 1" refused scripts/build zhcuont
+expect "which makes no folder, and speaks of no proof" 0 sh -c "ls crates | grep -c zhcuont; ! grep proved said"
+expect "the crates below a crate that is not there" "status 2: 1" refused scripts/sources below zhcuont
+expect "the crates below one that is" $'zh_low\nzhcount' scripts/sources below zhcount
 
 echo "$passed passed, $failed failed"
 [ "$failed" -eq 0 ]
