@@ -2,8 +2,10 @@
 to the byte ("The folder of an office"); and how zhcount is called."""
 import dataclasses
 import datetime
+import hashlib
 import os
 import re
+import shutil
 import subprocess
 
 DESKS = range(1, 9)
@@ -17,6 +19,13 @@ COLUMNS = 8
 
 class Unreadable(Exception):
     """A file of the folder that is not of its form."""
+
+
+def open_standard_streams():
+    """Opens each of the descriptors 0 to 2 that is closed, so that no file opened later takes its place."""
+    while (fd := os.open(os.devnull, os.O_RDWR)) <= 2:
+        pass
+    os.close(fd)
 
 
 def now():
@@ -152,13 +161,28 @@ class Program:
     def words(self, task):
         return [self.name, task, *self.files]
 
+    def call(self, how, task, **more):
+        """Calls a task, in this way."""
+        try:
+            return how(self.words(task), **more)
+        except OSError as it:
+            raise Stopped(f"{self.name} can't be started: {it.strerror}") from None
+
     def done(self, task):
         """Standard output and standard error of a task, once no other program has the disk."""
-        while is_busy((ran := subprocess.run(self.words(task), stdin=subprocess.DEVNULL, capture_output=True)).stderr):
+        while is_busy((ran := self.call(subprocess.run, task, stdin=subprocess.DEVNULL, capture_output=True)).stderr):
             self.wait()
         if ran.returncode:
             raise Stopped(f"zhcount {task}: {plain(ran.stderr)}", 3)
         return ran.stdout, ran.stderr
+
+    def sum(self):
+        """The SHA-256 of the program's file; nothing where there is none."""
+        path = shutil.which(self.name)
+        if not path:
+            return ""
+        with open(path, "rb") as file:
+            return hashlib.sha256(file.read()).hexdigest()
 
     def state(self):
         """What `status` writes, what `export` writes, and the number of commands."""

@@ -63,7 +63,7 @@ expect "make install" make -s install PREFIX="$room/there"
 expect "these files are there" only bin/zhcount bin/zhcount-desk bin/zhcount-office bin/zhcount-read \
     share/doc/zhcount/{CHECKING,DEFINITIONS,FORMATS,MANUAL,PROVED,STATUTE}.md \
     share/examples/zhcount/{canton.toml,rehearsal.toml,zhcount-office.service,zurich2006.toml} \
-    share/man/man1/zhcount.1 share/zhcount/{card.html,index.html,zhcount_desks.py,zhcount_replay.py}
+    share/man/man1/zhcount.1 share/zhcount/{card.html,index.html,zhcount_desks.py,zhcount_folder.py,zhcount_office.py,zhcount_replay.py}
 expect "the program runs" refused "$room/there/bin/zhcount"
 expect "the page is the page" cmp page/index.html "$room/there/share/zhcount/index.html"
 # says_so TEXT COMMAND..: what the command says within 25 seconds has this text.

@@ -16,10 +16,10 @@ from room import PROGRAM, SCRIPTS, Room, main, same, that, until
 OFFICE_MOMENTS = ["self.at_work = record = dataclasses.replace(record, line=self.lines)",
                   'answer = self.zhcount.answer(f"{desk} ".encode() + unescaped(message.text))',
                   'if answer[:2] != f"{desk} ":',
-                  "if record.desk in self.bells:",
+                  "self.ring(record.desk)",
                   "self.at_work = None"]
-START_MOMENTS = ["self.settle()", "self.start += 1", 'self.note("start")', "self.start_run()",
-                 'self.bells = {desk: self.make_pipe("bell", desk, READERS) for desk in DESKS}']
+START_MOMENTS = ["self.settle()", "self.start += 1", 'self.note("start", sums)', "self.disk.claim()", "self.start_run()",
+                 'self.bells = self.folder.make_pipes("bell", READERS)']
 DESK_MOMENTS = ["self.office.send(message)", "return self.await_answer(message.turn)"]
 DYING = '''
 def die_at(number):
