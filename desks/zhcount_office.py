@@ -10,7 +10,6 @@ from zhcount_desks import SHEET, Message, Stopped, plain
 
 BUSY = 0.2  # seconds between two looks at a disk that another program has
 QUIET = 10  # seconds in which the log has a text once
-LEAP = 1000  # how much higher a desk's next turn may be than its last one; it is 1 or 2, unless somebody made it up
 
 
 class Log:
@@ -163,14 +162,14 @@ class Inbox:
                 return None
 
     def takes(self, message):
-        """Whether this is the next message. Of the last one it may be a repetition; another one with a turn that was there, or that
-        nobody counted, is not taken."""
+        """Whether this is the next message: its turn is the one after the last. Otherwise it repeats the last one, or asks about it; or
+        it is no message of this desk, whatever it says."""
         if self.is_next(message):
             self.last = message
             return True
         if (message.turn, message.mark, message.text) != (self.last.turn, self.last.mark, self.last.text):
-            say(f"desk {self.desk}: not taken: a line with the turn of another one, or with a turn that nobody counted")
+            say(f"desk {self.desk}: not taken: a line with the turn of another one, or a turn that is not the next")
         return False
 
     def is_next(self, message):
-        return self.last.turn < message.turn <= self.last.turn + LEAP
+        return message.turn == self.last.turn + 1
