@@ -1,5 +1,5 @@
 # Short names for the repository's commands. `make` lists them.
-.PHONY: help run build example night test proofs page test-page card install uninstall dist check quick cases refused wrong-bodies folder-bodies desks documents shape \
+.PHONY: help run build example night test test-needs proofs page test-page card install uninstall dist check quick cases refused wrong-bodies folder-bodies desks documents shape \
 	bench fmt
 
 help:
@@ -19,6 +19,9 @@ night:
 
 test:
 	@scripts/test page
+
+test-needs:
+	@scripts/test-needs
 
 proofs:
 	@scripts/test

@@ -64,10 +64,10 @@ expect "these files are there" only bin/zhcount bin/zhcount-desk bin/zhcount-off
     share/doc/zhcount/{CHECKING,DEFINITIONS,FORMATS,MANUAL,PROVED,STATUTE}.md \
     share/examples/zhcount/{canton.toml,rehearsal.toml,zhcount-office.service,zurich2006.toml} \
     share/man/man1/zhcount.1 share/zhcount/{card.html,index.html,zhcount_desks.py,zhcount_folder.py,zhcount_office.py,zhcount_replay.py}
-expect "the program runs" refused "$room/there/bin/zhcount"
-expect "the page is the page" cmp page/index.html "$room/there/share/zhcount/index.html"
 # says_so TEXT COMMAND..: what the command says within 25 seconds has this text.
 says_so() { timeout 25 "${@:2}" < /dev/null 2>&1 | grep -q -- "$1"; }
+expect "the program runs" says_so 'The count office of a cantonal parliament' "$room/there/bin/zhcount" --help
+expect "the page is the page" cmp page/index.html "$room/there/share/zhcount/index.html"
 expect "a desk finds its parts, and says what it waits for" says_so 'no office runs in .*/none yet' "$room/there/bin/zhcount-desk" 3 "$room/none"
 expect "a desk says how it is called" says_so 'zhcount-desk N \[FOLDER\]' "$room/there/bin/zhcount-desk" 9
 expect "an office says how it is called" says_so 'zhcount-office SETUP DISK FOLDER' "$room/there/bin/zhcount-office"
@@ -92,8 +92,10 @@ expect "make install again, which shows the sum of the page" shows_sum
 expect "make uninstall" make -s uninstall PREFIX="$room/there"
 expect "nothing is left" only ""
 expect "make uninstall again" make -s uninstall PREFIX="$room/there"
-expect "without a place nothing is done" refused make -s install
-ZHCOUNT=$room/none expect "without a program nothing is done" refused make -s install PREFIX="$room/other"
+expect "without a place nothing is done" says_so '^make install PREFIX=/usr/local$' make -s install
+expect "nor is anything taken away" says_so '^make uninstall PREFIX=/usr/local$' make -s uninstall
+expect "and that is no success" refused make -s install
+ZHCOUNT=$room/none expect "without a program nothing is done" says_so "there is no $room/none: make build" make -s install PREFIX="$room/other"
 expect "no folder is made then" refused test -e "$room/other"
 
 unpacked() { rm -rf "$room/new" && mkdir "$room/new" && tar -C "$room/new" -xzf out/zhcount.tar.gz && (cd "$room/new/zhcount" && sha256sum --quiet -c SHA256SUMS); }

@@ -4,10 +4,15 @@
 #
 # ZHCOUNT is the program's path; if it is not set, crates/zhcount/out/zhcount, which is built if it is not
 # there. SEED gives the random moments. None of this cuts the power: a sync that does nothing passes here.
-# Each check prints one line, and the last line is 'N passed, M failed'. The status is 1 if one failed.
+# Each check prints one line, and the last line is 'N passed, M failed', and ', K skipped' where some can't be tried here. The status is 1
+# if one failed.
 set -u
 export LC_ALL=C
 cd "$(dirname "$0")/.." || exit 1
+# What is mounted here ends with the processes of this test, however they end.
+if [ -z "${HAS_OWN_MOUNTS:-}" ] && unshare --mount true 2> /dev/null; then
+    HAS_OWN_MOUNTS=yes exec unshare --mount tests/real_file.sh "$@"
+fi
 here=$PWD/tests/real_file
 
 program=$(realpath -m "${ZHCOUNT:-crates/zhcount/out/zhcount}")
@@ -112,5 +117,6 @@ check "a disk that is made is of zeros" zeros
 check "files beside the disk" beside
 check "a name of 247 bytes is a disk, a longer one is not" long_name
 
-echo "$passed passed, $failed failed"
+[ "$skipped" -eq 0 ] || skips=", $skipped skipped"
+echo "$passed passed, $failed failed${skips:-}"
 [ "$failed" -eq 0 ]

@@ -10,7 +10,7 @@ import stat
 import sys
 import tempfile
 
-from room import PROGRAM, SCRIPTS, Room, main, same, that, until
+from room import PROGRAM, SCRIPTS, Room, main, same, stays, that, until
 
 # Where the office or the desk is killed: before this line.
 OFFICE_MOMENTS = ["self.at_work = record = dataclasses.replace(record, line=self.lines)",
@@ -282,7 +282,7 @@ def told_to_end():
         until("the line is kept", lambda: (room.folder / "sent.2").read_bytes())
         run_process = room.run_of_office()
         room.office.kill(signal.SIGTERM)
-        until("it waits", lambda: room.office.process.poll() is None)
+        stays("it waits", lambda: room.office.process.poll() is None)
         os.kill(run_process, signal.SIGCONT)
         same("the status", 0, room.office.wait())
         same("the answer", "stored 1", desks[1].answer())

@@ -44,6 +44,14 @@ def until(what, holds, seconds=SECONDS):
     return found
 
 
+def stays(what, holds, seconds=0.5):
+    """Looks for so long whether something goes on holding."""
+    end = time.monotonic() + seconds
+    while time.monotonic() < end:
+        that(what, holds())
+        time.sleep(0.01)
+
+
 class Process:
     """A process with pipes, whose output is read as it comes."""
 

@@ -159,7 +159,7 @@ no_permission() {
     mkdir kinds
     if [ "$(id -u)" -eq 0 ]; then
         if ! setpriv --reuid=65534 --regid=65534 --clear-groups true 2> /dev/null; then
-            compared=1 note="as root, and no other user can be taken: not tried"
+            untried="as root, and no other user can be taken"
             return
         fi
         as=(setpriv --reuid=65534 --regid=65534 --clear-groups)

@@ -71,11 +71,11 @@ space_is_taken() {
     same_bytes d long
 }
 
-# A volume that is too small for a disk, and then grows.
+# A volume that is too small for a disk, and then grows. It is mounted for the processes of this test alone, and goes with them.
 small_volume() {
     mkdir -p volume
-    if ! mount -t tmpfs -o size=1m none volume 2> /dev/null; then
-        compared=1 note="no volume can be mounted here: not tried"
+    if [ -z "${HAS_OWN_MOUNTS:-}" ] || ! mount -t tmpfs -o size=1m none volume 2> /dev/null; then
+        untried="no volume can be mounted here"
         return
     fi
     ends 1 $'disk device\nvolume/d: there is no room' "" format volume/d
