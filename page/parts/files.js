@@ -8,7 +8,7 @@ const MOST_READ = LONGEST.setup + 1;
 
 // What kind of file this is, by its text and then its name.
 function kindOf(name, text) {
-  if (/^\ufeff?(?:[0-9]+ sheet |(?:[0-9]|zhcount:) refused )/u.test(text)) return 'sheet';
+  if (/^\ufeff?(?:(?:[0-9]+ )?sheet |(?:[0-9]|zhcount:) refused )/u.test(text)) return 'sheet';
   if (/^\ufeff?municipality,list/u.test(text) || /\.csv$/iu.test(name)) return 'held';
   if (/^[\t ]*(?:\[\[|version[\t ]*=|house[\t ]*=)/mu.test(text) || /\.toml$/iu.test(name)) return 'setup';
   return 'sheet';
@@ -36,7 +36,7 @@ function pasted(text) {
 
 // Takes files. A sheet takes the place of the one before it, which is kept to be compared.
 function takeFiles(taken) {
-  const commands = ({ text }) => BigInt(/^[1-8] sheet [a-z]{1,20} ([0-9]{1,20})\n/u.exec(text)?.[1] ?? 0);
+  const commands = ({ text }) => BigInt(/^(?:[1-8] )?sheet [a-z]{1,20} ([0-9]{1,20})\n/u.exec(text)?.[1] ?? 0);
   const sheets = taken.filter(({ kind }) => kind === 'sheet');
   sheets.sort((a, b) => (commands(a) < commands(b) ? -1 : Number(commands(a) > commands(b))));
   for (const file of sheets) {
@@ -87,6 +87,10 @@ const fileLine = ([kind, file]) => make('li', { class: kind },
   make('span', { class: 'hint' }, say('lines', { count: file.lines })), ' ', removing(kind),
   make('span', { class: 'hint sum' }, 'SHA-256 ', hashOf(file)));
 
+// The files that a chancellery publishes, and what each has.
+const threeFiles = () => [['sheet', 'sheetSays'], ['setupFile', 'setupFileSays'], ['heldFile', 'heldFileSays']].map(([file, has]) => [
+  make('dt', {}, say(file)), make('dd', {}, say(has))]);
+
 function showFiles() {
   const picked = make('input', { type: 'file', id: 'pick', multiple: true, 'aria-describedby': 'choose' });
   picked.addEventListener('change', () => readFiles(picked.files));
@@ -98,7 +102,8 @@ function showFiles() {
   }, say('swap'))) : null;
   find('files').replaceChildren(
     make('h2', {}, say('files')),
-    make('div', { class: 'drop' }, make('p', { id: 'choose' }, say('drop')), picked,
+    make('div', { class: 'drop' }, make('p', {}, say('threeFiles')), make('dl', {}, threeFiles()),
+      make('p', { id: 'choose' }, say('drop')), picked,
       make('label', { for: 'pick' }, say('choose')), make('p', { class: 'hint' }, say('chooseMore'))),
     make('details', {}, make('summary', {}, say('paste')), area,
       make('p', { class: 'hint', id: 'paste-hint' }, say('pasteHint')),

@@ -2,12 +2,14 @@
 Object.assign(WORDS, {
   isCut: ['This file is cut off: get it again', 'Diese Datei ist abgeschnitten: nochmals holen'],
   isAltered: ['This file is damaged: get it again', 'Diese Datei ist beschädigt: nochmals holen'],
+  isCopied: ['Copied from a desk: the desk’s number is missing', 'Von einem Pult kopiert: Die Nummer des Pults fehlt'],
   isDamagedSays: ['The seats are not checked, and nothing is said against the sheet that was published.',
-    'Die Sitze sind nicht geprüft, und gegen das veröffentlichte Blatt ist damit nichts gesagt.'],
+    'Die Sitze sind nicht geprüft, und gegen das veröffentlichte Resultatblatt ist damit nichts gesagt.'],
   isNoSheet: ['Wrong: this is no sheet', 'Falsch: kein Resultatblatt'],
-  isOtherVotes: ['Does not match the rows: other votes', 'Passt nicht zu den Meldungen: andere Stimmen'],
-  isOtherVotesSame: ['Does not match the rows: other votes, the same seats', 'Passt nicht zu den Meldungen: andere Stimmen, gleiche Sitze'],
-  isOtherVotesSeats: ['Does not match the rows: other votes and seats', 'Passt nicht zu den Meldungen: andere Stimmen und Sitze'],
+  isOtherVotes: ['Does not match the returns: other votes', 'Passt nicht zu den Meldungen: andere Stimmen'],
+  isOtherVotesSame: ['Does not match the returns: other votes, the same seats',
+    'Passt nicht zu den Meldungen: andere Stimmen, gleiche Sitze'],
+  isOtherVotesSeats: ['Does not match the returns: other votes and seats', 'Passt nicht zu den Meldungen: andere Stimmen und Sitze'],
   isOtherSetup: ['Does not match the set-up', 'Passt nicht zu den Grunddaten'],
   isSeats: ['Wrong: {count} {count:seat|seats}', 'Falsch: {count} {count:Sitz|Sitze}'],
   isTotals: ['Wrong: a total of seats', 'Falsch: eine Summe der Sitze'],
@@ -19,15 +21,15 @@ Object.assign(WORDS, {
   whatSum: ['a sum of votes', 'eine Summe der Stimmen'], whatForm: ['a number or name', 'eine Zahl oder ein Name'],
   noChange: ['No seat changes.', 'Kein Sitz wechselt.'], change: ['Seats change.', 'Die Sitzverteilung ändert sich.'],
   seatsSame: ['{strong} By this page’s own count the seats on the sheet are those that follow from its votes.',
-    '{strong} Nach der eigenen Rechnung dieser Seite folgen aus den Stimmen auf dem Blatt seine Sitze.'],
-  seatsSameHeld: ['{strong} By this page’s own count the seats on the sheet follow from the rows too.',
-    '{strong} Nach der eigenen Rechnung dieser Seite folgen die Sitze auf dem Blatt auch aus den Meldungen.'],
+    '{strong} Nach der eigenen Rechnung dieser Seite folgen aus den Stimmen auf dem Resultatblatt seine Sitze.'],
+  seatsSameHeld: ['{strong} By this page’s own count the seats on the sheet follow from the returns too.',
+    '{strong} Nach der eigenen Rechnung dieser Seite folgen die Sitze auf dem Resultatblatt auch aus den Meldungen.'],
   seatsOther: ['{strong} By this page’s own count other seats follow from the votes on the sheet: {changes}.',
-    '{strong} Nach der eigenen Rechnung dieser Seite folgen aus den Stimmen auf dem Blatt andere Sitze: {changes}.'],
-  seatsOtherHeld: ['{strong} By this page’s own count other seats follow from the rows: {changes}.',
+    '{strong} Nach der eigenen Rechnung dieser Seite folgen aus den Stimmen auf dem Resultatblatt andere Sitze: {changes}.'],
+  seatsOtherHeld: ['{strong} By this page’s own count other seats follow from the returns: {changes}.',
     '{strong} Nach der eigenen Rechnung dieser Seite folgen aus den Meldungen andere Sitze: {changes}.'],
-  sameByRows: ['By the rows the seats would be the same.', 'Nach den Meldungen wären die Sitze dieselben.'],
-  otherByRows: ['By the rows other seats would follow.', 'Nach den Meldungen ergäben sich andere Sitze.'],
+  sameByRows: ['By the returns the seats would be the same.', 'Nach den Meldungen wären die Sitze dieselben.'],
+  otherByRows: ['By the returns other seats would follow.', 'Nach den Meldungen ergäben sich andere Sitze.'],
   sameBySetup: ['By this set-up the seats would be the same.', 'Nach diesen Grunddaten wären die Sitze dieselben.'],
   otherBySetup: ['By this set-up other seats would follow.', 'Nach diesen Grunddaten ergäben sich andere Sitze.'],
   sameByFiles: ['By these two files the seats would be the same.', 'Nach diesen zwei Dateien wären die Sitze dieselben.'],
@@ -41,31 +43,33 @@ Object.assign(WORDS, {
   oneChange: ['{name} {should}, not {is}', '{name} {should}, nicht {is}'],
   oneTotal: ['{name} in total {should}, not {is}', '{name} insgesamt {should}, nicht {is}'],
   oneMoved: ['In {place} the sheet gives {from} 1 seat that belongs to {to}.',
-    'In {place} gibt das Blatt {from} 1 Sitz, der {to} gehört.'],
+    'In {place} gibt das Resultatblatt {from} 1 Sitz, der {to} gehört.'],
   moreChanges: ['{count} more', '{count} weitere'],
-  rowsMore: ['By its own votes the sheet is right. The rows have more votes: they may be newer than this sheet. Open those that were '
+  rowsMore: ['By its own votes the sheet is right. The returns have more votes: they may be newer than this sheet. Open those that were '
     + 'published with it.',
-  'Nach seinen eigenen Stimmen ist das Blatt richtig. Die Meldungen haben mehr Stimmen und sind vielleicht neuer: Öffnen Sie jene, die '
-    + 'mit dem Blatt veröffentlicht wurden.'],
-  rowsFewer: ['By its own votes the sheet is right. The rows have fewer votes: they may be older than this sheet. Open those that were '
-    + 'published with it.',
-  'Nach seinen eigenen Stimmen ist das Blatt richtig. Die Meldungen haben weniger Stimmen und sind vielleicht älter: Öffnen Sie jene, '
-    + 'die mit dem Blatt veröffentlicht wurden.'],
-  rowsMixed: ['By its own votes the sheet is right. The rows have more votes in some lists and fewer in others, so they are not simply '
-    + 'newer: find out which of the two files holds.',
-  'Nach seinen eigenen Stimmen ist das Blatt richtig. Die Meldungen haben hier mehr und dort weniger Stimmen, sind also nicht einfach '
-    + 'neuer: Klären Sie, welche der zwei Dateien gilt.'],
+  'Nach seinen eigenen Stimmen ist das Resultatblatt richtig. Die Meldungen haben mehr Stimmen und sind vielleicht neuer: Öffnen Sie '
+    + 'jene, die mit ihm veröffentlicht wurden.'],
+  rowsFewer: ['By its own votes the sheet is right. The returns have fewer votes: they may be older than this sheet. Open those that '
+    + 'were published with it.',
+  'Nach seinen eigenen Stimmen ist das Resultatblatt richtig. Die Meldungen haben weniger Stimmen und sind vielleicht älter: Öffnen Sie '
+    + 'jene, die mit ihm veröffentlicht wurden.'],
+  rowsMixed: ['By its own votes the sheet is right. The returns have more votes in some lists and fewer in others, so they are not '
+    + 'simply newer: find out which of the two files holds.',
+  'Nach seinen eigenen Stimmen ist das Resultatblatt richtig. Die Meldungen haben hier mehr und dort weniger Stimmen, sind also nicht '
+    + 'einfach neuer: Klären Sie, welche der zwei Dateien gilt.'],
   setupOther: ['By its own numbers the sheet is right. The set-up may be that of another election: open the one that was published with '
     + 'this sheet.',
-  'Nach seinen eigenen Zahlen ist das Blatt richtig. Die Grunddaten gehören vielleicht zu einer anderen Wahl: Öffnen Sie jene, die mit '
-    + 'dem Blatt veröffentlicht wurden.'],
+  'Nach seinen eigenen Zahlen ist das Resultatblatt richtig. Die Grunddaten gehören vielleicht zu einer anderen Wahl: Öffnen Sie jene, '
+    + 'die mit ihm veröffentlicht wurden.'],
   alsoOther: ['Nor does it match the other files:', 'Auch zu den anderen Dateien passt es nicht:'],
   divisorNeeds: ['The divisor of {name} is {is} on the sheet; between {low} and {high} it would give these seats.',
-    'Der Divisor von {name} ist {is} auf dem Blatt; zwischen {low} und {high} ergäbe er diese Sitze.'],
+    'Der Divisor von {name} ist {is} auf dem Resultatblatt; zwischen {low} und {high} ergäbe er diese Sitze.'],
 });
 
-const CUT = ['cut', 'cutWithin', 'early'];
-const ALTERED = ['mark', 'carriageReturn'];
+// What a sheet that can't be read has become on its way, by the fault in it.
+const ON_ITS_WAY = {
+  cut: 'isCut', cutWithin: 'isCut', early: 'isCut', mark: 'isAltered', carriageReturn: 'isAltered', noDesk: 'isCopied',
+};
 const OF_SETUP = ['setupHouse', 'setupSays', 'setupPersons', 'setupQuorum', 'setupNoQuorum', 'noQuorum', 'notInSetup', 'nextMissing',
   'standsNot', 'listMissing'];
 // What is wrong, where the seats are right, by the part of the check that fails first.
@@ -144,12 +148,12 @@ function oneMoved(changes) {
   return isOne ? [words('oneMoved', { place: named(from[0]), from: named(from[1]), to: named(to[1]) })] : [];
 }
 
-// What can't be read. Where it was damaged on its way, nothing is said against the sheet.
+// What can't be read. Where it became so on its way, nothing is said against the sheet.
 function kindUnread(fault) {
-  const heading = CUT.includes(fault.reason) ? 'isCut' : ALTERED.includes(fault.reason) ? 'isAltered' : 'isNoSheet';
-  const kind = { heading: words(heading), isUnread: true };
-  return heading === 'isNoSheet' ? { ...kind, colour: 'wrong', sentence: [{ fault }, words('seatsUnread')] }
-    : { ...kind, colour: 'damaged', caveat: words('isDamagedSays'), sentence: [{ fault }] };
+  const heading = ON_ITS_WAY[fault.reason];
+  const kind = { heading: words(heading ?? 'isNoSheet'), isUnread: true };
+  return heading ? { ...kind, colour: 'damaged', caveat: words('isDamagedSays'), sentence: [{ fault }] }
+    : { ...kind, colour: 'wrong', sentence: [{ fault }, words('seatsUnread')] };
 }
 
 // A sheet that is right by its own numbers, and does not match another file. Which of the two is the true one is not known.

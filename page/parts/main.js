@@ -36,17 +36,15 @@ function judge() {
 
 // ---- The parts of the page
 
-// What the sheet says that it is. Where it is not right, this is not clean.
-function kindShown({ sheet, own }, colour) {
-  if (!sheet) {
-    const key = { none: 'noSheet', refused: 'isRefused' }[own.verdict] ?? 'isUnreadable';
-    return [make('strong', { class: 'kind' }, say(key))];
-  }
-  const kind = colour === 'right'
-    ? make('strong', { class: `kind ${sheet.kind}` }, say(sheet.kind))
-    : make('span', { class: 'called' }, say('calls', { kind: say(sheet.kind) }));
-  return [kind, ' ', make('span', { class: 'commands' }, say('commands', { commands: sheet.commands }))];
+// What the sheet calls itself, which nothing checks.
+function kindShown({ sheet, own }) {
+  if (sheet) return say('calls', { kind: say(sheet.kind) });
+  const key = { none: 'noSheet', refused: 'isRefused' }[own.verdict] ?? 'isUnreadable';
+  return make('strong', { class: 'kind' }, say(key));
 }
+
+// What the first line of a sheet says, and no check looks at.
+const neverChecked = ({ kind, commands, desk }) => make('p', { class: 'hint' }, say('neverChecked', { kind: say(kind), commands, desk }));
 
 function showLanguages() {
   const choose = (one) => {
@@ -67,12 +65,13 @@ function showBar(answer, proved = { state: 'absent' }) {
   const isEmpty = answer.own.verdict === 'none';
   const [other] = answer.others;
   Object.assign(document.body.dataset, { state: isEmpty && other ? 'unsure' : colour, own: answer.own.verdict });
-  find('kind').replaceChildren(...kindShown(answer, colour));
+  find('kind').replaceChildren(kindShown(answer));
   const unread = other && words('otherFile', { file: say(other.name), line: other.fault.line });
   const said = isEmpty ? unread : heading;
   find('verdict').replaceChildren(...(said ? [signFor(isEmpty ? 'unsure' : colour), ' ', ...reasonOf(said).flat(Infinity)] : []));
   find('why').replaceChildren(...(caveat ? [make('p', { class: 'caveat' }, reasonOf(caveat))] : []),
-    ...sentence.map((one) => make('p', {}, one.fault ? faultShown(answer.sheet, one.fault) : reasonOf(one))));
+    ...sentence.map((one) => make('p', {}, one.fault ? faultShown(answer.sheet, one.fault) : reasonOf(one))),
+    ...(answer.sheet ? [neverChecked(answer.sheet)] : []));
   nameParliament(answer, colour);
   showTicks(answer.sheet, ticks);
   const blank = (key) => make('p', {}, make('span', { class: 'rule' }), make('span', {}, say(key)));
@@ -154,7 +153,7 @@ function showAll() {
   find('shown').replaceChildren(...sections.filter(Boolean));
   nameParliament(answer, document.body.dataset.state);
   showProved(answer);
-  showVersion();
+  showWhichPage();
   hintAtScrolling();
   document.body.dataset.size = sheet ? paperSize(sheet) : 'small';
   document.body.dataset.shown = `${Math.ceil(performance.now() - begun)}`;

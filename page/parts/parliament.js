@@ -88,7 +88,7 @@ function parliament({ sheet, own }) {
 
 // The heading of the picture: what the sheet is said to be, and what is to be said against it.
 function parliamentHeading({ sheet, own, rows, returns }, colour) {
-  if (colour === 'right') return sheet.kind === 'final' ? say('parliament') : say('parliamentProvisional');
+  if (colour === 'right') return say('parliamentCalled', { kind: say(sheet.kind) });
   if (colour === 'mismatch') return say('asItSaysMismatch');
   if (own.follow && otherSeats(sheet, own.follow).length > 0) return say('asItSaysWrong');
   if (colour === 'wrong') return say('asItSays');

@@ -1,8 +1,6 @@
 // ---- The proved check: that of the program, compiled for WebAssembly, beside the page's own
 
 const MODULE = '@MODULE@';
-const MODULE_SUM = '@MODULE_SUM@';
-const VERSION = '@VERSION@';
 // It takes milliseconds. After so many of them it is given up.
 const PATIENCE = 60000;
 const GIVEN = ['setup', 'sheet', 'held'];
@@ -13,34 +11,34 @@ Object.assign(WORDS, {
   provedModule: ['its module is missing from this page', 'ihr Modul fehlt auf dieser Seite'],
   provedMemory: ['there was too little memory', 'der Speicher reichte nicht'],
   provedTime: ['it took longer than {seconds} seconds', 'sie dauerte länger als {seconds} Sekunden'],
-  provedCut: ['the rows are too long', 'die Meldungen sind zu lang'],
+  provedCut: ['the returns are too long', 'die Meldungen sind zu lang'],
   provedRuns: ['It is at work.', 'Sie läuft.'],
   provedAlone: ['It did not run: it needs the set-up.', 'Sie ist nicht gelaufen: Sie braucht die Grunddaten.'],
   provedNot: ['It did not run: {why}.', 'Sie ist nicht gelaufen: {why}.'],
   provedRight: ['It says that the sheet is right. Word for word, as {command} says on the same files:',
-    'Sie sagt, das Blatt sei richtig. Wort für Wort, wie {command} über dieselben Dateien urteilt:'],
+    'Sie sagt, das Resultatblatt sei richtig. Wort für Wort, was {command} über dieselben Dateien sagt:'],
   provedWrong: ['It says that the sheet is wrong. Word for word, as {command} says on the same files:',
-    'Sie sagt, das Blatt sei falsch. Wort für Wort, wie {command} über dieselben Dateien urteilt:'],
+    'Sie sagt, das Resultatblatt sei falsch. Wort für Wort, was {command} über dieselben Dateien sagt:'],
   provedAnswer: ['It checks sheets alone, and to it this answer is none. “sheet wrong” in its last line below says only that, and '
     + 'nothing of any seats. Word for word, as {command} says on the same files:',
-  'Sie prüft nur Blätter, und diese Antwort ist für sie keines. Nur das sagt «sheet wrong» auf ihrer letzten Zeile hier, und nichts '
-    + 'über Sitze. Wort für Wort, wie {command} über dieselben Dateien urteilt:'],
+  'Sie prüft nur Resultatblätter, und diese Antwort ist für sie keines. Nur das sagt «sheet wrong» auf ihrer letzten Zeile hier, und '
+    + 'nichts über Sitze. Wort für Wort, was {command} über dieselben Dateien sagt:'],
   provedUnread: ['It finds no whole sheet in this file. “sheet wrong” in its last line below says only that, and nothing of the seats '
     + 'that were published. Word for word, as {command} says on the same files:',
-  'Sie findet in dieser Datei kein ganzes Blatt. Nur das sagt «sheet wrong» auf ihrer letzten Zeile hier, und nichts über die '
-    + 'veröffentlichten Sitze. Wort für Wort, wie {command} über dieselben Dateien urteilt:'],
+  'Sie findet in dieser Datei kein ganzes Resultatblatt. Nur das sagt «sheet wrong» auf ihrer letzten Zeile hier, und nichts über die '
+    + 'veröffentlichten Sitze. Wort für Wort, was {command} über dieselben Dateien sagt:'],
   provedMismatch: ['It says that the sheet does not match the other files: that is what “sheet wrong” in its last line below means '
     + 'here. Word for word, as {command} says on the same files:',
-  'Sie sagt, dass das Blatt nicht zu den anderen Dateien passt: Das heisst hier «sheet wrong» auf ihrer letzten Zeile. Wort für Wort, '
-    + 'wie {command} über dieselben Dateien urteilt:'],
-  provedRefused: ['It did not run. It reports a fault of the set-up or of the rows, as {command} does:',
+  'Sie sagt, dass das Resultatblatt nicht zu den anderen Dateien passt: Das heisst hier «sheet wrong» auf ihrer letzten Zeile. Wort '
+    + 'für Wort, was {command} über dieselben Dateien sagt:'],
+  provedRefused: ['It did not run. It reports a fault of the set-up or of the returns, as {command} does:',
     'Sie ist nicht gelaufen. Sie meldet einen Fehler der Grunddaten oder der Meldungen, wie {command}:'],
   provedLong: ['Shown as far as here; all of it is in the file that is saved.', 'Gezeigt bis hier; die gespeicherte Datei hat alles.'],
   provedSave: ['Save the verdict', 'Prüfergebnis speichern'],
-  provedVersion: ['This page has the version {version}. Its module has the SHA-256',
-    'Diese Seite hat die Version {version}. Ihr Modul hat die SHA-256'],
-  provedForged: ['A page can be forged, and would say the same: compare its file as CHECKING says.',
-    'Eine Seite lässt sich fälschen und würde dasselbe sagen: Vergleichen Sie ihre Datei, wie CHECKING es sagt.'],
+  whichPage: ['Is this the real page? A forged one would say the same. Compute the SHA-256 of this file, and compare it with the one in '
+    + 'the README of zhcount, from another source than this page:',
+  'Ist das die echte Seite? Eine gefälschte würde dasselbe sagen. Berechnen Sie die Prüfsumme (SHA-256) dieser Datei, und vergleichen '
+    + 'Sie sie mit jener im README von zhcount, aus einer anderen Quelle als dieser Seite:'],
 });
 
 // Its state is one of none (no sheet), alone (no set-up), runs, right, wrong, refused (by the set-up or the rows) and failed, with a
@@ -169,7 +167,11 @@ function showProved({ own }) {
   find('proved-place').replaceChildren(...[provedSection(proved, own)].filter(Boolean));
 }
 
-// Which page this is.
-function showVersion() {
-  find('version').replaceChildren(say('provedVersion', { version: VERSION }), ' ', code(MODULE_SUM), '. ', say('provedForged'));
+// How the sum of a file is computed.
+const SUMS = { Linux: 'sha256sum index.html', macOS: 'shasum -a 256 index.html', Windows: 'certutil -hashfile index.html SHA256' };
+
+// How a reader finds out whether this page was forged, which it can't say itself.
+function showWhichPage() {
+  find('which').replaceChildren(make('p', {}, say('whichPage')),
+    make('ul', {}, Object.entries(SUMS).map(([system, command]) => make('li', {}, `${system}: `, code(command)))));
 }

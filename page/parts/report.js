@@ -58,6 +58,5 @@ function summary({ sheet, parts, held }) {
     make('tbody', {}, parts.map((part) => partRow(part, held))));
   return make('section', { id: 'checks' }, make('h2', { id: 'checks-title' }, say('checks')), table,
     held?.missing.length > 0 ? make('details', { class: 'screen' }, make('summary', {}, say('missingAll')),
-      make('ul', {}, held.missing.map((one) => make('li', {}, missingShown(one))))) : null,
-    make('p', { class: 'hint' }, say('leftAlways', { kind: say(sheet.kind), commands: sheet.commands, desk: sheet.desk })));
+      make('ul', {}, held.missing.map((one) => make('li', {}, missingShown(one))))) : null);
 }

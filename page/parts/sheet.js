@@ -100,6 +100,7 @@ class Lines {
     if (this.at >= this.lines.length) throw this.fault(this.rest === '' ? 'cut' : 'cutWithin', wanted);
     if (this.text.endsWith('\r')) throw this.fault('carriageReturn');
     const match = FORMS[form].exec(this.text);
+    if (form === 'head' && FORMS.head.test(`1 ${this.text}`)) throw this.fault('noDesk', { line: named(`1 ${this.text}`) });
     if (!match) throw this.fault(this.text === 'end' ? 'early' : 'noForm', wanted);
     this.at += 1;
     return { words: match.slice(1), line: this.at, text: match[0] };

@@ -3,7 +3,7 @@ import itertools
 
 import model
 from browser import By
-from case import EXAMPLE, EXAMPLE_SETUP, ROWS, Case, changed
+from case import EXAMPLE, EXAMPLE_SETUP, OTHER_WORDS, ROWS, Case, changed
 
 FAULT = {"line": 7, "reason": "nobody", "values": {}}
 KINDS = [{"colour": colour, "heading": {"key": "isSeats"}, "sentence": [{"fault": FAULT}]} for colour in ("wrong", "mismatch")]
@@ -54,10 +54,10 @@ class Bar(Case):
         state, heading, why = self.bar(EXAMPLE)
         self.assertEqual((state, heading), ("unsure", "! Not fully checked: the seats fit the votes on the sheet"))
         self.assertEqual(self.page.text("#why .caveat"),
-                         "You have not opened the set-up and the rows: whether these are the votes that were reported is not checked.")
+                         "You have not opened the set-up and the returns: whether these are the votes that were reported is not checked.")
         self.assertEqual(self.page.text("#parliament h2"), "The parliament as this sheet has it: not fully checked")
         self.assertIn("number of seats, names, persons, quorum and lists are not checked: a list too many or too few would not show", why)
-        self.assertRegex(why, r"(?s)! Not opened: the set-up.*! Not opened: the rows\nWhether these .* is not checked\..*! One check")
+        self.assertRegex(why, r"(?s)! Not opened: the set-up.*! Not opened: the returns\nWhether these .* is not checked\..*! One check")
         self.assertIn("One check of two says: right\nThe proved check needs the set-up.", why)
 
     def test_a_list_too_many_passes_alone(self):
@@ -72,18 +72,18 @@ class Bar(Case):
     def test_without_rows(self):
         state, heading, why = self.bar(EXAMPLE, EXAMPLE_SETUP)
         self.assertEqual((state, heading), ("unsure", "! Not fully checked: right for the votes on the sheet"))
-        self.assertIn("✓ Set-up opened\n! Not opened: the rows", why)
+        self.assertIn("✓ Set-up opened\n! Not opened: the returns", why)
 
     def test_rows_without_a_set_up(self):
         state, heading, why = self.bar(EXAMPLE, None, ROWS)
         self.assertEqual((state, heading), ("unsure", "! Not fully checked: the seats fit the votes on the sheet"))
-        self.assertIn("! Rows opened, but not compared\nTo compare them, the page needs the set-up.", why)
+        self.assertIn("! Returns opened, but not compared\nTo compare them, the page needs the set-up.", why)
         self.assertNotIn("(compared with", self.page.text("#parts"))
 
     def test_rows_that_are_not_understood(self):
         state, heading, why = self.bar(EXAMPLE, EXAMPLE_SETUP, ROWS + "x\n")
         self.assertEqual((state, heading), ("unsure", "! Not fully checked: right for the votes on the sheet"))
-        self.assertIn("! Rows not understood: line 11\nThe votes are compared with nothing.", why)
+        self.assertIn("! Returns not understood: line 11\nThe votes are compared with nothing.", why)
 
     def test_returns_that_are_missing(self):
         election = model.Election(10, [5000, 3000, 2000], [[525, 300, 175], [240, 330, 30], [90, 60, 0]])
@@ -93,7 +93,7 @@ class Bar(Case):
         few = changed(rows, "3,3,1,0\n", "")
         page = self.page.sheet(sheet, setup, few)
         self.assertEqual((page.state(), page.text("#verdict")), ("unsure", "! 1 of 9 returns is missing; right so far"))
-        self.assertIn("! Rows opened: 8 of 9 returns\n", page.text("#ticks"))
+        self.assertIn("! Returns opened: 8 of 9\n", page.text("#ticks"))
         self.assertEqual(page.texts("#why p")[:2], ["The missing returns can still change the seats.", "Missing: District 3: Group 3."])
         self.assertEqual(page.text("#parliament h2"), "The parliament so far: 8 of 9 returns")
         listed = page.driver.find_elements(By.CSS_SELECTOR, "#checks details li")
@@ -118,7 +118,7 @@ class Bar(Case):
         page = self.page.sheet(EXAMPLE, EXAMPLE_SETUP, ROWS)
         self.assertEqual(page.proved("absent").state(), "unsure")
         for state, colour, heading, why in (
-                ("right", "right", "✓ Right", "these are the votes of all 9 returns in the rows"),
+                ("right", "right", "✓ Right", "these are the votes of all 9 returns."),
                 ("wrong", "wrong", "✗ The two checks differ", "own check says right, the proved check says wrong"),
                 ("runs", "unsure", "! The proved check is at work", "own check says: right"),
                 ("absent", "unsure", "! Not fully checked: right by one check of two", "This copy of the page has no proved check."),
@@ -137,6 +137,24 @@ class Bar(Case):
         self.assertEqual(page.state(), "unsure")
         self.assertRegex(page.text("#ticks"), r"(?s)! Set-up not understood: line \d+.*✓ Both checks say: right\n")
 
+    def test_final_is_what_a_sheet_calls_itself(self):
+        """In each colour and in both languages: a provisional sheet in which that word is changed is as right."""
+        final = changed(EXAMPLE, "1 sheet provisional 9", "1 sheet final 9")
+        wrong = changed(final, "seats key 10000/10", "seats key 10000/9")
+        said = {"en": ("The sheet calls itself “final”", "The parliament, by a sheet that calls itself “final”", "Never checked: that it is "
+                       "final, how many entries of the desks it counts (9, it says), and which desk asked for it (desk 1, it says)."),
+                "de": ("Das Resultatblatt nennt sich «endgültig»", "Das Parlament nach einem Resultatblatt, das sich «endgültig» nennt",
+                       "Nie geprüft: dass es endgültig ist, wie viele Einträge der Pulte es zählt (nach eigener Angabe 9) und welches "
+                       "Pult es verlangt hat (nach eigener Angabe Pult 1).")}
+        for colour, *files in (("right", final, EXAMPLE_SETUP, ROWS), ("unsure", final), ("wrong", wrong, EXAMPLE_SETUP, ROWS),
+                               ("mismatch", final, EXAMPLE_SETUP, changed(ROWS, "1,1,1,525", "1,1,1,526"))):
+            page = self.page.sheet(*files)
+            for language, (called, picture, never) in said.items():
+                with self.subTest(colour, language=language):
+                    page.driver.find_element(By.CSS_SELECTOR, f"#languages button[lang={language}]").click()
+                    self.assertEqual((page.state(), page.text("#kind"), page.texts("#why p")[-1]), (colour, called, never))
+                    self.assertEqual(page.text("#parliament h2") == picture, colour == "right")
+
     def test_a_refusal_is_the_answer_of_the_office(self):
         for name, why in REFUSALS:
             for text in (f"1 refused {name}\n", f"zhcount: refused {name}\n", f"8 refused {name}"):
@@ -150,8 +168,8 @@ class Bar(Case):
                     self.assertIn("“sheet wrong” in its last line below says only that", page.text("#proved p"))
                     self.assertEqual(page.texts(".fault, #signatures p"), [])
         self.assertIn("Constituency 3 would have no seat.", self.page.sheet("1 refused noseat 3\n").text("#why"))
-        self.fails(None, 1, "no line of a sheet", "1 refused stale\n")
-        self.fails(None, 1, "no line of a sheet", "1 refused nogroup\n" + EXAMPLE)
+        self.fails(None, 1, "it does not belong here", "1 refused stale\n")
+        self.fails(None, 1, "it does not belong here", "1 refused nogroup\n" + EXAMPLE)
 
     def test_all_faults_are_listed(self):
         sheet = EXAMPLE
@@ -181,8 +199,13 @@ class GermanBar(Case):
         self.assertIn("Ohne Grunddaten sind Sitzzahl, Namen, Personen, Quorum und Listen nicht geprüft", page.text("#ticks"))
         page.sheet(EXAMPLE, EXAMPLE_SETUP)
         self.assertEqual(page.text(".had .setup .what"), "Grunddaten")
-        words = page.driver.execute_script("return Object.values(WORDS).map(([, german]) => german).join(' ')")
-        self.assertNotIn("Set-up", words)
+
+    def test_each_thing_has_one_word(self):
+        """Those of the card for a desk are the same, and no other (test_card.py)."""
+        words = self.page.open().driver.execute_script("return Object.values(WORDS).map(([, german]) => german)")
+        self.assertGreater(len(words), 200)
+        for one in words:
+            self.assertNotRegex(one, OTHER_WORDS)
 
     def test_thousands(self):
         page = self.page.sheet(changed(EXAMPLE, "205.000000", "210.000000").replace("votes 1000", "votes 1001"), EXAMPLE_SETUP)

@@ -54,7 +54,7 @@ class Kinds(Case):
         self.assertEqual(self.page.sheet(only, *ALL).state(), "wrong")
 
     def test_seats(self):
-        page = self.says("Wrong: 1 seat", "Seats change.", "other seats follow from the rows: Nord, A 3, not 2.",
+        page = self.says("Wrong: 1 seat", "Seats change.", "other seats follow from the returns: Nord, A 3, not 2.",
                          files=(WRONG, *ALL))
         self.assertEqual(page.text("#parliament h2"), "The parliament as this sheet has it: with wrong seats")
         self.says("Wrong: 1 seat", "other seats follow from the votes on the sheet: Nord, A 3, not 2.", files=(WRONG,))
@@ -70,23 +70,23 @@ class Kinds(Case):
 
     def test_votes_of_other_rows(self):
         """The sheet is right by its own votes, and none of what the rows would change is said to be so."""
-        for new, said in (("526", "The rows have more votes: they may be newer than this sheet."),
-                          ("524", "The rows have fewer votes: they may be older than this sheet.")):
-            page = self.says("Does not match the rows: other votes, the same seats",
-                             f"Line 11 of the sheet: Nord, A: the rows make {new} votes, the sheet says 525",
-                             "By the rows the seats would be the same.", state="mismatch",
+        for new, said in (("526", "The returns have more votes: they may be newer than this sheet."),
+                          ("524", "The returns have fewer votes: they may be older than this sheet.")):
+            page = self.says("Does not match the returns: other votes, the same seats",
+                             f"Line 11 of the sheet: Nord, A: the returns make {new} votes, the sheet says 525",
+                             "By the returns the seats would be the same.", state="mismatch",
                              files=(EXAMPLE, EXAMPLE_SETUP, changed(ROWS, "1,1,1,525", f"1,1,1,{new}")))
             self.assertIn(f"By its own votes the sheet is right. {said}", page.text("#why .caveat"))
             self.assertIn("≠ Both checks say: no match", page.text("#ticks"))
         both = changed(changed(ROWS, "1,1,1,525", "1,1,1,325"), "1,2,1,300", "1,2,1,500")
-        page = self.says("Does not match the rows: other votes and seats", "more votes in some lists and fewer in others",
-                         "Nord, A: the rows make 325 votes", "Nord, B: the rows make 500 votes", "By the rows other seats would follow.",
-                         files=(EXAMPLE, EXAMPLE_SETUP, both), state="mismatch")
-        self.assertIn("≠ Rows opened, but they have other votes", page.text("#ticks"))
+        page = self.says("Does not match the returns: other votes and seats", "more votes in some lists and fewer in others",
+                         "Nord, A: the returns make 325 votes", "Nord, B: the returns make 500 votes",
+                         "By the returns other seats would follow.", files=(EXAMPLE, EXAMPLE_SETUP, both), state="mismatch")
+        self.assertIn("≠ Returns opened, but they have other votes", page.text("#ticks"))
         self.assertEqual(page.text("#parliament h2"), "The parliament as this sheet has it: the files do not match")
         self.assertNotIn("Seats change", page.text("body"))
         self.assertNotIn("right: ", page.text(".legend"))
-        self.assertIn("by the rows: ", page.text(".legend"))
+        self.assertIn("by the returns: ", page.text(".legend"))
         self.assertTrue(page.text("#proved p").startswith("It says that the sheet does not match the other files"))
 
     def test_another_set_up(self):
@@ -128,7 +128,26 @@ class Kinds(Case):
             self.assertTrue(page.text("#why .caveat").startswith("The seats are not checked, and nothing is said against"))
             self.assertEqual(page.texts("#ticks li"), [])
             self.assertTrue(page.text("#proved p").startswith("It finds no whole sheet in this file. “sheet wrong” in its last line"))
-        self.says("Wrong: this is no sheet", "Line 1 of the sheet: it is no line of a sheet", files=("hello\n",))
+        self.says("Wrong: this is no sheet", "Line 1 of the sheet: it does not belong here", files=("hello\n",))
+
+    def test_a_sheet_that_was_copied_from_a_desk(self):
+        """Its first line has no desk: whatever the file is called, the page says what is missing, and what to do."""
+        copied = EXAMPLE.removeprefix("1 ")
+        for name in ("sheet", "sheet.csv", "sheet.toml"):
+            page = self.page.open().choose((name, copied), ("setup.toml", EXAMPLE_SETUP), ("held.csv", ROWS))
+            for language, heading, said in (
+                    ("en", "! Copied from a desk: the desk’s number is missing", "Line 1 of the sheet: the desk’s number is missing; put it "
+                     "and a space before this line (for desk 1: “1 sheet provisional 9”)"),
+                    ("de", "! Von einem Pult kopiert: Die Nummer des Pults fehlt", "Zeile 1 des Resultatblatts: die Nummer des Pults fehlt; "
+                     "setzen Sie sie und ein Leerzeichen vor diese Zeile (für Pult 1: «1 sheet provisional 9»)")):
+                page.driver.find_element(By.CSS_SELECTOR, f"#languages button[lang={language}]").click()
+                self.assertEqual((page.state(), page.text("#verdict")), ("damaged", heading))
+                self.assertIn(said, page.text("#why"))
+        self.holds(f"1 {copied}", EXAMPLE_SETUP, ROWS)
+        self.says("This file is damaged: get it again", "it ends in a carriage return", files=(copied.replace("\n", "\r\n"),),
+                  state="damaged")
+        for other in (copied.replace("provisional", "official"), f"9 {copied}", f" {copied}"):
+            self.says("Wrong: this is no sheet", "Line 1 of the sheet: it does not belong here", files=(other, *ALL))
 
     def test_seats_that_are_not_found(self):
         """At a tie, and where the votes of a list are not known, no seats are said to follow."""
@@ -169,13 +188,13 @@ class Kinds(Case):
         self.assertIn("1 line\n", page.text(".had .sheet").replace(" Remove", "\n"))
         self.assertEqual(page.driver.execute_script("""
             return [1, 2, 1n].flatMap((count) => LANGUAGES.map((one) => { language = one; return [say('lines', { count }),
-              say('holds', { count }), say('commands', { commands: count }), say('tickRows', { possible: count })].join(', '); }));
-        """), ["1 line, 1 check holds, (after 1 entry), Rows opened: the only return",
-               "1 Zeile, 1 Prüfung bestanden, (nach 1 Eintrag), Meldungen geöffnet: die einzige",
-               "2 lines, 2 checks hold, (after 2 entries), Rows opened: all 2 returns",
-               "2 Zeilen, 2 Prüfungen bestanden, (nach 2 Einträgen), Meldungen geöffnet: alle 2",
-               "1 line, 1 check holds, (after 1 entry), Rows opened: the only return",
-               "1 Zeile, 1 Prüfung bestanden, (nach 1 Eintrag), Meldungen geöffnet: die einzige"])
+              say('holds', { count }), say('tickRows', { possible: count })].join(', '); }));
+        """), ["1 line, 1 check holds, Returns opened: the only one",
+               "1 Zeile, 1 Prüfung bestanden, Meldungen geöffnet: die einzige",
+               "2 lines, 2 checks hold, Returns opened: all 2",
+               "2 Zeilen, 2 Prüfungen bestanden, Meldungen geöffnet: alle 2",
+               "1 line, 1 check holds, Returns opened: the only one",
+               "1 Zeile, 1 Prüfung bestanden, Meldungen geöffnet: die einzige"])
 
     def test_the_first_screen(self):
         """Verdict, election, ticks and parliament are seen at 1280 x 900 without scrolling."""

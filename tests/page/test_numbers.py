@@ -117,7 +117,7 @@ class Panels(Case):
     def test_of_votes_other_than_the_rows(self):
         self.page.sheet(EXAMPLE, EXAMPLE_SETUP, changed(ROWS, "1,1,1,525", "1,1,1,526"))
         self.page.driver.find_element(By.CSS_SELECTOR, "#seats tbody td button.bad").click()
-        self.assertIn("wrong\nWhat does not hold:\nthe rows make 526 votes", self.page.text("#detail"))
+        self.assertIn("wrong\nWhat does not hold:\nthe returns make 526 votes", self.page.text("#detail"))
 
     def test_a_key_that_is_wrong_itself_is_named(self):
         self.page.sheet(changed(EXAMPLE, "seats key 10000/10", "seats key 10000/9"), EXAMPLE_SETUP)

@@ -1,4 +1,4 @@
-"""The set-up, the rows held, and a second sheet."""
+"""The set-up, the returns held, and a second sheet."""
 import re
 
 import model
@@ -8,7 +8,7 @@ from case import EXAMPLE, EXAMPLE_SETUP, Case, changed
 
 
 class Others(Case):
-    """The set-up, the rows held, and a second sheet."""
+    """The set-up, the returns held, and a second sheet."""
 
     def unsure(self, name, line, reason, *files):
         page = self.page.sheet(*files)
@@ -47,21 +47,21 @@ class Others(Case):
     def test_rows_held(self):
         rows = model.Election(10, [5000, 3000, 2000], [[525, 300, 175], [240, 330, 30], [90, 60, 50]]).held()
         self.holds(EXAMPLE, EXAMPLE_SETUP, rows)
-        self.assertIn("compared with the rows, all 9 returns", self.page.text("#parts"))
-        self.fails("votes", 12, "the rows make 301 votes", EXAMPLE, EXAMPLE_SETUP, changed(rows, "1,2,1,300", "1,2,1,301"),
+        self.assertIn("compared with all 9 returns", self.page.text("#parts"))
+        self.fails("votes", 12, "the returns make 301 votes", EXAMPLE, EXAMPLE_SETUP, changed(rows, "1,2,1,300", "1,2,1,301"),
                    state="mismatch")
-        self.fails("votes", 12, "the rows make 0 votes", EXAMPLE, EXAMPLE_SETUP, changed(rows, "1,2,1,300", "1,2,1,withdrawn"),
+        self.fails("votes", 12, "the returns make 0 votes", EXAMPLE, EXAMPLE_SETUP, changed(rows, "1,2,1,300", "1,2,1,withdrawn"),
                    state="mismatch")
-        self.unsure("Rows", 4, "there twice", EXAMPLE, EXAMPLE_SETUP, changed(rows, "1,3,1,175", "1,2,1,175"))
-        self.unsure("Rows", 3, "does not stand there", EXAMPLE, EXAMPLE_SETUP, changed(rows, "1,2,1,300", "1,4,1,300"))
-        self.unsure("Rows", 3, "no row of four numbers", EXAMPLE, EXAMPLE_SETUP, changed(rows, "1,2,1,300", "1,2,1"))
+        self.unsure("Returns", 4, "there twice", EXAMPLE, EXAMPLE_SETUP, changed(rows, "1,3,1,175", "1,2,1,175"))
+        self.unsure("Returns", 3, "does not stand there", EXAMPLE, EXAMPLE_SETUP, changed(rows, "1,2,1,300", "1,4,1,300"))
+        self.unsure("Returns", 3, "no row of four numbers", EXAMPLE, EXAMPLE_SETUP, changed(rows, "1,2,1,300", "1,2,1"))
         self.page.sheet(EXAMPLE, None, rows)
         self.assertIn("only together with the set-up", self.page.text("#problems"))
 
     def test_two_sheets(self):
         before = changed(sheets.zurich(), "1 sheet final 81", "1 sheet provisional 80")
         page = self.page.open().choose(("now.txt", sheets.zurich()), ("before.txt", before))
-        self.assertEqual(page.text("#kind"), "The sheet calls itself “final” (after 81 entries)")
+        self.assertEqual(page.text("#kind"), "The sheet calls itself “final”")
         self.assertEqual(page.texts("#changes tbody tr"), ["Kind provisional final", "Entries 80 81 +1"])
         one = model.made_up(7, 5, 4, 50)
         two = model.made_up(7, 5, 4, 50)
@@ -72,4 +72,4 @@ class Others(Case):
         seats = [sum(int(match) for match in re.findall(r"^group 1 .* seats (\d+) ", e.sheet(), re.M)) for e in (one, two)]
         self.assertIn(f"Group 1: seats {seats[0]} {seats[1]} +{seats[1] - seats[0]}", rows)
         page.driver.find_element(By.XPATH, "//button[text()='Exchange the two sheets']").click()
-        self.assertEqual(page.text("#kind"), "The sheet calls itself “final” (after 7 entries)")
+        self.assertIn("(7, it says)", page.text("#why"))

@@ -46,8 +46,8 @@ class Right(Case):
 
     def test_the_election_of_2006(self):
         page = self.holds(sheets.zurich(), sheets.zurich_setup(), sheets.zurich_held())
-        self.assertEqual(page.text("#kind"), "FINAL (after 81 entries)")
-        self.assertIn("compared with the rows, all 72 returns", page.text("#parts"))
+        self.assertEqual(page.text("#kind"), "The sheet calls itself “final”")
+        self.assertIn("compared with all 72 returns", page.text("#parts"))
         totals = [page.texts(f"#seats {part}")[-1].split() for part in ("thead tr", "tfoot tr")]
         self.assertEqual(totals[0][-1:] + totals[1], ["Total", "Total", "44", "24", "19", "14", "10", "6", "5", "3", "125"])
         rows = [row.split()[1:] for row in page.texts("#seats tbody tr")]
@@ -70,8 +70,8 @@ class Right(Case):
 
     def test_what_was_not_checked_is_said(self):
         page = self.holds(EXAMPLE)
-        for text in ("Not checked without the set-up: number of seats, quorum, names", "Not compared with the rows",
-                     "Not checked without the set-up: the persons", "Never checked: that it is provisional"):
+        for text in ("Not checked without the set-up: number of seats, quorum, names", "Not compared with the returns",
+                     "Not checked without the set-up: the persons"):
             self.assertIn(text, page.text("#checks"))
         self.holds(EXAMPLE, EXAMPLE_SETUP)
         self.assertNotIn("without the set-up", page.text("#checks"))

@@ -1,6 +1,7 @@
 """What the page says of the proved check, and where that does not run."""
-import hashlib
 import pathlib
+import re
+import subprocess
 
 import browser
 import model
@@ -114,9 +115,13 @@ class Shown(Case):
         self.assertEqual(bytes(page.driver.execute_script("return window.saved")), program.answer(EXAMPLE_SETUP.encode(), sheet)[1])
 
     def test_which_page_this_is(self):
-        module = seals.loaded().module_in(pathlib.Path(PATH))
-        self.assertIn(hashlib.sha256(module).hexdigest(), self.page.open().text("#version"))
-        self.assertRegex(self.page.text("#version"), r"^This page has the version [0-9a-f]{16}\. ")
+        """Its foot says how that is found out: by a command, with the sum in README. The page itself shows no sum."""
+        foot = self.page.open().text("#which")
+        self.assertIn("Compute the SHA-256 of this file, and compare it with the one in the README of zhcount", foot)
+        command = re.search(r"Linux: (.*)", foot)[1]
+        told = subprocess.run(command.split(), cwd=browser.PAGE.parent, stdout=subprocess.PIPE, text=True, check=True).stdout
+        self.assertIn(f"`{told.split()[0]}`", (browser.TOP / "README.md").read_text())
+        self.assertEqual(re.findall("[0-9a-f]{8,}", self.page.text("body")), [])
 
     def test_german(self):
         page = self.shows("right", "It says", EXAMPLE, EXAMPLE_SETUP, ROWS)
@@ -191,7 +196,7 @@ class Failing(Case):
     def test_rows_that_are_too_long(self):
         page = self.page.open().choose(("sheet.txt", EXAMPLE), ("setup.toml", EXAMPLE_SETUP), ("held.csv", ROWS + "\n" * 1_048_577))
         self.assertEqual(page.state(), "unsure")
-        self.assertIn("the rows are too long", page.text("#proved"))
+        self.assertIn("the returns are too long", page.text("#proved"))
 
     def test_without_a_worker_it_runs_in_the_page(self):
         module = seals.loaded().module_in(pathlib.Path(PATH))

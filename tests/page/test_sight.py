@@ -170,7 +170,7 @@ class Sight(Case):
             "return ['999', '1000', '1234567.1234567', '28518 / (7242.666666 × 1.007187)', '10000/10', '3909..', '+30000'].map(grouped)"),
             ["999", "1,000", "1,234,567.1234567", "28,518 / (7,242.666666 × 1.007187)", "10,000/10", "3,909..", "+30,000"])
         page = self.page.sheet(EXAMPLE.replace("provisional 9", "provisional 18446744073709551615").replace("Nord", "N 2027"))
-        self.assertIn("after 18,446,744,073,709,551,615 entries", page.text("#kind"))
+        self.assertIn("(18,446,744,073,709,551,615, it says)", page.text("#why"))
         self.assertEqual(page.texts("#seats tbody th")[0], "N 2027")
 
 
@@ -193,7 +193,7 @@ class Readable(Case):
             self.page.sheet(EXAMPLE, EXAMPLE_SETUP, ROWS)
             for state in ("right", "wrong", "absent"):
                 self.page.proved(state)
-                for css in ("#verdict", "#why p", "#bar .commands"):
+                for css in ("#verdict", "#why p", "#kind"):
                     self.readable(css, "#bar")
                 self.readable("#ticks p, #ticks .mark", "li")
                 self.readable("#election", "body")

@@ -19,7 +19,7 @@ class Use(Case):
         page.choose(("second", EXAMPLE))
         self.assertIn(HOSTILE, page.text("#changes"))
         self.assertEqual(page.driver.find_elements(By.CSS_SELECTOR, "img, b, iframe, [onerror]"), [])
-        self.fails(None, 1, "no line of a sheet", f"{HOSTILE}\n")
+        self.fails(None, 1, "it does not belong here", f"{HOSTILE}\n")
         self.assertIn(HOSTILE, page.text(".fault pre"))
         self.assertEqual(page.complaints(), [])
 
@@ -111,11 +111,20 @@ class Use(Case):
         page = self.holds(EXAMPLE)
         page.driver.find_element(By.CSS_SELECTOR, "#languages button[lang=de]").click()
         self.assertEqual(page.driver.find_element(By.TAG_NAME, "html").get_attribute("lang"), "de")
-        self.assertEqual(page.text("#verdict"), "! Nicht vollständig geprüft: Die Sitze passen zu den Stimmen auf dem Blatt")
-        self.assertEqual(page.text("#kind"), "Das Blatt nennt sich «vorläufig» (nach 9 Einträgen)")
+        self.assertEqual(page.text("#verdict"), "! Nicht vollständig geprüft: Die Sitze passen zu den Stimmen auf dem Resultatblatt")
+        self.assertEqual(page.text("#kind"), "Das Resultatblatt nennt sich «provisorisch»")
         self.assertEqual(page.driver.switch_to.active_element.text, "Deutsch")
         page.driver.find_element(By.CSS_SELECTOR, "#languages button[lang=en]").click()
         self.assertEqual(page.text("#verdict"), "! Not fully checked: the seats fit the votes on the sheet")
+
+    def test_the_empty_page_names_what_is_published(self):
+        page = self.page.open()
+        self.assertEqual(page.texts(".drop dt"), ["Sheet", "Set-up file", "File of returns"])
+        self.assertEqual(page.text("#choose"), "Choose the sheet. If you have them, add the set-up file and the file of returns.")
+        page.driver.find_element(By.CSS_SELECTOR, "#languages button[lang=de]").click()
+        self.assertEqual(page.texts(".drop dt"), ["Resultatblatt", "Grunddaten", "Meldungen"])
+        self.assertEqual(page.text("#choose"),
+                         "Wählen Sie das Resultatblatt. Fügen Sie, wenn vorhanden, die Grunddaten und die Meldungen hinzu.")
 
     def test_the_proved_check_is_named(self):
         self.assertIn("The proved check is that of the program, zhcount check", self.page.open().text("#opinion"))
@@ -125,13 +134,13 @@ class Use(Case):
         self.assertEqual((page.text("#kind"), page.text("#verdict")), ("NOT READABLE AS A SHEET", "✗ Wrong: this is no sheet"))
         self.assertIn("more than 280,064 bytes", page.text(".fault .reason"))
 
-    def test_kind_and_commands_stay_in_sight(self):
+    def test_the_kind_stays_in_sight(self):
         page = self.holds(LARGEST.sheet(), LARGEST.setup())
         page.driver.execute_script("window.scrollTo(0, document.body.scrollHeight)")
         top = page.driver.execute_script("return document.getElementById('kind').getBoundingClientRect().top")
         self.assertGreaterEqual(top, 0)
         self.assertLess(top, 60)
-        self.assertIn("The sheet calls itself “final” (after 1,234 entries)", page.text("#kind"))
+        self.assertEqual("The sheet calls itself “final”", page.text("#kind"))
 
     def test_a_phone(self):
         page = self.holds(sheets.zurich())
@@ -169,7 +178,7 @@ class German(Case):
         page = self.page.sheet(EXAMPLE)
         self.assertEqual(page.driver.title, "Ein veröffentlichtes Resultatblatt prüfen")
         self.assertEqual(page.text("#title"), "10 Sitze in 3 Wahlkreisen")
-        self.assertEqual(page.text("#kind"), "Das Blatt nennt sich «vorläufig» (nach 9 Einträgen)")
+        self.assertEqual(page.text("#kind"), "Das Resultatblatt nennt sich «provisorisch»")
 
     def test_each_text_has_its_values(self):
         page = self.page.sheet(changed(EXAMPLE, "205.000000", "210.000000"))

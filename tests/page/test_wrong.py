@@ -113,8 +113,8 @@ class Wrong(Case):
                                (8, "yes voters 230", "maybe voters 230"),
                                (11, "525", "0525"), (11, "525", "-525"), (20, "end", "End"), (20, "end", "end ")):
             with self.subTest(new):
-                self.fails(None, line, "it is no line of a sheet", EXAMPLE.replace(old, new, 1))
-        self.fails(None, 12, "it is twice there, or not in order", changed(EXAMPLE, "list 1 2", "list 1 1"))
+                self.fails(None, line, "it does not belong here", EXAMPLE.replace(old, new, 1))
+        self.fails(None, 12, "it is there twice, or out of order", changed(EXAMPLE, "list 1 2", "list 1 1"))
         self.fails(None, 6, "its number should be 2", changed(EXAMPLE, "constituency 2", "constituency 3"))
         for text in ("", "\n", "hello", "\0\0\0", "<b>bold</b>\n"):
             with self.subTest(text):
@@ -139,7 +139,7 @@ class Wrong(Case):
 
     def test_limits(self):
         self.fails("form", 2, "it should be from 1 to 400", changed(EXAMPLE, "house 10", "house 401"))
-        self.fails("form", 1, "more than 2^64 - 1 commands", changed(EXAMPLE, "provisional 9", "provisional 18446744073709551616"))
+        self.fails("form", 1, "more than 2^64 - 1 entries", changed(EXAMPLE, "provisional 9", "provisional 18446744073709551616"))
         self.holds(changed(EXAMPLE, "provisional 9", "provisional 18446744073709551615"))
         self.fails("form", 5, "control characters", changed(EXAMPLE, "Nord", "No\trd"))
         self.fails("form", 6, "this name is there twice", changed(EXAMPLE, "Mitte", "Nord"))
