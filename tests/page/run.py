@@ -11,6 +11,7 @@ import unittest
 
 import case
 import test_bar
+import test_card
 import test_kinds
 import test_limits
 import test_numbers
@@ -25,7 +26,7 @@ import test_use
 import test_wrong
 
 MODULES = (test_right, test_bar, test_kinds, test_shown, test_proved, test_program, test_numbers, test_wrong, test_limits, test_others,
-           test_use, test_sight, test_paper)
+           test_use, test_sight, test_paper, test_card)
 
 
 class Lines(unittest.TestResult):
