@@ -80,6 +80,7 @@ class OfficeFolder(Folder):
         if found.st_uid != os.geteuid() or found.st_mode & 0o027:
             raise Stopped(f"{self.path} is not this user's, or others may use it: chmod 2750 makes it right", 3)
         self.lock = os.open(self("office"), os.O_RDWR | os.O_CREAT | os.O_CLOEXEC, READERS)
+        os.fchmod(self.lock, READERS)
         try:
             fcntl.flock(self.lock, fcntl.LOCK_EX | fcntl.LOCK_NB)
         except BlockingIOError:

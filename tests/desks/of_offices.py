@@ -1,0 +1,316 @@
+"""Tests of an office alone: the files that it keeps, the disk that it takes, its log, its signals, its unit. Names as arguments run those
+tests alone. The last line is 'N passed, M failed', and how many were skipped."""
+import ast
+import contextlib
+import fcntl
+import hashlib
+import os
+import re
+import resource
+import shutil
+import signal
+import stat
+import subprocess
+import sys
+import tempfile
+import termios
+import time
+
+from room import PROGRAM, SCRIPTS, TOP, Process, Room, Skipped, main, same, that, until
+
+FIRST, SECOND = "return 1 1 1 525", "return 1 2 1 300"
+UNIT = SCRIPTS / "zhcount-office.service"
+EXPOSURE = 15  # tenths; systemd counts from 0, which is safe, to 100
+
+
+def wrapped(room, before, words=None):
+    """Starts the office below a shell that does this first."""
+    words = words or room.script("zhcount-office", room.setup, room.disk, room.folder)
+    room.office = room.process(Process, ["sh", "-c", f'{before}; exec "$0" "$@"', *words])
+    return room.office
+
+
+def is_ready(room):
+    until(f"the office is ready: {room.office.process.args}", lambda: stat_of(room.folder / "lines.8") or room.office.process.poll() is not None)
+    that(f"it runs: {room.office.said()}", room.office.process.poll() is None)
+
+
+def stat_of(path):
+    with contextlib.suppress(FileNotFoundError):
+        return stat.filemode(path.stat().st_mode)
+
+
+def refused(room, *texts):
+    """The office does not start, with status 3, and says these texts."""
+    office = room.start(is_awaited=False)
+    same(f"refused: {texts[0]}", 3, office.wait(20))
+    for text in texts:
+        that(f"{text}: {office.said()}", text in office.said())
+
+
+def other_disk(room, *lines):
+    """A disk of the same set-up with these lines, and its path."""
+    path = room.path / "other.disk"
+    for task, given in (("format", ""), ("run", "".join(f"1 {it}\n" for it in lines))):
+        words = [PROGRAM, task, "--setup", room.setup, "--disk", path]
+        same(task, 0, subprocess.run(words, input=given, capture_output=True, text=True).returncode)
+    return path
+
+
+def turns():
+    """a line is taken if its turn is the one after the last; one with the turn of another line is not, nor a repetition"""
+    with Room() as room:
+        room.start()
+        sent = [f"1 new {FIRST}", "1 new return 1 1 1 526", f"1 new {FIRST}", f"1 new? {FIRST}", "999999999999999 new show 1 2",
+                "2 new show 1 1", "2 again show 1 1", "3 new? show 1 3"]
+        with open(room.folder / "lines.1", "wb", buffering=0) as pipe:
+            for line in sent:
+                pipe.write(f"{line}\n".encode())
+            until("the last one", lambda: room.of_desk(1) and room.of_desk(1)[-1].turn == 3)
+        wanted = [(1, FIRST, "stored 1"), (2, "show 1 1", "shows 1 525"), (3, "show 1 3", "unanswered")]
+        same("what was taken", wanted, [(it.turn, it.text, it.answer) for it in room.of_desk(1)])
+        that(f"it is said: {room.office.said()}", "desk 1: not taken" in room.office.said())
+        room.stop(signal.SIGKILL)
+        room.start()
+        with open(room.folder / "lines.1", "wb", buffering=0) as pipe:
+            for line in ("3 new show 1 3", "3 new close 1", "4 new show 1 1"):
+                pipe.write(f"{line}\n".encode())
+        until("the next one", lambda: room.of_desk(1)[-1].turn == 4)
+        same("what was taken", [*wanted, (4, "show 1 1", "shows 1 525")], [(it.turn, it.text, it.answer) for it in room.of_desk(1)])
+
+
+def full_volume():
+    """a record that had no room is cut off again, and the office starts as soon as there is some"""
+    with Room() as room:
+        office = room.start()
+        desk, run_process = room.desk(1), room.run_of_office()
+        same("the answer", "stored 1", desk.send(FIRST))
+        os.kill(run_process, signal.SIGSTOP)
+        room_left = (room.folder / "protocol").stat().st_size + 30
+        resource.prlimit(office.process.pid, resource.RLIMIT_FSIZE, (room_left, resource.RLIM_INFINITY))
+        desk.write(f"{SECOND}\n")
+        until("it stops", lambda: "stopped: " in office.said())
+        resource.prlimit(office.process.pid, resource.RLIMIT_FSIZE, (resource.RLIM_INFINITY, resource.RLIM_INFINITY))
+        os.kill(run_process, signal.SIGCONT)
+        same("its status", 3, office.wait())
+        same("the last record", "stop", room.records("protocol")[-1].mark)
+        room.start()
+        same("the answer then", "stored 2", desk.answer())
+        room.stop()
+        room.check()
+
+
+def torn_record():
+    """a record that a stop left without its end is cut off at the next start"""
+    with Room() as room:
+        room.start()
+        same("the answer", ["stored 1"], room.ask(1, FIRST).out)
+        room.stop(signal.SIGKILL)
+        for name in ("protocol", "protocol.1"):
+            with open(room.folder / name, "a") as file:
+                file.write("2026-01-01T00:00:00.000+00:00\t1\t2\t1\t9\tne")
+        room.start()
+        same("the next answer", ["shows 1 525"], room.ask(1, "show 1 1").out)
+        same("stops", ["killed"], [it.text for it in room.records("protocol") if it.mark == "stop"])
+        room.stop()
+        room.check()
+
+
+def another_disk_at_a_start():
+    """a disk of other returns is not taken for the folder's, whether it has as many commands or more"""
+    with Room() as room:
+        room.start()
+        same("the answer", ["stored 1"], room.ask(1, FIRST).out)
+        room.stop()
+        own = room.path / "own.disk"
+        room.disk.rename(own)
+        other_disk(room, "return 3 1 1 90").rename(room.disk)
+        refused(room, "other returns after 1 commands", "not the disk of this folder")
+        own.rename(room.disk)
+        room.start()
+        same("its own is", ["shows 1 525"], room.ask(1, "show 1 1").out)
+        room.stop()
+
+
+def another_disk_while_it_runs():
+    """a disk that is put in another's place, is removed or has a second name stops the office before anything is shown"""
+    def change_of(room, number):
+        own = room.path / "own.disk"
+        if number == 0:
+            room.disk.rename(own)
+            other_disk(room, FIRST, SECOND).rename(room.disk)
+        elif number == 1:
+            room.disk.unlink()
+        else:
+            os.link(room.disk, own)
+
+    for number in range(3):
+        with Room() as room:
+            room.start()
+            desk = room.desk(1)
+            same("the answer", "stored 1", desk.send(FIRST))
+            change_of(room, number)
+            desk.write(f"{SECOND}\n")
+            same("the status", 3, room.office.wait())
+            that(f"it says so: {room.office.said()}", "is not the file any more" in room.office.said())
+            that(f"and what is open: {room.office.said()}", f"perhaps stored: desk 1: {SECOND}" in room.office.said())
+            same("what the desk was shown", ["stored 1"], desk.out)
+
+
+def another_disk_at_the_end():
+    """an office that is told to end looks at the disk, too: no empty export, and no 'every line is answered'"""
+    with Room() as room:
+        room.start()
+        same("the answer", ["stored 1"], room.ask(1, FIRST).out)
+        held = (room.folder / "held.csv").read_bytes()
+        room.disk.rename(room.path / "own.disk")
+        other_disk(room).rename(room.disk)
+        same("the status", 3, room.stop())
+        that(f"not said: {room.office.said()}", "every line is answered" not in room.office.said())
+        same("the export", held, (room.folder / "held.csv").read_bytes())
+
+
+def two_folders():
+    """a second folder is not used for a disk, until a person says so"""
+    with Room() as room:
+        room.start()
+        first, room.folder = room.folder, room.path / "second"
+        refused(room, f"is the disk of {first}, and not of {room.folder}", f"remove {room.disk}.folder")
+        refused(room, "is the disk of")
+        same("what the file says", f"{first}\n", (room.path / "night.disk.folder").read_text())
+        room.processes[0].kill(signal.SIGTERM)
+        same("the first ends", 0, room.processes[0].wait())
+        os.unlink(f"{room.disk}.folder")
+        room.start()
+        same("then it is", ["stored 1"], room.ask(1, FIRST).out)
+        room.stop()
+
+
+def ignored_signal():
+    """a signal that was ignored at the start, as by nohup, does not end the office"""
+    with Room() as room:
+        wrapped(room, "trap '' HUP")
+        is_ready(room)
+        room.office.kill(signal.SIGHUP)
+        same("the answer", ["stored 1"], room.ask(1, FIRST).out)
+        same("TERM ends it", 0, room.stop())
+
+
+def log_that_takes_nothing():
+    """an office whose log is full, or is not read by anybody, goes on"""
+    with Room() as room:
+        os.mkfifo(room.path / "log")
+        log = os.open(room.path / "log", os.O_RDWR | os.O_NONBLOCK)
+        with contextlib.suppress(BlockingIOError):
+            while os.write(log, b"x" * 4096):
+                pass
+        for before in ("exec 2> /dev/full", "exec 2>&-", f"exec 2> '{room.path}/log'"):
+            wrapped(room, before)
+            is_ready(room)
+            same(f"the answer with {before}", ["none"], room.ask(1, "show 1 1").out)
+            same(f"the end with {before}", 0, room.stop())
+        os.close(log)
+
+
+def garbage():
+    """what no desk wrote is counted, and not written again and again; what has no end is forgotten"""
+    with Room() as room:
+        room.start()
+        with open(room.folder / "lines.1", "wb", buffering=0) as pipe:
+            for _ in range(100):
+                pipe.write(b"x\n" * 2000)
+            pipe.write(b"y" * 5000)
+            until("all is read", lambda: fcntl.ioctl(pipe, termios.FIONREAD, bytes(4)) == bytes(4))
+            time.sleep(0.2)
+            pipe.write(f"1 new {FIRST}\n".encode())
+            until("a line after it", lambda: room.of_desk(1), 10)
+        room.stop()
+        said = [it for it in room.office.error if "did not write" in it]
+        that(f"few lines: {len(said)}", 1 <= len(said) <= 5)
+        that(f"counted: {said}", re.search(r"\.\. and so \d+ times more$", said[-1]))
+
+
+def what_is_noted():
+    """a start has the sums of program and set-up; a backslash is escaped; the end writes status and export"""
+    with Room() as room:
+        room.start()
+        same("the answers", ["stored 1", "refused syntax"], room.ask(1, FIRST, "sh\\ow").out)
+        room.stop()
+        sums = [hashlib.sha256(it.read_bytes()).hexdigest() for it in (PROGRAM, room.setup)]
+        for name in ("protocol", "protocol.1"):
+            start = next(it for it in room.records(name) if it.mark == "start")
+            that(f"the start: {start.text}", f"program {sums[0]} set-up {sums[1]}" in start.text)
+        same("the text", "sh\\x5cow", room.of_desk(1)[1].text)
+        same("the status", room.zhcount("status"), (room.folder / "status").read_text())
+        same("the export", room.zhcount("export"), (room.folder / "held.csv").read_text())
+        same("the state", "1 commands", room.records("protocol")[-1].text)
+
+
+def program_that_is_not_there():
+    """a program that can't be started has status 1, which says: it may be tried again"""
+    with Room() as room:
+        room.environment["ZHCOUNT"] = str(room.path / "none")
+        office = room.start(is_awaited=False)
+        same("the status", 1, office.wait())
+        that(f"it says so: {office.said()}", f"{room.path}/none can't be started: No such file or directory" in office.said())
+
+
+def who_may_use_it():
+    """the modes of a folder do not hang on the umask"""
+    for umask in ("077", "000"):
+        with Room() as room:
+            wrapped(room, f"umask {umask}")
+            is_ready(room)
+            modes = {it.name.split(".")[0]: stat_of(it) for it in room.folder.iterdir()}
+            same(f"with {umask}", {"lines": "prw--w----", "bell": "prw-r-----", "sent": "-rw-rw----", "protocol": "-rw-r-----",
+                                   "status": "-rw-r-----", "held": "-rw-r-----", "setup": "-rw-r-----", "office": "-rw-r-----"}, modes)
+            same("the folder", "drwxr-s---", stat_of(room.folder))
+            room.stop()
+
+
+def folder_of_another_user():
+    """a folder of another user is refused"""
+    if os.geteuid():
+        raise Skipped("only root can give a folder away")
+    with Room() as room:
+        room.folder.mkdir(0o750)
+        os.chown(room.folder, 65534, 65534)
+        refused(room, "is not this user's")
+
+
+def python_of_the_scripts():
+    """each script can be read by Python 3.8, which a page names"""
+    for path in SCRIPTS.iterdir():
+        if path.suffix == ".py" or path.is_file() and path.read_bytes().startswith(b"#!/usr/bin/env python3"):
+            try:
+                ast.parse(path.read_text(), feature_version=(3, 8))
+            except SyntaxError as wrong:
+                raise AssertionError(f"{path.name}: {wrong}") from None
+    that("MANUAL says so", re.search(r"Python\s+3\.8", (TOP / "docs/MANUAL.md").read_text()))
+
+
+def unit():
+    """systemd finds nothing wrong with the unit, and little that it could do beyond its task"""
+    text = UNIT.read_text()
+    for line in ("StartLimitIntervalSec=0", "RestartPreventExitStatus=2 3"):
+        that(line, line in text.splitlines())
+    that("OnFailure", re.search(r"^#? ?OnFailure=", text, re.MULTILINE))
+    that("a pause", int(re.search(r"^RestartSec=(\d+)$", text, re.MULTILINE)[1]) >= 2)
+    if not shutil.which("systemd-analyze"):
+        raise Skipped("there is no systemd-analyze")
+    with tempfile.TemporaryDirectory() as folder:
+        path = os.path.join(folder, UNIT.name)
+        with open(path, "w") as file:
+            file.write(re.sub(r"^ExecStart=\S+", "ExecStart=/bin/true", text, flags=re.MULTILINE))
+        for words in (["verify", "--man=no"], ["security", "--offline=true", f"--threshold={EXPOSURE}", "--no-pager"]):
+            ran = subprocess.run(["systemd-analyze", *words, path], capture_output=True, text=True)
+            same(f"{words[0]}: {ran.stdout[-200:]}{ran.stderr}", 0, ran.returncode)
+
+
+TESTS = [turns, full_volume, torn_record, another_disk_at_a_start, another_disk_while_it_runs, another_disk_at_the_end, two_folders,
+         ignored_signal, log_that_takes_nothing, garbage, what_is_noted, program_that_is_not_there, who_may_use_it,
+         folder_of_another_user, python_of_the_scripts, unit]
+
+
+if __name__ == "__main__":
+    sys.exit(main(TESTS, at_once=4))
