@@ -2,6 +2,8 @@
 .PHONY: help run build example night test test-needs proofs page test-page card install uninstall dist check quick cases refused wrong-bodies folder-bodies desks documents shape \
 	bench fmt
 
+PREFIX = /usr/local
+
 help:
 	@cat scripts/help
 
@@ -36,10 +38,10 @@ card:
 	@scripts/card
 
 install:
-	@scripts/install "$(DESTDIR)$(PREFIX)"
+	@scripts/install "$(DESTDIR)" "$(PREFIX)"
 
 uninstall:
-	@scripts/uninstall "$(DESTDIR)$(PREFIX)"
+	@scripts/uninstall "$(DESTDIR)" "$(PREFIX)"
 
 dist:
 	@scripts/dist

@@ -1,6 +1,6 @@
 #!/usr/bin/env bash
-# Tests of tests/documents on made-up pages, with a stand-in for the program that answers each line with `none`: what
-# holds passes, and each kind of fault fails. The last line is 'N passed, M failed'; the status is 1 if one failed.
+# Tests of tests/documents on made-up pages, with a stand-in for the built program that answers each line with `none`:
+# what holds passes, and each kind of fault fails. The last line is 'N passed, M failed'; the status is 1 if one failed.
 set -u
 cd "$(dirname "$0")" || exit 2
 folder=$(mktemp -d) || exit 2
@@ -30,7 +30,13 @@ page() {
     fi
 }
 
-page "all forms of blocks pass" 0 "6 passed, 0 failed" << 'END'
+page "all forms of blocks pass" 0 "7 passed, 0 failed" << 'END'
+What the page itself puts on the PATH is there; the built program is the stand-in:
+
+    $ PATH=$PWD/crates/zhcount/out:$PATH
+    $ ls crates/zh_disk/src/lib.rt
+    crates/zh_disk/src/lib.rt
+
 The shell is kept from one command to the next:
 
     $ cd $(mktemp -d); word=kept; printf '%s\n' \
@@ -85,8 +91,22 @@ $ grep -c version $OLDPWD/a.toml
 ```
 END
 
+page "a program that the page puts on no PATH" 1 "zhcount: command not found" << 'END'
+    $ zhcount
+    1 show 1 1
+    1 none
+END
+
+mkdir "$folder/installed" && cp "$ZHCOUNT" "$folder/installed/zhcount"
+PATH=$folder/installed:$PATH page "though it is installed here" 1 "zhcount: command not found" << 'END'
+    $ zhcount
+    1 show 1 1
+    1 none
+END
+
 page "a wrong line" 1 "printed:  1 none" << 'END'
 ```console
+$ PATH=$PWD/crates/zhcount/out:$PATH
 $ zhcount
 1 show 1 1
 1 shows 1 525
@@ -115,7 +135,9 @@ page "a wrong status" 1 "printed:  3" << 'END'
     1
 END
 
-page "a wrong reply in a dialogue" 1 "the page: 1 stored 1" << 'END'
+page "a wrong reply in a dialogue" 1 "printed:  1 none" << 'END'
+    $ PATH=$PWD/crates/zhcount/out:$PATH
+
 ```text
 1 return 1 1 1 5    1 stored 1
 ```

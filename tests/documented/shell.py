@@ -49,7 +49,7 @@ class Shell:
         """Returns the status of a command, and what it printed."""
         self.count += 1
         room = self.room / str(self.count)
-        room.mkdir()
+        room.mkdir(parents=True)
         (room / "command").write_text(command + "\n")
         (room / "input").write_text("".join(f"{line}\n" for line in typed))
         (room / "output").touch()
