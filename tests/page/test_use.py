@@ -111,7 +111,7 @@ class Use(Case):
         page = self.holds(EXAMPLE)
         page.driver.find_element(By.CSS_SELECTOR, "#languages button[lang=de]").click()
         self.assertEqual(page.driver.find_element(By.TAG_NAME, "html").get_attribute("lang"), "de")
-        self.assertEqual(page.text("#verdict"), "! Nicht vollständig geprüft: Die Sitze passen zu den Stimmen auf dem Resultatblatt")
+        self.assertEqual(page.text("#verdict"), "! Nicht vollständig geprüft: Die Sitze passen zu seinen Stimmen")
         self.assertEqual(page.text("#kind"), "Das Resultatblatt nennt sich «provisorisch»")
         self.assertEqual(page.driver.switch_to.active_element.text, "Deutsch")
         page.driver.find_element(By.CSS_SELECTOR, "#languages button[lang=en]").click()
