@@ -1,6 +1,7 @@
 // ---- The proved check: that of the program, compiled for WebAssembly, beside the page's own
 
 const MODULE = '@MODULE@';
+const VERSION = '@VERSION@';
 // It takes milliseconds. After so many of them it is given up.
 const PATIENCE = 60000;
 const GIVEN = ['setup', 'sheet', 'held'];
@@ -35,10 +36,10 @@ Object.assign(WORDS, {
     'Sie ist nicht gelaufen. Sie meldet einen Fehler der Grunddaten oder der Meldungen, wie {command}:'],
   provedLong: ['Shown as far as here; all of it is in the file that is saved.', 'Gezeigt bis hier; die gespeicherte Datei hat alles.'],
   provedSave: ['Save the verdict', 'Prüfergebnis speichern'],
-  whichPage: ['Is this the real page? A forged one would say the same. Compute the SHA-256 of this file, and compare it with the one in '
-    + 'the README of zhcount, from another source than this page:',
-  'Ist das die echte Seite? Eine gefälschte würde dasselbe sagen. Berechnen Sie die Prüfsumme (SHA-256) dieser Datei, und vergleichen '
-    + 'Sie sie mit jener im README von zhcount, aus einer anderen Quelle als dieser Seite:'],
+  whichPage: ['Is this the real page of zhcount {version}? A forged one would say the same. Compute the SHA-256 of this file, and compare '
+    + 'it with the one in the README of zhcount, from another source than this page:',
+  'Ist das die echte Seite von zhcount {version}? Eine gefälschte würde dasselbe sagen. Berechnen Sie die Prüfsumme (SHA-256) dieser '
+    + 'Datei, und vergleichen Sie sie mit jener im README von zhcount, aus einer anderen Quelle als dieser Seite:'],
 });
 
 // Its state is one of none (no sheet), alone (no set-up), runs, right, wrong, refused (by the set-up or the rows) and failed, with a
@@ -172,6 +173,6 @@ const SUMS = { Linux: 'sha256sum index.html', macOS: 'shasum -a 256 index.html',
 
 // How a reader finds out whether this page was forged, which it can't say itself.
 function showWhichPage() {
-  find('which').replaceChildren(make('p', {}, say('whichPage')),
+  find('which').replaceChildren(make('p', {}, say('whichPage', { version: VERSION })),
     make('ul', {}, Object.entries(SUMS).map(([system, command]) => make('li', {}, `${system}: `, code(command)))));
 }

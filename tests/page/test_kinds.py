@@ -136,10 +136,12 @@ class Kinds(Case):
         for name in ("sheet", "sheet.csv", "sheet.toml"):
             page = self.page.open().choose((name, copied), ("setup.toml", EXAMPLE_SETUP), ("held.csv", ROWS))
             for language, heading, said in (
-                    ("en", "! Copied from a desk: the desk’s number is missing", "Line 1 of the sheet: the desk’s number is missing; put it "
-                     "and a space before this line (for desk 1: “1 sheet provisional 9”)"),
-                    ("de", "! Von einem Pult kopiert: Die Nummer des Pults fehlt", "Zeile 1 des Resultatblatts: die Nummer des Pults fehlt; "
-                     "setzen Sie sie und ein Leerzeichen vor diese Zeile (für Pult 1: «1 sheet provisional 9»)")):
+                    ("en", "! Copied from a desk: the desk’s number is missing",
+                     "Line 1 of the sheet: the desk’s number is missing; put it and a space before this line (for desk 1: “1 sheet "
+                     "provisional 9”)"),
+                    ("de", "! Von einem Pult kopiert: Die Nummer des Pults fehlt",
+                     "Zeile 1 des Resultatblatts: die Nummer des Pults fehlt; setzen Sie sie und ein Leerzeichen vor diese Zeile (für Pult "
+                     "1: «1 sheet provisional 9»)")):
                 page.driver.find_element(By.CSS_SELECTOR, f"#languages button[lang={language}]").click()
                 self.assertEqual((page.state(), page.text("#verdict")), ("damaged", heading))
                 self.assertIn(said, page.text("#why"))

@@ -115,8 +115,9 @@ class Shown(Case):
         self.assertEqual(bytes(page.driver.execute_script("return window.saved")), program.answer(EXAMPLE_SETUP.encode(), sheet)[1])
 
     def test_which_page_this_is(self):
-        """Its foot says how that is found out: by a command, with the sum in README. The page itself shows no sum."""
+        """Its foot says of which version it is, and how that is found out: by a command, with the sum in README. It shows no sum itself."""
         foot = self.page.open().text("#which")
+        self.assertTrue(foot.startswith(f"Is this the real page of zhcount {(browser.TOP / 'VERSION').read_text().strip()}?"), foot)
         self.assertIn("Compute the SHA-256 of this file, and compare it with the one in the README of zhcount", foot)
         command = re.search(r"Linux: (.*)", foot)[1]
         told = subprocess.run(command.split(), cwd=browser.PAGE.parent, stdout=subprocess.PIPE, text=True, check=True).stdout
