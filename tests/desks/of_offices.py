@@ -43,7 +43,7 @@ def stat_of(path):
 def refused(room, *texts):
     """The office does not start, with status 3, and says these texts."""
     office = room.start(is_awaited=False)
-    same(f"refused: {texts[0]}", 3, office.wait(20))
+    same(f"refused: {texts[0]}", 3, office.wait())
     for text in texts:
         that(f"{text}: {office.said()}", text in office.said())
 
@@ -93,8 +93,8 @@ def full_volume():
         resource.prlimit(office.process.pid, resource.RLIMIT_FSIZE, (resource.RLIM_INFINITY, resource.RLIM_INFINITY))
         os.kill(run_process, signal.SIGCONT)
         same("its status", 3, office.wait())
-        same("the last record", "stop", room.records("protocol")[-1].mark)
         room.start()
+        that("its stop is noted", "File too large" in [it for it in room.records("protocol") if it.mark == "stop"][0].text)
         same("the answer then", "stored 2", desk.answer())
         room.stop()
         room.check()
@@ -124,12 +124,24 @@ def another_disk_at_a_start():
         room.stop()
         own = room.path / "own.disk"
         room.disk.rename(own)
-        other_disk(room, "return 3 1 1 90").rename(room.disk)
-        refused(room, "other returns after 1 commands", "not the disk of this folder")
+        for lines, text in [(["return 3 1 1 90"], "other returns after 1 commands"),
+                            ([FIRST.replace("525", "526"), SECOND], "lacks what was answered, return 1 1 1 525")]:
+            other_disk(room, *lines).rename(room.disk)
+            refused(room, text, "not the disk of this folder")
+            room.disk.unlink()
         own.rename(room.disk)
+        (room.path / "more.csv").write_text("municipality,list,number,votes\n1,1,2,530\n3,1,1,90\n")
+        words = [PROGRAM, "load", "--setup", room.setup, "--disk", room.disk, "--csv", room.path / "more.csv"]
+        same("a load", "stored 2\n", subprocess.run(words, capture_output=True, text=True).stdout)
         room.start()
-        same("its own is", ["shows 1 525"], room.ask(1, "show 1 1").out)
-        room.stop()
+        same("its own is", ["shows 2 530"], room.ask(1, "show 1 1").out)
+        room.stop(signal.SIGKILL)
+        room.start()
+        same("and a batch", ["held 0", "held 1", "held 2", "stored 3"], room.ask(2, "open", "row 2 1 1 240", "row 2 2 1 330", "commit").out)
+        room.stop(signal.SIGKILL)
+        room.disk.rename(own)
+        other_disk(room, "return 1 1 1 525", "return 1 1 2 530", "return 2 1 1 240", "return 2 2 1 331").rename(room.disk)
+        refused(room, "lacks what was answered, return 2 2 1 330")
 
 
 def another_disk_while_it_runs():
@@ -158,16 +170,16 @@ def another_disk_while_it_runs():
 
 
 def another_disk_at_the_end():
-    """an office that is told to end looks at the disk, too: no empty export, and no 'every line is answered'"""
-    with Room() as room:
-        room.start()
-        same("the answer", ["stored 1"], room.ask(1, FIRST).out)
-        held = (room.folder / "held.csv").read_bytes()
-        room.disk.rename(room.path / "own.disk")
-        other_disk(room).rename(room.disk)
-        same("the status", 3, room.stop())
-        that(f"not said: {room.office.said()}", "every line is answered" not in room.office.said())
-        same("the export", held, (room.folder / "held.csv").read_bytes())
+    """an office that is told to end looks at the disk, too: no other export is noted, and no 'every line is answered'"""
+    for lines, put in [(["return 3 1 1 90"], os.replace), ([], shutil.copyfile)]:  # in its place; into the same file
+        with Room() as room:
+            room.start()
+            same("the answer", ["stored 1"], room.ask(1, FIRST).out)
+            held = (room.folder / "held.csv").read_bytes()
+            put(other_disk(room, *lines), room.disk)
+            same("the status", 3, room.stop())
+            that(f"not said: {room.office.said()}", "every line is answered" not in room.office.said())
+            same("the export", held, (room.folder / "held.csv").read_bytes())
 
 
 def two_folders():
