@@ -1,0 +1,176 @@
+"""A room whose processes ask before each call that changes something in it (watched.c), so that a test can stop them there, or see
+what a power cut at that moment would leave."""
+import atexit
+import compileall
+import contextlib
+import dataclasses
+import os
+import pathlib
+import shutil
+import socket
+import stat
+import subprocess
+import sys
+import tempfile
+import threading
+
+from room import SCRIPTS, Desk, Room
+
+HERE = pathlib.Path(__file__).resolve().parent
+PLACE = pathlib.Path(tempfile.mkdtemp(prefix="watch-"))
+LIBRARY, COMPILED = PLACE / "watched.so", PLACE / "scripts"
+
+
+def prepare():
+    """Compiles what is preloaded, and the scripts."""
+    atexit.register(shutil.rmtree, PLACE, ignore_errors=True)
+    if not LIBRARY.exists():
+        subprocess.run(["cc", "-shared", "-fPIC", "-O1", "-o", LIBRARY, HERE / "watched.c", "-ldl"], check=True)
+        shutil.copytree(SCRIPTS, COMPILED)
+        compileall.compile_dir(COMPILED, quiet=1)
+
+
+class QuickRoom(Room):
+    """A room whose scripts start soon: they are compiled, and no packages are looked for."""
+
+    def __init__(self, **how):
+        super().__init__(scripts=COMPILED, **how)
+
+    def script(self, name, *words):
+        return [sys.executable, "-S", self.scripts / name, *words]
+
+
+@dataclasses.dataclass(frozen=True)
+class Call:
+    """A call that a process is about to make."""
+    pid: int
+    who: str  # office, or desk and its number
+    program: str  # its own name, as zhcount below the office
+    name: str
+    path: str
+
+    @property
+    def file(self):
+        return os.path.basename(self.path)
+
+    def is_of_a_script(self):
+        return self.program.startswith("python")
+
+
+class Watch(threading.Thread):
+    """Hears of each call, and lets it go on where `goes_on` says so. The process waits meanwhile; one that does not go on waits until
+    it is killed."""
+
+    def __init__(self, goes_on):
+        super().__init__(daemon=True)
+        self.goes_on, self.fault, self.held = goes_on, None, []
+        self.path = tempfile.mktemp(dir=PLACE)
+        self.socket = socket.socket(socket.AF_UNIX)
+        self.socket.bind(self.path)
+        self.socket.listen(64)
+        self.start()
+
+    def run(self):
+        with contextlib.suppress(OSError):  # it was closed
+            while True:
+                asking = self.socket.accept()[0]
+                self.hear(asking)
+
+    def hear(self, asking):
+        pid, *fields = asking.recv(65536).decode().split("\n")[:-1]
+        try:
+            if self.goes_on(Call(int(pid), *fields)):
+                asking.send(b".")
+                asking.close()
+            else:
+                self.held.append(asking)
+        except OSError as fault:
+            self.fault = fault
+
+    def close(self):
+        self.socket.shutdown(socket.SHUT_RDWR)
+        self.socket.close()
+        for it in self.held:
+            it.close()
+
+
+class WatchedRoom(QuickRoom):
+    """A room whose office and desks are watched."""
+
+    def __init__(self, goes_on):
+        super().__init__()
+        self.watch = Watch(goes_on)
+
+    def __exit__(self, *fault):
+        super().__exit__(*fault)
+        self.watch.close()
+
+    def process(self, kind, words):
+        who = f"desk {words[3]}" if kind is Desk else "office"
+        watched = {"LD_PRELOAD": str(LIBRARY), "WATCHED": str(self.path), "WATCHER": self.watch.path, "WATCHED_AS": who}
+        self.processes.append(kind(words, {**self.environment, **watched}))
+        return self.processes[-1]
+
+
+class Device:
+    """What of a folder is on the device: the bytes of each file and the names of each folder, as of their last sync. A file is known by
+    its inode; where rooms are in memory, no number comes twice."""
+
+    def __init__(self, top):
+        self.top = top
+        self.files, self.folders = {}, {}
+        for folder, _, names in os.walk(top):
+            for path in (folder, *(os.path.join(folder, it) for it in names)):
+                self.sync(path)
+
+    def sync(self, path):
+        """Takes a file or folder as synced, as it is now."""
+        with contextlib.suppress(FileNotFoundError):
+            found = os.lstat(path)
+            if stat.S_ISDIR(found.st_mode):
+                self.folders[found.st_ino] = named(path)
+            elif stat.S_ISREG(found.st_mode):
+                self.files[found.st_ino] = pathlib.Path(path).read_bytes()
+
+    def images(self):
+        """What a power cut may leave, each as paths with their modes and bytes: only what was synced; or the names as they are, and of
+        the files what was synced, or that and half of what was appended since."""
+        return (frozenset(self.image("", os.lstat(self.top).st_ino, lambda ino, path: self.folders.get(ino, {}), self.bytes_of)),
+                frozenset(self.image("", 0, lambda ino, path: named(path), self.bytes_of)),
+                frozenset(self.image("", 0, lambda ino, path: named(path), self.torn)))
+
+    def image(self, below, ino, names_of, bytes_of):
+        path = os.path.join(self.top, below)
+        for name, (inode, mode) in names_of(ino, path).items():
+            there = os.path.join(below, name)
+            yield there, mode, bytes_of(inode, os.path.join(path, name)) if stat.S_ISREG(mode) else b""
+            if stat.S_ISDIR(mode):
+                yield from self.image(there, inode, names_of, bytes_of)
+
+    def bytes_of(self, ino, _=None):
+        return self.files.get(ino, b"")
+
+    def torn(self, ino, path):
+        known, now = self.bytes_of(ino), pathlib.Path(path).read_bytes()
+        return now[:(len(known) + len(now) + 1) // 2] if len(now) > len(known) and now.startswith(known) else known
+
+
+def named(folder):
+    """The names in a folder, each with its inode and mode."""
+    with os.scandir(folder) as entries:
+        return {it.name: (it.inode(), it.stat(follow_symlinks=False).st_mode) for it in entries}
+
+
+def restore(image, room, from_path):
+    """Makes the room's files those of an image of another room; a path in them follows."""
+    shutil.rmtree(room.path)
+    room.path.mkdir(mode=0o700)
+    for path, mode, data in sorted(image):
+        there = room.path / path
+        if stat.S_ISDIR(mode):
+            there.mkdir()
+        elif stat.S_ISFIFO(mode):
+            os.mkfifo(there)
+        else:
+            there.write_bytes(data.replace(os.fsencode(from_path), os.fsencode(room.path)))
+        there.chmod(stat.S_IMODE(mode))
