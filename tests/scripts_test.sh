@@ -55,6 +55,10 @@ expect() {
 answer() { printf '1 open\n' | make -s run 2> said; }
 said() { grep -c "$1" said; }
 
+first() { make -s "$1" 2>&1 | grep -c "run 'make build' first"; }
+expect "nothing is built: make install says what comes first" 1 first install
+expect "and so does make dist" 1 first dist
+
 expect "nothing is proved: the sources run unproved" "unproved: 1 open" answer
 expect "which is said, with the command that proves them" 1 said "make build"
 expect "it shows that it is at work" 1 said '^\.\+$'
