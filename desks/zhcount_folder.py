@@ -35,19 +35,18 @@ def content(path):
 
 
 class Protocol:
-    """A protocol, to which records are appended. Opening it cuts off a record that a stop left without its end."""
+    """A protocol, to which records are appended. A record that a stop left without its end is cut off before the next one."""
 
     def __init__(self, path):
         self.fd = os.open(path, os.O_RDWR | os.O_CREAT | os.O_APPEND | os.O_CLOEXEC, READERS)
         os.fchmod(self.fd, READERS)
         self.records, self.size = records_in(content(path), os.path.basename(path))
-        os.ftruncate(self.fd, self.size)
 
     def append(self, *records):
         """Appends the records, and returns when they are on the device; or leaves the file as it was."""
         data = b"".join(it.spelling() for it in records)
         try:
-            if os.fstat(self.fd).st_size != self.size:  # what could not be cut off before
+            if os.fstat(self.fd).st_size != self.size:
                 os.ftruncate(self.fd, self.size)
             self.write(data)
             os.fsync(self.fd)

@@ -43,7 +43,8 @@ def stat_of(path):
 def refused(room, *texts):
     """The office does not start, with status 3, and says these texts."""
     office = room.start(is_awaited=False)
-    same(f"refused: {texts[0]}", 3, office.wait())
+    until("its end", lambda: office.process.poll() is not None or "desks can send lines" in office.said())
+    that(f"refused: {texts[0]}", office.process.poll() == 3 and office.wait() == 3)
     for text in texts:
         that(f"{text}: {office.said()}", text in office.said())
 
@@ -86,10 +87,11 @@ def full_volume():
         desk, run_process = room.desk(1), room.run_of_office()
         same("the answer", "stored 1", desk.send(FIRST))
         os.kill(run_process, signal.SIGSTOP)
-        room_left = (room.folder / "protocol").stat().st_size + 30
-        resource.prlimit(office.process.pid, resource.RLIMIT_FSIZE, (room_left, resource.RLIM_INFINITY))
+        size = (room.folder / "protocol").stat().st_size
+        resource.prlimit(office.process.pid, resource.RLIMIT_FSIZE, (size + 30, resource.RLIM_INFINITY))
         desk.write(f"{SECOND}\n")
         until("it stops", lambda: "stopped: " in office.said())
+        same("the size", size, (room.folder / "protocol").stat().st_size)
         resource.prlimit(office.process.pid, resource.RLIMIT_FSIZE, (resource.RLIM_INFINITY, resource.RLIM_INFINITY))
         os.kill(run_process, signal.SIGCONT)
         same("its status", 3, office.wait())
