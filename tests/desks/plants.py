@@ -5,10 +5,11 @@ each in a file that is named after the mistake:
   seen by: fast.py torn_line
   old: the right text, which stands in the file once; of several lines each has an 'old:' of its own
   new: the wrong text, likewise
+  says: what the test has to say of it; this line may be left out
 
 Where a mistake can't change what anybody sees, 'changes nothing:' and the reason stand in place of 'seen by:', and no test is run.
-Names as arguments choose some. JOBS is how many run at once, 4 where it is not set. The last line is 'N passed, M failed', and how
-many change nothing."""
+Names as arguments choose some. JOBS is how many run at once, 8 where it is not set, and PATIENCE for how many seconds a test waits
+for what has to happen, 15 where it is not set. The last line is 'N passed, M failed', and how many change nothing."""
 import concurrent.futures
 import os
 import pathlib
@@ -20,7 +21,7 @@ import tempfile
 
 HERE = pathlib.Path(__file__).resolve().parent
 SCRIPTS = HERE.parents[1] / "desks"
-FIELDS = ("file", "seen by", "changes nothing", "old", "new")
+FIELDS = ("file", "seen by", "says", "changes nothing", "old", "new")
 
 
 class Faulty(Exception):
@@ -58,20 +59,20 @@ def outcome(path):
             copied(plant, room)
             if "changes nothing" in plant:
                 return "none", plant["changes nothing"].replace("\n", " ")
-            return tried(plant["seen by"], room)
+            return tried(plant["seen by"], plant.get("says", ""), room)
     except (Faulty, OSError) as it:
         return "FAIL", str(it)
 
 
-def tried(test, scripts):
-    """Whether a test fails with these scripts, and what it says."""
+def tried(test, wanted, scripts):
+    """Whether a test fails with these scripts and says what is wanted, and what it says."""
     if not re.fullmatch(r"\w+\.py \w+", test):
         raise Faulty(f"'seen by: {test}' is no file with a test in it")
     name, function = test.split(" ")
-    ran = subprocess.run([sys.executable, str(HERE / name), function], env={**os.environ, "DESKS": scripts, "PATIENCE": "15"},
+    ran = subprocess.run([sys.executable, str(HERE / name), function], env={"PATIENCE": "15", **os.environ, "DESKS": scripts},
                          stdout=subprocess.PIPE, stderr=subprocess.STDOUT, text=True)
     failed = re.search(r"^FAIL  .*?: (.*)", ran.stdout, re.MULTILINE)
-    if ran.returncode == 1 and failed:
+    if ran.returncode == 1 and failed and wanted in failed[1]:
         return "ok", f"{function}: {failed[1][:160]}"
     return "FAIL", f"{test} does not see it, status {ran.returncode}: {ran.stdout[-160:].strip()}"
 
@@ -82,7 +83,7 @@ def main(names):
         sys.exit(f"there is no plant {', '.join(sorted(strange))}")
     paths = [it for it in paths if not names or it.stem in names]
     counts = dict.fromkeys(("ok", "FAIL", "none"), 0)
-    with concurrent.futures.ThreadPoolExecutor(int(os.environ.get("JOBS", "4"))) as pool:
+    with concurrent.futures.ThreadPoolExecutor(int(os.environ.get("JOBS", "8"))) as pool:
         for path, (word, said) in zip(paths, pool.map(outcome, paths)):
             counts[word] += 1
             print(f"{word:<5} {path.stem}: {said}", flush=True)

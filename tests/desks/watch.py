@@ -31,10 +31,13 @@ def prepare():
 
 
 class QuickRoom(Room):
-    """A room whose scripts start soon: they are compiled, and no packages are looked for."""
+    """A room whose scripts start soon, as they are compiled and no packages are looked for. The disk has a folder of its own."""
 
-    def __init__(self, **how):
-        super().__init__(scripts=COMPILED, **how)
+    def __init__(self):
+        super().__init__(scripts=COMPILED)
+        made, self.disk = self.disk, self.path / "disks/night.disk"
+        self.disk.parent.mkdir()
+        made.rename(self.disk)
 
     def script(self, name, *words):
         return [sys.executable, "-S", self.scripts / name, *words]
