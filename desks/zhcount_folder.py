@@ -3,6 +3,7 @@ import contextlib
 import dataclasses
 import fcntl
 import os
+import pwd
 
 from zhcount_desks import DESKS, Folder, Message, Record, Stopped, escaped, now, records_in
 
@@ -27,6 +28,22 @@ def put(path, data):
         os.fsync(file.fileno())
     os.rename(path + ".new", path)
     sync_folder(os.path.dirname(path))
+
+
+def named(user):
+    """The name of a user; the number of one who has none."""
+    try:
+        return pwd.getpwuid(user).pw_name
+    except KeyError:
+        return str(user)
+
+
+def refuse_another_users(path, options=""):
+    """Stops the office where this belongs to another user than the one who runs it."""
+    owner, user = os.stat(path).st_uid, os.geteuid()
+    if owner != user:
+        raise Stopped(f"{path} belongs to {named(owner)}, and {named(user)} runs the office: run it as {named(owner)}, or, as root, "
+                      f"'chown {options}{named(user)} {path}'", 3)
 
 
 def content(path):
@@ -75,9 +92,9 @@ class OfficeFolder(Folder):
             os.mkdir(self.path, 0o750)
             os.chmod(self.path, 0o2750)
             sync_folder(os.path.dirname(self.path))
-        found = os.stat(self.path)
-        if found.st_uid != os.geteuid() or found.st_mode & 0o027:
-            raise Stopped(f"{self.path} is not this user's, or others may use it: chmod 2750 makes it right", 3)
+        refuse_another_users(self.path, "-R ")
+        if os.stat(self.path).st_mode & 0o027:
+            raise Stopped(f"others may use {self.path}: 'chmod 2750 {self.path}' makes it right", 3)
         self.lock = os.open(self("office"), os.O_RDWR | os.O_CREAT | os.O_CLOEXEC, READERS)
         os.fchmod(self.lock, READERS)
         try:
@@ -177,6 +194,12 @@ class Disk:
         if named not in ("", escaped(os.fsencode(self.folder))):
             raise Stopped(f"{self.path} is the disk of {named}, and not of {self.folder}: take that folder, or, if no office uses it "
                           f"any more, remove {self.path}.folder", 3)
+
+    def opens(self):
+        """Refuses a disk that is another user's, or in a folder of another, if this one may not write it."""
+        for path in (os.path.dirname(self.path), self.path):
+            if os.path.exists(path) and not os.access(path, os.R_OK | os.W_OK):
+                refuse_another_users(path)
 
     def claim(self):
         """Names the folder beside the disk, so that no other one is used for it."""

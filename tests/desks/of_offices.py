@@ -5,6 +5,7 @@ import contextlib
 import fcntl
 import hashlib
 import os
+import pathlib
 import re
 import resource
 import shutil
@@ -27,6 +28,18 @@ def wrapped(room, before, words=None):
     """Starts the office below a shell that does this first."""
     words = words or room.script("zhcount-office", room.setup, room.disk, room.folder)
     room.office = room.process(Process, ["sh", "-c", f'{before}; exec "$0" "$@"', *words])
+    return room.office
+
+
+def as_nobody(room):
+    """Starts the office as the user nobody, by copies of program and scripts that anybody may use."""
+    copies = room.path / "scripts"
+    if not copies.exists():
+        shutil.copytree(SCRIPTS, copies)
+        shutil.copy(PROGRAM, copies / "zhcount")
+    room.environment["ZHCOUNT"] = str(copies / "zhcount")
+    words = ["setpriv", "--reuid=65534", "--regid=65534", "--clear-groups", "/usr/bin/python3", copies / "zhcount-office"]
+    room.office = room.process(Process, [*words, room.setup, room.disk, room.folder])
     return room.office
 
 
@@ -289,7 +302,38 @@ def folder_of_another_user():
     with Room() as room:
         room.folder.mkdir(0o750)
         os.chown(room.folder, 65534, 65534)
-        refused(room, "is not this user's")
+        refused(room, f"{room.folder} belongs to nobody, and root runs the office: run it as nobody", f"'chown -R root {room.folder}'")
+
+
+def disk_of_another_user():
+    """a disk, or its folder, of another user is refused, with both names and what mends it; and that mends it"""
+    if os.geteuid():
+        raise Skipped("only root can start an office as another user")
+    with Room() as room:
+        place = room.path / "place"
+        for it in (room.path, room.setup):
+            it.chmod(0o755)
+        place.mkdir(0o755)
+        room.disk = pathlib.Path(shutil.move(room.disk, place))
+        room.folder = room.path / "of nobody" / "office"
+        room.folder.parent.mkdir()
+        os.chown(room.folder.parent, 65534, 65534)
+        for path in (place, room.disk):
+            office = as_nobody(room)
+            same(f"{path}: {office.said()}", 3, office.wait())
+            mend = f"'chown nobody {path}'"
+            that(f"{mend}: {office.said()}", f"{path} belongs to root, and nobody runs the office: run it as root, or, as root, {mend}" in office.said())
+            subprocess.run(["sh", "-c", mend.strip("'")], check=True)
+        as_nobody(room)
+        until("it starts", lambda: "desks can send lines" in room.office.said())
+
+
+def folder_that_others_may_use():
+    """a folder that others may use is refused, with what mends it"""
+    with Room() as room:
+        room.folder.mkdir()
+        room.folder.chmod(0o755)
+        refused(room, f"others may use {room.folder}: 'chmod 2750 {room.folder}' makes it right")
 
 
 def python_of_the_scripts():
@@ -323,7 +367,7 @@ def unit():
 
 TESTS = [turns, full_volume, torn_record, another_disk_at_a_start, another_disk_while_it_runs, another_disk_at_the_end, two_folders,
          ignored_signal, log_that_takes_nothing, garbage, what_is_noted, program_that_is_not_there, who_may_use_it,
-         folder_of_another_user, python_of_the_scripts, unit]
+         folder_of_another_user, disk_of_another_user, folder_that_others_may_use, python_of_the_scripts, unit]
 
 
 if __name__ == "__main__":
