@@ -12,6 +12,7 @@ DESKS = range(1, 9)
 LONGEST = 3900  # bytes of a line; with what goes before it, it is shorter than PIPE_BUF, so that a pipe takes it whole
 UNANSWERED = "unanswered"
 
+TURNS = 10**15 - 1
 MESSAGE = re.compile(rb"(\d{1,15}) (new|again)(\??) (.*)", re.DOTALL)
 SHEET = re.compile(r"sheet (?:provisional|final) \d+(?:\n|$)")
 COLUMNS = 8
@@ -22,10 +23,12 @@ class Unreadable(Exception):
 
 
 def open_standard_streams():
-    """Opens each of the descriptors 0 to 2 that is closed, so that no file opened later takes its place."""
-    while (fd := os.open(os.devnull, os.O_RDWR)) <= 2:
-        pass
-    os.close(fd)
+    """Descriptors 0 to 2 that are closed become such that nothing can be written to, so that no other file gets their numbers."""
+    for number in range(3):
+        try:
+            os.fstat(number)
+        except OSError:
+            os.open(os.devnull, os.O_RDONLY)  # takes the lowest number that is free
 
 
 def now():
@@ -109,20 +112,6 @@ def record_of(fields):
         raise ValueError
     numbers = [0 if it == "-" else int(it) for it in fields[1:5]]
     return Record(fields[0], *numbers, *fields[5:])
-
-
-class Tail:
-    """The records of a protocol, as they come."""
-
-    def __init__(self, path):
-        self.path, self.used = path, 0
-
-    def new(self):
-        with open(self.path, "rb") as file:
-            file.seek(self.used)
-            records, used = records_in(file.read(), os.path.basename(self.path))
-        self.used += used
-        return records
 
 
 class Folder:

@@ -20,7 +20,7 @@ OFFICE_MOMENTS = ["self.at_work = record = dataclasses.replace(record, line=self
                   "self.at_work = None"]
 START_MOMENTS = ["self.settle()", "self.start += 1", 'self.note("start", sums)', "self.disk.claim()", "self.start_run()",
                  'self.bells = self.folder.make_pipes("bell", READERS)']
-DESK_MOMENTS = ["self.office.send(message)", "return self.await_answer(message.turn)"]
+DESK_MOMENTS = ["self.office.send(message)", "return self.await_answer(message)"]
 DYING = '''
 def die_at(number):
     at = os.environ["KILL_AT"]
