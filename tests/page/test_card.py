@@ -13,7 +13,8 @@ from case import OTHER_WORDS
 SETUP = TOP / "crates" / "zh_setups" / "data" / "rehearsal.toml"
 SIDES = dict(re.findall(r'<section lang="(\w+)">(.*?)</section>', (TOP / "page" / "card.html").read_text(), re.S))
 # How what zhcount-desk shows of itself begins, where somebody has to do something.
-MESSAGES = ("the office has ended: ", "perhaps stored: show it", "not repeated: ", "the batch can't be brought back: ", "not sent: ")
+MESSAGES = ("the office has ended: ", "no answer yet ", "a batch is open; ", "perhaps stored: show it", "not repeated: ",
+            "the batch can't be brought back: ", "not sent: ")
 # Refusals that no desk gets: of a line without a desk, of a file, and of more commands than can come.
 OTHERS = {"desk", "csv", "spent"}
 
