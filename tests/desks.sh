@@ -1,7 +1,8 @@
 #!/usr/bin/env bash
-# Tests of zhcount-office and zhcount-desk: kills at chosen moments, and what does not belong together; then eight desks over a real sshd
-# on the loopback, with keys and a port of its own; then wrong lines planted in the scripts, each of which a test has to see. ZHCOUNT is
-# the program's path; if it is not set, crates/zhcount/out/zhcount. Each part ends with 'N passed, M failed'.
+# Tests of zhcount-office and zhcount-desk: kills at chosen moments, and what does not belong together; then a stop at each call and a
+# power cut at each moment; then eight desks over a real sshd on the loopback, with keys and a port of its own; then wrong lines planted
+# in the scripts, each of which a test has to see. ZHCOUNT is the program's path; if it is not set, crates/zhcount/out/zhcount. Each part
+# ends with 'N passed, M failed'.
 set -u
 cd "$(dirname "$0")/.." || exit 2
 export PYTHONDONTWRITEBYTECODE=1
@@ -33,8 +34,11 @@ side_by_side() {
 took() { echo "this took $SECONDS s"; }
 
 echo "== an office and its desks"
-parts=$(cd tests/desks && ls fast.py of_offices.py of_desks.py rebuilds.py 2> /dev/null)
+parts=$(cd tests/desks && ls fast.py of_offices.py of_desks.py rebuilds.py replays.py 2> /dev/null)
 side_by_side ${parts//.py/} || exit 1
+took
+echo "== a stop at each call, and a power cut at each moment"
+python3 tests/desks/stops.py || exit 1
 took
 echo "== eight desks over ssh"
 python3 tests/desks/over_ssh.py || exit 1

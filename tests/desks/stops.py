@@ -36,12 +36,14 @@ IN_STATUS = {"close": "closed", "reopen": "open"}
 BEFORE = re.compile(r"zhcount-desk: before: (.*?): (.*)")
 NOT_REPEATED = re.compile(r"not repeated: (.*?); the last status: \d+,\d+,\d+,(open|closed),.*")
 TRIES = 20  # of a line
-AT_ONCE = 4
+AT_ONCE = 3 * (os.cpu_count() or 1)  # nights; for most of its time a night waits
 
 
 def final(answer):
-    """What is noted where this is shown: the first line, or that a closing or reopening is unanswered."""
-    return "unanswered" if NOT_REPEATED.fullmatch(answer) else answer.split("\n")[0]
+    """What is noted where this is shown: a closing or reopening that is not repeated is unanswered; and the line of this night that is
+    refused is in doubt where it was repeated."""
+    first = answer.split("\n")[0]
+    return "unanswered" if NOT_REPEATED.fullmatch(first) else "refused closed" if first == "perhaps stored: show it" else first
 
 
 class Shown:
@@ -136,8 +138,8 @@ class Night:
             decided = NOT_REPEATED.fullmatch(answer)
             if not decided:
                 shown.lines[-1][1] = answer
-                first = answer.split("\n")[0]
-                that(f"{line}: {answer}, and not {wanted}", first == wanted or first == "same" and wanted.startswith("stored"))
+                found = final(answer)
+                that(f"{line}: {answer}, and not {wanted}", found == wanted or found == "same" and wanted.startswith("stored"))
                 return
             same("the line that is not repeated", line, decided[1])
             shown.lines[-1][1] = answer
