@@ -339,7 +339,7 @@ class Recorder:
     def goes_on(self, call):
         note_passing_on(self.night, call)
         if is_counted(call):
-            for image, what in zip(self.device.images(), ("names and bytes as synced", "bytes as synced", "an append is torn")):
+            for image, what in zip(self.device.images(), ("names and bytes as synced", "bytes as synced", "a write is torn")):
                 cut = Cut(self.night, call, image, what)
                 self.cuts.setdefault(cut.key(), cut)
         if call.name == "sync":

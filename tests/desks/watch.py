@@ -137,7 +137,7 @@ class Device:
 
     def images(self):
         """What a power cut may leave, each as paths with their modes and bytes: only what was synced; or the names as they are, and of
-        the files what was synced, or that and half of what was appended since."""
+        the files what was synced, or that and half of what was written since."""
         return (frozenset(self.image("", os.lstat(self.top).st_ino, lambda ino, path: self.folders.get(ino, {}), self.bytes_of)),
                 frozenset(self.image("", 0, lambda ino, path: named(path), self.bytes_of)),
                 frozenset(self.image("", 0, lambda ino, path: named(path), self.torn)))
@@ -154,8 +154,12 @@ class Device:
         return self.files.get(ino, b"")
 
     def torn(self, ino, path):
+        """What was synced, but for the first half of what is different since."""
         known, now = self.bytes_of(ino), pathlib.Path(path).read_bytes()
-        return now[:(len(known) + len(now) + 1) // 2] if len(now) > len(known) and now.startswith(known) else known
+        if now == known:
+            return known
+        half = (len(os.path.commonprefix([known, now])) + len(now) + 1) // 2
+        return now[:half] + known[half:]
 
 
 def named(folder):
