@@ -11,6 +11,7 @@ import subprocess
 DESKS = range(1, 9)
 LONGEST = 3900  # bytes of a line; with what goes before it, it is shorter than PIPE_BUF, so that a pipe takes it whole
 UNANSWERED = "unanswered"
+MIRRORED = ("setup.toml", "protocol", *(f"protocol.{desk}" for desk in DESKS))  # the files that a witness has too
 
 TURNS = 10**15 - 1
 MESSAGE = re.compile(rb"(\d{1,15}) (new|again)(\??) (.*)", re.DOTALL)

@@ -1,6 +1,5 @@
 """The files that zhcount-office keeps: its folder with the protocols and pipes, and beside the disk the name of that folder."""
 import contextlib
-import dataclasses
 import fcntl
 import os
 import pwd
@@ -51,17 +50,39 @@ def content(path):
         return file.read()
 
 
-class Protocol:
-    """A protocol, to which records are appended. A record that a stop left without its end is cut off before the next one."""
+def make_folder(path):
+    """Makes a folder where there is none; another user's, or one that others may use, is refused."""
+    if not os.path.isdir(path):
+        os.mkdir(path, 0o750)
+        os.chmod(path, 0o2750)
+        sync_folder(os.path.dirname(path))
+    refuse_another_users(path, "-R ")
+    if os.stat(path).st_mode & 0o027:
+        raise Stopped(f"others may use {path}: 'chmod 2750 {path}' makes it right", 3)
+
+
+class Appended:
+    """A file to which whole pieces are appended. What a stop left of a piece is cut off before the next one."""
 
     def __init__(self, path):
+        self.name = os.path.basename(path)
         self.fd = os.open(path, os.O_RDWR | os.O_CREAT | os.O_APPEND | os.O_CLOEXEC, READERS)
         os.fchmod(self.fd, READERS)
-        self.records, self.size = records_in(content(path), os.path.basename(path))
+        self.size = self.whole(content(path))
+        self.mirror = lambda file, data: None  # is given each piece once it is on the device
 
-    def append(self, *records):
-        """Appends the records, and returns when they are on the device; or leaves the file as it was."""
-        data = b"".join(it.spelling() for it in records)
+    def whole(self, data):
+        """How many of these bytes are of whole pieces."""
+        return len(data)
+
+    def cut(self):
+        """Cuts off what is beyond the whole pieces."""
+        if os.fstat(self.fd).st_size != self.size:
+            os.ftruncate(self.fd, self.size)
+            os.fsync(self.fd)
+
+    def add(self, data):
+        """Appends a piece, and returns when it is on the device; or leaves the file as it was."""
         try:
             if os.fstat(self.fd).st_size != self.size:
                 os.ftruncate(self.fd, self.size)
@@ -73,10 +94,22 @@ class Protocol:
                 os.fsync(self.fd)
             raise
         self.size += len(data)
+        self.mirror(self, data)
 
     def write(self, rest):
         while rest:
             rest = rest[os.write(self.fd, rest):]
+
+
+class Protocol(Appended):
+    """A protocol, to which records are appended."""
+
+    def whole(self, data):
+        self.records, used = records_in(data, self.name)
+        return used
+
+    def append(self, *records):
+        self.add(b"".join(it.spelling() for it in records))
 
 
 class OfficeFolder(Folder):
@@ -88,13 +121,7 @@ class OfficeFolder(Folder):
 
     def take(self):
         """Makes the folder where there is none, and takes it: from there on no other office has it."""
-        if not os.path.isdir(self.path):
-            os.mkdir(self.path, 0o750)
-            os.chmod(self.path, 0o2750)
-            sync_folder(os.path.dirname(self.path))
-        refuse_another_users(self.path, "-R ")
-        if os.stat(self.path).st_mode & 0o027:
-            raise Stopped(f"others may use {self.path}: 'chmod 2750 {self.path}' makes it right", 3)
+        make_folder(self.path)
         self.lock = os.open(self("office"), os.O_RDWR | os.O_CREAT | os.O_CLOEXEC, READERS)
         os.fchmod(self.lock, READERS)
         try:
@@ -147,10 +174,17 @@ class OfficeFolder(Folder):
     def note_line(self, record):
         self.whole.append(record)
 
-    def note_answer(self, record, answer):
-        noted = dataclasses.replace(record, time=now(), answer=answer)
-        self.of_desk[record.desk].append(noted)
-        return noted
+    def note_answer(self, record):
+        self.of_desk[record.desk].append(record)
+
+    def take_over(self, record):
+        """Notes an answer of an earlier start that only the witness had."""
+        self.note_answer(record)
+        self.of_desk[record.desk].records.append(record)
+
+    def mirrored(self):
+        """The files that a witness has, too."""
+        return [Appended(self("setup.toml")), self.whole, *self.of_desk.values()]
 
     # The pipes
 
