@@ -79,13 +79,11 @@ class Appended:
         """Cuts off what is beyond the whole pieces."""
         if os.fstat(self.fd).st_size != self.size:
             os.ftruncate(self.fd, self.size)
-            os.fsync(self.fd)
 
     def add(self, data):
         """Appends a piece, and returns when it is on the device; or leaves the file as it was."""
         try:
-            if os.fstat(self.fd).st_size != self.size:
-                os.ftruncate(self.fd, self.size)
+            self.cut()
             self.write(data)
             os.fsync(self.fd)
         except OSError:

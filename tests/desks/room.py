@@ -125,7 +125,7 @@ class Room:
         self.setup, self.disk, self.folder = self.path / "setup.toml", self.path / "night.disk", self.path / "office"
         self.setup.write_text(setup)
         self.zhcount("format")
-        self.processes, self.office = [], None
+        self.processes, self.office, self.options = [], None, []
 
     @staticmethod
     def shared():
@@ -155,7 +155,7 @@ class Room:
         return self.processes[-1]
 
     def start(self, is_awaited=True):
-        self.office = self.process(Process, self.script("zhcount-office", self.setup, self.disk, self.folder))
+        self.office = self.process(Process, self.script("zhcount-office", *self.options, self.setup, self.disk, self.folder))
         if is_awaited:
             until(f"an office: {self.office.said()}", lambda: "desks can send lines" in self.office.said() or self.office.process.poll())
             if self.office.process.poll() is not None:
