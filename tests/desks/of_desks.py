@@ -7,7 +7,7 @@ import signal
 import subprocess
 import sys
 
-from fast import OFFICE_MOMENTS, Dying, stands_in
+from fast import DESK_MOMENTS, OFFICE_MOMENTS, Dying, stands_in
 from room import PROGRAM, SCRIPTS, SECONDS, TOP, Room, main, same, that, until
 
 def said(desk, *texts):
@@ -99,14 +99,16 @@ def another_file():
     """a desk whose file is another one by now sends nothing more, so that two connections never have one desk"""
     with Room() as room:
         room.start()
-        desk = room.desk(3)
-        same("connected", "none", desk.send("show 1 1"))
+        desk, run_process = room.desk(3), room.run_of_office()
+        os.kill(run_process, signal.SIGSTOP)
+        desk.write("return 1 1 1 525\nreturn 1 2 1 300\n")
+        until("the first is noted", lambda: room.records("protocol")[-1].text == "return 1 1 1 525")
         (room.folder / "sent.3").unlink()
         (room.folder / "sent.3").write_bytes(b"")
-        same("another connection", ["none"], room.ask(3, "show 1 2").out)
-        desk.write("return 1 1 1 525\n")
+        os.kill(run_process, signal.SIGCONT)
         same("its end", 1, desk.wait())
-        same("the lines that came", ["show 1 1", "show 1 2"], [it.text for it in room.of_desk(3)])
+        same("another connection", ["none"], room.ask(3, "show 1 2").out)
+        same("the lines that came", ["return 1 1 1 525", "show 1 2"], [it.text for it in room.of_desk(3)])
 
 
 def turn_of_another_line():
@@ -166,16 +168,15 @@ def half_of_a_line():
 
 def batch_is_not_the_last_line():
     """rows that were brought back are not taken for the last line, which is still repeated"""
-    with Room() as room:
+    with Dying("zhcount-desk", DESK_MOMENTS) as room:
         room.start()
         desk = room.desk(3)
         same("the batch", ["held 0", "held 1"], [desk.send(it) for it in ("open", "row 1 1 1 525")])
         lost(room, desk, "return 3 1 1 90")
         room.start()
-        desk = room.desk(3)
-        until("a row is brought back", lambda: [it for it in room.of_desk(3) if it.mark == "again"])
-        desk.kill()
-        desk.wait()
+        for _ in ("open", "row"):
+            room.arm(1)
+            same("the end of a desk that brings it back", -9, room.desk(3).wait())
         desk = room.ask(3, "show 3 1", "commit")
         that(f"it is told: {desk.said()}", re.search("before: return 3 1 1 90: (stored 1|same)", desk.said()))
         same("the answers", ["shows 1 90", "stored 2"], desk.out)
@@ -363,7 +364,7 @@ def batch_is_lost():
         room.environment["ZHCOUNT"] = str(PROGRAM)
         room.stop(signal.SIGKILL)
         room.start()
-        same("it does not come back", ["held 0"], room.ask(5, "open").out)
+        same("it does not come back", ["none", "held 0"], room.ask(5, "show 1 1", "open").out)
 
 
 def reopen_is_not_repeated():
