@@ -359,7 +359,7 @@ def what_does_not_belong_together():
                 (lambda: room.setup.write_text(text + "# other\n"), lambda: room.setup.write_text(text), "is another set-up"),
                 (lambda: (room.disk.rename(old), room.zhcount("format")), lambda: old.rename(room.disk),
                  "the disk has 0 commands, and the protocol 1"),
-                (lambda: room.folder.chmod(0o2755), lambda: room.folder.chmod(0o2750), "others may use it"),
+                (lambda: room.folder.chmod(0o2755), lambda: room.folder.chmod(0o2750), "others may use"),
                 (lambda: room.disk.rename(old), lambda: old.rename(room.disk), "zhcount status: zhcount: disk device")]:
             change()
             office = room.start(is_awaited=False)

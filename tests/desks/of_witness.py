@@ -136,6 +136,19 @@ def waits_for_it():
         room.check()
 
 
+def silent_witness():
+    """a witness that says nothing for ten seconds is none, and the answer is shown without it"""
+    with Witnessed() as room:
+        room.start()
+        desk = room.desk(1)
+        room.signal(signal.SIGSTOP)
+        begun = time.monotonic()
+        same("the answer", "stored 1", desk.send("return 1 1 1 525"))
+        that(f"after some ten seconds: {time.monotonic() - begun}", 5 < time.monotonic() - begun < 15)
+        until("the log says it", lambda: "no witness since" in room.office.said())
+        that(f"and why: {room.office.said()}", "it has said nothing for 10 seconds" in room.office.said())
+
+
 def alone(is_away):
     """An office that is killed between the witness's acknowledgement and its own note of the answer."""
     from fast import Dying
@@ -303,7 +316,7 @@ def machine_is_lost():
             that(f"{line} is held, or a later one (seed {seed})", held.get((municipality, group), 0) >= int(number))
 
 
-TESTS = [mirrored, nothing_before, goes_on_without, waits_for_it, answer_that_it_alone_has, answer_that_nobody_saw, another_office, torn_record,
+TESTS = [mirrored, nothing_before, goes_on_without, waits_for_it, silent_witness, answer_that_it_alone_has, answer_that_nobody_saw, another_office, torn_record,
          each_piece_is_synced, machine_is_lost]
 if __name__ == "__main__":
     sys.exit(main(TESTS, at_once=4))
