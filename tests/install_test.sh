@@ -63,10 +63,10 @@ only() { [ "$(cd "$room/there" && find . -type f -printf '%P\n' | LC_ALL=C sort 
 shows_sum() { make -s install PREFIX="$room/there" | grep -qxF -- "$(sha256sum < page/index.html | cut -d ' ' -f 1)"; }
 
 expect "make install" make -s install PREFIX="$room/there"
-expect "these files are there" only bin/zhcount bin/zhcount-desk bin/zhcount-office bin/zhcount-read \
+expect "these files are there" only bin/zhcount bin/zhcount-desk bin/zhcount-office bin/zhcount-read bin/zhcount-witness \
     share/doc/zhcount/{CHANGELOG,CHECKING,DECISIONS,DEFINITIONS,FORMATS,MANUAL,OPERATING,PROVED,README,STATUTE}.md \
     share/examples/zhcount/{canton.toml,rehearsal.toml,zhcount-office.service,zurich2006.toml} \
-    share/man/man1/zhcount{-desk,-office,-read,}.1 share/zhcount/{card.html,index.html,zhcount_desks.py,zhcount_folder.py,zhcount_held.py,zhcount_office.py,zhcount_replay.py}
+    share/man/man1/zhcount{-desk,-office,-read,-witness,}.1 share/zhcount/{card.html,index.html,zhcount_desks.py,zhcount_folder.py,zhcount_held.py,zhcount_office.py,zhcount_replay.py,zhcount_witness.py}
 # says_so TEXT COMMAND..: what the command says within 25 seconds has this text.
 says_so() { timeout 25 "${@:2}" < /dev/null 2>&1 | grep -q -- "$1"; }
 expect "the program runs" says_so 'The count office of a cantonal parliament' "$room/there/bin/zhcount" --help
@@ -103,7 +103,7 @@ before() { [ "$(grep -n -m 1 -- "$1" "$man" | cut -d : -f 1)" -lt "$(grep -n -m 
 expect "the forms of lines stand below where that is said" before 'none of the forms below' '^\.SH LINES'
 expect "what stands where" follows "\fB$room/there/share/doc/zhcount\fR" "Manuals: MANUAL.md first"
 expect "an example" says "zhcount format \-\-setup setup.toml \-\-disk night.disk"
-for it in zhcount zhcount-office zhcount-desk zhcount-read; do
+for it in zhcount zhcount-office zhcount-desk zhcount-read zhcount-witness; do
     man=$room/there/share/man/man1/$it.1
     expect "$it: its name and its version" says ".TH ${it^^} 1 \"\" \"zhcount $version\" \"User Commands\""
     for part in NAME SYNOPSIS DESCRIPTION "EXIT STATUS" EXAMPLES "SEE ALSO"; do expect "$it: $part" says ".SH $part"; done
