@@ -1,4 +1,7 @@
-"""zhcount-office --replay: the lines of a folder's protocols, run over a fresh disk."""
+"""The lines of a folder's protocols, run over a fresh disk: zhcount-office --replay, and what it shares with --rebuild."""
+import contextlib
+import dataclasses
+import fcntl
 import hashlib
 import itertools
 import os
@@ -8,128 +11,257 @@ import subprocess
 import tempfile
 
 from zhcount_desks import DESKS, SHEET, UNANSWERED, Folder, Program, Stopped, Unreadable, commands_after, plain, records_in, unescaped
+from zhcount_folder import content
+
+OPEN = ("", UNANSWERED)
+NO_MEMORY = "refused memory"  # such a line changed nothing, and another time there may be memory
 
 
 class Differs(Exception):
-    """What is not the same in a replay."""
+    """What is not the same when the lines are run again."""
 
 
-class Replay:
-    """The lines of a folder's protocols, run over a fresh disk."""
+class DiffersAtState(Differs):
+    """A state to which the lines before it do not lead."""
 
-    def __init__(self, path, room):
-        self.folder, self.disk = Folder(path), os.path.join(room, "disk")
-        self.program = Program(self.folder("setup.toml"), self.disk, lambda: None)
-        self.whole = self.records("protocol")
-        self.answers = {(it.start, it.line): it for desk in DESKS for it in self.records("protocol", desk) if it.line}
-        self.remarks = []
+    def __init__(self, text, stretch, missing):
+        super().__init__(text)
+        self.stretch, self.missing = stretch, missing  # so many more commands are noted than are here
 
-    def records(self, name, desk=None):
-        with open(self.folder(name, desk), "rb") as file:
-            data = file.read()
-        return records_in(data, os.path.basename(self.folder(name, desk)))[0]
+
+@dataclasses.dataclass(frozen=True)
+class Stretch:
+    """Lines of a start, and the state that was noted after them; after the last ones there is none."""
+    lines: list
+    state: object = None
+    is_beginning: bool = False  # whether the state is that of the beginning of a start
+
+    def place(self):
+        return f"at the {'beginning' if self.is_beginning else 'end'} of start {self.state.start}"
+
+
+class Protocols:
+    """What the protocols of a folder say. Those of desks may be missing, and each may lack its end."""
+
+    def __init__(self, path):
+        self.folder = Folder(path)
+        names = ["protocol", *(f"protocol.{desk}" for desk in DESKS)]
+        self.files = self.read([*names, "setup.toml", "held.csv"])
+        self.whole, *of_desks = (records_in(self.files[name] or b"", name)[0] for name in names)
+        self.begun = {(desk, it.start) for desk, records in zip(DESKS, of_desks) for it in records if it.mark == "start"}
+        self.answers = {}
+        for record in itertools.chain(*of_desks):
+            if record.line and self.is_open(record):  # an answer stays, even if a later start knew of none
+                self.answers[record.start, record.line] = record
+        self.states = [it for it in self.whole if it.mark == "state"]
+        self.noted = [it for it in self.whole if it.is_line()]
+        self.alone = sorted(self.answers.keys() - {(it.start, it.line) for it in self.noted})  # in desks' protocols alone
+        if not self.states:
+            raise Stopped(f"{self.folder('protocol')} is empty, or its first start has not noted what it found")
+
+    def read(self, names):
+        """The bytes of these files, of a missing one nothing. No office can start meanwhile."""
+        with contextlib.ExitStack() as stack:
+            if os.path.exists(self.folder("office")):
+                lock = stack.enter_context(open(self.folder("office"), "rb"))
+                try:
+                    fcntl.flock(lock, fcntl.LOCK_SH | fcntl.LOCK_NB)
+                except BlockingIOError:
+                    raise Stopped(f"an office runs in {self.folder.path}: end it first") from None
+            return {name: self.bytes_of(name) for name in names}
+
+    def bytes_of(self, name):
+        is_needed = name in ("protocol", "setup.toml")
+        return content(self.folder(name)) if is_needed or os.path.exists(self.folder(name)) else None
+
+    def sum_of_held(self):
+        return hashlib.sha256(self.files["held.csv"] or b"").hexdigest()
+
+    def answer(self, line):
+        """The answer to a line that its desk's protocol has; else nothing."""
+        found = self.answers.get((line.start, line.line))
+        return found.answer if found else ""
+
+    def is_open(self, line):
+        return self.answer(line) in OPEN
+
+    def stretches(self):
+        """The lines between each two states."""
+        begun = {it.start for it in self.states}
+        for start in sorted({it.start for it in self.noted} | {it for it, _ in self.alone}):
+            if start not in begun:
+                raise Differs(f"at the beginning of start {start}: nothing is noted")
+        lines, start = [], None
+        for state in self.states:
+            yield Stretch(lines, state, state.start != start)
+            lines, start = self.lines_of(state.start) if state.start != start else [], state.start
+        yield Stretch(lines)
+
+    def lines_of(self, start):
+        """The lines of a start in their order. Those that are in desks' protocols alone come last."""
+        lines = [it for it in self.noted if it.start == start] + [self.answers[it] for it in self.alone if it[0] == start]
+        for number, line in enumerate(lines, 1):
+            answer = self.answers.get((start, number), line)
+            if line.line != number:
+                raise Differs(f"start {start}, line {number} is missing")
+            if (answer.desk, answer.turn, answer.mark, answer.text) != (line.desk, line.turn, line.mark, line.text):
+                raise Differs(f"start {start}, line {number} is '{line.text}', and in its desk's protocol '{answer.text}'")
+        return lines
+
+    def would_have_answer(self, line):
+        """Whether the desk's protocol has all that stands in it before the answer to this line."""
+        before = [it for it in self.noted if (it.start, it.desk) == (line.start, line.desk) and it.line < line.line]
+        return (line.desk, line.start) in self.begun and all((it.start, it.line) in self.answers for it in before)
+
+
+class Rerun:
+    """The lines of protocols, run over a fresh disk in a room. `files` has what no protocol has, by the start before which it came."""
+
+    def __init__(self, protocols, room, files=None):
+        self.protocols, self.files, self.disk = protocols, files or {}, os.path.join(room, "disk")
+        with open(os.path.join(room, "setup.toml"), "wb") as file:
+            file.write(protocols.files["setup.toml"])
+        self.program = Program(file.name, self.disk, lambda: None)
+        self.remarks, self.last_of = [], {}  # the last line of each desk, with its answer
+        self.left_out = self.in_doubt = None  # the very last line, if it has no answer
 
     def run(self):
         self.program.done("format")
-        starts = [it.start for it in self.whole if it.mark == "start"]
-        noted = {(it.start, it.line) for it in self.whole if it.is_line()}
-        for start, line in sorted(self.answers.keys() - noted):
-            raise Differs(f"start {start}, line {line} is in the protocol of its desk alone")
-        for start in starts:
-            self.run_start(start)
-        self.compare_export()
-        for remark in self.remarks:
-            print(remark)
-        print(f"the same: the answers to {len(noted)} lines in {len(starts)} starts, and the export")
+        for stretch in self.protocols.stretches():
+            if stretch.state:
+                self.reach(stretch)
+            else:
+                self.finish(stretch.lines)
 
-    def run_start(self, start):
-        """Runs the lines of a start, and compares what was noted at its beginning, its answers, and what was noted at its end."""
-        states = [it for it in self.whole if it.start == start and it.mark == "state"]
-        lines = [it for it in self.whole if it.start == start and it.is_line()]
-        if not states and not lines:  # stopped before it had noted what it found
-            return
-        self.compare_state(states[0] if states else None, f"at the beginning of start {start}")
-        for number, line in enumerate(lines, 1):
-            self.compare_line(number, line, number == len(lines))
+    def reach(self, stretch):
+        """Runs the lines up to a state. The last one counts if the state has it, where no answer says so."""
         shutil.copyfile(self.disk, self.disk + ".before")
-        given = self.serve(lines)
-        for line, answer in zip(lines, given):
-            self.compare_answer(line, answer)
-        if lines and self.is_open(lines[-1]):
-            self.decide(lines, given[-1])
-        for state in states[1:]:
-            self.compare_state(state, f"at the end of start {start}")
+        here, lines = [], stretch.lines
+        for attempt in [lines, lines[:-1]] if lines and self.protocols.is_open(lines[-1]) else [lines]:
+            given = self.serve(attempt)
+            for path in self.files.get(stretch.state.start, ()) if stretch.is_beginning else ():
+                self.take_in(path, stretch.state.start)
+            here.append(self.state())
+            if here[-1] == (commands_after(stretch.state), stretch.state.answer):
+                self.note(attempt, given)
+                self.remark(lines, given)
+                return
+            shutil.copyfile(self.disk + ".before", self.disk)
+        raise self.differs(stretch, here)
 
-    def is_open(self, line):
-        return self.answers.get((line.start, line.line), line).answer in ("", UNANSWERED)
+    def differs(self, stretch, here):
+        noted, found = commands_after(stretch.state), [commands for commands, _ in here]
+        text = f"{stretch.place()}: noted are {counted(noted)} and the sum of an export, and here are {' or '.join(map(counted, found))}"
+        return DiffersAtState(text + (" with another export" if noted in found else ""), stretch, noted - found[-1])
 
-    def compare_line(self, number, line, is_last):
-        place = f"start {line.start}, line {number}"
-        answer = self.answers.get((line.start, line.line))
-        if line.line != number:
-            raise Differs(f"{place} is missing")
-        if not is_last and self.is_open(line):
-            raise Differs(f"{place} has no answer")
-        if answer and (answer.desk, answer.turn, answer.mark, answer.text) != (line.desk, line.turn, line.mark, line.text):
-            raise Differs(f"{place} is '{line.text}', and in its desk's protocol '{answer.text}'")
+    def remark(self, lines, given):
+        """Says what a stop did with the command that it left unanswered."""
+        is_lost = len(given) < len(lines)
+        if is_lost or lines and self.protocols.is_open(lines[-1]) and re.match(r"\d stored ", given[-1]):
+            line = lines[-1]
+            self.remarks.append(f"start {line.start}: the stop {'lost' if is_lost else 'kept'} desk {line.desk}'s unanswered {line.text}")
+
+    def finish(self, lines):
+        """Runs the lines after the last state; the very last one not, if its desk's protocol would have the answer, and has none."""
+        if lines and self.protocols.is_open(lines[-1]):
+            if self.protocols.would_have_answer(lines[-1]):
+                self.left_out, lines = lines[-1], lines[:-1]
+            else:
+                self.in_doubt = lines[-1]
+        self.note(lines, self.serve(lines))
+
+    def note(self, lines, given):
+        self.last_of.update((line.desk, (line.text, answer[2:])) for line, answer in zip(lines, given))
 
     def serve(self, lines):
-        """The answers of a run to these lines, each with its desk."""
+        """Runs lines of a start. Their answers, each with its desk, are those that are noted."""
+        are_run = [it for it in lines if self.protocols.answer(it) != NO_MEMORY]
+        answers = iter(self.answers_to(are_run) if are_run else ())
+        given = [next(answers) if self.protocols.answer(it) != NO_MEMORY else f"{it.desk} {NO_MEMORY}" for it in lines]
+        for line, answer in zip(lines, given):
+            self.compare(line, answer)
+        return given
+
+    def answers_to(self, lines):
         spelling = b"".join(f"{it.desk} ".encode() + unescaped(it.text) + b"\n" for it in lines)
-        ran = subprocess.run(self.program.words("run"), input=spelling, capture_output=True)
+        ran = self.program.call(subprocess.run, "run", input=spelling, capture_output=True)
         given = []
-        for line in ran.stdout.decode("utf-8", "surrogateescape").splitlines():
+        for line in ran.stdout.decode("utf-8", "surrogateescape").split("\n")[:-1]:
             is_within = given and SHEET.match(given[-1][2:]) and not given[-1].endswith("\nend")
             given[-1:] = [f"{given[-1]}\n{line}"] if is_within else [*given[-1:], line]
         if len(given) != len(lines) or ran.returncode:
             raise Differs(f"zhcount run: {len(given)} answers to {len(lines)} lines, {plain(ran.stderr)}")
         return given
 
-    def compare_answer(self, line, answer):
-        if self.is_open(line):
-            return
-        noted = f"{line.desk} {self.answers[line.start, line.line].answer}"
-        if answer != noted:
+    def compare(self, line, answer):
+        noted = f"{line.desk} {self.protocols.answer(line)}"
+        if not self.protocols.is_open(line) and answer != noted:
             pairs = itertools.zip_longest(noted.split("\n"), answer.split("\n"))
             was, here = next(pair for pair in pairs if pair[0] != pair[1])
             raise Differs(f"start {line.start}, line {line.line}, desk {line.desk}: {line.text}: noted is '{was}', and here '{here}'")
 
-    def decide(self, lines, answer):
-        """Whether the unanswered command before a stop was stored: the next start says how many commands it found."""
-        line, stored = lines[-1], re.fullmatch(r"\d stored (\d+)", answer)
-        found = next((commands_after(it) for it in self.whole if it.start > line.start and it.mark == "state"), None)
-        if not stored or found is None:
-            return
-        was_stored = found >= int(stored[1])
-        self.remarks.append(f"start {line.start}: the stop {'kept' if was_stored else 'lost'} desk {line.desk}'s unanswered {line.text}")
-        if not was_stored:
-            os.replace(self.disk + ".before", self.disk)
-            self.serve(lines[:-1])
+    def take_in(self, path, start):
+        """Loads a table of returns, or runs the lines of another file."""
+        with open(path, "rb") as file:
+            is_table = b"municipality," in file.readline()
+            file.seek(0)
+            words = [*self.program.words("load"), "--csv", path] if is_table else self.program.words("run")
+            ran = subprocess.run(words, stdin=file, capture_output=True)
+        refused = [it for it in ran.stdout.decode(errors="replace").split("\n") if "refused" in it]
+        if ran.returncode or refused:
+            raise Differs(f"{path}, before start {start}: {refused[0] if refused else plain(ran.stderr)}")
 
-    def compare_state(self, noted, place):
+    def state(self):
+        """How many commands the disk has, and the sum of its export."""
         _, held, commands = self.program.state()
-        here = (f"{commands} commands", hashlib.sha256(held).hexdigest())
-        if not noted or (noted.text, noted.answer) != here:
-            raise Differs(f"{place} {noted.text if noted else 'nothing'} and the sum of an export are noted, and here are {here[0]}"
-                          + (" with another export" if noted and noted.text == here[0] else ""))
-        self.held = held
+        return commands, hashlib.sha256(held).hexdigest()
 
-    def compare_export(self):
-        """The export that was kept is that of the last state."""
-        with open(self.folder("held.csv"), "rb") as file:
-            if file.read() != self.held:
-                raise Differs("held.csv is not the export")
-        if not self.whole or self.whole[-1].mark != "state" or not any(it.mark == "stop" for it in self.whole[-2:]):
-            self.remarks.append(f"start {self.whole[-1].start} was not ended: the export is that of its beginning")
+
+def counted(commands):
+    return f"{commands} command{'' if commands == 1 else 's'}"
+
+
+def room_in_memory():
+    """A folder for a while; in memory where that is possible, since there a sync costs nothing."""
+    return tempfile.TemporaryDirectory(prefix="zhcount-", dir="/dev/shm" if os.access("/dev/shm", os.W_OK) else None)
 
 
 def replay(path):
-    with tempfile.TemporaryDirectory() as room:
-        try:
-            Replay(path, room).run()
-            return 0
-        except Differs as it:
-            print(f"not the same: {it}")
-        except (Stopped, OSError, Unreadable) as it:
-            print(f"can't be run: {it}")
+    """Compares what a folder has with what its lines give over a fresh disk, and returns the status."""
+    try:
+        protocols = Protocols(path)
+        check_answers(protocols)
+        with room_in_memory() as room:
+            rerun = Rerun(protocols, room)
+            rerun.run()
+            check_export(protocols, rerun)
+    except Differs as it:
+        print(f"not the same: {it}")
         return 1
+    except (Stopped, OSError, Unreadable) as it:
+        print(f"can't be run: {it}")
+        return 1
+    for remark in rerun.remarks:
+        print(remark)
+    if protocols.whole[-1].mark != "state" or not any(it.mark == "stop" for it in protocols.whole[-2:]):
+        print(f"start {protocols.whole[-1].start} was not ended: the export is that of its beginning")
+    starts = [it for it in protocols.whole if it.mark == "start"]
+    print(f"the same: the answers to {len(protocols.noted)} lines in {len(starts)} starts, and the export")
+    return 0
+
+
+def check_answers(protocols):
+    """Each line is in both protocols; each but the last of a start has its answer."""
+    for start, line in protocols.alone:
+        raise Differs(f"start {start}, line {line} is in the protocol of its desk alone")
+    for line, following in zip(protocols.noted, protocols.noted[1:]):
+        if line.start == following.start and protocols.is_open(line):
+            raise Differs(f"start {line.start}, line {line.line} has no answer")
+
+
+def check_export(protocols, rerun):
+    """The export that was kept is that of the last state, or of the one that a stop kept from being noted."""
+    found = protocols.sum_of_held()
+    is_newer = protocols.whole[-1].mark in ("start", "stop") and found == rerun.state()[1]
+    if found != protocols.states[-1].answer and not is_newer:
+        raise Differs("held.csv is not the export")

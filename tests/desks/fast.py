@@ -421,7 +421,7 @@ def replays():
                 ("start 1, line 1 is 'return 1 1 1 526', and in its desk's protocol", ("protocol", line, "return 1 1 1 526")),
                 ("noted is 'constituency 1 persons 5000 seats 5 votes 525",
                  ("protocol", line, "return 1 1 1 526"), ("protocol.1", line, "return 1 1 1 526")),
-                ("at the beginning of start 2 5 commands and the sum of an export are noted, and here are 5 commands with another",
+                ("at the beginning of start 2: noted are 5 commands and the sum of an export, and here are 5 commands with another",
                  ("protocol", "row 1 2 1 300", "row 1 2 1 301"), ("protocol.1", "row 1 2 1 300", "row 1 2 1 301")),
                 ("held.csv is not the export", ("held.csv", "1,1,1,525", "1,1,1,526")),
                 ("protocol.2 has a line that is no record: 2026", ("protocol.2", "\tlast 1 1\t", "x\n"))]:
