@@ -113,6 +113,7 @@ man=$room/there/share/man/man1/zhcount-desk.1
 expect "how a desk is called" follows ".SH SYNOPSIS" '\fBzhcount\-desk N [FOLDER]\fR'
 expect "a status of a desk" follows '\fB1\fR' "Something was not sent"
 man=$room/there/share/man/man1/zhcount-office.1
+expect "how a lost disk is made anew" follows '\fBzhcount\-office \-\-rebuild FOLDER DISK [\-\-before START FILE]..\fR' "makes a lost disk anew"
 expect "how a night is replayed" follows '\fBzhcount\-office \-\-replay FOLDER\fR' "runs the lines of a folder's protocols"
 man=$room/there/share/man/man1/zhcount.1
 expect "make install again, which shows the sum of the page" shows_sum

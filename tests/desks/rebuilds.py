@@ -174,9 +174,12 @@ def torn_ends():
             same(f"what is held, {name} without {cut} bytes", night.count.export(), night.made()[1])
             night.put_back()
         data = (night.folder / "protocol").read_bytes()
-        (night.folder / "protocol").write_bytes(data[:-200])
+        (night.folder / "protocol").write_bytes(data[:-160])
         (night.folder / "protocol.2").unlink()
         that("a line that no protocol has", "start 1, line 2 is missing" in night.refused())
+        for desk in range(1, 9):
+            (night.folder / f"protocol.{desk}").unlink(missing_ok=True)
+        same("what is held without those of desks", "municipality,list,number,votes\n1,1,1,525\n", night.made()[1])
 
 
 def answered_after_all():
