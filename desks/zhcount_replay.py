@@ -136,18 +136,18 @@ class Rerun:
     def reach(self, stretch):
         """Runs the lines up to a state. The last one counts if the state has it, where no answer says so."""
         shutil.copyfile(self.disk, self.disk + ".before")
-        here, lines = [], stretch.lines
+        here, lines, refused = [], stretch.lines, ""
+        files = self.files.get(stretch.state.start, []) if stretch.is_beginning else []
         for attempt in [lines, lines[:-1]] if lines and self.protocols.is_open(lines[-1]) else [lines]:
             given = self.serve(attempt)
-            for path in self.files.get(stretch.state.start, ()) if stretch.is_beginning else ():
-                self.take_in(path, stretch.state.start)
+            refused = next(filter(None, map(self.take_in, files)), "")
             here.append(self.state())
-            if here[-1] == (commands_after(stretch.state), stretch.state.answer):
+            if not refused and here[-1] == (commands_after(stretch.state), stretch.state.answer):
                 self.note(attempt, given)
                 self.remark(lines, given)
                 return
             shutil.copyfile(self.disk + ".before", self.disk)
-        raise self.differs(stretch, here)
+        raise Differs(f"{stretch.place()}: {refused}") if refused else self.differs(stretch, here)
 
     def differs(self, stretch, here):
         noted, found = commands_after(stretch.state), [commands for commands, _ in here]
@@ -200,16 +200,14 @@ class Rerun:
             was, here = next(pair for pair in pairs if pair[0] != pair[1])
             raise Differs(f"start {line.start}, line {line.line}, desk {line.desk}: {line.text}: noted is '{was}', and here '{here}'")
 
-    def take_in(self, path, start):
-        """Loads a table of returns, or runs the lines of another file."""
-        with open(path, "rb") as file:
-            is_table = b"municipality," in file.readline()
-            file.seek(0)
-            words = [*self.program.words("load"), "--csv", path] if is_table else self.program.words("run")
-            ran = subprocess.run(words, stdin=file, capture_output=True)
+    def take_in(self, path):
+        """Loads a table of returns, or runs the lines of another file. What is refused; nothing if all is taken."""
+        data = content(path)
+        is_table = b"municipality," in data.split(b"\n")[0]
+        words = [*self.program.words("load"), "--csv", path] if is_table else self.program.words("run")
+        ran = subprocess.run(words, input=data, capture_output=True)
         refused = [it for it in ran.stdout.decode(errors="replace").split("\n") if "refused" in it]
-        if ran.returncode or refused:
-            raise Differs(f"{path}, before start {start}: {refused[0] if refused else plain(ran.stderr)}")
+        return f"{path}: {refused[0] if refused else plain(ran.stderr)}" if ran.returncode or refused else ""
 
     def state(self):
         """How many commands the disk has, and the sum of its export."""

@@ -157,11 +157,12 @@ class Night(Room):
         same("the files beside", [it for it in before if it != self.new.name], sorted(os.listdir(self.path)))
         return said
 
-    def edit(self, name, old, new):
-        """Changes a file of the folder, in which the old text stands once."""
+    def edit(self, name, old, new=None):
+        """Changes a file of the folder, in which the old text stands once; without a new one its line is taken out."""
         text = (self.folder / name).read_text()
         same(f"{old} in {name}", 1, text.count(old))
-        (self.folder / name).write_text(text.replace(old, new))
+        without = "".join(f"{it}\n" for it in text.split("\n")[:-1] if old not in it)
+        (self.folder / name).write_text(without if new is None else text.replace(old, new))
 
     def sum_of(self, start):
         """The sum that the state at the beginning of a start has."""

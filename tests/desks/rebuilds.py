@@ -107,9 +107,9 @@ def loaded_between():
         for text in ("at the beginning of start 2: noted are 5 commands and the sum of an export, and here are 3 commands or 2 commands\n",
                      "3 commands came before start 2 by load", "held.csv is the export of that moment"):
             that(f"{text}: {said}", text in said)
-        that("an export with a number above 1", "held.csv, before start 1: refused gap" in
+        that("an export with a number above 1", "at the beginning of start 1: " + str(night.folder / "held.csv") + ": refused gap" in
              night.refused("--before", "1", night.folder / "held.csv"))
-        that("a line that is refused", "before start 1: 1 refused notclosed 3" in night.refused("--before", "1", made(night, "1 reopen 3")))
+        that("a line that is refused", "other: 1 refused notclosed 3" in night.refused("--before", "1", made(night, "1 reopen 3")))
         that("one too many", "here are 4 commands or 3 commands" in night.refused("--before", "1", first, "--before", "2", second))
         that("no such start", "--before 3: no such start" in night.refused(*before, "--before", "3", second))
         same("what is held", night.count.export(), night.made(*before, "--before", "2", second, "--before", "2", typed)[1])
@@ -152,7 +152,7 @@ def another_answer():
                  ("protocol", "\tstate\t2 commands", "\tstate\t4 commands")),
                 ("at the beginning of start 2: noted are 2 commands and the sum of an export, and here are 2 commands with another export",
                  ("protocol", night.sum_of(2), "0" * 64)),
-                ("start 1, line 2 is missing", ("protocol", line, "\tstart\tx\t"), ("protocol.2", line, "\tstart\tx\t")),
+                ("start 1, line 2 is missing", ("protocol", line), ("protocol.2", line)),
                 ("at the beginning of start 2: nothing is noted", ("protocol", "\tstate\t2 commands", "\tstart\t2 commands")),
                 ("protocol.3 has a line that is no record: 2026", ("protocol.3", "\tshow 1 1\t", "x\n"))]:
             for change in changes:

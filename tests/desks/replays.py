@@ -18,10 +18,10 @@ def replay_compares():
         same("a replay", (0, "the same: the answers to 5 lines in 2 starts, and the export\n"), night.replay())
         last, line = "\tnew\tclose 1\t", "\tnew\treturn 2 1 1 240\t"
         for said, *changes in [
-                ("start 2, line 2 is in the protocol of its desk alone", ("protocol", last, "\tstart\tx\t")),
+                ("start 2, line 2 is in the protocol of its desk alone", ("protocol", last)),
                 ("start 1, line 2 has no answer", ("protocol.2", line + "stored 2", line + "unanswered")),
-                ("start 1, line 2 has no answer", ("protocol.2", line, "\tstart\tx\t")),
-                ("start 1, line 2 is missing", ("protocol.2", line, "\tstart\tx\t"), ("protocol", line, "\tstart\tx\t")),
+                ("start 1, line 2 has no answer", ("protocol.2", line)),
+                ("start 1, line 2 is missing", ("protocol.2", line), ("protocol", line)),
                 ("start 1, line 2 is 'return 2 1 1 240', and in its desk's protocol 'return 2 1 1 241'",
                  ("protocol.2", line, line.replace("0", "1"))),
                 ("start 2, line 1, desk 2: return 3 1 1 90: noted is '2 stored 4', and here '2 stored 3'",
