@@ -23,7 +23,7 @@ def missing_in(export, records):
     """The first return of these records that an export has neither as it was nor corrected; nothing if it has all. Numbers only rise, and
     no return is ever taken out."""
     there = {}
-    for line in export.decode().splitlines()[1:]:
+    for line in export.decode().split("\n")[1:-1]:
         municipality, group, number, votes = line.split(",")
         there[municipality, group] = int(number), votes
     for (municipality, group), (number, votes) in held_after(records).items():

@@ -165,7 +165,8 @@ def compare_with_the_manual(room, canton, desks):
             office.stop()
         if record.text.startswith("last ") or record.answer == "unanswered" and found[start + 1] == office.commands:
             continue
-        wanted, answer = office.answer(f"{record.desk} {record.text}"), f"{record.desk} {record.answer.splitlines()[0]}"
+        first_line = record.answer.split("\n")[0]
+        wanted, answer = office.answer(f"{record.desk} {record.text}"), f"{record.desk} {first_line}"
         if record.answer != "unanswered" and answer != wanted and not (" sheet " in wanted and " sheet " not in answer):
             raise AssertionError(f"start {start}, line {record.line}: {record.desk} {record.text}: {answer}, and not {wanted}")
     return len(records)
