@@ -45,9 +45,9 @@ class Protocols:
 
     def __init__(self, path):
         self.folder = Folder(path)
-        names = ["protocol", *(f"protocol.{desk}" for desk in DESKS)]
+        names = [*(f"protocol.{desk}" for desk in DESKS), "protocol"]  # a line is noted before its answer, so it is read after it
         self.files = self.read([*names, "setup.toml", "held.csv"])
-        self.whole, *of_desks = (records_in(self.files[name] or b"", name)[0] for name in names)
+        *of_desks, self.whole = (records_in(self.files[name] or b"", name)[0] for name in names)
         self.begun = {(desk, it.start) for desk, records in zip(DESKS, of_desks) for it in records if it.mark == "start"}
         self.answers = {}
         for record in itertools.chain(*of_desks):
@@ -249,11 +249,11 @@ def replay(path):
 
 
 def check_answers(protocols):
-    """Each line is in both protocols; each but the last of a start has its answer."""
+    """Each line is in both protocols, and has its answer; but the last ones of a start may lack theirs."""
     for start, line in protocols.alone:
         raise Differs(f"start {start}, line {line} is in the protocol of its desk alone")
     for line, following in zip(protocols.noted, protocols.noted[1:]):
-        if line.start == following.start and protocols.is_open(line):
+        if line.start == following.start and protocols.is_open(line) and not protocols.is_open(following):
             raise Differs(f"start {line.start}, line {line.line} has no answer")
 
 

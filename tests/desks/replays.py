@@ -38,6 +38,20 @@ def replay_compares():
             night.put_back()
 
 
+def several_wait():
+    """where several desks wait for their answers at a stop, as for a witness, that is no difference"""
+    with Night() as night:
+        night.begin()
+        night.send(["1 return 1 1 1 525", "2 return 2 1 1 240", "3 return 3 1 1 90"], "kept")
+        night.edit("protocol.2", "\tstored 2", "\tunanswered")
+        night.begin()
+        night.send(["2 return 2 1 1 240", "3 return 3 1 1 90"])
+        night.end()
+        status, said = night.replay()
+        same(f"a replay: {said}", (0, True), (status, "the stop kept desk 3's unanswered return 3 1 1 90" in said))
+        same("what is held", night.count.export(), night.made()[1])
+
+
 def export_of_a_stopped_start():
     """an export whose state a stop kept from being noted is no difference"""
     with Night() as night:
@@ -62,7 +76,7 @@ def run_ends_early():
             same(f"{wanted}: {said}", (1, True), (status, wanted in said))
 
 
-TESTS = [replay_compares, export_of_a_stopped_start, run_ends_early]
+TESTS = [replay_compares, several_wait, export_of_a_stopped_start, run_ends_early]
 
 
 if __name__ == "__main__":
