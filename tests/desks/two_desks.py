@@ -207,8 +207,6 @@ class Night:
 
     def check_rebuilt(self):
         """The disk made anew from the protocols has the same export."""
-        if "--rebuild" not in (self.room.scripts / "zhcount-office").read_text():
-            return
         disk = self.room.path / "rebuilt.disk"
         ran = subprocess.run(self.room.script("zhcount-office", "--rebuild", self.room.folder, disk), capture_output=True, text=True,
                              env={**os.environ, **self.room.environment})
