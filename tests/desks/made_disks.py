@@ -30,7 +30,7 @@ def nothing_is_overwritten():
         (night.path / "new.disk.folder").unlink()
         program = night.stands_in(f"[ $1 = export ] && echo mine > '{night.new}'")
         status, said = night.rebuild(program=program)
-        same(f"one that came: {said}", (1, "mine\n"), (status, night.new.read_text()))
+        same(f"one that came: {said}", (1, b"mine\n"), (status, night.new.read_bytes()))
 
 
 def whole_or_not_at_all():
