@@ -148,19 +148,19 @@ class Program:
         self.name = os.environ.get("ZHCOUNT", "zhcount")
         self.files = ["--setup", setup, "--disk", disk]
 
-    def words(self, task):
-        return [self.name, task, *self.files]
+    def words(self, task, *flags):
+        return [self.name, task, *self.files, *flags]
 
-    def call(self, how, task, **more):
+    def call(self, how, task, *flags, **more):
         """Calls a task, in this way."""
         try:
-            return how(self.words(task), **more)
+            return how(self.words(task, *flags), **more)
         except OSError as it:
             raise Stopped(f"{self.name} can't be started: {it.strerror}") from None
 
-    def done(self, task):
+    def done(self, task, *flags):
         """Standard output and standard error of a task, once no other program has the disk."""
-        while is_busy((ran := self.call(subprocess.run, task, stdin=subprocess.DEVNULL, capture_output=True)).stderr):
+        while is_busy((ran := self.call(subprocess.run, task, *flags, stdin=subprocess.DEVNULL, capture_output=True)).stderr):
             self.wait()
         if ran.returncode:
             raise Stopped(f"zhcount {task}: {plain(ran.stderr)}", 3)

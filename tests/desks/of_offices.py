@@ -288,7 +288,7 @@ def who_may_use_it():
         with Room() as room:
             wrapped(room, f"umask {umask}")
             is_ready(room)
-            modes = {it.name.split(".")[0]: stat_of(it) for it in room.folder.iterdir()}
+            modes = {it.name.split(".")[0]: stat_of(it) for it in room.folder.iterdir() if not it.name.startswith("now")}
             same(f"with {umask}", {"lines": "prw--w----", "bell": "prw-r-----", "sent": "-rw-rw----", "protocol": "-rw-r-----",
                                    "status": "-rw-r-----", "held": "-rw-r-----", "setup": "-rw-r-----", "office": "-rw-r-----"}, modes)
             same("the folder", "drwxr-s---", stat_of(room.folder))

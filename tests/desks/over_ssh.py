@@ -148,7 +148,7 @@ class Client(threading.Thread):
         first = self.process.stdout.readline().decode()
         if not first:
             raise OSError(f"desk {self.desk}: the connection ended")
-        line = first if re.match(r"sheet (provisional|final) \d+$", first) else "end\n"
+        line = first if re.match(r"\d sheet (provisional|final) \d+$", first) else "end\n"
         while line != "end\n":
             line = self.process.stdout.readline().decode()
         return first

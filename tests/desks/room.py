@@ -107,7 +107,7 @@ class Desk(Process):
         """The next answer; of a sheet all its lines."""
         def whole():
             found = self.out[self.taken:]
-            if found and re.match(r"sheet (provisional|final) \d+$", found[0]):
+            if found and re.match(r"\d sheet (provisional|final) \d+$", found[0]):
                 return found[:found.index("end") + 1] if "end" in found else None
             return found[:1] or (["(it has ended)"] if self.process.poll() is not None else None)
         answer = until(f"an answer to {line}", whole)

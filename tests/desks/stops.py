@@ -20,9 +20,9 @@ AT_ONCE = 3 * (os.cpu_count() or 1)  # nights; for most of its time a night wait
 
 def is_counted(call):
     """Whether this is a call at which something is stopped: not one that looks alone, or that looks for an office which is not there;
-    and files of desks that take no part are as those of desk 2."""
+    what stands in `now` is made anew by a start; and files of desks that take no part are as those of desk 2."""
     looks = call.name in ("look", "chmod") or call.name == "open" and call.who != "office" and not os.path.exists(call.path)
-    return call.is_of_a_script() and not looks and not re.search(r"\.[3-8](\.new)?$", call.file)
+    return call.is_of_a_script() and not looks and not re.search(r"\.[3-8](\.new)?$|/office/now[^/]*(/.*)?$", call.path)
 
 
 def note_passing_on(night, call):

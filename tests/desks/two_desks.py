@@ -17,7 +17,7 @@ NIGHT = [[(1, "return 1 1 1 525", "stored 1"),
           (2, "return 1 1 2 530", "stored 4"),
           (1, "close 1", "stored 5")],
          [(2, "return 3 1 1 90", "stored 6"),
-          (1, "sheet", "sheet provisional 6"),
+          (1, "sheet", "1 sheet provisional 6"),
           (2, "return 1 1 3 531", "refused closed"),
           (1, "reopen 1", "stored 7"),
           (1, "return 1 1 3 531", "stored 8"),
@@ -31,9 +31,9 @@ TRIES = 20  # of a line
 
 
 def final(answer):
-    """What is noted where this is shown: a closing or reopening that is not repeated is unanswered; and the line of this night that is
-    refused is in doubt where it was repeated."""
-    first = answer.split("\n")[0]
+    """What is noted where this is shown: of a sheet its first line without the desk; a closing or reopening that is not repeated is
+    unanswered; and the line of this night that is refused is in doubt where it was repeated."""
+    first = re.sub(r"^\d (?=sheet )", "", answer.split("\n")[0])
     return "unanswered" if NOT_REPEATED.fullmatch(first) else "refused closed" if first == "perhaps stored: show it" else first
 
 
@@ -156,7 +156,7 @@ class Night:
         def found():
             self.look_after_office()
             lines = process.out[process.taken:]
-            if lines and lines[0].startswith("sheet ") and "end" not in lines:
+            if lines and lines[0].startswith("1 sheet ") and "end" not in lines:
                 lines = []
             return "\n".join(lines) or process.process.poll() is not None
         answer = until(f"an answer to {line}", found)

@@ -163,9 +163,9 @@ class Device:
 
 
 def named(folder):
-    """The names in a folder, each with its inode and mode."""
+    """The names in a folder, each with its inode and mode; without `now`, which a start makes anew."""
     with os.scandir(folder) as entries:
-        return {it.name: (it.inode(), it.stat(follow_symlinks=False).st_mode) for it in entries}
+        return {it.name: (it.inode(), it.stat(follow_symlinks=False).st_mode) for it in entries if not it.name.startswith("now")}
 
 
 def restore(image, room, from_path):

@@ -1,0 +1,207 @@
+"""Tests of when an office copies its disk, and of the child that writes what follows from a copy: killed, slow, failing, or left by its
+office. Names as arguments run those tests alone. The last line is 'N passed, M failed'."""
+import os
+import re
+import signal
+import sys
+
+from of_now import NEVER, RETURNS, QuickRoom, compare, in_haste, link_of, names_of_now, table_of
+from room import PROGRAM, Room, main, same, stays, that, until
+from watch import COMPILED, WatchedRoom, prepare
+
+# A run that spoils the first byte of the disk for as long as a line is in the air.
+RUN_THAT_SPOILS = r"""put() {{ printf "$1" | dd of='{disk}' bs=1 conv=notrunc status=none; }}
+if [ $1 = run ]; then
+    coproc real {{ exec '{program}' "$@"; }}
+    while IFS= read -r line; do
+        [ "$line" ] && {{ put '\x00'; sleep 0.3; put '\xa5'; }}
+        echo "$line" >&${{real[1]}}
+        read -r answer <&${{real[0]}}
+        echo "$answer"
+    done
+    exec {{real[1]}}>&-
+    wait
+    exit
+fi"""
+
+
+def every_ten_seconds():
+    """a command that comes soon after a copy is seen ten seconds after that copy, though no other line comes"""
+    with Room() as room:
+        room.start()
+        until("the first", lambda: link_of(room) == "now-0")
+        first = (room.folder / "now-0/disk").stat().st_mtime
+        same("the answers", ["stored 1", "stored 2"], room.ask(1, *RETURNS[:2]).out)
+        until("the next", lambda: link_of(room) == "now-2", 25)
+        after = (room.folder / "now-2/disk").stat().st_ctime - first
+        that(f"after {after:.1f} seconds", 9.5 < after < 20)
+        stays("nothing is copied where nothing has changed", lambda: names_of_now(room) == ["now", "now-2"])
+        room.stop()
+
+
+def lines_meanwhile():
+    """what comes while the child works is in none of its files"""
+    with QuickRoom(every=NEVER) as room:
+        room.start()
+        room.shows(0)
+        same("the answers", ["stored 1", "stored 2"], room.ask(1, *RETURNS[:2]).out)
+        room.stop()
+        room.holds()
+        room.start()
+        until("the child", room.child)
+        same("its priority", 19, os.getpriority(os.PRIO_PROCESS, until("a question", room.left_over) and room.child()))
+        same("the answers meanwhile", ["same", "stored 3"], room.ask(2, RETURNS[0], RETURNS[2]).out)
+        same("`now` is not there before all is", ["now.new"], names_of_now(room))
+        room.goes_on()
+        compare(room, room.shows(2), [f"1 {it}" for it in RETURNS[:2]], "1,1,1,525,1,N,A\n1,2,1,300,1,N,B\n")
+        room.stop()
+
+
+def copies_between_lines():
+    """the disk is copied only where no line is in the air"""
+    with QuickRoom(every=0.05) as room:
+        room.stands_in(RUN_THAT_SPOILS.format(program=PROGRAM, disk=room.disk))
+        room.start()
+        desk = room.desk(1)
+        for number, line in enumerate(RETURNS, 1):
+            same("the answer", f"stored {number}", desk.send(line))
+        compare(room, room.shows(9), [f"1 {it}" for it in RETURNS], table_of(RETURNS, 1))
+        same("nothing failed", "", "".join(it for it in room.office.error if "not made anew" in it))
+        room.stop()
+
+
+# The child
+
+def has_failed(room, text, times=1):
+    until(f"{text}: {room.office.said()}", lambda: sum(text in it for it in room.office.error) >= times)
+
+
+def failing_child():
+    """of a child that fails the log says once why, and the office goes on"""
+    with QuickRoom() as room:
+        tries = room.path / "tries"
+        room.on_copies(f"[ -e '{room.held}' ] && {{ echo >> '{tries}'; echo 'zhcount: disk damaged' >&2; exit 1; }}")
+        room.held.write_text("")
+        room.start()
+        until("it is tried again", lambda: tries.exists() and len(tries.read_text()) >= 3)
+        same("the answer", ["stored 1"], room.ask(1, RETURNS[0]).out)
+        same("it is said once", ["zhcount-office: `now` is not made anew: zhcount status: zhcount: disk damaged"],
+             [it for it in room.office.error if "not made anew" in it])
+        room.held.unlink()
+        compare(room, room.shows(1), [f"1 {RETURNS[0]}"], table_of(RETURNS[:1], 1))
+        room.stop()
+
+
+def killed_child():
+    """a child that is killed leaves nothing behind, and another one does its work"""
+    with QuickRoom() as room:
+        room.holds()
+        room.start()
+        until("a question", room.left_over)
+        os.kill(room.child(), signal.SIGKILL)
+        has_failed(room, "not made anew: status -9")
+        room.goes_on()
+        compare(room, room.shows(0), [], "")
+        until("nothing is left", lambda: not room.left_over())
+        room.stop()
+
+
+def slow_child():
+    """a child that takes too long is killed, with what it has started, and desks are answered meanwhile"""
+    with QuickRoom(longest=1) as room:
+        room.holds()
+        room.start()
+        until("a question", room.left_over)
+        same("the answer meanwhile", ["stored 1"], room.ask(1, RETURNS[0]).out)
+        has_failed(room, "not made anew: not done after 1 seconds")
+        room.stop()
+        same("nothing is left", [], room.left_over())
+        same("and no folder", [], names_of_now(room))
+
+
+def killed_office():
+    """a child ends with its office, and the next start removes what it left"""
+    with QuickRoom(every=NEVER) as room:
+        room.start()
+        same("the answer", ["stored 1"], room.ask(1, RETURNS[0]).out)
+        room.stop()
+        room.holds()
+        room.start()
+        until("a question", room.left_over)
+        room.stop(signal.SIGKILL)
+        until("nothing is left", lambda: not room.left_over(), 5)
+        same("what is there", ["now.new"], names_of_now(room))
+        (room.folder / "now-7").mkdir()
+        (room.folder / "now").symlink_to("now-7")
+        room.goes_on()
+        room.start()
+        compare(room, room.shows(1), [f"1 {RETURNS[0]}"], table_of(RETURNS[:1], 1))
+        same("nothing else", ["now", "now-1"], names_of_now(room))
+        room.stop()
+        room.check()
+
+
+class Stop:
+    """An office that is stopped before its call of this number in `now`."""
+
+    def __init__(self, number):
+        self.number, self.calls = number, 0
+
+    def goes_on(self, call):
+        is_of_now = re.search(r"/office/now[^/]*(/.*)?$", call.path) and call.name != "look" and call.is_of_a_script()
+        if not is_of_now or call.pid != self.office.process.pid:
+            return True
+        self.calls += 1
+        if self.calls == self.number:
+            os.kill(call.pid, signal.SIGKILL)
+        return self.calls != self.number
+
+    def run(self):
+        """Has the office show two commands, one after the other, and starts it again where it was stopped. Whether it was."""
+        with WatchedRoom(self.goes_on) as room:
+            self.office = room.start(is_awaited=False)
+            for number, line in enumerate(RETURNS[:2], 1):
+                desk = room.desk(1)
+                desk.write(f"{line}\n")
+                until(f"now-{number}, {self.number}: {room.office.said()}", lambda: self.starts_again(room) or link_of(room) == f"now-{number}")
+                until("the answer", lambda: desk.out)
+                desk.end()
+            until(f"nothing else, {self.number}", lambda: names_of_now(room) == ["now", "now-2"])
+            same("the rows", "municipality,list,number,votes\n1,1,1,525\n1,2,1,300\n", (room.folder / "now/held.csv").read_text())
+            room.stop()
+        return self.calls >= self.number
+
+    def starts_again(self, room):
+        if room.office.process.poll() == -signal.SIGKILL:
+            room.start(is_awaited=False)
+
+
+def stopped_office():
+    """kill -9 of the office at each of its calls that make, change or remove something of `now`"""
+    prepare()
+    in_haste(COMPILED, 0.2)
+    number = 1
+    while Stop(number).run():
+        number += 1
+    that(f"calls: {number - 1}", number > 20)
+
+
+def failed_disk():
+    """after `device` nothing is copied"""
+    with QuickRoom(every=0) as room:
+        room.stands_in(f"[ $1 = run ] && exec '{PROGRAM}' \"$@\" > >(exec sed -u 's/stored 2/refused device/')")
+        room.start()
+        desk = room.desk(1)
+        same("the answer", "stored 1", desk.send(RETURNS[0]))
+        room.shows(1)
+        desk.write(f"{RETURNS[1]}\n")
+        same("the status", 3, room.office.wait())
+        same("what `now` shows", ("now-1", ["now", "now-1"]), (link_of(room), names_of_now(room)))
+
+
+TESTS = [every_ten_seconds, lines_meanwhile, copies_between_lines, failing_child, killed_child, slow_child, killed_office, failed_disk,
+         stopped_office]
+
+
+if __name__ == "__main__":
+    sys.exit(main(TESTS, at_once=4))
