@@ -36,7 +36,8 @@ class Now:
         self.is_due = True
 
     def take(self, record):
-        """Takes notice of an answer that was shown: a sheet is kept; a command, or what says the same and may confirm one, is to be seen."""
+        """Takes notice of an answer that was shown: a sheet is kept; a command, or what says the same and so may confirm one, is to be
+        seen."""
         if re.match("stored|same", record.answer):
             self.is_due = True
         elif SHEET.match(record.answer):

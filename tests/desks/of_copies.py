@@ -5,7 +5,8 @@ import re
 import signal
 import sys
 
-from of_now import NEVER, RETURNS, QuickRoom, compare, in_haste, link_of, names_of_now, table_of
+from of_now import NEVER, RETURNS, QuickRoom, compare, hasty, in_haste, link_of, names_of_now, table_of
+from of_witness import Witnessed
 from room import PROGRAM, Room, main, same, stays, that, until
 from watch import COMPILED, WatchedRoom, prepare
 
@@ -67,6 +68,24 @@ def copies_between_lines():
             same("the answer", f"stored {number}", desk.send(line))
         compare(room, room.shows(9), [f"1 {it}" for it in RETURNS], table_of(RETURNS, 1))
         same("nothing failed", "", "".join(it for it in room.office.error if "not made anew" in it))
+        room.stop()
+
+
+def copies_and_a_witness():
+    """what no desk was shown yet, since it waits for the witness, is in no copy"""
+    with Witnessed("--witness-required") as room:
+        room.scripts = hasty(room, every=1)
+        room.start()
+        until("the first", lambda: link_of(room) == "now-0")
+        desk = room.desk(1)
+        same("the answer", "stored 1", desk.send(RETURNS[0]))
+        room.signal(signal.SIGSTOP)
+        desk.write(f"{RETURNS[1]}\n")
+        until("the line is noted", lambda: room.records("protocol")[-1].text == RETURNS[1])
+        stays("nothing of it is shown", lambda: link_of(room) in ("now-0", "now-1") and "not made anew" not in room.office.said(), 2)
+        room.signal(signal.SIGCONT)
+        same("the answer", "stored 2", desk.answer())
+        until("then it is", lambda: link_of(room) == "now-2")
         room.stop()
 
 
@@ -199,8 +218,8 @@ def failed_disk():
         same("what `now` shows", ("now-1", ["now", "now-1"]), (link_of(room), names_of_now(room)))
 
 
-TESTS = [every_ten_seconds, lines_meanwhile, copies_between_lines, failing_child, killed_child, slow_child, killed_office, failed_disk,
-         stopped_office]
+TESTS = [every_ten_seconds, lines_meanwhile, copies_between_lines, copies_and_a_witness, failing_child, killed_child, slow_child, killed_office,
+         failed_disk, stopped_office]
 
 
 if __name__ == "__main__":

@@ -25,9 +25,7 @@ class QuickRoom(Room):
 
     def __init__(self, every=0.2, longest=60):
         super().__init__()
-        self.scripts, self.held = self.path / "scripts", self.path / "held"
-        shutil.copytree(SCRIPTS, self.scripts)
-        in_haste(self.scripts, every, longest)
+        self.scripts, self.held = hasty(self, every, longest), self.path / "held"
 
     def stands_in(self, task):
         """Has a stand-in for the program do this first, in bash."""
@@ -62,6 +60,13 @@ class QuickRoom(Room):
         """Waits until `now` is of so many commands, and gives it."""
         until(f"now-{commands}: {self.office.said()}", lambda: link_of(self) == f"now-{commands}")
         return self.folder / f"now-{commands}"
+
+
+def hasty(room, every, longest=60):
+    """A copy of the scripts in a room, which copy the disk more often."""
+    shutil.copytree(SCRIPTS, room.path / "scripts")
+    in_haste(room.path / "scripts", every, longest)
+    return room.path / "scripts"
 
 
 def in_haste(scripts, every, longest=60):
