@@ -34,12 +34,7 @@ side_by_side() {
 took() { echo "this took $SECONDS s"; }
 
 echo "== an office and its desks"
-<<<<<<< HEAD
-side_by_side fast of_offices of_desks of_witness rebuilds made_disks replays || exit 1
-=======
-parts=$(cd tests/desks && ls fast.py of_offices.py of_desks.py of_witness.py rebuilds.py replays.py of_now.py of_copies.py 2> /dev/null)
-side_by_side ${parts//.py/} || exit 1
->>>>>>> f55fd7fc (While an office runs its folder shows what follows from a copy of the disk, and the newest sheets; a desk shows a sheet with its desk)
+side_by_side fast of_offices of_desks of_witness of_now of_copies rebuilds made_disks replays || exit 1
 took
 echo "== a stop at each call, and a power cut at each moment"
 python3 tests/desks/stops.py || exit 1
