@@ -5,7 +5,8 @@ import re
 import signal
 import sys
 
-from of_now import NEVER, RETURNS, QuickRoom, compare, hasty, in_haste, link_of, names_of_now, table_of
+from of_now import NEVER, RETURNS, QuickRoom, compare, in_haste, link_of, names_of_now, table_of
+from of_offices import other_disk
 from of_witness import Witnessed
 from room import PROGRAM, Room, main, same, stays, that, until
 from watch import COMPILED, WatchedRoom, prepare
@@ -71,22 +72,53 @@ def copies_between_lines():
         room.stop()
 
 
+class QuickWitnessed(QuickRoom, Witnessed):
+    """A room whose office copies the disk more often, and has a witness."""
+
+
 def copies_and_a_witness():
     """what no desk was shown yet, since it waits for the witness, is in no copy"""
-    with Witnessed("--witness-required") as room:
-        room.scripts = hasty(room, every=1)
+    with QuickWitnessed() as room:
+        room.options.append("--witness-required")
+        room.holds()
         room.start()
-        until("the first", lambda: link_of(room) == "now-0")
+        until("the first copy", room.left_over)
         desk = room.desk(1)
         same("the answer", "stored 1", desk.send(RETURNS[0]))
         room.signal(signal.SIGSTOP)
         desk.write(f"{RETURNS[1]}\n")
         until("the line is noted", lambda: room.records("protocol")[-1].text == RETURNS[1])
-        stays("nothing of it is shown", lambda: link_of(room) in ("now-0", "now-1") and "not made anew" not in room.office.said(), 2)
+        room.goes_on()
+        until("the first is shown", lambda: link_of(room) == "now-0")
+        stays("nothing that waits is shown", lambda: link_of(room) == "now-0" and "not made anew" not in room.office.said(), 2)
         room.signal(signal.SIGCONT)
         same("the answer", "stored 2", desk.answer())
         until("then it is", lambda: link_of(room) == "now-2")
         room.stop()
+
+
+def copy_of_other_commands():
+    """a copy that has other commands than the protocol is not shown"""
+    with QuickRoom() as room:
+        one_more = f"printf '1 return 1 1 1 5\\n' | '{PROGRAM}' run --setup '{room.setup}' --disk '{room.folder}/now.new/disk'"
+        room.on_copies(f"{one_more} > '{room.path}/said'")
+        room.start()
+        has_failed(room, "not made anew: the copy has 1 commands, and the protocol 0")
+        same("nothing is shown", None, link_of(room))
+        room.stop()
+
+
+def copy_of_another_disk():
+    """another disk at the disk's path is not copied: the office stops"""
+    with QuickRoom() as room:
+        room.holds()
+        room.start()
+        until("the first copy", room.left_over)
+        same("the answer", ["stored 1"], room.ask(1, RETURNS[0]).out)
+        os.replace(other_disk(room, RETURNS[1]), room.disk)
+        room.goes_on()
+        same("the status", 3, room.office.wait())
+        that(f"it says so: {room.office.said()}", "is not the file any more" in room.office.said())
 
 
 # The child
@@ -152,8 +184,10 @@ def killed_office():
         same("what is there", ["now.new"], names_of_now(room))
         (room.folder / "now-7").mkdir()
         (room.folder / "now").symlink_to("now-7")
-        room.goes_on()
         room.start()
+        until("a question", room.left_over)
+        same("an older `now` is gone", ["now.new"], names_of_now(room))
+        room.goes_on()
         compare(room, room.shows(1), [f"1 {RETURNS[0]}"], table_of(RETURNS[:1], 1))
         same("nothing else", ["now", "now-1"], names_of_now(room))
         room.stop()
@@ -218,8 +252,8 @@ def failed_disk():
         same("what `now` shows", ("now-1", ["now", "now-1"]), (link_of(room), names_of_now(room)))
 
 
-TESTS = [every_ten_seconds, lines_meanwhile, copies_between_lines, copies_and_a_witness, failing_child, killed_child, slow_child, killed_office,
-         failed_disk, stopped_office]
+TESTS = [every_ten_seconds, lines_meanwhile, copies_between_lines, copies_and_a_witness, copy_of_other_commands, copy_of_another_disk,
+         failing_child, killed_child, slow_child, killed_office, failed_disk, stopped_office]
 
 
 if __name__ == "__main__":

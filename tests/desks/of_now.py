@@ -25,7 +25,9 @@ class QuickRoom(Room):
 
     def __init__(self, every=0.2, longest=60):
         super().__init__()
-        self.scripts, self.held = hasty(self, every, longest), self.path / "held"
+        self.scripts, self.held = self.path / "scripts", self.path / "held"
+        shutil.copytree(SCRIPTS, self.scripts)
+        in_haste(self.scripts, every, longest)
 
     def stands_in(self, task):
         """Has a stand-in for the program do this first, in bash."""
@@ -62,17 +64,12 @@ class QuickRoom(Room):
         return self.folder / f"now-{commands}"
 
 
-def hasty(room, every, longest=60):
-    """A copy of the scripts in a room, which copy the disk more often."""
-    shutil.copytree(SCRIPTS, room.path / "scripts")
-    in_haste(room.path / "scripts", every, longest)
-    return room.path / "scripts"
-
-
 def in_haste(scripts, every, longest=60):
-    path = scripts / "zhcount_now.py"
-    text = re.sub(r"^EVERY = \S+", f"EVERY = {every}", path.read_text(), flags=re.MULTILINE)
-    path.write_text(re.sub(r"^LONGEST = \S+", f"LONGEST = {longest}", text, flags=re.MULTILINE))
+    """Has these scripts copy the disk more often, and say on the log what they have just said."""
+    for name, value, file in [("EVERY", every, "zhcount_now.py"), ("LONGEST", longest, "zhcount_now.py"), ("QUIET", 0, "zhcount_office.py")]:
+        text, times = re.subn(rf"^{name} = \S+", f"{name} = {value}", (scripts / file).read_text(), flags=re.MULTILINE)
+        same(f"lines with {name}", 1, times)
+        (scripts / file).write_text(text)
 
 
 def command_of(pid):
