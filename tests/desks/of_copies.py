@@ -148,12 +148,12 @@ def killed_child():
     with QuickRoom() as room:
         room.holds()
         room.start()
-        until("a question", room.left_over)
+        asked = until("a question", room.left_over)
         os.kill(room.child(), signal.SIGKILL)
         has_failed(room, "not made anew: status -9")
+        until("it is left to nobody", lambda: not {*asked} & {*room.left_over()}, 5)
         room.goes_on()
         compare(room, room.shows(0), [], "")
-        until("nothing is left", lambda: not room.left_over())
         room.stop()
 
 
