@@ -11,4 +11,4 @@ says_verdict texts inputs Right text are verdict = (inputs, are, verdict)
 says_verdict texts inputs Wrong text are verdict = (inputs, are, verdict)
 says_verdict texts inputs NoSetup text are verdict = absurd verdict
 says_verdict texts inputs NoRows text are verdict = absurd verdict
-says_verdict texts inputs Memory text are verdict = tt
+says_verdict texts inputs Memory text are verdict = verdict

@@ -1,5 +1,5 @@
 -- What a page is answered on the texts that it hands in.
-use Rattle.std.specs.Prelude.{◌≡◌, ◌≢◌, ◌≤◌, ◌<◌, ℕ, List, length, take, Option, Some, None, Result, Ok, Err}
+use Rattle.std.specs.Prelude.{◌≡◌, ◌≢◌, ◌≤◌, ◌<◌, ℕ, List, [], length, take, Option, Some, None, Result, Ok, Err}
 use Rattle.zh_check.specs.declared.checked.RightSheet.{RightSheet}
 use Rattle.zh_check.specs.declared.checked.SheetVerdict.{SheetVerdict}
 use Rattle.zh_check.specs.declared.checked.SheetVerdict.TheVariants as verdicts
@@ -45,19 +45,19 @@ IsVerdictOn inputs Right text =
     (right : RightSheet) × ComesTo inputs (verdicts.Right right) × (text ≡ check_text inputs (verdicts.Right right))
 IsVerdictOn inputs Wrong text =
     (verdict : SheetVerdict) × ComesTo inputs verdict × SaysWrong verdict × (text ≡ check_text inputs verdict)
-IsVerdictOn inputs Memory text = Unit {0}
+IsVerdictOn inputs Memory text = text ≡ []
 IsVerdictOn inputs status text = ⊥
 
 -- this reports the fault of a set-up
 abbrev pub IsNoSetup : SetupRefusal → PageStatus → List ℕ → Type 0
 IsNoSetup refusal NoSetup text = (refusal.fault ≢ of_setup.Memory) × (text ≡ setup_report refusal)
-IsNoSetup refusal Memory text = Unit {0}
+IsNoSetup refusal Memory text = text ≡ []
 IsNoSetup refusal status text = ⊥
 
 -- this reports the fault of an export
 abbrev pub AreNoRows : LoadFault → PageStatus → List ℕ → Type 0
 AreNoRows why NoRows text = (fault : HeldFault) × (named why ≡ Some fault) × (text ≡ rows_report fault)
-AreNoRows why Memory text = Unit {0}
+AreNoRows why Memory text = text ≡ []
 AreNoRows why status text = ⊥
 
 -- the text of a set-up is none, and this reports its fault, with the place
@@ -78,15 +78,17 @@ pub record ReportsNoRows (texts : Texts) (text : List ℕ) : Type 0 where
   pub named_so : named why ≡ Some fault
   pub report : text ≡ rows_report fault
 
--- What is answered on these texts, by its status: the verdict, or why there is none. Memory may have been refused on any.
+-- What is answered on these texts, by its status: the verdict, or why there is none. Memory may have been refused on any, and then
+-- the text is empty.
 abbrev pub AnswersPage : Texts → PageStatus → List ℕ → Type 0
 AnswersPage texts Right text = (inputs : Inputs) × AreTextsOf texts inputs × IsVerdictOn inputs Right text
 AnswersPage texts Wrong text = (inputs : Inputs) × AreTextsOf texts inputs × IsVerdictOn inputs Wrong text
 AnswersPage texts NoSetup text = ReportsNoSetup texts text
 AnswersPage texts NoRows text = ReportsNoRows texts text
-AnswersPage texts Memory text = Unit {0}
+AnswersPage texts Memory text = text ≡ []
 
--- the first bytes of the room are this answer, or the room is shorter than the text of one
+-- The first bytes of the room are this answer, and none of them where memory was refused; or the room is shorter than the text of
+-- an answer, which is then not that one.
 abbrev pub IsHanded : Texts → HandedStatus → ℕ → List ℕ → Type 0
 IsHanded texts (Whole status) count room = (count ≤ length room) × AnswersPage texts status (take count room)
 IsHanded texts NoRoom count room =

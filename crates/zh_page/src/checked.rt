@@ -1,6 +1,6 @@
 //! The check of texts.
 
-ghost use Rattle.std.specs.Prelude.{◌≡◌, take};
+ghost use Rattle.std.specs.Prelude.{◌≡◌, [], take};
 ghost use Rattle.std.specs.Option.{option_copied};
 ghost use Rattle.zh_page.specs.Answers.{AddsUpIfGiven, AreNoRows, IsNoSetup, IsVerdictOn, AnswersPage};
 
@@ -44,7 +44,8 @@ fn sums_if_given<'s>(
 
 /// The answer where memory was refused.
 fn no_memory(alloc: Global) -> PageAnswer
-    ensures { result.status ≡ PageStatus.Memory }
+    ensures status { result.status ≡ PageStatus.Memory }
+    ensures empty { result.text.items ≡ [] }
 {
     PageAnswer {
         status: PageStatus::Memory,

@@ -13,7 +13,8 @@ use zh_page::{HandedStatus, PageStatus, hand_over};
 /// length into the count.
 ///
 /// Returns 0 if the sheet is right and 1 if it is wrong, with its verdict; 2 if the text is no set-up and 3 if it is no export of
-/// this set-up, with the report of its fault; 4 if memory was refused; and 5 if the room is too small, which is then untouched.
+/// this set-up, with the report of its fault; 4 if memory was refused, with no
+/// text; and 5 if the room is too small, which is then untouched.
 #[unsafe(no_mangle)]
 pub extern "C" fn check_sheet(
     alloc: Global,
@@ -32,6 +33,8 @@ pub extern "C" fn check_sheet(
         → IsHanded (texts_given setup.now sheet.now is_held held.now) (handed.Whole statuses.NoSetup) count.new room.new }
     ensures no_rows { result ≡ 3
         → IsHanded (texts_given setup.now sheet.now is_held held.now) (handed.Whole statuses.NoRows) count.new room.new }
+    ensures memory { result ≡ 4
+        → IsHanded (texts_given setup.now sheet.now is_held held.now) (handed.Whole statuses.Memory) count.new room.new }
     ensures no_room { result ≡ 5
         → IsHanded (texts_given setup.now sheet.now is_held held.now) handed.NoRoom count.new room.new }
     ensures untouched { result ≡ 5 → room.new ≡ room.old }
