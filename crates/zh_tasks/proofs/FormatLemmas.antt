@@ -1,5 +1,5 @@
 -- What a formatting leaves that looks at the disk first, by what it finds there.
-use Rattle.std.proofs.Common.{◌≡◌, ℕ, List, nat_lt, inl, inr, refl, subst, Result, Ok, Err, IsErrOf}
+use Rattle.std.proofs.Common.{◌≡◌, ℕ, List, nat_lt, inl, inr, refl, sym, ap, subst, Result, Ok, Err, IsErrOf}
 use Rattle.zh_districts.specs.Canton.{Canton}
 use Rattle.zh_disk.specs.History.{History, Call}
 use Rattle.zh_disk.proofs.CallerLemmas.{followed, handed, leaves_none, no_call}
@@ -10,10 +10,12 @@ use Rattle.zh_snapshot.specs.Image.{IsBlank}
 use Rattle.zh_snapshot.specs.Store.{State}
 use Rattle.zh_snapshot.specs.declared.fault.OpenFault.{OpenFault}
 use Rattle.zh_snapshot.specs.declared.fault.OpenFault.TheVariants as opening
+use Rattle.zh_snapshot.specs.declared.fault.FormatFault.{FormatFault}
+use Rattle.zh_snapshot.specs.declared.fault.FormatFault.TheVariants as of_store
 use Rattle.zh_ledger.specs.Opening.{MakesNew}
 use Rattle.zh_tables.specs.Problems.{AreProblems, problem_count, problems_line}
 use Rattle.zh_tables.specs.declared.problems.SetupProblems.{SetupProblems}
-use Rattle.zh_tasks.specs.Format.{FormatsBlank, SaysIf, SaysProblems, format_fails}
+use Rattle.zh_tasks.specs.Format.{FormatsBlank, FormattedAs, SaysIf, SaysProblems, format_fails}
 use Rattle.zh_tasks.specs.declared.fault.TaskFault.{TaskFault}
 use Rattle.zh_tasks.specs.declared.fault.TaskFault.TheVariants as formatting
 
@@ -28,6 +30,7 @@ only_opened canton a b fault opens in_use = record {
   formatted = tt;
   settled = tt;
   in_use = in_use;
+  unformatted = λ is. refl;
 }
 
 module _ (canton : Canton) {a b : History} where
@@ -53,7 +56,34 @@ module _ (canton : Canton) {a b c : History} (opened : Call store_open_fails Ope
     formatted = by.2.formatted;
     settled = by.2.settled;
     in_use = λ is. absurd cc;
+    unformatted = λ is. absurd cc;
   }) (followed refl opened made)
+
+  -- it was not formatted for memory, and then the disk was only opened; or the device failed
+  pub not_formatted : (met : FormatFault) (fault : TaskFault) → FormattedAs met fault → Call store_format_fails (MakesNew canton) b c (Err met)
+      → (IsErrOf {T = Unit {0}} (Err met) of_store.Memory → c ≡ b) → Call format_fails (FormatsBlank canton) a c (Err fault)
+  not_formatted of_store.Memory fault is made same = subst (λ (f : TaskFault). Call format_fails (FormatsBlank canton) a c (Err f)) (sym is)
+      (handed refl (λ h by. record {
+        opened = b.trail;
+        opening = by.1.moments;
+        after = inl (ap (λ (x : History). x.trail) (same refl));
+        blank = tt;
+        formatted = tt;
+        settled = tt;
+        in_use = λ wrong. absurd cc;
+        unformatted = λ memory. ap (λ (x : History). x.trail) (same refl);
+      }) (followed refl opened made))
+  not_formatted of_store.Device fault is made same = subst (λ (f : TaskFault). Call format_fails (FormatsBlank canton) a c (Err f)) (sym is)
+      (handed refl (λ h by. record {
+        opened = b.trail;
+        opening = by.1.moments;
+        after = inr (by.1.found.read.blank refl, by.2.moments);
+        blank = tt;
+        formatted = tt;
+        settled = tt;
+        in_use = λ wrong. absurd cc;
+        unformatted = λ memory. absurd cc;
+      }) (followed refl opened made))
 
 -- before anything was asked of the disk
 pub memory_first : (canton : Canton) {h : History} → Call format_fails (FormatsBlank canton) h h (Err formatting.Memory)
@@ -65,6 +95,7 @@ memory_first canton {h} = no_call refl (λ honest. record {
   formatted = tt;
   settled = tt;
   in_use = λ is. absurd cc;
+  unformatted = λ is. refl;
 })
 
 -- what was said of so many problems in this line

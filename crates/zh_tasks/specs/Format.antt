@@ -37,7 +37,8 @@ IsOfFormat faults.Device = Unit {0}
 IsOfFormat faults.InUse = Unit {0}
 IsOfFormat fault = ⊥
 
--- What a formatting leaves of a disk, moment by moment: it is opened, and formatted only where it is blank.
+-- What a formatting leaves of a disk, moment by moment: it is opened, and formatted only where it is blank, and memory for it is not
+-- refused.
 pub record FormatsBlank (canton : Canton) (result : Result (Unit {0}) TaskFault) (old new : Trail) : Type 0 where
   pub opened : Trail
   pub opening : Leaves (Settles old.now.bytes) old opened
@@ -47,6 +48,7 @@ pub record FormatsBlank (canton : Canton) (result : Result (Unit {0}) TaskFault)
   pub formatted : OnOk result ((c : List ℕ) → IsImage new.now c → IsNew canton c)
   pub settled : OnOk result (new.now.pending ≡ [])
   pub in_use : IsErrOf result faults.InUse → IsBlank old.now.bytes → ⊥
+  pub unformatted : IsErrOf result faults.Memory → new ≡ opened
 
 -- one thing or the other
 abbrev pub SaysIf : Bool → Type 0 → Type 0 → Type 0
