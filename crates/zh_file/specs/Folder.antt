@@ -1,8 +1,9 @@
 -- What is done at paths, and what it comes to.
-use Rattle.std.specs.Prelude.{◌≡◌, ◌≢◌, ◌⊎◌, ◌+◌, ℕ, List, [], length, Result, Ok, Err, IfOk, Option, Some, None}
+use Rattle.std.specs.Prelude.{◌≡◌, ◌≢◌, ◌⊎◌, ◌↔◌, ◌+◌, ℕ, List, [], length, Result, Ok, Err, IfOk, Option, Some, None}
 use Rattle.std.specs.declared.io.Error.{Error}
 use Rattle.sqlite_std_file.specs.declared.pair.OpenError.{OpenError}
 use Rattle.sqlite_std_file.specs.declared.pair.OpenError.TheVariants as opening
+use Rattle.zh_world.specs.Files.{LeavesNoMore}
 use Rattle.zh_world.specs.Places.{Places, Standing, bytes_of, companion_of, found_at, IsSameOrMade}
 use Rattle.std.specs.IoError.{error_kind}
 use Rattle.zh_world.specs.Causes.{IsCauseAt, cause_of}
@@ -10,11 +11,23 @@ use Rattle.zh_world.specs.Places.Standing.{nothing, file, folder, other}
 use Rattle.zh_file.specs.declared.folder.Found.{Found}
 use Rattle.zh_file.specs.declared.folder.Found.TheVariants as kinds
 
+-- a call that unlocks no file: the bytes of the disks are the same, and a stop may leave no more
+pub record LeavesRest {F : Type 0} (disk_at : F → List ℕ → Option (List ℕ)) (left : F → List ℕ → Type 0) (old new : F) : Type 0 where
+  pub disks : disk_at new ≡ disk_at old
+  pub leaves : LeavesNoMore (left old) (left new)
+
 -- what stands where in a folder, how many calls of it have failed, and how many locks were refused as another has them
 pub record Folders : Type 0 where
   pub places : Places
   pub failed : ℕ
   pub refused : ℕ
+
+-- A file was unlocked, of which a stop may have left this: then it may have left that, and what it may have left before.
+pub record Unlocks {F : Type 0} (disk_at : F → List ℕ → Option (List ℕ)) (known : F → Option Folders) (left : F → List ℕ → Type 0)
+    (IsLeft : List ℕ → Type 0) (old new : F) : Type 0 where
+  pub disks : disk_at new ≡ disk_at old
+  pub same : known new ≡ known old
+  pub leaves : (c : List ℕ) → left new c ↔ (IsLeft c ⊎ left old c)
 
 -- a call with this answer is counted where it failed
 abbrev pub failed_after : {T : Type 0} → Result T Error → ℕ → ℕ

@@ -1,13 +1,23 @@
 -- What a stored disk holds and has held.
-use Rattle.std.specs.Prelude.{◌≡◌, ◌+◌, ◌⊎◌, Bool, true, false, ℕ, Result, IsErr, OnOk, OnErr}
+use Rattle.std.specs.Prelude.{◌≡◌, ◌+◌, ◌⊎◌, Bool, true, false, ℕ, IsTrue, List, Result, IsErr, OnOk, OnErr}
 use Rattle.sqlite_disk.specs.Disk.{MoreFaults}
 use Rattle.sqlite_disk.specs.declared.Disk.{Ghosts}
 use Rattle.zh_disk.specs.declared.disk.DiskFault.{DiskFault}
 use Rattle.zh_disk.specs.History.{History}
 use Rattle.zh_file.specs.declared.stored.Stored.{Stored}
 use Rattle.zh_file.specs.Held.{file_trail}
+use Rattle.zh_file.specs.Locked.{IsLeftAt}
+use Rattle.zh_file.specs.Past.{items}
 
 module _ {D : Type 0} {g : Ghosts D} where
+  -- what its file was at each moment before it began to be a disk, the latest first
+  abbrev pub opening_moments : Stored D g → List D
+  opening_moments d = items d.opening
+
+  -- a stop before that may have left this, as far as all answers of the file were right
+  abbrev pub IsLeftOpening : Stored D g → List ℕ → Type 0
+  IsLeftOpening d c = IsTrue (g.is_clean d.held.file) × IsLeftAt g.may_leave (opening_moments d) c
+
   -- its file
   abbrev pub stored_file : Stored D g → D
   stored_file d = d.held.file

@@ -1,8 +1,9 @@
 //! What is done at paths: each is one call.
-ghost use Rattle.std.specs.Prelude.{◌≡◌, ℕ, List, Option, IfOk, IfSome, IsTrue, string_bytes};
-ghost use Rattle.sqlite_disk.specs.Disk.{Only};
+ghost use Rattle.std.specs.Prelude.{◌≡◌, ℕ, List, Option, IfOk, IfSome, string_bytes};
 ghost use Rattle.zh_world.specs.Places.{IfKnown, companion_of, found_at};
-ghost use Rattle.zh_file.specs.Folder.{LooksAt, ActsAt, Folders, IsEmptyFile, IsKind, Locks, Makes, Removes, SaysWhy, bytes_known};
+ghost use Rattle.zh_file.specs.Folder.{LooksAt, ActsAt, Folders, IsEmptyFile, IsKind, LeavesRest, Locks, Makes, Removes};
+ghost use Rattle.zh_file.specs.Folder.{SaysWhy, Unlocks, bytes_known};
+ghost use Rattle.zh_file.specs.Locked.{IsJustLocked, IsLeftOf};
 
 use crate::stored::Locked;
 use sqlite_disk::Disk as File;
@@ -36,31 +37,35 @@ pub trait Folder {
     /// What stands where, and how many calls came to nothing, if that is known.
     ghost known: { Self → Option Folders };
 
+    /// What a stop may have left of a file that was locked and unlocked, at any moment in between, as far as all of its answers
+    /// were right.
+    ghost left: { Self → List ℕ → Type 0 };
+
     /// The bytes of a disk's file at this path when it is locked, where they are known; none where there is no file.
     ghost disk_at: { Self → List ℕ → Option (List ℕ) };
 
     /// What stands at this path. It fails where nothing does: an error that says so, or that it is a folder, is right.
     fn kind(&mut self, path: &str) -> io::Result<Found>
-        ensures disks { disk_at self.new ≡ disk_at self.old }
+        ensures rest { LeavesRest disk_at left self.old self.new }
         ensures call { IfKnown (LooksAt (λ places. IsKind (found_at places path.now)) result) (known self.old) (known self.new) }
         ensures why { SaysWhy (known self.old) path.now result };
 
     /// The path of the companion of the disk at this path, with no link in it.
     fn companion(&mut self, path: &str) -> io::Result<String>
-        ensures disks { disk_at self.new ≡ disk_at self.old }
+        ensures rest { LeavesRest disk_at left self.old self.new }
         ensures call { IfKnown (LooksAt (λ places name. string_bytes name ≡ companion_of places path.now) result)
             (known self.old) (known self.new) };
 
     /// The text at this path, from its first byte. It is only read.
     fn text(&mut self, path: &str) -> io::Result<Self::Text>
-        ensures disks { disk_at self.new ≡ disk_at self.old }
+        ensures rest { LeavesRest disk_at left self.old self.new }
         ensures bytes { IfOk result (λ text. Self.Text.remaining text ≡ bytes_known (known self.old) path.now) }
         ensures call { IfKnown (LooksAt (λ _ _. Unit {0}) result) (known self.old) (known self.new) }
         ensures why { SaysWhy (known self.old) path.now result };
 
     /// Makes an empty file, if nothing stands at this path.
     fn make(&mut self, path: &str) -> io::Result<()>
-        ensures disks { disk_at self.new ≡ disk_at self.old }
+        ensures rest { LeavesRest disk_at left self.old self.new }
         ensures call { IfKnown (ActsAt (Makes path.now) result) (known self.old) (known self.new) }
         ensures why { SaysWhy (known self.old) path.now result };
 
@@ -71,19 +76,18 @@ pub trait Folder {
         right: Self::Right,
         path: &str,
     ) -> Result<(Locked<Self::File>, Self::Companion), OpenError>
-        ensures disks { disk_at self.new ≡ disk_at self.old }
+        ensures rest { LeavesRest disk_at left self.old self.new }
+        ensures fresh { IfOk result (λ both. IsJustLocked Self.File.Disk both.0) }
         ensures begins { IfOk result (λ both. IfSome (disk_at self.old path.now) (λ bytes. Self.File.seen both.0.file ≡ bytes)) }
-        ensures usable { IfOk result (λ both. IsTrue (Self.File.is_usable both.0.file)) }
-        ensures synced { IfOk result (λ both. Only (Self.File.seen both.0.file) (Self.File.may_leave both.0.file)) }
-        ensures unfailed { IfOk result (λ both. Self.File.faults both.0.file ≡ 0) }
         ensures call { IfKnown (Locks path.now (λ both. Self.File.seen both.0.file) result) (known self.old) (known self.new) };
 
     /// Removes the companion at this path, which was seen to be empty while it was locked, and still is.
     fn remove(&mut self, path: &str, locked: &Self::Companion) -> io::Result<()>
         requires { IfSome (known self.old) (λ now. IsEmptyFile path.now now.places) }
-        ensures disks { disk_at self.new ≡ disk_at self.old }
+        ensures rest { LeavesRest disk_at left self.old self.new }
         ensures call { IfKnown (ActsAt (Removes path.now) result) (known self.old) (known self.new) };
 
     /// Drops a file that was locked, as it is.
-    fn unlock(&self, locked: Locked<Self::File>);
+    fn unlock(&mut self, locked: Locked<Self::File>)
+        ensures { Unlocks disk_at known left (IsLeftOf Self.File.Disk locked) self.old self.new };
 }

@@ -62,6 +62,8 @@ impl<F: Folder + Drop> Files for FolderFiles<F> {
 
     ghost places = { λ files. option_map (λ known. known.places) (F.known files.folder) };
 
+    ghost left = { λ files. F.left files.folder };
+
     ghost calls = { λ files. number files.made };
 
     ghost fault = { λ files. files.fault };

@@ -1,30 +1,39 @@
 //! The folders of the operating system.
 ghost use Rattle.std.specs.Prelude.{Some, None};
+ghost use Rattle.zh_file.specs.Folder.{Unlocks};
+ghost use Rattle.zh_file.specs.Locked.{IsLeftOf, IsLeftOfOne};
+ghost use Rattle.zh_file.specs.Past.{items};
 
 use crate::FileOf;
 use crate::folder::{Folder, Found};
+use crate::past::Past;
 use crate::stored::Locked;
+use sqlite_disk::Disk;
 use sqlite_std_file::{OpenError, Start};
 use std::fs::{self, File, OpenOptions};
 use std::io::{self, ErrorKind};
 use std::marker::PhantomData;
 use std::os::unix::fs::OpenOptionsExt;
+use std::snapshot::Snapshot;
 
 /// The folders of the operating system. That each method does what [`Folder`] says is believed: the clauses are proved for
 /// every folder, and of this one nothing is known.
 ///
 /// `S` stands for what the file of the disk holds. Its value is the right to that disk, and is used up.
 #[derive(Drop)]
-pub struct HostFolder<'a, S> {
+pub struct HostFolder<'a, S: Start> {
     rt: &'a HostRuntime,
+    // the files that were unlocked, as they were then, which only clauses read
+    unlocked: Past<Locked<FileOf<S>>>,
     content: PhantomData<S>,
 }
 
-impl<'a, S> HostFolder<'a, S> {
+impl<'a, S: Start> HostFolder<'a, S> {
     /// The folders of this runtime.
     pub fn new(rt: &'a HostRuntime) -> HostFolder<'a, S> {
         HostFolder {
             rt,
+            unlocked: Past::new(),
             content: PhantomData,
         }
     }
@@ -40,6 +49,8 @@ impl<S: Start> Folder for HostFolder<'_, S> {
     type Right = S;
 
     ghost known = { λ folder. None };
+
+    ghost left = { λ folder. IsLeftOfOne ⟦<FileOf<S> as Disk>⟧ (items folder.unlocked) };
 
     ghost disk_at = { λ folder path. Some S.Start.db };
 
@@ -90,5 +101,11 @@ impl<S: Start> Folder for HostFolder<'_, S> {
         fs::remove_file(self.rt, path)
     }
 
-    fn unlock(&self, _locked: Locked<FileOf<S>>) {}
+    fn unlock(&mut self, locked: Locked<FileOf<S>>)
+        ensures { Unlocks (λ folder path. Some S.Start.db) (λ folder. None)
+            (λ folder. IsLeftOfOne ⟦<FileOf<S> as Disk>⟧ (items folder.unlocked)) (IsLeftOf ⟦<FileOf<S> as Disk>⟧ locked)
+            self.old self.new }
+    {
+        self.unlocked.push(Snapshot::of(&locked));
+    }
 }

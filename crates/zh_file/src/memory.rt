@@ -8,16 +8,20 @@ ghost use Rattle.zh_world.specs.Causes.{IsCauseAt, cause_of};
 ghost use Rattle.zh_world.specs.Places.{IfKnown, IsSameOrMade, companion_of, found_at};
 ghost use Rattle.zh_world.specs.Places.Standing.{nothing, file as filed};
 ghost use Rattle.zh_file.specs.Folder.{ActsAt, IsCounted, IsCountedLock, IsEmptyFile, IsKind, Locks, LooksAt, Makes, MakesBoth};
-ghost use Rattle.zh_file.specs.Folder.{Removes, SaysWhy, bytes_known};
+ghost use Rattle.zh_file.specs.Folder.{Removes, SaysWhy, Unlocks, bytes_known};
+ghost use Rattle.zh_file.specs.Locked.{IsLeftOf, IsLeftOfOne};
+ghost use Rattle.zh_file.specs.Past.{items};
 ghost use Rattle.zh_file.specs.MemoryFolder.{PutsAt, Spends, disk_in, folders_of, standing_at, stood_as, placed_at};
 
 use crate::folder::{Folder, Found};
+use crate::past::Past;
 use crate::stored::Locked;
 use sqlite_disk::{Disk as File, Files, Fuse, Memory};
 use sqlite_std_file::OpenError;
 use std::alloc::{AllocError, Global};
 use std::io::{self, Cursor, ErrorKind, Read};
 use std::marker::PhantomData;
+use std::snapshot::Snapshot;
 use zh_world::CallCount;
 
 /// What stands at a path.
@@ -50,6 +54,8 @@ pub struct MemoryFolder<R> {
     // how many calls failed, and how many locks were refused
     failed: CallCount,
     refused: CallCount,
+    // the files that were unlocked, as they were then
+    unlocked: Past<Locked<Fuse<Memory>>>,
     // what the right to a disk is
     right: PhantomData<R>,
 }
@@ -78,6 +84,7 @@ impl<R> MemoryFolder<R> {
             is_busy: false,
             failed: CallCount::new(),
             refused: CallCount::new(),
+            unlocked: Past::new(),
             right: PhantomData,
         }
     }
@@ -314,6 +321,8 @@ impl<R: Drop> Folder for MemoryFolder<R> {
 
     ghost known = { λ folder. Some (folders_of folder) };
 
+    ghost left = { λ folder. IsLeftOfOne ⟦<Fuse<Memory> as File>⟧ (items folder.unlocked) };
+
     ghost disk_at = { disk_in };
 
     fn kind(&mut self, path: &str) -> io::Result<Found> {
@@ -353,5 +362,11 @@ impl<R: Drop> Folder for MemoryFolder<R> {
         self.note(removed)
     }
 
-    fn unlock(&self, _locked: Locked<Fuse<Memory>>) {}
+    fn unlock(&mut self, locked: Locked<Fuse<Memory>>)
+        ensures { Unlocks disk_in (λ folder. Some (folders_of folder))
+            (λ folder. IsLeftOfOne ⟦<Fuse<Memory> as File>⟧ (items folder.unlocked)) (IsLeftOf ⟦<Fuse<Memory> as File>⟧ locked)
+            self.old self.new }
+    {
+        self.unlocked.push(Snapshot::of(&locked));
+    }
 }

@@ -1,12 +1,14 @@
 //! A disk over the file at a path of a folder.
-ghost use Rattle.std.specs.Prelude.{◌≡◌, length, false, IfErr, IfOk, IfSome, IsTrue};
+ghost use Rattle.std.specs.Prelude.{◌≡◌, ◌⊎◌, ℕ, List, length, false, IfErr, IfOk, IfSome, IsTrue};
 ghost use Rattle.sqlite_disk.specs.Disk.{Only};
 ghost use Rattle.zh_disk.specs.Disk.{disk_length, fresh_trail};
-ghost use Rattle.zh_world.specs.Files.{BeginsWith};
+ghost use Rattle.zh_world.specs.Files.{BeginsWith, IsAsFound, IsFilling, LeavesOf};
 ghost use Rattle.zh_world.specs.Places.{IfKnown, companion_of};
+ghost use Rattle.zh_file.specs.Folder.{LeavesRest};
+ghost use Rattle.zh_file.specs.Locked.{IsJustLocked, IsLeftOf};
 ghost use Rattle.zh_file.specs.Opening.{HasFailed, OpensDisk, OpensOrMakesDisk};
 ghost use Rattle.zh_file.specs.Steps.{IsUnfit, IsUnstarted, LeavesCompanion, Measures, TakesLock};
-ghost use Rattle.zh_file.specs.Stored.{stored_history, is_over, IsWhole};
+ghost use Rattle.zh_file.specs.Stored.{IsLeftOpening, stored_history, is_over, IsWhole};
 
 use crate::fault::{fault_of_found, fault_of_opening};
 use crate::folder::{Folder, Found};
@@ -24,6 +26,8 @@ pub fn open<F: Folder>(
     ensures disks { F.disk_at folder.new ≡ F.disk_at folder.old }
     ensures begins { IfOk result (λ d. IfSome (F.disk_at folder.old path.now) (λ bytes. (stored_history d).trail ≡ fresh_trail bytes)) }
     ensures whole { IfOk result IsWhole }
+    ensures opening { IfOk result (λ d. (c : List ℕ) → IsLeftOpening d c → IfSome (F.disk_at folder.old path.now) (λ bytes. c ≡ bytes)) }
+    ensures leaves { LeavesOf IsAsFound (F.disk_at folder.old path.now) (F.left folder.old) (F.left folder.new) }
     ensures opens { IfKnown (OpensDisk (HasFailed F.File.is_clean F.File.faults) path.now
         (λ d. (stored_history d).trail.now.bytes) result) (F.known folder.old) (F.known folder.new) }
 {
@@ -49,6 +53,9 @@ pub fn open_or_make<F: Folder>(
     ensures begins { IfOk result (λ d. IsTrue (stored_history d).honest
         → IfSome (F.disk_at folder.old path.now) (λ bytes. BeginsWith bytes (stored_history d).trail)) }
     ensures whole { IfOk result IsWhole }
+    ensures opening { IfOk result (λ d. (c : List ℕ) → IsLeftOpening d c
+        → IfSome (F.disk_at folder.old path.now) (λ bytes. IsFilling bytes c)) }
+    ensures leaves { LeavesOf IsFilling (F.disk_at folder.old path.now) (F.left folder.old) (F.left folder.new) }
     ensures long { IfOk result (λ d. IsTrue (stored_history d).honest → length (stored_history d).trail.now.bytes ≡ disk_length) }
     ensures opens { IfKnown (OpensOrMakesDisk (HasFailed F.File.is_clean F.File.faults) path.now (λ d. stored_history d) result)
         (F.known folder.old) (F.known folder.new) }
@@ -70,7 +77,7 @@ pub fn open_or_make<F: Folder>(
 
 /// The length of the regular file at this path, or where a link there leads.
 fn length_at<F: Folder>(folder: &mut F, path: &str) -> Result<u64, FileFault>
-    ensures disks { F.disk_at folder.new ≡ F.disk_at folder.old }
+    ensures rest { LeavesRest F.disk_at F.left folder.old folder.new }
     ensures measures { IfKnown (Measures path.now result) (F.known folder.old) (F.known folder.new) }
 {
     match folder.kind(path)? {
@@ -86,11 +93,9 @@ fn lock<F: Folder>(
     right: F::Right,
     path: &str,
 ) -> Result<Locked<F::File>, FileFault>
-    ensures disks { F.disk_at folder.new ≡ F.disk_at folder.old }
+    ensures rest { LeavesRest F.disk_at F.left folder.old folder.new }
+    ensures fresh { IfOk result (IsJustLocked F.File.Disk) }
     ensures begins { IfOk result (λ locked. IfSome (F.disk_at folder.old path.now) (λ bytes. F.File.seen locked.file ≡ bytes)) }
-    ensures usable { IfOk result (λ locked. IsTrue (F.File.is_usable locked.file)) }
-    ensures synced { IfOk result (λ locked. Only (F.File.seen locked.file) (F.File.may_leave locked.file)) }
-    ensures unfailed { IfOk result (λ locked. F.File.faults locked.file ≡ 0) }
     ensures locks { IfKnown (TakesLock path.now (λ locked. F.File.seen locked.file) result) (F.known folder.old) (F.known folder.new) }
 {
     let (locked, companion) = folder.lock(right, path).map_err(fault_of_opening)?;
@@ -103,7 +108,7 @@ fn lock<F: Folder>(
 fn clear_companion<F: Folder>(folder: &mut F, path: &str, locked: &F::Companion) -> io::Result<()>
     requires { IfSome (F.known folder.old)
         (λ now. now.places.leads (companion_of now.places path.now) ≡ companion_of now.places path.now) }
-    ensures disks { F.disk_at folder.new ≡ F.disk_at folder.old }
+    ensures rest { LeavesRest F.disk_at F.left folder.old folder.new }
     ensures clears { IfKnown (LeavesCompanion path.now) (F.known folder.old) (F.known folder.new) }
 {
     let companion = folder.companion(path)?;
@@ -115,7 +120,7 @@ fn clear_companion<F: Folder>(folder: &mut F, path: &str, locked: &F::Companion)
 
 /// The disk that a file holds which was locked, if it has the length of one. If not, it is unlocked.
 fn hand_over<F: Folder>(
-    folder: &F,
+    folder: &mut F,
     mut locked: Locked<F::File>,
 ) -> Result<Stored<F::File>, FileFault>
     requires usable { IsTrue (F.File.is_usable locked.file) }
@@ -125,6 +130,9 @@ fn hand_over<F: Folder>(
     ensures failures { IfOk result (λ d. (stored_history d).failures ≡ F.File.faults locked.file) }
     ensures whole { IfOk result (λ d. is_over d ≡ false) }
     ensures fault { IfErr result (IsUnstarted (IsUnfit F.File.is_clean F.File.faults F.File.seen locked.file)) }
+    ensures same { (F.disk_at folder.new ≡ F.disk_at folder.old) × (F.known folder.new ≡ F.known folder.old) }
+    ensures opening { IfOk result (λ d. (c : List ℕ) → IsLeftOpening d c → IsLeftOf F.File.Disk locked c) }
+    ensures leaves { (c : List ℕ) → F.left folder.new c → IsLeftOf F.File.Disk locked c ⊎ F.left folder.old c }
 {
     match locked.measure() {
         Ok(()) => Ok(locked.start()),

@@ -30,6 +30,8 @@ pub(crate) struct HeldFile<D: File> {
 #[derive(Drop)]
 pub struct Stored<D: File> {
     held: HeldFile<D>,
+    // what the file was at each moment from its lock on until it began to be a disk
+    opening: Past<D>,
     // what was held before each write and each sync that succeeded
     before: Past<HeldFile<D>>,
     // a write or a sync has failed

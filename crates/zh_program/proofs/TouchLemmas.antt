@@ -1,10 +1,12 @@
 -- What a task touches of what stands somewhere.
-use Rattle.std.proofs.Common.{◌≡◌, ◌∙◌, Option, Some, Result, ap, subst, sym, ⊎_elim}
+use Rattle.std.proofs.Common.{◌≡◌, ◌∙◌, ℕ, List, [], Option, Some, None, Result, ap, subst, sym, inl, inr, ⊎_elim, arith}
+use Rattle.std.specs.Prelude.{◌⊎◌, IfSome, MatchOption}
 use Rattle.zh_arguments.specs.declared.arguments.Paths.{Paths}
 use Rattle.zh_arguments.specs.declared.arguments.Task.{Task}
 use Rattle.zh_arguments.specs.declared.arguments.Task.TheVariants.{Rehearse, Format, Run, Load, Check}
 use Rattle.zh_arguments.specs.declared.arguments.Task.TheVariants as tasks
 use Rattle.zh_districts.specs.Canton.{Canton}
+use Rattle.zh_world.specs.Files.{IsFilling, LeavesNoMore, LeavesOf}
 use Rattle.zh_world.specs.Places.{Places, Touches, TouchesOnly}
 use Rattle.zh_world.specs.declared.world.Ended.{Ended}
 use Rattle.zh_world.specs.declared.world.World.{World}
@@ -23,7 +25,9 @@ use Rattle.zh_tasks.specs.World.{EndOf, Known, Sight, WorldOf, finding, making}
 use Rattle.zh_tasks.specs.declared.fault.TaskFault.{TaskFault}
 use Rattle.zh_tasks.specs.declared.used.Used.{Used}
 use Rattle.zh_tasks.specs.declared.used.Observed.{Observed}
-use Rattle.zh_program.specs.Program.{disk_path}
+use Rattle.zh_ledger.specs.Stands.{Holds}
+use Rattle.zh_returns.specs.Tally.{Tally}
+use Rattle.zh_program.specs.Program.{IsLeftBy, LeavesAsFound, disk_path}
 
 module _ {I O E F D T : Type 0} where
   -- what is done of which nothing is filmed
@@ -45,7 +49,58 @@ module _ {I O E F T D R : Type 0} where
       (stays uses.canton (record old { files = uses.files }, uses.first) (new, uses.last) uses.observed uses.does) uses.began.calls.touches)
       by
 
+  -- a task that hands over no disk has ended before it had one
+  uses_leave : (sight : Sight F T D R) (paths : Paths) (old new : World I O E F)
+      (DoesOn : Canton → World I O E F × D → World I O E F × D → Result (Unit {0}) TaskFault × Observed I O D T → Type 0) (ended : Ended (Result (Unit {0}) TaskFault) (Used I O D T))
+      → ended.used ≡ None → UsesFilm sight paths old new DoesOn ended
+      → LeavesOf sight.IsLeft (sight.files.disk_at old.files paths.disk.now) (sight.files.left old.files) (sight.files.left new.files)
+  uses_leave sight paths old new DoesOn ended none by = ⊎_elim
+      (λ early. early.leaves)
+      (λ uses. handed_over _ (sym none ∙ uses.used))
+      by
+    where
+      handed_over : (it : Used I O D T) → None ≡ Some it → LeavesOf sight.IsLeft (sight.files.disk_at old.files paths.disk.now) (sight.files.left old.files) (sight.files.left new.files)
+      handed_over it wrong = absurd cc
+
 module _ (of : Known) where
+  same_leaves : (old new : WorldOf of) → new.files ≡ old.files → LeavesNoMore (of.files.left old.files) (of.files.left new.files)
+  same_leaves old new same = λ c here. subst (λ (f : of.Folder). of.files.left f c) same here
+
+  texts_leave : {X : Type 0} (Reads : of.Folder → of.Folder → Result X TaskFault → Type 0) (DoesWith : X → WorldOf of → WorldOf of → Result (Unit {0}) TaskFault → Type 0)
+      (old new : WorldOf of) (result : Result (Unit {0}) TaskFault) → UsesTexts of Reads DoesWith old new result → LeavesNoMore (of.files.left old.files) (of.files.left new.files)
+  texts_leave Reads DoesWith old new result by = λ c here. by.calls.2.leaves c (subst (λ (f : of.Folder). of.files.left f c) by.rest here)
+
+  does_leave : (task : Task) (old new : WorldOf of) (ended : EndOf of) → Does of task old new ended → ended.used ≡ None
+      → LeavesAsFound task (of.files.disk_at old.files) (of.files.left old.files) (of.files.left new.files)
+  does_leave Rehearse old new ended by none = same_leaves old new (ap (λ (w : WorldOf of). w.files) by.rest)
+  does_leave (Format paths) old new ended by none = uses_leave (making of.files of.disks) paths old new (unfilmed (Formatted of)) ended none by
+  does_leave (Run paths) old new ended by none = uses_leave (finding of.files of.disks) paths old new (Ran of) ended none by
+  does_leave (Load paths csv) old new ended by none = uses_leave (finding of.files of.disks) paths old new (HasLoaded of csv.now) ended none by
+  does_leave (tasks.DryRun paths csv) old new ended by none =
+      uses_leave (finding of.files of.disks) paths old new (unfilmed (MakesReading of (HasDryRun of csv.now))) ended none by
+  does_leave (tasks.Show paths query) old new ended by none =
+      uses_leave (finding of.files of.disks) paths old new (unfilmed (MakesReading of (λ tally. Shows of (MayShow query tally)))) ended none by
+  does_leave (tasks.List setup table) old new ended by none = texts_leave _ _ old new ended.result by.1
+  does_leave (Check paths) old new ended by none = texts_leave _ _ old new ended.result by.1
+  does_leave (tasks.SheetSeats setup sheet layout) old new ended by none = texts_leave _ _ old new ended.result by.1
+
+  -- and what is said after it leaves no more
+  pub left_after : (task : Task) (old after new : WorldOf of) (ended : EndOf of) → Does of task old after ended
+      → new ≡ record after { faults = new.faults; remark = new.remark } → ended.used ≡ None
+      → LeavesAsFound task (of.files.disk_at old.files) (of.files.left old.files) (of.files.left new.files)
+  left_after task old after new ended does rest none = after_same (disk_path task) (does_leave task old after ended does none)
+    where
+      still : (c : List ℕ) → of.files.left new.files c → of.files.left after.files c
+      still c here = subst (λ (f : of.Folder). of.files.left f c) (ap (λ (w : WorldOf of). w.files) rest) here
+
+      after_same : (path : Option (List ℕ))
+          → MatchOption path (LeavesNoMore (of.files.left old.files) (of.files.left after.files))
+          (λ p. LeavesOf (IsLeftBy task) (of.files.disk_at old.files p) (of.files.left old.files) (of.files.left after.files))
+          → MatchOption path (LeavesNoMore (of.files.left old.files) (of.files.left new.files))
+          (λ p. LeavesOf (IsLeftBy task) (of.files.disk_at old.files p) (of.files.left old.files) (of.files.left new.files))
+      after_same None by = λ c here. by c (still c here)
+      after_same (Some path) by = λ c here. by c (still c here)
+
   same_files : (old new : WorldOf of) → new.files ≡ old.files → of.files.places new.files ≡ of.files.places old.files
   same_files old new same = ap of.files.places same
 
@@ -76,3 +131,28 @@ module _ (of : Known) where
   touched_after task old after new ended does rest =
       let same : of.files.places after.files ≡ of.files.places new.files = sym (ap of.files.places (ap (λ (w : WorldOf of). w.files) rest)) in
       subst (λ (known : Option Places). Touches (disk_path task) (of.files.places old.files) known) same (does_touch task old after ended does)
+
+-- what is left is then what a formatting may make of an empty file, or as it was found
+is_left : (task : Task) (found c : List ℕ) → IsLeftBy task found c → IsFilling found c
+is_left (Format paths) found c by = by
+is_left task found c by = inl by
+
+none_holds : (tally : Tally) → Holds tally [] → ⊥
+none_holds tally holds = let gate = holds.clean.framed.gate in absurd (omega (arith, gate))
+
+-- and holds what was held
+pub still_held : (task : Task) (disk_at : List ℕ → Option (List ℕ)) (old new : List ℕ → Type 0) (tally : Tally) (path bytes c : List ℕ)
+    → LeavesAsFound task disk_at old new → disk_path task ≡ Some path → disk_at path ≡ Some bytes → Holds tally bytes
+    → new c → old c ⊎ Holds tally c
+still_held task disk_at old new tally path bytes c leaves is known holds here =
+    let at : LeavesOf (IsLeftBy task) (disk_at path) old new =
+    subst (λ (p : Option (List ℕ)). MatchOption p (LeavesNoMore old new) (λ q. LeavesOf (IsLeftBy task) (disk_at q) old new)) is leaves in
+    ⊎_elim
+    (λ was. inl was)
+    (λ found.
+    let left : IsLeftBy task bytes c = subst (λ (k : Option (List ℕ)). IfSome k (λ b. IsLeftBy task b c)) known found in
+    ⊎_elim
+    (λ same. inr (subst (λ (b : List ℕ). Holds tally b) (sym same) holds))
+    (λ empty. absurd (none_holds tally (subst (λ (b : List ℕ). Holds tally b) empty.0 holds)))
+    (is_left task bytes c left))
+    (at c here)

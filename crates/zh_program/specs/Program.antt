@@ -1,7 +1,9 @@
 -- What the program says of a task.
-use Rattle.std.specs.Prelude.{◌≡◌, ◌≢◌, ℕ, List, Option, None, Result, Err, option_map}
+use Rattle.std.specs.Prelude.{◌≡◌, ◌≢◌, ℕ, List, Option, None, MatchOption, Result, Err, option_map}
 use Rattle.zh_arguments.specs.declared.arguments.Task.{Task}
+use Rattle.zh_arguments.specs.declared.arguments.Task.TheVariants.{Format}
 use Rattle.zh_arguments.specs.Commands.{paths_of}
+use Rattle.zh_world.specs.Files.{IsAsFound, IsFilling, LeavesNoMore, LeavesOf}
 use Rattle.zh_world.specs.declared.world.Ended.{Ended}
 use Rattle.zh_world.specs.declared.world.World.{World}
 use Rattle.zh_tasks.specs.Remarks.{BecameOf}
@@ -19,6 +21,17 @@ ends result used = record { result = result; used = used }
 -- the path of the disk of a task, if it is given one
 abbrev pub disk_path : Task → Option (List ℕ)
 disk_path task = option_map (λ paths. paths.disk.now) (paths_of task)
+
+-- what a stop may leave of the file of a disk that had these bytes, where a task opened none: them, or what a formatting makes of an
+-- empty one
+abbrev pub IsLeftBy : Task → List ℕ → List ℕ → Type 0
+IsLeftBy (Format paths) = IsFilling
+IsLeftBy task = IsAsFound
+
+-- At no moment until the end may a stop leave anything else of a file than before, but this of the one at the path of the disk.
+abbrev pub LeavesAsFound : Task → (List ℕ → Option (List ℕ)) → (List ℕ → Type 0) → (List ℕ → Type 0) → Type 0
+LeavesAsFound task disk_at old new =
+    MatchOption (disk_path task) (LeavesNoMore old new) (λ path. LeavesOf (IsLeftBy task) (disk_at path) old new)
 
 -- A task met a fault, and then that is reported to standard error, whole or broken off as the world's remark says. Where it
 -- was refused nothing is reported: the task has said why.

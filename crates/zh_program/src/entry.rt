@@ -13,7 +13,7 @@ ghost use Rattle.zh_tasks.specs.World.{known};
 ghost use Rattle.zh_disk.specs.declared.memory.MemoryDisk.{MemoryDisk};
 ghost use Rattle.zh_film.specs.declared.film.Film.{Film};
 ghost use Rattle.zh_program.specs.Promise.{Promise, RehearsalPromise};
-ghost use Rattle.zh_program.specs.Program.{MetFault, NothingDone, disk_path, ends};
+ghost use Rattle.zh_program.specs.Program.{LeavesAsFound, MetFault, NothingDone, disk_path, ends};
 ghost use Rattle.zh_world.specs.Places.{Touches};
 ghost use Rattle.zh_program.specs.Paths.{fault_path};
 ghost use Rattle.zh_program.specs.Reports.{report_text};
@@ -95,9 +95,11 @@ pub fn program<I: Read, O: Write, E: Write, F: Files>(
         world.old world.new result.result used }
     ensures rehearsed { (film : Film I O MemoryDisk) → result.used ≡ Some (used_as.Rehearsal film)
         → RehearsalPromise (known I.Read O.Write E.Write F.Files F.Disk.Disk) world.old world.new result.result film }
-    // No file is touched but the one at `--disk` and its companion, and of these only empty ones before the disk's own calls.
+    // No file is touched but the one at `--disk` and its companion, and of these only empty ones before the disk's own calls. Where
+    // no disk is handed over the file at `--disk` is as it was found, and a stop leaves it so at each moment.
     ensures touches { (world.new.files ≡ world.old.files) ⊎ ((task : Task) × AsksFor (map string_bytes arguments.now) task
-        × Touches (disk_path task) (F.places world.old.files) (F.places world.new.files)) }
+        × Touches (disk_path task) (F.places world.old.files) (F.places world.new.files)
+        × (result.used ≡ None → LeavesAsFound task (F.disk_at world.old.files) (F.left world.old.files) (F.left world.new.files))) }
     ensures refused { result.result ≡ 2 → (refusals (map string_bytes arguments.now) ≢ []) × NothingDone world.old world.new result.used }
 {
     match read_arguments(alloc, arguments) {

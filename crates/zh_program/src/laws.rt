@@ -30,7 +30,9 @@ ghost use Rattle.zh_tasks.specs.World.{known};
 ghost use Rattle.zh_tasks.specs.declared.used.Filmed.{Filmed};
 ghost use Rattle.zh_program.specs.Headline.{Headline};
 ghost use Rattle.zh_program.specs.Order.{AreNext, Conversation};
+ghost use Rattle.zh_program.specs.Program.{LeavesAsFound, disk_path};
 ghost use Rattle.zh_program.specs.Promise.{Promise};
+ghost use Rattle.zh_arguments.specs.declared.arguments.Task.{Task};
 ghost use Rattle.zh_program.specs.Sheets.{IsTie};
 ghost use Rattle.zh_program.specs.Stopped.{OpensTo};
 
@@ -107,6 +109,13 @@ pub fn promise_excludes<I: Read, O: Write, E: Write, F: Files>()
         → (promise : Promise (known I.Read O.Write E.Write F.Files F.Disk.Disk) arguments old new status used)
         → IsTrue (F.Disk.history used.disk).honest → F.disk_at old.files promise.path ≡ Some bytes
         → ((tally : Tally) → IsCanton tally.canton → ¬ HoldsFramed tally bytes) → promise.exchanges ≡ x ∷ rest → ⊥ }
+{}
+
+/// And a count that a task has lost which hands over no disk: what a stop may leave at its path, at any moment, holds what was found.
+pub fn opening_excludes<F: Files>()
+    ensures gone { (task : Task) (old new : F) (tally : Tally) (path bytes c : List ℕ)
+        → LeavesAsFound task (F.disk_at old) (F.left old) (F.left new) → disk_path task ≡ Some path → F.disk_at old path ≡ Some bytes
+        → Holds tally bytes → F.left new c → ¬ F.left old c → ¬ Holds tally c → ⊥ }
 {}
 
 /// Each opening of an image that opens to a count gives that count, or is refused for memory or by the device.

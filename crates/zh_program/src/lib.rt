@@ -8,5 +8,5 @@ mod report;
 mod report_parts;
 
 pub use entry::program;
-pub use laws::{headline_excludes, promise_excludes, reopenings};
+pub use laws::{headline_excludes, opening_excludes, promise_excludes, reopenings};
 pub use zh_tasks::{Filmed, Used};

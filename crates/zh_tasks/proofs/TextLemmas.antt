@@ -1,6 +1,6 @@
 -- Texts that are read one after the other.
 use Rattle.std.proofs.Common.{◌∙◌, ◌+◌, ℕ, List, Ok, Err, arith, refl}
-use Rattle.zh_world.specs.Files.{IsReadOfFiles}
+use Rattle.zh_world.specs.Files.{IsReadOfFiles, LeavesNoMore}
 use Rattle.zh_world.specs.declared.files.Files.{Ghosts as Files}
 use Rattle.zh_tasks.specs.Texts.{ReadsText, TextKind}
 use Rattle.zh_tasks.specs.World.{AreCalls, IsMetAt}
@@ -8,10 +8,11 @@ use Rattle.zh_tasks.specs.declared.fault.TaskFault.{TaskFault}
 
 module _ {F T D R : Type 0} (files : Files F T D R) where
   pub no_calls : (old : F) → AreCalls files 0 old old
-  no_calls old = record { counted = omega arith; texts = refl; disks = refl; stays = refl }
+  no_calls old = record { counted = omega arith; texts = refl; disks = refl; stays = refl; leaves = λ c here. here }
 
-  pub one_call : (old new : F) → IsReadOfFiles files.text_at files.disk_at files.places files.calls old new → AreCalls files 1 old new
-  one_call old new one = record { counted = one.counted; texts = one.texts; disks = one.disks; stays = one.stays }
+  pub one_call : (old new : F) → IsReadOfFiles files.text_at files.disk_at files.places files.calls old new → LeavesNoMore (files.left old) (files.left new)
+      → AreCalls files 1 old new
+  one_call old new one leaves = record { counted = one.counted; texts = one.texts; disks = one.disks; stays = one.stays; leaves = leaves }
 
   -- calls after calls
   pub calls_after : (n m : ℕ) (old mid new : F) → AreCalls files n old mid → AreCalls files m mid new → AreCalls files (n + m) old new
@@ -20,13 +21,14 @@ module _ {F T D R : Type 0} (files : Files F T D R) where
     texts = other.texts ∙ one.texts;
     disks = other.disks ∙ one.disks;
     stays = other.stays ∙ one.stays;
+    leaves = λ c here. one.leaves c (other.leaves c here);
   }
 
-  module _ {X : Type 0} (kind : TextKind X) (path : List ℕ) (old new : F) (one : IsReadOfFiles files.text_at files.disk_at files.places files.calls old new) where
+  module _ {X : Type 0} (kind : TextKind X) (path : List ℕ) (old new : F) (one : AreCalls files 1 old new) where
     -- a text was read
     pub gives : (x : X) → kind.Gives (files.text_at old path) x → ReadsText files kind path old new (Ok x)
-    gives x is = record { call = one_call old new one; read = is }
+    gives x is = record { call = one; read = is }
 
     -- it gave nothing
     pub lacks : (fault : TaskFault) → kind.Lacks (files.text_at old path) (IsMetAt files path old new) fault → ReadsText files kind path old new (Err fault)
-    lacks fault is = record { call = one_call old new one; read = is }
+    lacks fault is = record { call = one; read = is }

@@ -1,6 +1,7 @@
 -- The calls that were made of files before a task has its disk.
-use Rattle.std.proofs.Common.{◌≡◌, ◌∙◌, ℕ, List, Option, subst, sym, arith}
-use Rattle.zh_world.specs.Files.{IsCallOfFiles, IsReadOfFiles}
+use Rattle.std.proofs.Common.{◌≡◌, ◌∙◌, ℕ, List, Option, subst, sym, inl, inr, ⊎_elim, arith}
+use Rattle.std.specs.Prelude.{IfSome}
+use Rattle.zh_world.specs.Files.{IsCallOfFiles, LeavesNoMore, LeavesOf}
 use Rattle.zh_world.specs.Places.{TouchesOnly}
 use Rattle.zh_world.specs.Places.{IfKnown}
 use Rattle.zh_world.proofs.CallerLemmas.{after_stay}
@@ -10,11 +11,11 @@ use Rattle.zh_world.specs.declared.fault.FileFault.TheVariants as of_files
 use Rattle.zh_tasks.specs.OnDisk.{FoundAs, IsEarly}
 use Rattle.zh_world.specs.Causes.{IsFaultIn}
 use Rattle.zh_world.specs.Places.{Places}
-use Rattle.zh_tasks.specs.World.{AsksForDisk, IsMetAt}
+use Rattle.zh_tasks.specs.World.{AreCalls, AsksForDisk, IsMetAt}
 use Rattle.zh_tasks.specs.declared.fault.TaskFault.{TaskFault}
 
 -- a text, and then the disk at this path
-pub disk_after : {F T D R : Type 0} (files : Files F T D R) (path : List ℕ) (old mid new : F) → IsReadOfFiles files.text_at files.disk_at files.places files.calls old mid
+pub disk_after : {F T D R : Type 0} (files : Files F T D R) (path : List ℕ) (old mid new : F) → AreCalls files 1 old mid
     → IsCallOfFiles files.text_at files.disk_at files.calls mid new → IfKnown (TouchesOnly path) (files.places mid) (files.places new) → AsksForDisk files path old new
 disk_after files path old mid new one other touches = record {
   counted = omega (arith, one.counted, other.counted);
@@ -39,3 +40,14 @@ found_early text Met OfDisk of_files.Busy e is met = subst (IsEarly text Met OfD
 pub met_before : {F T D R : Type 0} (files : Files F T D R) (path : List ℕ) (old mid new : F) → files.places mid ≡ files.places old
     → (fault : FileFault) → IsMetAt files path mid new fault → IsMetAt files path old new fault
 met_before files path old mid new same fault met = (met.0, subst (λ (known : Option Places). IsFaultIn known path fault) same met.1)
+
+-- what a stop may leave stays so with a call before it that leaves no more
+pub leaves_after : {F : Type 0} (at : F → List ℕ → Option (List ℕ)) (left : F → List ℕ → Type 0) (IsLeft : List ℕ → List ℕ → Type 0) (old mid new : F) (path : List ℕ)
+    → at mid ≡ at old → LeavesNoMore (left old) (left mid) → LeavesOf IsLeft (at mid path) (left mid) (left new) → LeavesOf IsLeft (at old path) (left old) (left new)
+leaves_after at left IsLeft old mid new path same one by = λ c here. ⊎_elim
+    (λ was. inl (one c was))
+    (λ is. inr (subst (λ (f : List ℕ → Option (List ℕ)). IfSome (f path) (λ bytes. IsLeft bytes c)) same is))
+    (by c here)
+
+pub leaves_none : (IsLeft : List ℕ → List ℕ → Type 0) (known : Option (List ℕ)) (old new : List ℕ → Type 0) → LeavesNoMore old new → LeavesOf IsLeft known old new
+leaves_none IsLeft known old new one = λ c here. inl (one c here)

@@ -9,6 +9,7 @@ use Rattle.zh_setups.specs.declared.fault.SetupRefusal.{SetupRefusal}
 use Rattle.zh_world.specs.declared.fault.FileFault.{FileFault}
 use Rattle.zh_world.specs.declared.fault.FileFault.TheVariants as of_files
 use Rattle.zh_world.specs.declared.world.World.{World}
+use Rattle.zh_world.specs.Files.{LeavesOf}
 use Rattle.zh_world.specs.Places.{Touches}
 use Rattle.zh_tasks.specs.World.{AsksForDisk, IsMetAt, IsSetupAt, Sight}
 use Rattle.zh_world.specs.declared.world.Ended.{Ended}
@@ -69,6 +70,8 @@ module _ {I O E F T D R : Type 0} where
     pub rest : new ≡ record old { files = new.files }
     pub counted : sight.files.calls new.files ≤ sight.files.calls old.files + 2
     pub touches : Touches (Some paths.disk.now) (sight.files.places old.files) (sight.files.places new.files)
+    pub leaves : LeavesOf sight.IsLeft (sight.files.disk_at old.files paths.disk.now) (sight.files.left old.files)
+        (sight.files.left new.files)
 
   -- with this set-up and this disk, which were all that was opened before, this was done, and the disk was handed over with
   -- what was to be seen of it

@@ -7,6 +7,7 @@ use Rattle.zh_disk.specs.declared.disk.Disk.{Ghosts as Disks}
 use Rattle.zh_districts.specs.Canton.{Canton, IsCanton}
 use Rattle.zh_setups.specs.SetupText.{reading_of}
 use Rattle.zh_world.specs.Files as opened
+use Rattle.zh_world.specs.Files.{IsAsFound, IsFilling, LeavesNoMore}
 use Rattle.zh_world.specs.Causes.{IsFaultIn}
 use Rattle.zh_world.specs.Places.{Touches}
 use Rattle.zh_world.specs.declared.fault.FileFault.{FileFault}
@@ -70,20 +71,26 @@ UsedOf of = Used of.Input of.Output of.Disk of.Text
 abbrev pub EndOf : Known → Type 0
 EndOf of = Ended (Result (Unit {0}) TaskFault) (UsedOf of)
 
--- what is known of files, of a disk, and of how a disk begins that is opened where these bytes are
+-- what is known of files, of a disk, of how a disk begins that is opened where these bytes are, and of what a stop may leave there
+-- of one that is not
 pub record Sight (F T D R : Type 0) : Type 1 where
   pub files : Files F T D R
   pub disks : Disks D
   pub Begins : Option (List ℕ) → History → Type 0
+  pub IsLeft : List ℕ → List ℕ → Type 0
 
 -- how a disk begins, where a missing one is a fault, or is made
 abbrev pub BeginsAt : Missing → Option (List ℕ) → History → Type 0
 BeginsAt Fault = opened.Begins
 BeginsAt Made = opened.BeginsOrIsMade
 
+abbrev pub LeftAt : Missing → List ℕ → List ℕ → Type 0
+LeftAt Fault = IsAsFound
+LeftAt Made = IsFilling
+
 module _ {F T D R : Type 0} where
   abbrev pub sight : Missing → Files F T D R → Disks D → Sight F T D R
-  sight missing files disks = record { files = files; disks = disks; Begins = BeginsAt missing }
+  sight missing files disks = record { files = files; disks = disks; Begins = BeginsAt missing; IsLeft = LeftAt missing }
 
   -- the sight of a disk that there is
   abbrev pub finding : Files F T D R → Disks D → Sight F T D R
@@ -99,6 +106,7 @@ module _ {F T D R : Type 0} where
     pub texts : files.text_at new ≡ files.text_at old
     pub disks : files.disk_at new ≡ files.disk_at old
     pub stays : files.places new ≡ files.places old
+    pub leaves : LeavesNoMore (files.left old) (files.left new)
 
   -- the last call met this fault, which is right about what stood at this path before
   abbrev pub IsMetAt : Files F T D R → List ℕ → F → F → FileFault → Type 0

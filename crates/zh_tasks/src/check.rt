@@ -2,9 +2,8 @@
 
 ghost use Rattle.std.specs.Prelude.{◌≡◌, IfErr, IfOk, option_map};
 ghost use Rattle.std.specs.Option.{option_copied};
-ghost use Rattle.zh_world.specs.Files.{IsReadOfFiles};
 ghost use Rattle.zh_tasks.specs.Check.{Answers, AreSumsAt, Checked, HeldFaultAs, IsOfHeld, IsSheetAt, LacksSheetFile, ReadsHeld};
-ghost use Rattle.zh_tasks.specs.World.{IsMetAt, known};
+ghost use Rattle.zh_tasks.specs.World.{AreCalls, IsMetAt, known};
 
 use crate::fault::TaskFault;
 use crate::file::TaskFile;
@@ -25,7 +24,7 @@ pub(crate) fn sheet_at<F: Files>(
     files: &mut F,
     path: &str,
 ) -> Result<Vec<u8>, TaskFault>
-    ensures call { IsReadOfFiles F.text_at F.disk_at F.places F.calls files.old files.new }
+    ensures call { AreCalls F.Files 1 files.old files.new }
     ensures sheet { IfOk result (λ text. IsSheetAt (F.text_at files.old path.now) text.items) }
     ensures fault { IfErr result (LacksSheetFile (IsMetAt F.Files path.now files.old files.new)) }
 {
@@ -56,7 +55,7 @@ fn held_at<'s, F: Files>(
     setup: &'s Setup,
     path: &str,
 ) -> Result<HeldSums<'s>, TaskFault>
-    ensures call { IsReadOfFiles F.text_at F.disk_at F.places F.calls files.old files.new }
+    ensures call { AreCalls F.Files 1 files.old files.new }
     ensures sums { IfOk result (AreSumsAt (F.text_at files.old path.now) setup.now) }
     ensures fault { IfErr result (IsOfHeld (F.text_at files.old path.now) setup.now (IsMetAt F.Files path.now files.old files.new)) }
 {

@@ -7,12 +7,11 @@ ghost use Rattle.zh_csv.specs.Noted.{has_failed, inner_reader};
 ghost use Rattle.zh_film.specs.Frames.{frames};
 ghost use Rattle.zh_film.specs.Scenes.{scenes};
 ghost use Rattle.zh_ledger.specs.Submissions.{on_disk};
-ghost use Rattle.zh_world.specs.Files.{IsReadOfFiles};
 ghost use Rattle.zh_tasks.specs.Load.{HasBegun, HasLoaded, IsUnreadable, LoadsText, WritesPart};
 ghost use Rattle.zh_tasks.specs.Load.{given_text, printed};
 ghost use Rattle.zh_tasks.specs.Opened.{IsThis, LeavesDisk};
 ghost use Rattle.zh_tasks.specs.Run.{streams};
-ghost use Rattle.zh_tasks.specs.World.{IsMetAt, known};
+ghost use Rattle.zh_tasks.specs.World.{AreCalls, IsMetAt, known};
 
 use crate::fault::TaskFault;
 use crate::file::TaskFile;
@@ -34,7 +33,7 @@ pub(crate) fn text_at<F: Files>(
     files: &mut F,
     path: &str,
 ) -> Result<BufReader<FusedReader<F::Text>>, TaskFault>
-    ensures call { IsReadOfFiles F.text_at F.disk_at F.places F.calls files.old files.new }
+    ensures call { AreCalls F.Files 1 files.old files.new }
     ensures text { IfOk result (λ text. Keeps (F.text_at files.old path.now) (⟦<BufReader<FusedReader<F::Text>> as Read>⟧.remaining text)) }
     ensures begun { IfOk result (λ text. HasBegun (F.text_at files.old path.now) (reader_buffer text)) }
     ensures fault { IfErr result (IsUnreadable (IsMetAt F.Files path.now files.old files.new)) }

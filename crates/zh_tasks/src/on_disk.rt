@@ -3,10 +3,10 @@
 ghost use Rattle.std.specs.Prelude.{◌≤◌, ◌+◌, IfErr, IfOk, Result, Some};
 ghost use Rattle.zh_districts.specs.Canton.{Canton};
 ghost use Rattle.zh_world.specs.Causes.{EndsAt};
-ghost use Rattle.zh_world.specs.Files.{IsCallOfFiles};
+ghost use Rattle.zh_world.specs.Files.{IsCallOfFiles, LeavesOf};
 ghost use Rattle.zh_world.specs.Places.{IfKnown, Touches, TouchesOnly};
 ghost use Rattle.zh_tasks.specs.OnDisk.{Began, IsEarly, UsesDisk, UsesFilm};
-ghost use Rattle.zh_tasks.specs.World.{BeginsAt, IsMetAt, finding, sight};
+ghost use Rattle.zh_tasks.specs.World.{BeginsAt, IsMetAt, LeftAt, finding, sight};
 ghost use Rattle.zh_tasks.specs.declared.fault.TaskFault.{TaskFault};
 
 use crate::fault::TaskFault;
@@ -62,6 +62,7 @@ fn disk_at<F: Files>(
     ensures call { IsCallOfFiles F.text_at F.disk_at F.calls files.old files.new }
     ensures touches { IfKnown (TouchesOnly path.now) (F.places files.old) (F.places files.new) }
     ensures ends { EndsAt (F.places files.old) path.now (F.fault files.new) result }
+    ensures leaves { LeavesOf (LeftAt missing) (F.disk_at files.old path.now) (F.left files.old) (F.left files.new) }
     ensures begins { IfOk result (λ disk. BeginsAt missing (F.disk_at files.old path.now) (F.Disk.history disk)) }
 {
     match missing {
@@ -81,6 +82,7 @@ fn begin<F: Files>(
     ensures began { IfOk result (Began (sight missing F.Files F.Disk.Disk) paths.entry files.old files.new) }
     ensures counted { F.calls files.new ≤ F.calls files.old + 2 }
     ensures touches { Touches (Some paths.entry.disk.now) (F.places files.old) (F.places files.new) }
+    ensures leaves { LeavesOf (LeftAt missing) (F.disk_at files.old paths.entry.disk.now) (F.left files.old) (F.left files.new) }
     ensures early { IfErr result (IsEarly (F.text_at files.old paths.entry.setup.now)
         (IsMetAt F.Files paths.entry.setup.now files.old files.new) (IsMetAt F.Files paths.entry.disk.now files.old files.new)) }
 {

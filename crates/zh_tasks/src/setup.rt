@@ -1,9 +1,8 @@
 //! The set-up of a task.
 
 ghost use Rattle.std.specs.Prelude.{IfErr, IfOk};
-ghost use Rattle.zh_world.specs.Files.{IsReadOfFiles};
 ghost use Rattle.zh_tasks.specs.OnDisk.{IsOfSetup};
-ghost use Rattle.zh_tasks.specs.World.{IsFrontAt, IsMetAt, IsSetupAt};
+ghost use Rattle.zh_tasks.specs.World.{AreCalls, IsFrontAt, IsMetAt, IsSetupAt};
 
 use crate::fault::TaskFault;
 use crate::file::TaskFile;
@@ -18,7 +17,7 @@ const LONGEST_READ: u64 = 1_048_577;
 
 /// The front of the text at this path.
 fn front_of_text<F: Files>(alloc: Global, files: &mut F, path: &str) -> Result<Vec<u8>, TaskFault>
-    ensures call { IsReadOfFiles F.text_at F.disk_at F.places F.calls files.old files.new }
+    ensures call { AreCalls F.Files 1 files.old files.new }
     ensures front { IfOk result (λ text. IsFrontAt (F.text_at files.old path.now) text.items) }
     ensures fault { IfErr result (IsOfSetup (F.text_at files.old path.now) (IsMetAt F.Files path.now files.old files.new)) }
 {
@@ -41,7 +40,7 @@ pub(crate) fn setup_at<F: Files>(
     files: &mut F,
     path: &str,
 ) -> Result<Setup, TaskFault>
-    ensures call { IsReadOfFiles F.text_at F.disk_at F.places F.calls files.old files.new }
+    ensures call { AreCalls F.Files 1 files.old files.new }
     ensures setup { IfOk result (IsSetupAt (F.text_at files.old path.now)) }
     ensures fault { IfErr result (IsOfSetup (F.text_at files.old path.now) (IsMetAt F.Files path.now files.old files.new)) }
 {

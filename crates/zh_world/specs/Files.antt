@@ -1,6 +1,6 @@
 -- What is known of a file by its path.
-use Rattle.std.specs.Prelude.{◌≡◌, ◌+◌, ℕ, List, [], Option, IfSome, IsTrue}
-use Rattle.zh_disk.specs.Disk.{Trail, fresh_trail}
+use Rattle.std.specs.Prelude.{◌≡◌, ◌≤◌, ◌+◌, ◌⊎◌, ℕ, List, [], length, Option, IfSome, IsTrue}
+use Rattle.zh_disk.specs.Disk.{Trail, disk_length, fresh_trail}
 use Rattle.zh_disk.specs.History.{History}
 use Rattle.zh_disk.specs.Memory.{IsNewDisk}
 use Rattle.zh_world.specs.Places.{Places}
@@ -33,3 +33,20 @@ BeginsWith bytes begun = begun ≡ fresh_trail bytes
 pub record BeginsOrIsMade (known : Option (List ℕ)) (first : History) : Type 0 where
   pub trail : IsTrue first.honest → IfSome known (λ bytes. BeginsWith bytes first.trail)
   pub failures : first.failures ≡ 0
+
+-- What a stop may leave of a file that had these bytes, where a disk is made of an empty one: them, or of an empty one at most
+-- as many bytes as a disk has.
+abbrev pub IsFilling : List ℕ → List ℕ → Type 0
+IsFilling found c = (c ≡ found) ⊎ ((found ≡ []) × (length c ≤ disk_length))
+
+-- nothing else may be left than before
+abbrev pub LeavesNoMore : (List ℕ → Type 0) → (List ℕ → Type 0) → Type 0
+LeavesNoMore old new = (c : List ℕ) → new c → old c
+
+-- or this, of the bytes that were found, where they are known
+abbrev pub LeavesOf : (List ℕ → List ℕ → Type 0) → Option (List ℕ) → (List ℕ → Type 0) → (List ℕ → Type 0) → Type 0
+LeavesOf IsLeft found old new = (c : List ℕ) → new c → old c ⊎ IfSome found (λ bytes. IsLeft bytes c)
+
+-- the bytes that were found
+abbrev pub IsAsFound : List ℕ → List ℕ → Type 0
+IsAsFound found c = c ≡ found

@@ -36,3 +36,7 @@ places files = Some (record {
 -- how the last call failed
 abbrev pub last_fault : {R : Type 0} → MemoryFiles R → Option FileFault
 last_fault files = files.fault
+
+-- of no disk anything is left: it is copied where it is opened
+abbrev pub left_of : {R : Type 0} → MemoryFiles R → List ℕ → Type 0
+left_of files c = ⊥

@@ -1,7 +1,7 @@
 //! The files that the program is given by name.
 ghost use Rattle.std.specs.Prelude.{◌≡◌, ℕ, List, Option, IfOk};
 ghost use Rattle.zh_world.specs.Causes.{EndsAt};
-ghost use Rattle.zh_world.specs.Files.{Begins, BeginsOrIsMade, IsCallOfFiles, IsReadOfFiles};
+ghost use Rattle.zh_world.specs.Files.{Begins, BeginsOrIsMade, IsAsFound, IsCallOfFiles, IsFilling, IsReadOfFiles, LeavesNoMore, LeavesOf};
 ghost use Rattle.zh_world.specs.Places.{IfKnown, Places, TouchesOnly};
 
 use crate::fault::FileFault;
@@ -28,6 +28,10 @@ pub trait Files {
     /// What stands where, if it is known: as it was found or left, apart from what is written through the disks that were opened.
     ghost places: { Self → Option Places };
 
+    /// What a stop may have left of a disk's file that was opened and is no disk, at any moment since its lock, as far as all of
+    /// its answers were right.
+    ghost left: { Self → List ℕ → Type 0 };
+
     /// How many calls were made.
     ghost calls: { Self → ℕ };
 
@@ -37,6 +41,7 @@ pub trait Files {
     /// The text at this path, from its first byte.
     fn text(&mut self, path: &str) -> Result<Self::Text, FileFault>
         ensures call { IsReadOfFiles text_at disk_at places calls self.old self.new }
+        ensures leaves { LeavesNoMore (left self.old) (left self.new) }
         ensures ends { EndsAt (places self.old) path.now (fault self.new) result }
         ensures bytes { IfOk result (λ text. Self.Text.remaining text ≡ text_at self.old path.now) };
 
@@ -44,6 +49,7 @@ pub trait Files {
     fn disk(&mut self, right: Self::Right, path: &str) -> Result<Self::Disk, FileFault>
         ensures call { IsCallOfFiles text_at disk_at calls self.old self.new }
         ensures touches { IfKnown (TouchesOnly path.now) (places self.old) (places self.new) }
+        ensures leaves { LeavesOf IsAsFound (disk_at self.old path.now) (left self.old) (left self.new) }
         ensures ends { EndsAt (places self.old) path.now (fault self.new) result }
         ensures begins { IfOk result (λ disk. Begins (disk_at self.old path.now) (Self.Disk.history disk)) };
 
@@ -51,6 +57,7 @@ pub trait Files {
     fn disk_or_make(&mut self, right: Self::Right, path: &str) -> Result<Self::Disk, FileFault>
         ensures call { IsCallOfFiles text_at disk_at calls self.old self.new }
         ensures touches { IfKnown (TouchesOnly path.now) (places self.old) (places self.new) }
+        ensures leaves { LeavesOf IsFilling (disk_at self.old path.now) (left self.old) (left self.new) }
         ensures ends { EndsAt (places self.old) path.now (fault self.new) result }
         ensures begins { IfOk result (λ disk. BeginsOrIsMade (disk_at self.old path.now) (Self.Disk.history disk)) };
 }

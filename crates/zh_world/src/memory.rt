@@ -4,7 +4,7 @@ ghost use Rattle.zh_disk.specs.Disk.{disk_length, fresh_trail};
 ghost use Rattle.zh_disk.specs.Failing.{IsFailing, calls_left, failing_history, inside};
 ghost use Rattle.zh_disk.specs.Memory.{IsNewDisk, memory_history, memory_trail};
 ghost use Rattle.zh_world.specs.Count.{number};
-ghost use Rattle.zh_world.specs.Files.{Begins, BeginsOrIsMade, IsCallOfFiles, IsReadOfFiles};
+ghost use Rattle.zh_world.specs.Files.{Begins, BeginsOrIsMade, IsAsFound, IsCallOfFiles, IsFilling, IsReadOfFiles, LeavesOf};
 ghost use Rattle.zh_world.specs.Memory.{bytes_at, cause_beside, IsDiskFault, IsImageFault, IsMakingFault, IsTextFault};
 
 use crate::count::CallCount;
@@ -219,7 +219,7 @@ impl<'a, R: Drop> Files for MemoryFiles<'a, R> {
     type Right = R;
 
     ghost use Rattle.zh_world.specs.Causes.{EndsAt};
-    ghost use Rattle.zh_world.specs.MemoryFiles.{text_at, disk_at, calls_made, last_fault, places};
+    ghost use Rattle.zh_world.specs.MemoryFiles.{text_at, disk_at, calls_made, last_fault, left_of, places};
     ghost use Rattle.zh_world.specs.Places.{IfKnown, TouchesOnly};
 
     ghost text_at = { text_at };
@@ -227,6 +227,8 @@ impl<'a, R: Drop> Files for MemoryFiles<'a, R> {
     ghost disk_at = { disk_at };
 
     ghost places = { places };
+
+    ghost left = { left_of };
 
     ghost calls = { calls_made };
 
@@ -247,6 +249,7 @@ impl<'a, R: Drop> Files for MemoryFiles<'a, R> {
     fn disk(&mut self, _right: R, path: &str) -> Result<FailingDisk<MemoryDisk>, FileFault>
         ensures call { IsCallOfFiles text_at disk_at calls_made self.old self.new }
         ensures touches { IfKnown (TouchesOnly path.now) (places self.old) (places self.new) }
+        ensures leaves { LeavesOf IsAsFound (disk_at self.old path.now) (left_of self.old) (left_of self.new) }
         ensures ends { EndsAt (places self.old) path.now (last_fault self.new) result }
         ensures begins { IfOk result (λ disk. Begins (disk_at self.old path.now) (failing_history memory_history disk)) }
         ensures left { IfOk result (λ disk. calls_left disk ≡ Some self.old.disk_calls) }
@@ -260,6 +263,7 @@ impl<'a, R: Drop> Files for MemoryFiles<'a, R> {
     fn disk_or_make(&mut self, _right: R, path: &str) -> Result<FailingDisk<MemoryDisk>, FileFault>
         ensures call { IsCallOfFiles text_at disk_at calls_made self.old self.new }
         ensures touches { IfKnown (TouchesOnly path.now) (places self.old) (places self.new) }
+        ensures leaves { LeavesOf IsFilling (disk_at self.old path.now) (left_of self.old) (left_of self.new) }
         ensures ends { EndsAt (places self.old) path.now (last_fault self.new) result }
         ensures begins { IfOk result (λ disk. BeginsOrIsMade (disk_at self.old path.now) (failing_history memory_history disk)) }
         ensures left { IfOk result (λ disk. calls_left disk ≡ Some self.old.disk_calls) }

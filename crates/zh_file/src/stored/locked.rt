@@ -1,77 +1,88 @@
 //! The file of a disk, from its lock on until it is a disk.
-ghost use Rattle.std.specs.Prelude.{◌≡◌, ◌⊎◌, ◌<◌, ℕ, List, [], length, false, IfErr, IfOk, IsTrue};
-ghost use Rattle.sqlite_disk.specs.Disk.{Only};
+ghost use Rattle.std.specs.Prelude.{◌≡◌, ◌<◌, ◌∷◌, [], length, false, is_ok, IfOk, IsTrue, OnOk};
+ghost use Rattle.sqlite_disk.specs.Disk.{Cut, Holds, Only, Torn};
 ghost use Rattle.zh_disk.specs.Disk.{disk_length, fresh_trail};
-ghost use Rattle.zh_file.specs.Held.{IsZeroed};
-ghost use Rattle.zh_file.specs.Steps.{IsSetBack, IsUnfit, IsUnstarted};
+ghost use Rattle.zh_file.specs.Past.{items};
 
 use super::{HeldFile, Stored};
-use crate::fault::fault_of_found;
 use crate::past::Past;
 use crate::ranges::Ranges;
-use crate::zeros::take_space;
 use sqlite_disk::Disk as File;
 use std::io;
-use zh_disk::DISK_LENGTH;
-use zh_world::{FileCause, FileFault};
+use std::snapshot::Snapshot;
 
-/// A file that is locked. Whatever comes of its calls, it keeps what it has: it is written to only where it has nothing.
+/// A file that is locked. It notes what it was before each of its calls, which only clauses read. Nothing else reaches it: code
+/// over any folder can neither drop one nor take its file out.
 #[derive(Drop)]
 pub struct Locked<D: File> {
     file: D,
+    before: Past<D>,
 }
 
 impl<D: File> Locked<D> {
-    ghost use Rattle.zh_file.specs.Stored.{stored_history, is_over};
+    ghost use Rattle.zh_file.specs.Locked.{IsNotedCall, Stays, moments};
+    ghost use Rattle.zh_file.specs.Stored.{opening_moments, stored_history, is_over};
 
     /// This file, as it is.
     pub fn new(file: D) -> Locked<D>
-        ensures { result.file ≡ file }
+        ensures file { result.file ≡ file }
+        ensures begun { items result.before ≡ [] }
     {
-        Locked { file }
+        Locked {
+            file,
+            before: Past::new(),
+        }
     }
 
-    /// Whether it has the length of a disk, as it had when it was locked.
-    pub(crate) fn measure(&mut self) -> Result<(), FileFault>
+    /// Whether it may still be asked for anything: not after a sync that failed.
+    pub(crate) fn may_be_used(&self) -> bool
+        ensures { result ≡ D.is_usable self.now.file }
+    {
+        self.file.may_be_used()
+    }
+
+    /// Its length.
+    pub(crate) fn len(&mut self) -> io::Result<usize>
         requires { IsTrue (D.is_usable self.old.file) }
-        ensures kept { IsTrue (D.is_clean self.new.file) → IsTrue (D.is_clean self.old.file) }
-        ensures same { D.seen self.new.file ≡ D.seen self.old.file }
+        ensures call { IsNotedCall D.Disk Stays result self.old self.new }
+        ensures told { IfOk result (λ n. IsTrue (D.is_clean self.new.file) → n ≡ length (D.seen self.old.file)) }
         ensures usable { IsTrue (D.is_usable self.new.file) }
-        ensures unfailed { IfOk result (λ _. D.faults self.new.file ≡ D.faults self.old.file) }
-        ensures leaves { (c : List ℕ) → D.may_leave self.new.file c → D.may_leave self.old.file c }
-        ensures long { IfOk result (λ _. IsTrue (D.is_clean self.new.file) → length (D.seen self.new.file) ≡ disk_length) }
-        ensures fault { IfErr result (IsUnstarted (IsUnfit D.is_clean D.faults D.seen self.old.file)) }
     {
-        if self.file.len().map_err(fault_of_found)? as u64 != DISK_LENGTH {
-            return Err(FileFault::Device(FileCause::Failed));
-        }
-        Ok(())
+        self.before.push(Snapshot::of(&self.file));
+        self.file.len()
     }
 
-    /// Fills it with zeros if it is empty. Where that fails it is set back, so that it can be filled another time: unless the sync
-    /// failed, after which nothing is asked of a file.
-    pub(crate) fn fill(&mut self) -> io::Result<()>
-        requires usable { IsTrue (D.is_usable self.old.file) }
-        requires synced { Only (D.seen self.old.file) (D.may_leave self.old.file) }
-        ensures kept { IsTrue (D.is_clean self.new.file) → IsTrue (D.is_clean self.old.file) }
-        ensures same { IsTrue (D.is_clean self.new.file) → (D.seen self.old.file ≡ []) ⊎ (D.seen self.new.file ≡ D.seen self.old.file) }
-        ensures usable { IfOk result (λ _. IsTrue (D.is_usable self.new.file)) }
-        ensures unfailed { IfOk result (λ _. D.faults self.new.file ≡ D.faults self.old.file) }
-        ensures failed { IfErr result (λ _. D.faults self.old.file ≡ 0 → 0 < D.faults self.new.file) }
-        ensures synced { IfOk result (λ _. Only (D.seen self.new.file) (D.may_leave self.new.file)) }
-        ensures zeroed { IfOk result (λ _. IsTrue (D.is_clean self.new.file) → D.seen self.old.file ≡ []
-            → IsZeroed (D.seen self.new.file)) }
-        ensures set_back { IfErr result (λ _. IsTrue (D.is_clean self.new.file)
-            → IsSetBack D.seen D.is_usable D.faults self.old.file self.new.file) }
+    /// Gives it this length.
+    pub(crate) fn set_len(&mut self, n: usize) -> io::Result<()>
+        requires { IsTrue (D.is_usable self.old.file) }
+        ensures call { IsNotedCall D.Disk (Cut n) result self.old self.new }
+        ensures long { OnOk result (length (D.seen self.new.file) ≡ n) }
+        ensures usable { IsTrue (D.is_usable self.new.file) }
     {
-        if self.file.len()? != 0 {
-            return Ok(());
-        }
-        let taken = take_space(&mut self.file);
-        if taken.is_err() && self.file.may_be_used() {
-            let _also_failed = self.file.set_len(0);
-        }
-        taken
+        self.before.push(Snapshot::of(&self.file));
+        self.file.set_len(n)
+    }
+
+    /// Writes these bytes at this place.
+    pub(crate) fn write_at(&mut self, at: usize, bytes: &[u8]) -> io::Result<()>
+        requires { IsTrue (D.is_usable self.old.file) }
+        ensures call { IsNotedCall D.Disk (Torn at (length bytes.now)) result self.old self.new }
+        ensures written { OnOk result (0 < length bytes.now → Holds (D.seen self.new.file) at bytes.now) }
+        ensures usable { IsTrue (D.is_usable self.new.file) }
+    {
+        self.before.push(Snapshot::of(&self.file));
+        self.file.write_at(at, bytes)
+    }
+
+    /// Syncs it.
+    pub(crate) fn sync(&mut self) -> io::Result<()>
+        requires { IsTrue (D.is_usable self.old.file) }
+        ensures call { IsNotedCall D.Disk Stays result self.old self.new }
+        ensures durable { OnOk result (Only (D.seen self.old.file) (D.may_leave self.new.file)) }
+        ensures usable { D.is_usable self.new.file ≡ is_ok result }
+    {
+        self.before.push(Snapshot::of(&self.file));
+        self.file.sync()
     }
 
     /// The disk that it holds, as it was synced.
@@ -83,12 +94,19 @@ impl<D: File> Locked<D> {
         ensures begins { (stored_history result).trail ≡ fresh_trail (D.seen self.file) }
         ensures failures { (stored_history result).failures ≡ D.faults self.file }
         ensures whole { is_over result ≡ false }
+        ensures opening { opening_moments result ≡ moments self }
     {
+        let Locked {
+            file,
+            before: mut opening,
+        } = self;
+        opening.push(Snapshot::of(&file));
         Stored {
             held: HeldFile {
-                file: self.file,
+                file,
                 written: Ranges::new(),
             },
+            opening,
             before: Past::new(),
             is_over: false,
             refusals: 0,

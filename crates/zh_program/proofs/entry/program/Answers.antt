@@ -3,7 +3,7 @@ use Rattle.zh_tasks.specs.World.{known}
 use Rattle.zh_program.proofs.EndingLemmas.{fails, met_fault, was_done}
 use Rattle.zh_program.proofs.PromiseLemmas.{promise_of}
 use Rattle.zh_program.proofs.RehearsalLemmas.{rehearsed_of}
-use Rattle.zh_program.proofs.TouchLemmas.{touched_after}
+use Rattle.zh_program.proofs.TouchLemmas.{left_after, touched_after}
 use Rattle.zh_program.proofs.entry.program.Goals as goal
 
 pub returns-in-Ok-clause-done : goal.returns-in-Ok-clause-done
@@ -49,7 +49,7 @@ returns-in-Ok-clause-touches g c =
     let task = c.in-Ok.task in
     let after = c.carry_out-result.new.world in
     let touched = touched_after of task c.args.world.now after c.end.new.world c.carry_out-result.result c.carry_out-result.ensures c.end.ensures.rest in
-    inr (task, c.in-Ok.ensures, touched)
+    inr (task, c.in-Ok.ensures, touched, left_after of task c.args.world.now after c.end.new.world c.carry_out-result.result c.carry_out-result.ensures c.end.ensures.rest)
 
 pub returns-in-Err-clause-touches : goal.returns-in-Err-clause-touches
 returns-in-Err-clause-touches g c = inl (ap (λ w. w.files) c.refuse.ensures.rest)

@@ -5,7 +5,7 @@ use Rattle.zh_checks.specs.Checks.{Inputs}
 use Rattle.zh_tasks.specs.Check.{a_sheet}
 use Rattle.zh_tasks.specs.Texts.{a_setup}
 use Rattle.zh_tasks.proofs.CheckLemmas.{held_calls}
-use Rattle.zh_tasks.proofs.TextLemmas.{calls_after, gives, lacks, one_call}
+use Rattle.zh_tasks.proofs.TextLemmas.{calls_after, gives, lacks}
 use Rattle.zh_tasks.proofs.check.check_files.Goals as goal
 
 pub returns-in_err-setup : goal.returns-in_err-setup
@@ -15,7 +15,7 @@ returns-in_err-setup g c =
     rw is (record {
       files = c.setup_at.new.files;
       rest = refl;
-      calls = (1, lit≤ tt, one_call g.F.Files _ _ call);
+      calls = (1, lit≤ tt, call);
       done = inl (inl (lacks g.F.Files a_setup c.args.paths.setup.now _ _ call c.in_err-setup.field-0.0 c.in_err-setup.ensures.fault), refl);
     })
 
@@ -29,7 +29,7 @@ returns-in_err-sheet g c =
     rw is (record {
       files = c.sheet_at.new.files;
       rest = refl;
-      calls = (2, lit≤ tt, calls_after g.F.Files 1 1 _ _ _ (one_call g.F.Files _ _ first) (one_call g.F.Files _ _ second));
+      calls = (2, lit≤ tt, calls_after g.F.Files 1 1 _ _ _ first second);
       done = inl (inr (c.setup_at.new.files, c.in_ok-setup.setup, setup, inl none), refl);
     })
 
@@ -45,7 +45,7 @@ returns-in_err-held g c =
     rw is (record {
       files = c.held_if_named.new.files;
       rest = refl;
-      calls = (2 + third.0, omega (arith, third.1), calls_after g.F.Files 2 third.0 _ _ _ (calls_after g.F.Files 1 1 _ _ _ (one_call g.F.Files _ _ first) (one_call g.F.Files _ _ second)) third.2);
+      calls = (2 + third.0, omega (arith, third.1), calls_after g.F.Files 2 third.0 _ _ _ (calls_after g.F.Files 1 1 _ _ _ first second) third.2);
       done = inl (inr (c.setup_at.new.files, c.in_ok-setup.setup, setup, inr (c.sheet_at.new.files, c.in_ok-sheet.sheet.items, sheet, inl none)), refl);
     })
 
@@ -65,7 +65,7 @@ returns g c =
     record {
       files = c.held_if_named.new.files;
       rest = refl;
-      calls = (2 + third.0, omega (arith, third.1), calls_after g.F.Files 2 third.0 _ _ _ (calls_after g.F.Files 1 1 _ _ _ (one_call g.F.Files _ _ first) (one_call g.F.Files _ _ second)) third.2);
+      calls = (2 + third.0, omega (arith, third.1), calls_after g.F.Files 2 third.0 _ _ _ (calls_after g.F.Files 1 1 _ _ _ first second) third.2);
       done = inr (
         inputs,
         (c.setup_at.new.files, canton, setup, (c.sheet_at.new.files, bytes, sheet, (c.held_if_named.new.files, sums, held, (refl, refl)))),

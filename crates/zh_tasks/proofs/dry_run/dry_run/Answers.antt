@@ -8,7 +8,6 @@ use Rattle.zh_tasks.specs.Fused.{fused_inner}
 use Rattle.zh_tasks.specs.World.{IsMetAt}
 use Rattle.zh_tasks.proofs.DryRunLemmas.{runs_calm, runs_met, unread_runs}
 use Rattle.zh_tasks.proofs.LoadLemmas.{kept_itself}
-use Rattle.zh_tasks.proofs.TextLemmas.{one_call}
 use Rattle.zh_tasks.proofs.dry_run.dry_run.Goals as goal
 
 pub returns-in_err-text : goal.returns-in_err-text
@@ -22,7 +21,7 @@ returns-in_err-text g c =
     let none = nothing_judged tally (λ bytes. text ≡ Some bytes) w in
     let runs = unread_runs Met Judged c.in_err-text.field-0.0 c.in_err-text.ensures.fault none none in
     rw is (record {
-      done = record { rest = refl; call = one_call g.F.Files _ _ c.text_at.ensures.call; text = text; read = kept_itself _; judged = runs };
+      done = record { rest = refl; call = c.text_at.ensures.call; text = text; read = kept_itself _; judged = runs };
       stays = c.text_at.ensures.call.stays;
       fault = runs_calm Met Judged (Err c.in_err-text.field-0.0) runs;
     })
@@ -39,7 +38,7 @@ returns g c =
     let judged = subst (λ (text : Option (List ℕ)). DryRuns (λ met. ⊥) (Judged text) c.judge_text.result) given c.judge_text.ensures.runs in
     let runs = runs_met Met (Judged (left c.in_ok-text.text)) c.judge_text.result judged in
     record {
-      done = record { rest = refl; call = one_call g.F.Files _ _ c.text_at.ensures.call; text = left c.in_ok-text.text; read = c.in_ok-text.ensures.text; judged = runs };
+      done = record { rest = refl; call = c.text_at.ensures.call; text = left c.in_ok-text.text; read = c.in_ok-text.ensures.text; judged = runs };
       stays = c.text_at.ensures.call.stays;
       fault = runs_calm Met (Judged (left c.in_ok-text.text)) c.judge_text.result runs;
     }

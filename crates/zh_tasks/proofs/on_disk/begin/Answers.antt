@@ -1,10 +1,10 @@
 use Rattle.std.proofs.lemmas.Result.{err_from_is_err_and}
-use Rattle.zh_tasks.specs.World.{BeginsAt, IsMetAt}
+use Rattle.zh_tasks.specs.World.{BeginsAt, IsMetAt, LeftAt}
 use Rattle.std.proofs.Common.{rules, ◌≡◌, Err, List, ℕ, Option}
 use Rattle.zh_world.specs.Places.{TouchesOnly}
 use Rattle.zh_world.proofs.CallerLemmas.{after_stay, stays_untouched}
 use Rattle.zh_tasks.proofs.SetupLemmas.{is_early}
-use Rattle.zh_tasks.proofs.WorldLemmas.{disk_after, found_early, known_before, met_before}
+use Rattle.zh_tasks.proofs.WorldLemmas.{disk_after, found_early, known_before, leaves_after, leaves_none, met_before}
 use Rattle.zh_tasks.proofs.on_disk.begin.Goals as goal
 
 pub returns-clause-began : goal.returns-clause-began
@@ -45,3 +45,15 @@ pub returns-clause-touches : goal.returns-clause-touches
 returns-clause-touches g c =
     let at = g.F.Files.places in
     after_stay (TouchesOnly c.args.paths.disk.now) (at c.args.files.now) (at c.setup_at.new.files) (at c.disk_at.new.files) c.setup_at.ensures.call.stays c.disk_at.ensures.touches
+
+pub returns-in_err-disk-clause-leaves : goal.returns-in_err-disk-clause-leaves
+returns-in_err-disk-clause-leaves g c = leaves_after g.F.Files.disk_at g.F.Files.left (LeftAt c.args.missing) c.args.files.now c.setup_at.new.files c.disk_at.new.files c.args.paths.disk.now
+    c.setup_at.ensures.call.disks c.setup_at.ensures.call.leaves c.disk_at.ensures.leaves
+
+pub returns-clause-leaves : goal.returns-clause-leaves
+returns-clause-leaves g c = leaves_after g.F.Files.disk_at g.F.Files.left (LeftAt c.args.missing) c.args.files.now c.setup_at.new.files c.disk_at.new.files c.args.paths.disk.now
+    c.setup_at.ensures.call.disks c.setup_at.ensures.call.leaves c.disk_at.ensures.leaves
+
+pub returns-in_err-setup-clause-leaves : goal.returns-in_err-setup-clause-leaves
+returns-in_err-setup-clause-leaves g c = leaves_none (LeftAt c.args.missing) (g.F.Files.disk_at c.args.files.now c.args.paths.disk.now) (g.F.Files.left c.args.files.now)
+    (g.F.Files.left c.setup_at.new.files) c.setup_at.ensures.call.leaves

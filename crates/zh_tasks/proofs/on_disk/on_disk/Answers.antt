@@ -20,4 +20,5 @@ returns-in-Err g c = inl (record {
   rest = refl;
   counted = c.begin.ensures.counted;
   touches = c.begin.ensures.touches;
+  leaves = c.begin.ensures.leaves;
 })

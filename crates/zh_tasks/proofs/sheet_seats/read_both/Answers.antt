@@ -1,17 +1,17 @@
 use Rattle.std.proofs.Common.{◌≡◌, Err, inl, inr, lit≤, refl, rules}
 use Rattle.zh_tasks.specs.Check.{a_sheet}
 use Rattle.zh_tasks.specs.Texts.{a_setup}
-use Rattle.zh_tasks.proofs.TextLemmas.{calls_after, gives, lacks, one_call}
+use Rattle.zh_tasks.proofs.TextLemmas.{calls_after, gives, lacks}
 use Rattle.zh_tasks.proofs.sheet_seats.read_both.Goals as goal
 
 pub returns-in_err-setup-clause-calls : goal.returns-in_err-setup-clause-calls
-returns-in_err-setup-clause-calls g c = (1, lit≤ tt, one_call g.F.Files _ _ c.setup_at.ensures.call)
+returns-in_err-setup-clause-calls g c = (1, lit≤ tt, c.setup_at.ensures.call)
 
 pub returns-in_err-text-clause-calls : goal.returns-in_err-text-clause-calls
-returns-in_err-text-clause-calls g c = (2, lit≤ tt, calls_after g.F.Files 1 1 _ _ _ (one_call g.F.Files _ _ c.setup_at.ensures.call) (one_call g.F.Files _ _ c.sheet_at.ensures.call))
+returns-in_err-text-clause-calls g c = (2, lit≤ tt, calls_after g.F.Files 1 1 _ _ _ c.setup_at.ensures.call c.sheet_at.ensures.call)
 
 pub returns-clause-calls : goal.returns-clause-calls
-returns-clause-calls g c = (2, lit≤ tt, calls_after g.F.Files 1 1 _ _ _ (one_call g.F.Files _ _ c.setup_at.ensures.call) (one_call g.F.Files _ _ c.sheet_at.ensures.call))
+returns-clause-calls g c = (2, lit≤ tt, calls_after g.F.Files 1 1 _ _ _ c.setup_at.ensures.call c.sheet_at.ensures.call)
 
 pub returns-in_err-setup-clause-read : goal.returns-in_err-setup-clause-read
 returns-in_err-setup-clause-read g c =

@@ -3,10 +3,13 @@ use Rattle.zh_file.specs.MemoryFolder.{disk_in}
 use Rattle.zh_file.proofs.MemoryLemmas.{acts_removed, removed_disks}
 use Rattle.zh_file.proofs.memory.MemoryFolderFolder.remove.Goals as goal
 
-pub returns-clause-disks : goal.returns-clause-disks
-returns-clause-disks g c = ap disk_in c.note.ensures.rest
-    ∙ removed_disks c.args.path.now c.args.self.now c.remove_at-removed.new.self c.remove_at-removed.result c.requires.empty
-    c.remove_at-removed.ensures.removed c.remove_at-removed.ensures.err
+pub returns-clause-rest : goal.returns-clause-rest
+returns-clause-rest g c = record {
+  disks = ap disk_in c.note.ensures.rest
+      ∙ removed_disks c.args.path.now c.args.self.now c.remove_at-removed.new.self c.remove_at-removed.result c.requires.empty
+      c.remove_at-removed.ensures.removed c.remove_at-removed.ensures.err;
+  leaves = λ left here. rw (ap (λ f. f.unlocked) c.note.ensures.rest ∙ ap (λ f. f.unlocked) c.remove_at-removed.ensures.rest) at here;
+}
 
 pub returns-clause-call : goal.returns-clause-call
 returns-clause-call g c = acts_removed c.args.path.now c.args.self.now c.remove_at-removed.new.self c.note.new.self c.remove_at-removed.result c.note.result

@@ -1,0 +1,12 @@
+use Rattle.std.proofs.Common.{◌∷◌, ◌∙◌, ap}
+use Rattle.zh_file.specs.Past.{items}
+use Rattle.zh_file.proofs.stored.locked.Locked.set_len.Goals as goal
+
+pub returns-clause-call : goal.returns-clause-call
+returns-clause-call g c = record {
+  noted = c.push.ensures ∙ ap (λ d. d ∷ items c.args.self.now.before) c.of.ensures;
+  kept = c.set_len.ensures.clean;
+  counted = c.set_len.ensures.faults;
+  seen = c.set_len.ensures.others;
+  leaves = c.set_len.ensures.crash;
+}

@@ -1,0 +1,55 @@
+-- What the calls of a locked file do, and what a stop may have left of it at any moment since its lock.
+use Rattle.std.specs.Prelude.{◌≡◌, ◌≤◌, ◌⊎◌, ℕ, List, [], ◌∷◌, IsTrue, Result, length}
+use Rattle.std.specs.declared.io.Error.{Error}
+use Rattle.sqlite_disk.specs.Disk.{CountsFault, Follows, Only}
+use Rattle.sqlite_disk.specs.declared.Disk.{Ghosts}
+use Rattle.zh_disk.specs.Disk.{disk_length}
+use Rattle.zh_file.specs.Past.{items}
+use Rattle.zh_file.specs.declared.stored.locked.Locked.{Locked}
+
+-- what it was at each moment, the latest first
+abbrev pub moments : {D : Type 0} → Locked D → List D
+moments l = l.file ∷ items l.before
+
+-- a stop at one of these moments may leave this
+abbrev pub IsLeftAt : {D : Type 0} → (D → List ℕ → Type 0) → List D → List ℕ → Type 0
+IsLeftAt may_leave [] c = ⊥
+IsLeftAt may_leave (d ∷ ds) c = may_leave d c ⊎ IsLeftAt may_leave ds c
+
+-- a stop since its lock may have left this, as far as all of its answers were right
+abbrev pub IsLeftOf : {D : Type 0} → Ghosts D → Locked D → List ℕ → Type 0
+IsLeftOf g l c = IsTrue (g.is_clean l.file) × IsLeftAt g.may_leave (moments l) c
+
+-- the same of one of these files
+abbrev pub IsLeftOfOne : {D : Type 0} → Ghosts D → List (Locked D) → List ℕ → Type 0
+IsLeftOfOne g [] c = ⊥
+IsLeftOfOne g (l ∷ ls) c = IsLeftOf g l c ⊎ IsLeftOfOne g ls c
+
+-- it leaves nothing but this
+abbrev pub LeavesOnly : {D : Type 0} → Ghosts D → (List ℕ → Type 0) → Locked D → Type 0
+LeavesOnly g IsLeft l = (c : List ℕ) → IsLeftOf g l c → IsLeft c
+
+-- no longer than a disk
+abbrev pub IsShort : List ℕ → Type 0
+IsShort c = length c ≤ disk_length
+
+-- One call of a locked file with this answer, which it notes: what a read gives, and what a stop leaves, comes by `step` from what
+-- one before it gave, or left.
+pub record IsNotedCall {D T : Type 0} (g : Ghosts D) (step : List ℕ → List ℕ → Type 0) (result : Result T Error)
+    (old new : Locked D) : Type 0 where
+  pub noted : items new.before ≡ moments old
+  pub kept : IsTrue (g.is_clean new.file) → IsTrue (g.is_clean old.file)
+  pub counted : CountsFault result (g.faults old.file) (g.faults new.file)
+  pub seen : step (g.seen old.file) (g.seen new.file)
+  pub leaves : Follows step (g.may_leave old.file) (g.may_leave new.file)
+
+-- one that was just locked: no call of it was made, and the device has what a read gives
+pub record IsJustLocked {D : Type 0} (g : Ghosts D) (l : Locked D) : Type 0 where
+  pub begun : items l.before ≡ []
+  pub usable : IsTrue (g.is_usable l.file)
+  pub synced : Only (g.seen l.file) (g.may_leave l.file)
+  pub unfailed : g.faults l.file ≡ 0
+
+-- a call that only asks, or syncs
+abbrev pub Stays : List ℕ → List ℕ → Type 0
+Stays old new = new ≡ old

@@ -1,0 +1,64 @@
+//! What is asked of a locked file, and done to it, before it is a disk.
+ghost use Rattle.std.specs.Prelude.{◌≡◌, ◌⊎◌, ◌<◌, ℕ, List, [], length, IfErr, IfOk, IsTrue};
+ghost use Rattle.sqlite_disk.specs.Disk.{Only};
+ghost use Rattle.zh_disk.specs.Disk.{disk_length};
+ghost use Rattle.zh_world.specs.Files.{IsAsFound, IsFilling, LeavesNoMore};
+ghost use Rattle.zh_file.specs.Held.{IsZeroed};
+ghost use Rattle.zh_file.specs.Locked.{IsLeftOf, LeavesOnly};
+ghost use Rattle.zh_file.specs.Steps.{IsSetBack, IsUnfit, IsUnstarted};
+
+use crate::fault::fault_of_found;
+use crate::stored::Locked;
+use crate::zeros::take_space;
+use sqlite_disk::Disk as File;
+use std::io;
+use zh_disk::DISK_LENGTH;
+use zh_world::{FileCause, FileFault};
+
+impl<D: File> Locked<D> {
+    /// Whether it has the length of a disk, as it had when it was locked.
+    pub(crate) fn measure(&mut self) -> Result<(), FileFault>
+        requires { IsTrue (D.is_usable self.old.file) }
+        ensures kept { IsTrue (D.is_clean self.new.file) → IsTrue (D.is_clean self.old.file) }
+        ensures same { D.seen self.new.file ≡ D.seen self.old.file }
+        ensures usable { IsTrue (D.is_usable self.new.file) }
+        ensures unfailed { IfOk result (λ _. D.faults self.new.file ≡ D.faults self.old.file) }
+        ensures leaves { (c : List ℕ) → D.may_leave self.new.file c → D.may_leave self.old.file c }
+        ensures left { LeavesNoMore (IsLeftOf D.Disk self.old) (IsLeftOf D.Disk self.new) }
+        ensures long { IfOk result (λ _. IsTrue (D.is_clean self.new.file) → length (D.seen self.new.file) ≡ disk_length) }
+        ensures fault { IfErr result (IsUnstarted (IsUnfit D.is_clean D.faults D.seen self.old.file)) }
+    {
+        if self.len().map_err(fault_of_found)? as u64 != DISK_LENGTH {
+            return Err(FileFault::Device(FileCause::Failed));
+        }
+        Ok(())
+    }
+
+    /// Fills it with zeros if it is empty. Where that fails it is set back, so that it can be filled another time: unless the sync
+    /// failed, after which nothing is asked of a file. One that has bytes keeps them at each moment.
+    pub(crate) fn fill(&mut self) -> io::Result<()>
+        requires usable { IsTrue (D.is_usable self.old.file) }
+        requires synced { Only (D.seen self.old.file) (D.may_leave self.old.file) }
+        ensures kept { IsTrue (D.is_clean self.new.file) → IsTrue (D.is_clean self.old.file) }
+        ensures same { IsTrue (D.is_clean self.new.file) → (D.seen self.old.file ≡ []) ⊎ (D.seen self.new.file ≡ D.seen self.old.file) }
+        ensures usable { IfOk result (λ _. IsTrue (D.is_usable self.new.file)) }
+        ensures unfailed { IfOk result (λ _. D.faults self.new.file ≡ D.faults self.old.file) }
+        ensures failed { IfErr result (λ _. D.faults self.old.file ≡ 0 → 0 < D.faults self.new.file) }
+        ensures synced { IfOk result (λ _. Only (D.seen self.new.file) (D.may_leave self.new.file)) }
+        ensures zeroed { IfOk result (λ _. IsTrue (D.is_clean self.new.file) → D.seen self.old.file ≡ []
+            → IsZeroed (D.seen self.new.file)) }
+        ensures set_back { IfErr result (λ _. IsTrue (D.is_clean self.new.file)
+            → IsSetBack D.seen D.is_usable D.faults self.old.file self.new.file) }
+        ensures left { LeavesOnly D.Disk (IsAsFound (D.seen self.old.file)) self.old
+            → LeavesOnly D.Disk (IsFilling (D.seen self.old.file)) self.new }
+    {
+        if self.len()? != 0 {
+            return Ok(());
+        }
+        let taken = take_space(self);
+        if taken.is_err() && self.may_be_used() {
+            let _also_failed = self.set_len(0);
+        }
+        taken
+    }
+}
