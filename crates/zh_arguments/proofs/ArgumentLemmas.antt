@@ -1,10 +1,10 @@
 -- What clap read, as what the arguments ask for.
-use Rattle.std.proofs.Common.{◌≡◌, ◌∙◌, subst, ℕ, List, [], ◌∷◌, Option, Some, None, Bor, true, inl, inr, refl, sym, ap, option_map, unwrap_or}
+use Rattle.std.proofs.Common.{◌≡◌, ◌∙◌, subst, ℕ, Bool, List, [], ◌∷◌, Option, Some, None, Bor, true, false, inl, inr, refl, sym, ap, option_map, unwrap_or}
 use Rattle.std.specs.Option.{option_map_or}
-use Rattle.std.specs.Prelude.{option_and_then}
+use Rattle.std.specs.Prelude.{codes, if◌then◌else◌, option_and_then}
 use Rattle.std.specs.Str.{bytes_eq}
 use Rattle.std.proofs.lemmas.Slice.Eq.{bytes_eq-Decides}
-use Rattle.clap.specs.Words.{App, Row, Text, HasMatchesOf, first_of, found_of, rows_of, first_value, is_simple, subcommand_name_of, subcommand_rows_of, subcommand_of}
+use Rattle.clap.specs.Words.{App, Row, Text, HasMatchesOf, first_of, found_of, matches_of, rows_of, first_value, is_simple, subcommand_name_of, subcommand_rows_of, subcommand_of}
 use Rattle.clap.specs.Faults.{fault_of, is_simple_and_free}
 use Rattle.clap.specs.Kinds.{Kinds, HasKind, or_else}
 use Rattle.clap.specs.Values.{kind_of}
@@ -15,9 +15,10 @@ use Rattle.clap.specs.declared.parser.matches.Found.{Found}
 use Rattle.std.specs.Box.{box_value}
 use Rattle.clap.specs.declared.parser.matches.ArgMatches.TheViews.{out-ArgMatches, out-SubCommand}
 use Rattle.clap.proofs.WalkLemmas.{first_value-rows}
-use Rattle.zh_arguments.specs.Arguments.{AsksBy, AsksFor, Names, command_in, kind_by, misuse_in, refusals}
+use Rattle.zh_arguments.specs.Arguments.{AsksBy, AsksFor, Names, NamesOrVersion, command_in, kind_by, misuse_in, refusals, wants_version}
 use Rattle.zh_arguments.specs.Commands.{IsTaskOf, command_named, misuse_of, zhcount}
 use Rattle.zh_arguments.specs.Table.{path_in}
+use Rattle.zh_arguments.specs.View.{has_flag}
 use Rattle.zh_arguments.specs.declared.misuse.Misuse.{Misuse}
 use Rattle.zh_arguments.specs.declared.commands.CommandName.{CommandName}
 use Rattle.zh_arguments.specs.declared.commands.CommandName.TheVariants as names
@@ -51,6 +52,14 @@ parts f g (Some x) (Some q) one two = let first : f x ≡ q.0 = cc in let second
 pub command_read : (a : App) (arguments : List Text) (m : ArgMatches) → a ≡ zhcount → HasMatchesOf a arguments m → subcommand_rows_of m ≡ command_in arguments
 unfolding command_in
 command_read a arguments m is has = (has (ap is_simple is ∙ zhcount_is_simple)).1 ∙ ap (λ (app : App). subcommand_of app arguments) is
+
+-- whether the flag of the version was read
+pub flag_read : (a : App) (arguments : List Text) (m : ArgMatches) → a ≡ zhcount → HasMatchesOf a arguments m
+    → has_flag (codes "version") (rows_of (found_of m)) ≡ wants_version arguments
+unfolding wants_version
+flag_read a arguments m is has =
+    ap (λ (rows : List Row). has_flag (codes "version") rows)
+    ((has (ap is_simple is ∙ zhcount_is_simple)).0 ∙ ap (λ (app : App). matches_of app arguments) is)
 
 mapped : {X A B : Type 0} (f : X → A) (g : X → B) (o : Option X) → option_map f o ≡ option_map (λ (p : A × B). p.0) (option_map (λ x. (f x, g x)) o)
 mapped f g None = refl
@@ -103,10 +112,19 @@ taken a arguments is kinds =
     let none : fault_of zhcount arguments ≡ [] = ap (λ (app : App). fault_of app arguments) (sym is) ∙ kinds (ap is_simple_and_free is ∙ zhcount_is_free) in
     rw none refl
 
+-- the task of a command, or the version
+asks_one : (is_version : Bool) (given : Option (Text × List Row)) (task chosen : Task) → Names given task
+    → chosen ≡ (if is_version then tasks.Version else task) → NamesOrVersion is_version given chosen
+asks_one true given task chosen asks is = is
+asks_one false given task chosen asks is = subst (Names given) (sym is) asks
+
 -- a task that was read
-pub asked : (a : App) (arguments : List Text) (task : Task) → a ≡ zhcount → (is_simple_and_free a ≡ true → fault_of a arguments ≡ []) → Names (command_in arguments) task → AsksFor arguments task
-asked a arguments task is kinds asks =
-    (taken a arguments is kinds ∙ ap (λ (m : Option Misuse). option_map_or (λ misuse. kind_by misuse ∷ []) m []) (not_misused (command_in arguments) task asks), asks)
+pub asked : (a : App) (arguments : List Text) (task chosen : Task) → a ≡ zhcount → (is_simple_and_free a ≡ true → fault_of a arguments ≡ [])
+    → Names (command_in arguments) task → chosen ≡ (if wants_version arguments then tasks.Version else task) → AsksFor arguments chosen
+asked a arguments task chosen is kinds asks or_version = (
+  taken a arguments is kinds ∙ ap (λ (m : Option Misuse). option_map_or (λ misuse. kind_by misuse ∷ []) m []) (not_misused (command_in arguments) task asks),
+  asks_one (wants_version arguments) (command_in arguments) task chosen asks or_version,
+)
 
 -- a command that was misused
 pub refused_misuse : (a : App) (arguments : List Text) (e : Error) (misuse : Misuse) → a ≡ zhcount

@@ -1,7 +1,8 @@
 -- The arguments of the program, and what they ask for. The program's name is not among them.
-use Rattle.std.specs.Prelude.{◌≡◌, List, [], ◌∷◌, Option, Some, None, IsSome, option_and_then, Result, MatchResult}
+use Rattle.std.specs.Prelude.{◌≡◌, Bool, true, false, List, [], ◌∷◌, Option, Some, None, IsSome, option_and_then, Result}
+use Rattle.std.specs.Prelude.{MatchResult, codes}
 use Rattle.std.specs.Option.{option_map_or}
-use Rattle.clap.specs.Words.{Row, Text, subcommand_of}
+use Rattle.clap.specs.Words.{Row, Text, matches_of, subcommand_of}
 use Rattle.clap.specs.Kinds.{Kinds, HasKind, or_else}
 use Rattle.clap.specs.declared.error.kind.ErrorKind.{ErrorKind}
 use Rattle.clap.specs.declared.error.kind.ErrorKind.TheVariants as kinds
@@ -13,10 +14,15 @@ use Rattle.zh_arguments.specs.declared.commands.CommandName.{CommandName}
 use Rattle.zh_arguments.specs.declared.misuse.Misuse.{Misuse}
 use Rattle.zh_arguments.specs.declared.misuse.Misuse.TheVariants as misuses
 use Rattle.zh_arguments.specs.Commands.{AsksWith, command_named, misuse_of, paths_of, zhcount}
+use Rattle.zh_arguments.specs.View.{has_flag}
 
 -- the command that clap reads in these arguments, with what was given to it
 unfoldable pub command_in : List Text → Option (Text × List Row)
 command_in arguments = subcommand_of zhcount arguments
+
+-- whether they ask for the version, by a flag that may stand before a command
+unfoldable pub wants_version : List Text → Bool
+wants_version arguments = has_flag (codes "version") (matches_of zhcount arguments)
 
 -- how what was given is misused, though clap takes it
 abbrev pub misuse_in : Option (Text × List Row) → Option Misuse
@@ -46,9 +52,14 @@ Names (Some given) task = AsksBy (command_named given.0) given.1 task
 abbrev pub AsksOnDisk : Text × List Row → Task → Type 0
 AsksOnDisk given task = IsSome (paths_of task) × Names (Some given) task
 
+-- the task where the version is asked for or not: whatever command stands beside the flag is not carried out
+abbrev pub NamesOrVersion : Bool → Option (Text × List Row) → Task → Type 0
+NamesOrVersion true given task = task ≡ tasks.Version
+NamesOrVersion false given task = Names given task
+
 -- these arguments are taken, and ask for this task
 abbrev pub AsksFor : List Text → Task → Type 0
-AsksFor arguments task = (refusals arguments ≡ []) × Names (command_in arguments) task
+AsksFor arguments task = (refusals arguments ≡ []) × NamesOrVersion (wants_version arguments) (command_in arguments) task
 
 -- the task for which the arguments are taken; an error is refused memory, or what they are refused for
 abbrev pub ReadsArguments : List Text → Result Task Error → Type 0

@@ -30,6 +30,7 @@ command_taking name rules = fold with_rule (new_app name) rules
 abbrev pub IsCommand : Command → App → Type 0
 IsCommand command app = (app_of command ≡ app) × ((fields_of command).has_globals ≡ false)
 
--- the program before it has commands; its own name is not among the arguments
+-- the program before it has commands: it has a flag; its own name is not among the arguments
 abbrev pub bare : App
-bare = record { top = record (new_app (codes "zhcount")).top { no_binary_name = true }; subs = [] }
+bare = with_rule (record { top = record (new_app (codes "zhcount")).top { no_binary_name = true }; subs = [] })
+    (flag_rule (codes "version"))

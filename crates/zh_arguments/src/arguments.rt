@@ -1,16 +1,18 @@
 //! The arguments of the program.
 
-ghost use Rattle.std.specs.Prelude.{◌≡◌, IfOk, MatchResult, Some, codes, map, option_map};
+ghost use Rattle.std.specs.Prelude.{◌≡◌, IfOk, MatchResult, Some, codes, if◌then◌else◌, map, option_map};
 ghost use Rattle.std.specs.String.{string_bytes};
 ghost use Rattle.clap.specs.Words.{found_of, kind_of, rows_of};
 ghost use Rattle.zh_arguments.specs.Arguments.{Names, ReadsArguments, kind_by, misuse_in};
 ghost use Rattle.zh_arguments.specs.Commands.{ArePaths};
 ghost use Rattle.zh_arguments.specs.Table.{path_in};
+ghost use Rattle.zh_arguments.specs.View.{has_flag};
 
 use crate::check::CheckPaths;
 use crate::commands::{Query, command_named, zhcount};
 use crate::misuse::Misuse;
 use crate::seats::Layout;
+use crate::view::has_flag;
 use clap::error::ErrorKind;
 use clap::{ArgMatches, Error};
 use std::alloc::{AllocError, Global};
@@ -59,6 +61,8 @@ pub enum Task<'a> {
         sheet: &'a str,
         layout: Layout,
     },
+    /// Say which version of the program this is.
+    Version,
 }
 
 /// The path of the set-up that was given. Each command requires it, so it is not left out.
@@ -93,6 +97,17 @@ fn task_for<'a>(command: Option<(&'a str, &ArgMatches<'a>)>) -> Result<Task<'a>,
     }
 }
 
+/// The task that a command asks for, or the version, where its flag was given beside the command.
+fn or_version<'a>(task: Task<'a>, given: &ArgMatches<'_>) -> Task<'a>
+    ensures { result ≡ (if has_flag (codes "version") (rows_of (found_of given.now)) then Task.Version else task.entry) }
+{
+    if has_flag(given, "version") {
+        Task::Version
+    } else {
+        task
+    }
+}
+
 /// The refusal of a command that was misused.
 fn refusal(alloc: Global, misuse: Misuse) -> Result<Error, AllocError>
     ensures { IfOk result (λ error. kind_of error ≡ kind_by misuse) }
@@ -122,7 +137,7 @@ pub fn read_arguments<'a>(alloc: Global, arguments: &'a [String]) -> Result<Task
 {
     let matches = zhcount(alloc)?.try_get_matches_from(arguments)?;
     match task_for(matches.subcommand()) {
-        Ok(task) => Ok(task),
+        Ok(task) => Ok(or_version(task, &matches)),
         Err(misuse) => Err(refusal(alloc, misuse)?),
     }
 }

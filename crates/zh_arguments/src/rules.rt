@@ -74,9 +74,10 @@ pub(crate) fn bare<'a>(alloc: Global) -> Result<Command<'a>, AllocError>
     ensures { IfOk result (λ command. app_of command ≡ bare) }
 {
     let program = Command::new(alloc, "zhcount").bin_name("zhcount")?;
-    Ok(
-        program.no_binary_name(true).about(
+    program
+        .no_binary_name(true)
+        .about(
             "The count office of a cantonal parliament. Without a command: a rehearsal that keeps nothing.",
-        ),
-    )
+        )
+        .arg(flag(alloc, "version", "Print the version"))
 }

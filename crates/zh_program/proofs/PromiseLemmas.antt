@@ -9,7 +9,7 @@ use Rattle.zh_districts.specs.Canton.{Canton, IsCanton}
 use Rattle.zh_film.specs.declared.film.Film.{Film}
 use Rattle.zh_arguments.specs.Arguments.{AsksFor, AsksOnDisk, Names, command_in}
 use Rattle.zh_arguments.specs.Commands.{ArePaths, paths_of}
-use Rattle.zh_arguments.proofs.CallerLemmas.{asked_at}
+use Rattle.zh_arguments.proofs.CallerLemmas.{asked_at, asked_by_command}
 use Rattle.zh_arguments.specs.Table.{path_in}
 use Rattle.clap.specs.Words.{Row, Text}
 use Rattle.zh_arguments.specs.declared.arguments.Paths.{Paths}
@@ -58,6 +58,12 @@ asked_on (Some given) task path on asks = at (paths_of task) refl
         let disk : Some paths.disk.now ≡ Some path = sym (ap (option_map (λ (p : Paths). p.disk.now)) is) ∙ on in
         ((ap is_some is, asks), at_path given.1 paths path disk (asked_at given task paths is asks))
 
+-- such a task is not the version, which a flag asks for beside any command
+by_command : (arguments : List (List ℕ)) (task : Task) (path : List ℕ) → disk_path task ≡ Some path → AsksFor arguments task
+    → Names (command_in arguments) task
+by_command arguments task path on = asked_by_command arguments task
+    (λ is. let wrong : disk_path tasks.Version ≡ Some path = ap disk_path (sym is) ∙ on in absurd cc)
+
 -- a task that formats no disk
 abbrev IsNoFormat : Task → Type 0
 IsNoFormat task = (paths : Paths) → task ≡ Format paths → ⊥
@@ -97,7 +103,7 @@ module _ (of : Known) where
         = λ bytes is. known_fresh known began bytes begins is in
         record {
           task = task;
-          asked = asked_on (command_in arguments) task paths.disk.now on asked.1;
+          asked = asked_on (command_in arguments) task paths.disk.now on (by_command arguments task paths.disk.now on asked);
           path = paths.disk.now;
           exchanges = by.exchanges;
           opened = by.opened;
@@ -156,7 +162,7 @@ module _ (of : Known) where
         = subst (λ (d : FilmedOf of). IsTrue (of.disks.history d.disk).honest → IsTrue began.honest) this uses.does.call.kept in
         record {
           task = Format paths;
-          asked = asked_on (command_in arguments) (Format paths) paths.disk.now refl asked.1;
+          asked = asked_on (command_in arguments) (Format paths) paths.disk.now refl (by_command arguments (Format paths) paths.disk.now refl asked);
           path = paths.disk.now;
           exchanges = here.exchanges;
           opened = here.opened;
@@ -174,6 +180,7 @@ module _ (of : Known) where
     promise_said (tasks.List setup table) asked by = none_early by.0
     promise_said (tasks.SheetSeats setup sheet layout) asked by = none_early by.0
     promise_said (tasks.Check paths) asked by = none_early by.0
+    promise_said tasks.Version asked by = none_early by.0
     promise_said (Run paths) asked by = found_on (Run paths) asked paths refl (λ p is. absurd cc) (Ran of)
         (λ uses limits. run_part of old after uses.files uses.first uses.last uses.observed uses.canton limits status result failed paths uses.does) by
     promise_said (Load paths csv) asked by = found_on (Load paths csv) asked paths refl (λ p is. absurd cc) (HasLoaded of csv.now)

@@ -102,6 +102,7 @@ module _ (of : Known) where
     said (tasks.List setup table) by = none_other by.0
     said (tasks.SheetSeats setup sheet layout) by = none_other by.0
     said (tasks.Check paths) by = none_other by.0
+    said tasks.Version by = none_other by.0
     said (tasks.Run paths) by = on_a_disk (finding of.files of.disks) paths (Ran of) by
     said (tasks.Load paths csv) by = on_a_disk (finding of.files of.disks) paths (HasLoaded of csv.now) by
     said (tasks.DryRun paths csv) by = on_a_disk (finding of.files of.disks) paths (unfilmed (MakesReading of (HasDryRun of csv.now))) by

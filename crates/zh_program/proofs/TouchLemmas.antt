@@ -1,5 +1,5 @@
 -- What a task touches of what stands somewhere.
-use Rattle.std.proofs.Common.{◌≡◌, ◌∙◌, ℕ, List, [], Option, Some, None, Result, ap, subst, sym, inl, inr, ⊎_elim, arith}
+use Rattle.std.proofs.Common.{◌≡◌, ◌∙◌, ℕ, List, [], Option, Some, None, Result, Ok, Err, ap, subst, sym, inl, inr, ⊎_elim, arith}
 use Rattle.std.specs.Prelude.{◌⊎◌, IfSome, MatchOption}
 use Rattle.zh_arguments.specs.declared.arguments.Paths.{Paths}
 use Rattle.zh_arguments.specs.declared.arguments.Task.{Task}
@@ -21,8 +21,10 @@ use Rattle.zh_tasks.specs.Reading.{MakesReading}
 use Rattle.zh_tasks.specs.Shown.{Shows}
 use Rattle.zh_tasks.specs.Tasks.{Does}
 use Rattle.zh_tasks.specs.Texts.{UsesTexts}
+use Rattle.zh_tasks.specs.Version.{WritesVersion}
 use Rattle.zh_tasks.specs.World.{EndOf, Known, Sight, WorldOf, finding, making}
 use Rattle.zh_tasks.specs.declared.fault.TaskFault.{TaskFault}
+use Rattle.zh_tasks.specs.declared.fault.TaskFault.TheVariants as faults
 use Rattle.zh_tasks.specs.declared.used.Used.{Used}
 use Rattle.zh_tasks.specs.declared.used.Observed.{Observed}
 use Rattle.zh_ledger.specs.Stands.{Holds}
@@ -108,6 +110,11 @@ module _ (of : Known) where
       (old new : WorldOf of) (result : Result (Unit {0}) TaskFault) → UsesTexts of Reads DoesWith old new result → of.files.places new.files ≡ of.files.places old.files
   texts_stay Reads DoesWith old new result by = ap of.files.places by.rest ∙ by.calls.2.stays
 
+  version_stays : (old new : WorldOf of) (result : Result (Unit {0}) TaskFault) → WritesVersion of old new result → new.files ≡ old.files
+  version_stays old new (Ok done) by = ap (λ (w : WorldOf of). w.files) by.1
+  version_stays old new (Err faults.Write) by = ap (λ (w : WorldOf of). w.files) by.1
+  version_stays old new (Err fault) by = absurd by
+
   pub does_touch : (task : Task) (old new : WorldOf of) (ended : EndOf of) → Does of task old new ended
       → Touches (disk_path task) (of.files.places old.files) (of.files.places new.files)
   does_touch Rehearse old new ended by = same_files old new (ap (λ (w : WorldOf of). w.files) by.rest)
@@ -124,6 +131,7 @@ module _ (of : Known) where
   does_touch (tasks.List setup table) old new ended by = texts_stay _ _ old new ended.result by.1
   does_touch (Check paths) old new ended by = texts_stay _ _ old new ended.result by.1
   does_touch (tasks.SheetSeats setup sheet layout) old new ended by = texts_stay _ _ old new ended.result by.1
+  does_touch tasks.Version old new ended by = same_files old new (version_stays old new ended.result by.1)
 
   -- and what is said after it neither
   pub touched_after : (task : Task) (old after new : WorldOf of) (ended : EndOf of) → Does of task old after ended

@@ -38,6 +38,7 @@ file_path (tasks.List setup table) file = None
 file_path (Check paths) files.Held = option_map (λ path. path.now) paths.held
 file_path (Check paths) file = path_stated paths.setup.now paths.sheet.now file
 file_path (tasks.SheetSeats setup sheet layout) file = path_stated setup.now sheet.now file
+file_path tasks.Version file = None
 
 -- the path of the file that a fault of a task is of
 abbrev pub fault_path : Task → TaskFault → Option (List ℕ)

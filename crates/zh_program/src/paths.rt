@@ -42,7 +42,7 @@ fn file_path<'a>(task: Task<'a>, file: TaskFile) -> Option<&'a str>
     ensures { MatchOption result (file_path task.entry file ≡ None) (λ path. file_path task.entry file ≡ Some path.now) }
 {
     match task {
-        Task::Rehearse => None,
+        Task::Rehearse | Task::Version => None,
         Task::Format(paths) | Task::Run(paths) | Task::Show(paths, _) => path_among(paths, file),
         Task::Load { paths, csv } | Task::DryRun { paths, csv } => match file {
             TaskFile::Csv => Some(csv),

@@ -19,3 +19,4 @@ pub mod Reading
 pub mod Results
 pub mod Seats
 pub mod SheetSeats
+pub mod Version

@@ -16,6 +16,7 @@ use Rattle.zh_tasks.specs.Query.{MayShow}
 use Rattle.zh_tasks.specs.Reading.{MakesReading}
 use Rattle.zh_tasks.specs.SheetSeats.{HasShownSheet}
 use Rattle.zh_tasks.specs.Shown.{Shows}
+use Rattle.zh_tasks.specs.Version.{WritesVersion}
 
 -- what a task that ended so has done, from a world to a world
 abbrev pub Does : (of : Known) → Task → WorldOf of → WorldOf of → EndOf of → Type 0
@@ -31,3 +32,4 @@ Does of (tasks.List setup table) old new ended = (ended.used ≡ None) × Listed
 Does of (Check paths) old new ended = (ended.used ≡ None) × Checked of paths old new ended.result
 Does of (tasks.SheetSeats setup sheet layout) old new ended =
     (ended.used ≡ None) × HasShownSheet of (record { setup = setup; sheet = sheet; layout = layout }) old new ended.result
+Does of tasks.Version old new ended = (ended.used ≡ None) × WritesVersion of old new ended.result

@@ -1,5 +1,5 @@
 //! The tasks of the program `zhcount` in a world: a rehearsal, formatting, serving, loading or what a loading would do, exporting,
-//! checking a published sheet, and showing the seats and how far the returns have come in.
+//! checking a published sheet, showing the seats and how far the returns have come in, and saying its version.
 #![tactic(auto)]
 
 mod check;
@@ -27,6 +27,7 @@ mod sheet_seats;
 mod shown;
 mod task;
 mod used;
+mod version;
 
 pub use fault::TaskFault;
 pub use file::TaskFile;

@@ -15,6 +15,7 @@ use crate::rehearse::rehearse;
 use crate::run::Run;
 use crate::sheet_seats::{SheetPaths, sheet_seats};
 use crate::used::Used;
+use crate::version::write_version;
 use std::alloc::Global;
 use std::io::{Read, Write};
 use zh_arguments::Task;
@@ -68,5 +69,9 @@ pub fn carry_out<I: Read, O: Write, E: Write, F: Files>(
                 used: None,
             }
         }
+        Task::Version => Ended {
+            result: write_version(world),
+            used: None,
+        },
     }
 }

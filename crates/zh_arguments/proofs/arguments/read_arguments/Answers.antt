@@ -1,9 +1,12 @@
-use Rattle.std.proofs.Common.{rules, inl, map, List, Option, Some, subst, ◌≡◌, ◌∙◌}
+use Rattle.std.proofs.Common.{rules, ap, inl, map, Bool, List, Option, Some, subst, ◌≡◌, ◌∙◌}
+use Rattle.std.specs.Prelude.{if◌then◌else◌}
 use Rattle.std.specs.String.{string_bytes}
 use Rattle.std.proofs.lemmas.Result.{err_from_is_err_and}
 use Rattle.clap.specs.Words.{app_of, found_of, rows_of, subcommand_rows_of, Row, Text}
 use Rattle.zh_arguments.specs.Arguments.{Names, misuse_in}
-use Rattle.zh_arguments.proofs.ArgumentLemmas.{asked, refused, refused_misuse, command_read, named, parts}
+use Rattle.zh_arguments.specs.declared.arguments.Task.{Task}
+use Rattle.zh_arguments.specs.declared.arguments.Task.TheVariants.{Version}
+use Rattle.zh_arguments.proofs.ArgumentLemmas.{asked, command_read, flag_read, named, parts, refused, refused_misuse}
 use Rattle.zh_arguments.proofs.arguments.read_arguments.Goals as goal
 
 pub returns-in_err-matches : goal.returns-in_err-matches
@@ -23,8 +26,10 @@ returns-in-Ok c =
     let read = command_read app arguments c.in_ok-matches.matches c.in_ok-zhcount.ensures c.in_ok-matches.ensures.matches in
     let given = parts (λ p. p.0.now) (λ p. rows_of (found_of p.1.now)) c.subcommand.result (subcommand_rows_of c.in_ok-matches.matches)
     (c.subcommand.ensures.name ∙ named c.in_ok-matches.matches) c.subcommand.ensures.rows in
-    asked app arguments c.in-Ok.task c.in_ok-zhcount.ensures c.in_ok-matches.ensures.kinds
+    let flag = flag_read app arguments c.in_ok-matches.matches c.in_ok-zhcount.ensures c.in_ok-matches.ensures.matches in
+    asked app arguments c.in-Ok.task c.or_version.result c.in_ok-zhcount.ensures c.in_ok-matches.ensures.kinds
     (subst (λ (o : Option (Text × List Row)). Names o c.in-Ok.task) (given ∙ read) c.in-Ok.ensures)
+    (c.or_version.ensures ∙ ap (λ (is_version : Bool). if is_version then Version else c.in-Ok.task) flag)
 
 pub returns : goal.returns
 returns c =
