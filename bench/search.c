@@ -178,7 +178,7 @@ static int ends(const struct question *q, struct outcome *o) {
     return has_two_ways(q, half, down);
 }
 
-void find(const struct question *q, struct outcome *o) {
+void search(const struct question *q, struct outcome *o) {
     memset(o, 0, sizeof *o);
     for (int d = 0; d < q->rows; d++) {
         int some = 0;

@@ -1,4 +1,4 @@
-/* Lower apportionment in plain C: the two searches for divisors, written from their rules alone.
+/* Lower apportionment in plain C: the search for divisors and the decision, written from their rules alone.
  * They are measured against the proved ones, and show that both give the same answers. */
 #ifndef SEARCH_H
 #define SEARCH_H
@@ -27,10 +27,22 @@ struct outcome {
 uint64_t line(int n, const uint64_t *votes, const uint64_t *others, uint32_t target, uint64_t most);
 
 /* The search, up to 1,000 rounds. */
-void find(const struct question *q, struct outcome *out);
+void search(const struct question *q, struct outcome *out);
 
-/* The second search, where the first is exhausted: 1 where there are seats and divisors. */
-int second_search(const struct question *q, struct outcome *out);
+/* What is decided of a question: seats, with divisors; the other matrix of a near tie; the rows that have too few seats. */
+enum decision { SEATS, IMPOSSIBLE, NEARLY_TIED, BEYOND };
+
+struct decided {
+    enum decision decision;
+    uint32_t seats[CELLS], others[CELLS];
+    uint64_t of_rows[LINES], of_columns[LINES];
+    int too_few[LINES];
+};
+
+void decide(const struct question *q, struct decided *out);
+
+/* The search, or else seats by the decision: 1 where they are by that. */
+int find(const struct question *q, struct outcome *out, struct decided *decided);
 
 /* Seats of a house in proportion to weights; 0 where they are tied. */
 int apportion(int n, const uint64_t *weights, uint32_t house, uint32_t *seats);

@@ -1,5 +1,5 @@
 #!/usr/bin/env bash
-# Measures the searches for divisors: the proved program and the one in C, on the same elections, in one run. ZH_BENCH is
+# Measures the search and the decision: the proved program and the one in C, on the same elections, in one run. ZH_BENCH is
 # the proved program's path; if it is not set, crates/zh_bench is proved and built first, where it is not yet.
 set -eu
 cd "$(dirname "$0")/.."
@@ -7,13 +7,16 @@ out=$(mktemp -d)
 trap 'rm -r "$out"' EXIT
 cc=${CC:-cc}
 
-"$cc" -O2 -std=gnu11 bench/search.c bench/second.c bench/worked.c -o "$out/worked"
+parts=(bench/search.c bench/sweeps.c bench/decision.c bench/divisors.c)
+"$cc" -O2 -std=gnu11 "${parts[@]}" bench/worked.c -o "$out/worked"
 "$out/worked"
-"$cc" -O2 -std=gnu11 bench/search.c bench/second.c bench/search_bench.c -o "$out/plain"
+"$cc" -O2 -std=gnu11 "${parts[@]}" bench/cases.c -o "$out/cases"
+"$out/cases" crates/zh_cases/data/{decisions,questions,small_questions,third_searches,largest_questions}.case
+"$cc" -O2 -std=gnu11 "${parts[@]}" bench/search_bench.c -o "$out/plain"
 proved=${ZH_BENCH:-}
 if [ -z "$proved" ]; then
     echo "proving zh_bench and what it stands on; minutes, where that is not yet done:" >&2
-    scripts/build zh_bench both 1 1 1 1 >&2
+    scripts/build zh_bench find 1 1 1 1 >&2
     proved=crates/zh_bench/out/zh_bench
 fi
 
@@ -21,17 +24,17 @@ fi
 TIMEFORMAT=%U
 measure() { { time "${@:2}" > "$1" 2> "$1.steps"; } 2>&1; }
 
-# A row of the table: search, rows, columns, house, elections. Both programs have to print the same.
+# A row of the table: what, rows, columns, house, elections. Both programs have to print the same.
 row() {
-    local in_c in_rattle half_steps second what=$1 count=$5
+    local in_c in_rattle half_steps decided what=$1 count=$5
     in_c=$(measure "$out/c" "$out/plain" "$@")
     in_rattle=$(measure "$out/rattle" "$proved" "$@")
     cmp -s "$out/c" "$out/rattle" || { echo "the answers differ for $*"; exit 1; }
-    read -r half_steps second < "$out/c.steps"
-    if [ "$what" = both ]; then
-        what="a round ($second of $5 by the second)" count=$((half_steps / 2))
+    read -r half_steps decided < "$out/c.steps"
+    if [ "$what" = find ]; then
+        what="a round ($decided of $5 decided)" count=$((half_steps / 2))
     else
-        what="a second search"
+        what="a decision"
     fi
     awk -v shape="$2 x $3, $4" -v what="$what" -v count="$count" -v c="$in_c" -v rattle="$in_rattle" 'BEGIN {
         printf "%-14s  %-32s %8d %10.1f us %10.1f us %6.2f\n", shape, what, count, 1e6 * rattle / count, 1e6 * c / count, rattle / c
@@ -53,13 +56,13 @@ longest() {
 printf '%-14s  %-32s %8s %13s %13s %6s\n' 'shape, seats' 'what' 'how many' proved C ratio
 while read -r shape; do
     # shellcheck disable=SC2086
-    row both $shape
+    row find $shape
     # shellcheck disable=SC2086
-    row second $shape
+    row decide $shape
 done << SHAPES
 18 10 180 ${ELECTIONS:-300}
 26 12 200 ${ELECTIONS:-300}
 32 32 400 ${ELECTIONS:-300}
 SHAPES
-longest both 32 32 400 "${ELECTIONS:-300}"
+longest find 32 32 400 "${ELECTIONS:-300}"
 echo "both answered the same on all of these elections"

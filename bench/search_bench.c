@@ -1,8 +1,8 @@
-/* Runs the searches on made-up elections of a shape: SEARCH ROWS COLUMNS HOUSE ELECTIONS [FIRST].
+/* Finds the seats of made-up elections of a shape: WHAT ROWS COLUMNS HOUSE ELECTIONS [FIRST].
  *
- * SEARCH is `both`, the first and the second where that is exhausted, or `second`, that one alone. FIRST is the number of
- * the first election, or 1. It prints the answers, a number that the divisors and seats lead to, and, as errors, the
- * half-steps and how many of the elections have their seats by the second search. The proved program prints the first two. */
+ * WHAT is `find`, the search and the decision where that is exhausted, or `decide`, the decision alone. FIRST is the number
+ * of the first election, or 1. It prints the answers, a number that the divisors and seats lead to, and, as errors, the
+ * half-steps and how many of the elections have their seats by the decision. The proved program prints the first two. */
 #include "search.h"
 
 #include <stdio.h>
@@ -45,15 +45,18 @@ static uint64_t mixed(uint64_t sum, uint64_t number) {
     return (sum ^ number) * 1099511628211u;
 }
 
-/* Both searches, or the second alone: how many seats come by the second. */
-static int run(const struct question *q, struct outcome *o, int both) {
-    if (both) {
-        find(q, o);
-        return o->answer == EXHAUSTED && second_search(q, o);
-    }
+/* The search and the decision, or that alone: how many seats come by the decision. */
+static int run(const struct question *q, struct outcome *o, int alone) {
+    static struct decided x;
+    if (!alone)
+        return find(q, o, &x);
+    decide(q, &x);
     memset(o, 0, sizeof *o);
-    o->answer = EXHAUSTED;
-    return second_search(q, o);
+    o->answer = x.decision == SEATS ? FOUND : EXHAUSTED;
+    memcpy(o->seats, x.seats, sizeof o->seats);
+    memcpy(o->of_rows, x.of_rows, sizeof o->of_rows);
+    memcpy(o->of_columns, x.of_columns, sizeof o->of_columns);
+    return 1;
 }
 
 static uint64_t mixed_in(uint64_t sum, const struct question *q, const struct outcome *o) {
@@ -69,7 +72,7 @@ static uint64_t mixed_in(uint64_t sum, const struct question *q, const struct ou
 int main(int argc, char **argv) {
     if (argc < 6 || argc > 7)
         return 2;
-    int both = strcmp(argv[1], "both") == 0, rows = atoi(argv[2]), columns = atoi(argv[3]), elections = atoi(argv[5]);
+    int alone = strcmp(argv[1], "decide") == 0, rows = atoi(argv[2]), columns = atoi(argv[3]), elections = atoi(argv[5]);
     uint32_t house = (uint32_t)atoi(argv[4]);
     uint64_t first = argc > 6 ? (uint64_t)atoll(argv[6]) : 1;
     if (rows < 1 || rows > LINES || columns < 1 || columns > LINES)
@@ -77,18 +80,18 @@ int main(int argc, char **argv) {
     static struct question q;
     static struct outcome o;
     int answers[4] = {0};
-    long half_steps = 0, second = 0;
+    long half_steps = 0, decided = 0;
     uint64_t sum = 0;
     for (int election = 0; election < elections; election++) {
         if (!make(&q, rows, columns, house, first + (uint64_t)election))
             continue;
-        second += run(&q, &o, both);
+        decided += run(&q, &o, alone);
         half_steps += o.half_steps;
         answers[o.answer]++;
         if (o.answer == FOUND)
             sum = mixed_in(sum, &q, &o);
     }
     printf("%d found, %d tied, %d exhausted, %llu\n", answers[FOUND], answers[TIED], answers[EXHAUSTED], (unsigned long long)sum);
-    fprintf(stderr, "%ld %ld\n", half_steps, second);
+    fprintf(stderr, "%ld %ld\n", half_steps, decided);
     return 0;
 }

@@ -1,7 +1,7 @@
 -- A matrix in which every cell has votes.
 use Rattle.std.proofs.Common.{ℕ, ◌+◌, ◌*◌, ◌<◌, ◌≤◌, List, All, length, get_or, arith}
 use Rattle.std.proofs.Math.Nat.{mul-le-mul_right}
-use Rattle.zh_matrices.specs.Question.{VoteMatrix, IsVoteMatrix, EachColumnHasVotes, EachRowHasVotes, question}
+use Rattle.zh_matrices.specs.Question.{VoteMatrix, IsVoteMatrix, EachColumnHasVotes, question}
 use Rattle.zh_divisors.proofs.CallerLemmas.{term-le-sum_to}
 
 pub EachColumnHasVotes-cells : (matrix : VoteMatrix) (row_totals column_totals : List ℕ) → IsVoteMatrix matrix →
@@ -13,15 +13,4 @@ EachColumnHasVotes-cells matrix row_totals column_totals sized each g gw =
       arith,
       each (0 * matrix.columns + g) 0 within,
       term-le-sum_to matrix.rows (λ d. get_or matrix.votes (d * matrix.columns + g) 0) 0 sized.some_row,
-    )
-
-pub EachRowHasVotes-cells : (matrix : VoteMatrix) (row_totals column_totals : List ℕ) → IsVoteMatrix matrix →
-    All (λ v. 1 ≤ v) matrix.votes → EachRowHasVotes (question matrix row_totals column_totals)
-EachRowHasVotes-cells matrix row_totals column_totals sized each d dw =
-    let rows : (d + 1) * matrix.columns ≤ matrix.rows * matrix.columns = mul-le-mul_right matrix.columns (omega arith) in
-    let within : d * matrix.columns + 0 < length matrix.votes = omega (arith, rows, sized.length_votes, sized.some_column) in
-    omega (
-      arith,
-      each (d * matrix.columns + 0) 0 within,
-      term-le-sum_to matrix.columns (λ g. get_or matrix.votes (d * matrix.columns + g) 0) 0 sized.some_column,
     )

@@ -2,11 +2,11 @@
 ghost use Rattle.std.specs.Prelude.{◌≡◌, ◌*◌, ◌^◌, ◌≤◌, All, IfOk, IfSome, IsTrue, length, vec_len};
 ghost use Rattle.zh_matrices.specs.Question.{AreSeatTotals, EachColumnHasVotes, question};
 
+use crate::decision::run_decision;
 use crate::numbers::Numbers;
-use crate::search::Search;
-use crate::second::run_second;
 use crate::shape::Shape;
 use crate::tally::Tally;
+use crate::task::Task;
 use std::alloc::{AllocError, Global};
 use zh_divisors::{ShareFault, Shares, Weights, apportion};
 use zh_lower::{LowerFault, Matrix, find};
@@ -86,8 +86,8 @@ fn totals_of(alloc: Global, sums: &[u64], house: u32) -> Result<Option<Shares>, 
     }
 }
 
-/// Makes both searches, and notes what becomes of them.
-fn run_both(
+/// Looks for seats, and notes what becomes of them.
+fn run_find(
     alloc: Global,
     shape: &Shape,
     matrix: &Matrix,
@@ -113,7 +113,7 @@ fn run_both(
 /// Makes an election, and notes what becomes of it.
 pub(crate) fn run_election(
     alloc: Global,
-    search: Search,
+    task: Task,
     shape: &Shape,
     numbers: &mut Numbers,
     tally: &mut Tally,
@@ -129,8 +129,8 @@ pub(crate) fn run_election(
         return Ok(());
     };
     let (row_totals, column_totals) = (row_totals.seats(), column_totals.seats());
-    match search {
-        Search::Both => run_both(alloc, shape, &matrix, row_totals, column_totals, tally),
-        Search::Second => run_second(alloc, &matrix.question(row_totals, column_totals), tally),
+    match task {
+        Task::Find => run_find(alloc, shape, &matrix, row_totals, column_totals, tally),
+        Task::Decide => run_decision(alloc, &matrix.question(row_totals, column_totals), tally),
     }
 }

@@ -1,36 +1,36 @@
 //! Lower apportionments of made-up elections, to be measured by `make bench`.
 //!
-//! Its arguments are `both` searches or the `second` alone, the rows, the columns, the seats of the house, the number of
+//! Its arguments are `find`, or `decide` for the decision alone, the rows, the columns, the seats of the house, the number of
 //! elections, and the number of the first one, if it is not 1. It prints how many had seats, were tied and were exhausted,
-//! and a number that all divisors and seats go into; `bench/search_bench.c` prints the same, of searches that were written
-//! apart from these.
+//! and a number that all divisors and seats go into; `bench/search_bench.c` prints the same, of a search and a decision that
+//! were written apart from these.
 #![tactic(auto)]
 
+mod decision;
 mod election;
 mod numbers;
-mod search;
-mod second;
 mod shape;
 mod tally;
+mod task;
 
 use election::run_election;
 use numbers::Numbers;
-use search::Search;
 use shape::Shape;
 use std::alloc::{AllocError, Global};
 use std::process::ExitCode;
 use std::{env, io};
 use tally::Tally;
+use task::Task;
 
 /// Prints what becomes of the elections that its arguments ask for.
 fn main(rt: HostRuntime) -> ExitCode {
     let Ok(arguments) = arguments(&rt) else {
         return ExitCode::FAILURE;
     };
-    let Some((search, shape)) = asked_for(&arguments) else {
+    let Some((task, shape)) = asked_for(&arguments) else {
         return ExitCode::from(2);
     };
-    match tally_of(rt.alloc(), search, &shape) {
+    match tally_of(rt.alloc(), task, &shape) {
         Ok(tally) => match println!(rt; "{tally}") {
             Ok(()) => ExitCode::SUCCESS,
             Err(_) => ExitCode::FAILURE,
@@ -43,18 +43,18 @@ fn arguments(rt: &HostRuntime) -> io::Result<Vec<String>> {
     Ok(env::args(rt)?.skip(1).collect(rt.alloc())?)
 }
 
-/// The search and the shape that arguments ask for.
-fn asked_for(arguments: &[String]) -> Option<(Search, Shape)> {
-    let (search, rest) = arguments.split_first()?;
-    Some((Search::of(search.as_str())?, Shape::of(rest)?))
+/// The task and the shape that arguments ask for.
+fn asked_for(arguments: &[String]) -> Option<(Task, Shape)> {
+    let (task, rest) = arguments.split_first()?;
+    Some((Task::of(task.as_str())?, Shape::of(rest)?))
 }
 
 /// What becomes of elections of this shape.
-fn tally_of(alloc: Global, search: Search, shape: &Shape) -> Result<Tally, AllocError> {
+fn tally_of(alloc: Global, task: Task, shape: &Shape) -> Result<Tally, AllocError> {
     let mut tally = Tally::default();
     for election in 0..shape.elections {
         let mut numbers = Numbers::new(shape.first.wrapping_add(election));
-        run_election(alloc, search, shape, &mut numbers, &mut tally)?;
+        run_election(alloc, task, shape, &mut numbers, &mut tally)?;
     }
     Ok(tally)
 }

@@ -3,6 +3,7 @@ ghost use Rattle.std.specs.Prelude.{◌≡◌, ◌≤◌, length};
 
 use crate::shape::Shape;
 use std::fmt;
+use zh_decided::Findings;
 use zh_lower::Lower;
 
 /// How many had seats, were tied and were exhausted, and a number that all divisors and seats go into.
@@ -53,12 +54,12 @@ impl Tally {
         }
     }
 
-    /// The second search alone found seats, and they go into the sum after their divisors.
-    pub(crate) fn note_seats(&mut self, of_rows: &[u64], of_columns: &[u64], seats: &[u32]) {
+    /// The decision has seats, and they go into the sum after their divisors.
+    pub(crate) fn note_decided(&mut self, findings: &Findings) {
         self.found = self.found.saturating_add(1);
-        self.mix_all(of_rows);
-        self.mix_all(of_columns);
-        for cell in seats {
+        self.mix_all(&findings.of_rows);
+        self.mix_all(&findings.of_columns);
+        for cell in findings.seats.iter() {
             self.mix(u64::from(*cell));
         }
     }

@@ -24,6 +24,17 @@ row-reached bits bounds x B floor = reaches 2 (10 ^ 18) B.most (bounds.row_cap +
 pub column-reached : (bits : ℕ) (bounds : Bounds) (y : ℕ) → IsBox bits bounds → y ≤ bounds.column_cap → power 2 y ≤ power (10 ^ 12) log_unit
 column-reached bits bounds y B cap = reaches 2 (10 ^ 12) B.scale y B.scale_log (omega (arith, B.column_cap))
 
+-- numbers with equal logarithms
+pub same-logs : (bits most n : ℕ) (numbers : List ℕ) (one other : ℕ → ℕ) → n ≤ 32 → ((i : ℕ) → i < 32 → one i ≡ other i) →
+    HaveLogs bits most n numbers one → HaveLogs bits most n numbers other
+same-logs bits most n numbers one other few same H = record {
+  one_each = H.one_each;
+  logs = λ i lt. rw (← same i (omega arith)) (H.logs i lt);
+  from_least = H.from_least;
+  at_most = H.at_most;
+  antilogarithms = λ i lt. rw (← same i (omega arith)) (H.antilogarithms i lt);
+}
+
 scaled-box : (q : Question) (bits m n top : ℕ) (bounds : Bounds) (p : Potentials) (of_rows of_columns : List ℕ) → m ≡ q.rows → n ≡ q.columns →
     top ≡ bounds.row_cap + bits * log_unit → IsBox bits bounds → ((d : ℕ) → d < q.rows → of_row p d ≤ bounds.row_cap) →
     HaveLogs bits (10 ^ 18) m of_rows (λ i. top - slice_index p.of_rows i) → HaveLogs bits (10 ^ 12) n of_columns (slice_index p.of_columns) →

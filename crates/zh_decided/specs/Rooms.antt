@@ -1,13 +1,18 @@
--- The room that a decision takes.
+-- The room that a decision takes, and what it is about.
 use Rattle.std.specs.Prelude.{◌≡◌, ℕ, ◌*◌, List, length}
 use Rattle.zh_decided.specs.declared.room.DecisionRoom.{DecisionRoom}
+use Rattle.zh_decided.specs.declared.room.Findings as declared
 
--- its sizes
-pub record IsDecisionRoom (rows columns : ℕ) (room : DecisionRoom) : Type 0 where
+-- the sizes of room for what it is about
+pub record IsFindingsRoom (rows columns : ℕ) (room : declared.Findings) : Type 0 where
   pub seats : length room.seats.items ≡ rows * columns
   pub of_rows : length room.of_rows.items ≡ rows
   pub of_columns : length room.of_columns.items ≡ columns
   pub others : length room.others.items ≡ rows * columns
+
+-- and of the whole
+pub record IsDecisionRoom (rows columns : ℕ) (room : DecisionRoom) : Type 0 where
+  pub findings : IsFindingsRoom rows columns room.findings
   pub vote_logarithms : length room.vote_logarithms.items ≡ rows * columns
   pub odd_logarithms : length room.odd_logarithms.items ≡ 401
 
@@ -19,5 +24,5 @@ pub record Findings : Type 0 where
   pub others : List ℕ
 
 -- those that are left in a room
-abbrev pub found_in : DecisionRoom → Findings
-found_in x = record { seats = x.seats.items; of_rows = x.of_rows.items; of_columns = x.of_columns.items; others = x.others.items }
+abbrev pub found : declared.Findings → Findings
+found x = record { seats = x.seats.items; of_rows = x.of_rows.items; of_columns = x.of_columns.items; others = x.others.items }

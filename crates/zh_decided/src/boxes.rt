@@ -9,23 +9,18 @@ ghost use Rattle.zh_matrices.specs.Divisors.{AreWithinLimits, millionths};
 ghost use Rattle.zh_matrices.specs.Fitting.{FitsVotes};
 ghost use Rattle.zh_matrices.specs.Question.{AreSeatTotals};
 ghost use Rattle.zh_matrices.specs.SeatMatrix.{IsStrict};
-ghost use Rattle.zh_sweeps.specs.Prices.{priced};
 ghost use Rattle.zh_sweeps.specs.Sweeps.{StandsFree};
-ghost use Rattle.zh_sweeps.specs.Taken.{logs};
+ghost use Rattle.zh_sweeps.specs.Taken.{logs, priced_in};
 ghost use Rattle.zh_sweeps.specs.declared.sweeps.Potentials.{Potentials};
 
 use zh_logarithms::{antilogarithm, logarithm};
-use zh_matrices::Question;
-use zh_sweeps::{Bounds, LogTable, Swept, sweep};
+use zh_matrices::{LINES, MOST_OF_COLUMN, MOST_OF_ROW};
+use zh_sweeps::{Bounds, PricedSeats, Swept, sweep};
 
 /// What potentials of rows are below.
 const BASE: u64 = 1 << 60;
 /// The logarithm of 2.
 const UNIT: u64 = 1 << 30;
-/// The most that a row and a column may have, in millionths. Twice the votes are taken 10^12 times too.
-const ROW_MOST: u64 = 1_000_000_000_000_000_000;
-
-const COLUMN_MOST: u64 = 1_000_000_000_000;
 
 /// Divisors from 2^bits millionths to the limits.
 fn box_from(bits: u32) -> Bounds
@@ -33,36 +28,32 @@ fn box_from(bits: u32) -> Bounds
     requires few { bits ≤ 20 }
     ensures { IsBox bits result }
 {
-    let scale = logarithm(COLUMN_MOST);
+    // Twice the votes are taken 10^12 times, as the most of a column.
+    let scale = logarithm(MOST_OF_COLUMN);
     let least = u64::from(bits) * UNIT;
     Bounds {
         given: (1 << (32 - bits)) + 6,
         taken: 6,
         row_cap: BASE + scale - least,
         column_cap: scale,
-        row_floor: BASE + scale - logarithm(ROW_MOST),
+        row_floor: BASE + scale - logarithm(MOST_OF_ROW),
         column_floor: least,
     }
 }
 
-/// Numbers with the logarithms from a top down to potentials.
-fn take_below(top: u64, potentials: &[u64; 32], bits: u32, most: u64, into: &mut [u64])
-    requires some { 4 ≤ bits }
-    requires few { bits ≤ 20 }
-    requires length { length into.old ≤ 32 }
-    requires least { (i : ℕ) → i < length into.old → slice_index potentials.now i + bits * log_unit ≤ top }
-    requires most { (i : ℕ) → i < length into.old → power 2 (top - slice_index potentials.now i) ≤ power most log_unit }
-    requires room { 2 ^ 20 ≤ most }
-    requires fits { most < 2 ^ 63 }
-    ensures { HaveLogs bits most (length into.old) into.new (λ i. top - slice_index potentials.now i) }
+/// The logarithms from a top down to potentials.
+fn below(top: u64, potentials: &[u64; LINES]) -> [u64; LINES]
+    ensures { (i : ℕ) → i < 32 → slice_index result i ≡ top - slice_index potentials.now i }
 {
-    for line in 0..into.len() {
-        into[line] = antilogarithm(top - potentials[line], bits, most);
+    let mut logarithms = [0; LINES];
+    for line in 0..LINES {
+        logarithms[line] = top.saturating_sub(potentials[line]);
     }
+    logarithms
 }
 
 /// Numbers with these logarithms.
-fn take_numbers(logarithms: &[u64; 32], bits: u32, most: u64, into: &mut [u64])
+fn take_numbers(logarithms: &[u64; LINES], bits: u32, most: u64, into: &mut [u64])
     requires some { 4 ≤ bits }
     requires few { bits ≤ 20 }
     requires length { length into.old ≤ 32 }
@@ -79,33 +70,34 @@ fn take_numbers(logarithms: &[u64; 32], bits: u32, most: u64, into: &mut [u64])
 
 /// Whether divisors from 2^bits millionths on give the seats, which are left behind.
 fn give_from(
-    question: &Question<'_>,
-    logarithms: &LogTable<'_>,
-    seats: &[u32],
+    priced: &PricedSeats<'_>,
     bits: u32,
     of_rows: &mut [u64],
     of_columns: &mut [u64],
 ) -> bool
     requires some { 4 ≤ bits }
     requires few { bits ≤ 20 }
-    requires totals { AreSeatTotals question.now.rows question.now.row_totals.now }
-    requires tables { AreLogTables (asked question.now) (logs logarithms.now) }
-    requires fits { FitsVotes (asked question.now) seats.now }
-    requires rows { length of_rows.old ≡ question.now.rows }
-    requires columns { length of_columns.old ≡ question.now.columns }
-    ensures limits { IsTrue result → AreWithinLimits (asked question.now) of_rows.new of_columns.new }
-    ensures strict { IsTrue result → IsStrict (asked question.now) (millionths of_rows.new of_columns.new) seats.now }
-    ensures in_box { OnTrue result (AreInBox (asked question.now) (logs logarithms.now) seats.now bits of_rows.new of_columns.new) }
-    ensures moves { OnFalse result ((p : Potentials) → ¬ StandsInBox (asked question.now) (logs logarithms.now) seats.now bits p) }
+    requires totals { AreSeatTotals priced.now.question.now.rows priced.now.question.now.row_totals.now }
+    requires tables { AreLogTables (asked priced.now.question.now) (logs priced.now.logarithms.now) }
+    requires fits { FitsVotes (asked priced.now.question.now) priced.now.seats.now }
+    requires rows { length of_rows.old ≡ priced.now.question.now.rows }
+    requires columns { length of_columns.old ≡ priced.now.question.now.columns }
+    ensures limits { IsTrue result → AreWithinLimits (asked priced.now.question.now) of_rows.new of_columns.new }
+    ensures strict { IsTrue result → IsStrict (asked priced.now.question.now) (millionths of_rows.new of_columns.new) priced.now.seats.now }
+    ensures in_box { OnTrue result (AreInBox (asked priced.now.question.now) (logs priced.now.logarithms.now)
+        priced.now.seats.now bits of_rows.new of_columns.new) }
+    ensures moves { OnFalse result ((p : Potentials) → ¬ StandsInBox (asked priced.now.question.now) (logs priced.now.logarithms.now)
+        priced.now.seats.now bits p) }
     ensures none { OnFalse result (bits ≡ 20 → (p : Potentials) →
-        StandsFree (priced (asked question.now) (logs logarithms.now) seats.now) 4102 6 p → NoneInRange (asked question.now) seats.now) }
+        StandsFree (priced_in priced.now) 4102 6 p → NoneInRange (asked priced.now.question.now) priced.now.seats.now) }
 {
     let bounds = box_from(bits);
-    match sweep(question, logarithms, seats, bounds) {
+    match sweep(priced, bounds) {
         Swept::Still(potentials) => {
             let top = bounds.row_cap + u64::from(bits) * UNIT;
-            take_below(top, &potentials.of_rows, bits, ROW_MOST, of_rows);
-            take_numbers(&potentials.of_columns, bits, COLUMN_MOST, of_columns);
+            let row_logarithms = below(top, &potentials.of_rows);
+            take_numbers(&row_logarithms, bits, MOST_OF_ROW, of_rows);
+            take_numbers(&potentials.of_columns, bits, MOST_OF_COLUMN, of_columns);
             true
         }
         Swept::Cycle(_cycle) => false,
@@ -115,25 +107,24 @@ fn give_from(
 
 /// Whether divisors in millionths give the seats, in the first of five boxes that has some; they are left behind.
 pub(crate) fn give_within(
-    question: &Question<'_>,
-    logarithms: &LogTable<'_>,
-    seats: &[u32],
+    priced: &PricedSeats<'_>,
     of_rows: &mut [u64],
     of_columns: &mut [u64],
 ) -> bool
-    requires totals { AreSeatTotals question.now.rows question.now.row_totals.now }
-    requires tables { AreLogTables (asked question.now) (logs logarithms.now) }
-    requires fits { FitsVotes (asked question.now) seats.now }
-    requires rows { length of_rows.old ≡ question.now.rows }
-    requires columns { length of_columns.old ≡ question.now.columns }
-    ensures give { OnTrue result (GiveWithin (asked question.now) of_rows.new of_columns.new seats.now) }
-    ensures outside { OnFalse result ((rows columns : List ℕ) → ¬ AreInFirstBox (asked question.now) seats.now rows columns) }
+    requires totals { AreSeatTotals priced.now.question.now.rows priced.now.question.now.row_totals.now }
+    requires tables { AreLogTables (asked priced.now.question.now) (logs priced.now.logarithms.now) }
+    requires fits { FitsVotes (asked priced.now.question.now) priced.now.seats.now }
+    requires rows { length of_rows.old ≡ priced.now.question.now.rows }
+    requires columns { length of_columns.old ≡ priced.now.question.now.columns }
+    ensures give { OnTrue result (GiveWithin (asked priced.now.question.now) of_rows.new of_columns.new priced.now.seats.now) }
+    ensures outside { OnFalse result
+        ((rows columns : List ℕ) → ¬ AreInFirstBox (asked priced.now.question.now) priced.now.seats.now rows columns) }
     ensures none { OnFalse result ((p : Potentials) →
-        StandsFree (priced (asked question.now) (logs logarithms.now) seats.now) 4102 6 p → NoneInRange (asked question.now) seats.now) }
+        StandsFree (priced_in priced.now) 4102 6 p → NoneInRange (asked priced.now.question.now) priced.now.seats.now) }
 {
     for smaller in 0..5 {
         let bits = 20 - 4 * smaller;
-        if give_from(question, logarithms, seats, bits, of_rows, of_columns) {
+        if give_from(priced, bits, of_rows, of_columns) {
             return true;
         }
     }

@@ -4,11 +4,9 @@ ghost use Rattle.zh_decided.specs.Floated.{AreColumnFloats, AreRowFloats, Fit};
 ghost use Rattle.zh_floating.specs.Sizes.{HaveShortMantissas};
 
 use zh_floating::{Floating, FloatingDivisors};
-use zh_matrices::Question;
+use zh_matrices::{LINES, Question};
 use zh_sweeps::Potentials;
 
-/// The most lines of one kind.
-const LINES: usize = 32;
 /// What potentials of rows are below.
 const BASE: u64 = 1 << 60;
 /// The logarithm of 2^32768, by which divisors are larger than they are to be: no scale is so small.

@@ -5,13 +5,12 @@
 pub use decision::Decision;
 pub use decisions::decide;
 pub use laws::near_tie;
-pub use room::DecisionRoom;
+pub use room::{DecisionRoom, Findings};
 
 mod boxes;
 mod decision;
 mod decisions;
 mod differences;
-mod first_matrix;
 mod floats;
 mod laws;
 mod room;

@@ -2,20 +2,24 @@
 ghost use Rattle.std.specs.Prelude.{◌≡◌, IfOk, length};
 
 use std::alloc::{AllocError, Global};
-use zh_seat_paths::Logarithms;
 
 /// The odd numbers that have a logarithm in the tables: 1 to 801.
 pub(crate) const ODDS: usize = 401;
 
-/// Room for a decision. What it is about is left there: the seats of each cell, row by row; the divisors in millionths that give
-/// them; and the other matrix of a near tie.
+/// What a decision is about: the seats of each cell, row by row; the divisors in millionths that give them; and the other matrix
+/// of a near tie.
 #[derive(Drop)]
-pub struct DecisionRoom {
+pub struct Findings {
     pub seats: Vec<u32>,
     pub of_rows: Vec<u64>,
     pub of_columns: Vec<u64>,
     pub others: Vec<u32>,
-    pub(crate) path_logarithms: Logarithms,
+}
+
+/// Room for a decision, which leaves there what it is about.
+#[derive(Drop)]
+pub struct DecisionRoom {
+    pub findings: Findings,
     pub(crate) vote_logarithms: Vec<u64>,
     pub(crate) odd_logarithms: Vec<u64>,
 }
@@ -38,11 +42,12 @@ impl DecisionRoom {
         ensures { IfOk result (IsDecisionRoom rows columns) }
     {
         Ok(DecisionRoom {
-            seats: vec![in alloc; 0; rows * columns]?,
-            of_rows: zeros(alloc, rows)?,
-            of_columns: zeros(alloc, columns)?,
-            others: vec![in alloc; 0; rows * columns]?,
-            path_logarithms: Logarithms::new(alloc, rows * columns)?,
+            findings: Findings {
+                seats: vec![in alloc; 0; rows * columns]?,
+                of_rows: zeros(alloc, rows)?,
+                of_columns: zeros(alloc, columns)?,
+                others: vec![in alloc; 0; rows * columns]?,
+            },
             vote_logarithms: zeros(alloc, rows * columns)?,
             odd_logarithms: zeros(alloc, ODDS)?,
         })

@@ -1,9 +1,7 @@
 //! Floating divisors of rows and columns.
 
 use crate::floating::Floating;
-
-/// The most lines of one kind.
-pub(crate) const LINES: usize = 32;
+use zh_matrices::LINES;
 
 /// A divisor for each row and each column.
 #[derive(Clone, Copy)]

@@ -2,7 +2,7 @@
 use Rattle.std.proofs.Common.{◌≡◌, ℕ, ◌+◌, ◌-◌, ◌*◌, ◌/◌, ◌^◌, ◌<◌, ◌≤◌, max, min, List, length, get_or, set, inl, inr, sym, ◌∙◌, arith}
 use Rattle.std.proofs.lemmas.Bool.{cases_eq}
 use Rattle.std.proofs.lemmas.List.{ext_get_or, get_or-set_other, get_or-set_same}
-use Rattle.std.proofs.lemmas.Nat.{div_below, le-div}
+use Rattle.std.proofs.lemmas.Nat.{le-div}
 use Rattle.std.proofs.Math.Nat.{mul-le-mul_left, mul-le-mul_right, mul-div-le, div-le_self, le_antisymm}
 use Rattle.zh_matrices.specs.Divisors.{millionths}
 use Rattle.zh_matrices.specs.Question.{Question, cell}
@@ -23,11 +23,6 @@ pub least_below : (n a c : ℕ) → 0 < a * c → n < a * ((n / (a * c) + 1) * c
 least_below n a c positive =
     let divided : n < a * c * (n / (a * c) + 1) = omega arith in
     omega (arith, divided)
-
-pub least_least : (n a c other : ℕ) → 0 < a * c → n < a * (other * c) → n / (a * c) + 1 ≤ other
-least_least n a c other positive below =
-    let regrouped : n < other * (a * c) = omega (arith, below) in
-    omega (arith, div_below n (a * c) other positive regrouped)
 
 -- the quotient of one less is the greatest number below
 pub greatest_above : (n a r : ℕ) → 0 < a * r → 1 ≤ n → a * (r * ((n - 1) / (a * r))) < n
@@ -116,15 +111,6 @@ NoneGive-column q top g seats of_rows of_columns gw greatest enclose rows column
     let before = enclose rows columns give in
     let positive : 1 ≤ get_or columns g 0 = give.columns.from_1 g 0 (omega (arith, give.columns.one_each)) in
     omega (arith, positive, greatest (get_or columns g 0) (before.columns g gw) (IsAbove-given q top g seats of_rows rows columns give gw before.rows))
-
--- rows at 1 and columns at the top enclose everything
-pub Enclose-start : (q : Question) (top : ℕ) (seats of_rows of_columns : List ℕ) →
-    ((d : ℕ) → d < q.rows → get_or of_rows d 0 ≡ 1) → ((g : ℕ) → g < q.columns → get_or of_columns g 0 ≡ top) →
-    Enclose q top seats of_rows of_columns
-Enclose-start q top seats of_rows of_columns ones tops rows columns give = record {
-  rows = λ d dw. omega (arith, ones d dw, give.rows.from_1 d 0 (omega (arith, give.rows.one_each)));
-  columns = λ g gw. omega (arith, tops g gw, give.columns.at_most g 0 (omega (arith, give.columns.one_each)));
-}
 
 -- what encloses all that give the seats, and gives them itself, is the greatest
 pub IsGreatest-of : (q : Question) (top : ℕ) (seats of_rows of_columns : List ℕ) → Enclose q top seats of_rows of_columns →

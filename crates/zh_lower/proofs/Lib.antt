@@ -1,4 +1,5 @@
 pub mod CallerLemmas
+mod DecidedLemmas
 mod ExtremeLemmas
 mod MiddleLemmas
 mod RoundLemmas
@@ -6,4 +7,3 @@ mod SeatingLemmas
 mod SecondLemmas
 mod ShownLemmas
 mod StepLemmas
-mod ThirdLemmas

@@ -1,7 +1,6 @@
--- What each end of the two searches gives.
-use Rattle.std.proofs.Common.{◌≡◌, ℕ, ◌-◌, List, Result, Ok, Err, IfOk, refl, inl, inr, ap, arith}
+-- What each end gives.
+use Rattle.std.proofs.Common.{◌≡◌, ℕ, ◌-◌, List, Result, Ok, Err, IfOk, refl, inr, arith}
 use Rattle.std.specs.Prelude.{IsErrOf}
-use Rattle.std.proofs.lemmas.Bool.{cases_order}
 use Rattle.zh_matrices.specs.Divisors.{AreWithinLimits, Divisors, millionths}
 use Rattle.zh_search.specs.Outcomes.{ComesToTie, IsProper}
 use Rattle.zh_matrices.specs.Question.{IsFirstWithoutVotes, Question}
@@ -9,7 +8,7 @@ use Rattle.zh_matrices.specs.SeatMatrix.{IsStrict, IsWeak, SeatMatrix}
 use Rattle.zh_lower.specs.Seating.{HasFault, LowerOutcome}
 use Rattle.zh_lower.specs.Shown.{IsShown}
 use Rattle.zh_lower.specs.declared.fault.LowerFault.{LowerFault}
-use Rattle.zh_lower.specs.declared.fault.LowerFault.TheVariants.{Memory, NoVotes, Tied}
+use Rattle.zh_lower.specs.declared.fault.LowerFault.TheVariants.{Memory, Tied}
 use Rattle.zh_matrices.proofs.CallerLemmas.{no_seats, only_seats}
 
 votes_there : (q : Question) → IsProper q → (d : ℕ) → ¬ IsFirstWithoutVotes q d
@@ -28,20 +27,6 @@ seated q lower seats of_rows of_columns proper is strict limits shown = record {
   fault = tt;
   no_votes = λ d first. absurd (votes_there q proper d first);
 }
-
-same_row : (q : Question) (d e : ℕ) → IsFirstWithoutVotes q d → IsFirstWithoutVotes q e → d ≡ e
-same_row q d e D E = elim (cases_order d e) [
-  | inl same ↦ same
-  | inr (inl less) ↦ absurd (D.none (E.before (d - 1) (omega (arith, less, D.from_1))))
-  | inr (inr more) ↦ absurd (E.none (D.before (e - 1) (omega (arith, more, E.from_1))))
-]
-
--- a row without votes is returned whatever memory does
-pub same_fault : (q : Question) (d e : ℕ) → IsFirstWithoutVotes q d → IsFirstWithoutVotes q e → IsErrOf {T = SeatMatrix} (Err (NoVotes d)) (NoVotes e)
-same_fault q d e D E = ap (λ row. Err (NoVotes row)) (same_row q d e D E)
-
-pub without_votes : (q : Question) (d : ℕ) → IsFirstWithoutVotes q d → LowerOutcome q (Err (NoVotes d))
-without_votes q d is = record { seats = tt; fault = is; no_votes = λ e first. inl (same_fault q d e is first) }
 
 -- memory can be refused before a row is looked at
 pub memory_refused : (q : Question) → LowerOutcome q (Err Memory)

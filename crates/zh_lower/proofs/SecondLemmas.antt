@@ -1,12 +1,12 @@
--- What the second search finds.
+-- The middle of the divisors that give some seats.
 use Rattle.std.proofs.Common.{◌≡◌, ℕ, ◌/◌, ◌^◌, Bool, true, false, ◌↔◌, IsTrue, List, length, inl, inr, refl, sym, ap, ◌∙◌}
 use Rattle.std.proofs.lemmas.Bool.{false≢true}
 use Rattle.std.specs.Bool.{OnFalse, OnTrue}
 use Rattle.zh_matrices.specs.Divisors.{AreWithin, Divisors, millionths}
 use Rattle.zh_search.specs.Outcomes.{HasNone}
 use Rattle.zh_matrices.specs.Question.{Question}
-use Rattle.zh_lower.specs.Extremes.{ComeTo, Enclose, Give, NoneGive}
-use Rattle.zh_lower.specs.Second.{IsMiddle, IsSecond, IsSecondWithin, middle_from, scaled_down}
+use Rattle.zh_lower.specs.Extremes.{ComeTo, Enclose, Give}
+use Rattle.zh_lower.specs.Second.{HaveNoSecond, IsMiddle, IsSecond, IsSecondFor, IsSecondWithin, middle_from, scaled_down}
 use Rattle.zh_matrices.specs.SeatMatrix.{IsStrict}
 use Rattle.zh_lower.proofs.ExtremeLemmas.{IsGreatest-of}
 use Rattle.zh_lower.proofs.RoundLemmas.{only-columns, only-rows}
@@ -19,6 +19,10 @@ on-true false claim holds = tt
 pub on-false : (result : Bool) (claim : Type 0) → (result ≡ false → claim) → OnFalse result claim
 on-false true claim holds = tt
 on-false false claim holds = holds refl
+
+pub follow-true : (result : Bool) (claim other : Type 0) → (claim → other) → OnTrue result claim → OnTrue result other
+follow-true true claim other step given = step given
+follow-true false claim other step given = tt
 
 pub follow-false : (result : Bool) (claim other : Type 0) → (claim → other) → OnFalse result claim → OnFalse result other
 follow-false true claim other step given = tt
@@ -87,10 +91,6 @@ same-columns : (q : Question) (top : ℕ) (seats rows columns others other_colum
 same-columns q top seats rows columns others other_columns long wide rounds give also =
     only-columns q top seats 1000 (millionths others other_columns) (millionths rows columns) also rounds give.columns.one_each wide
 
--- none are within a top that the rounds leave
-pub none-out : (q : Question) (top : ℕ) (seats : List ℕ) → NoneGive q top seats → (x : Divisors) → ¬ IsSecondWithin q top seats x
-none-out q top seats none x second = none second.rows second.columns second.give
-
 -- nor where those to which the rounds come do not give the seats
 pub none-strict : (q : Question) (top : ℕ) (seats rows columns : List ℕ) → length rows ≡ q.rows → length columns ≡ q.columns →
     ComeTo q top seats 1000 (millionths rows columns) → ¬ IsStrict q (millionths rows columns) seats →
@@ -110,18 +110,17 @@ none-middle q top seats rows columns long wide rounds none x second =
     none x (rw (same-columns q top seats rows columns second.rows second.columns long wide rounds second.give second.rounds) second.middle)
     second.strict
 
--- within either top
-pub narrow : (q : Question) (seats : List ℕ) (x : Divisors) → IsSecondWithin q (10 ^ 9) seats x → IsSecond q x
-narrow q seats x within = (seats, inl within)
+-- nor within either top where none are within each
+pub none-for : (q : Question) (seats : List ℕ) → ((y : Divisors) → ¬ IsSecondWithin q (10 ^ 9) seats y) →
+    ((y : Divisors) → ¬ IsSecondWithin q (10 ^ 12) seats y) → HaveNoSecond q seats
+none-for q seats none also x (inl within) = none x within
+none-for q seats none also x (inr (before, within)) = also x within
 
-pub wide : (q : Question) (seats : List ℕ) (x : Divisors) → ((y : Divisors) → ¬ IsSecondWithin q (10 ^ 9) seats y) →
-    IsSecondWithin q (10 ^ 12) seats x → IsSecond q x
-wide q seats x none within = (seats, inr (none, within))
+pub second-strict : (q : Question) (seats : List ℕ) (x : Divisors) → IsSecondFor q seats x → IsStrict q x seats
+second-strict q seats x (inl within) = within.strict
+second-strict q seats x (inr (none, within)) = within.strict
 
--- where neither has some for the only seats, there are none
-pub none-second : (q : Question) (seats : List ℕ) → ((y : Divisors) → ¬ IsSecondWithin q (10 ^ 9) seats y) →
-    ((y : Divisors) → ¬ IsSecondWithin q (10 ^ 12) seats y) → (z : Divisors) → IsStrict q z seats → (x : Divisors) → ¬ IsSecond q x
-none-second q seats none also z strict x (others, inl within) =
-    let same : others ≡ seats = only_strict q z seats strict x others within.strict in none x (rw (← same) within)
-none-second q seats none also z strict x (others, inr (before, within)) =
-    let same : others ≡ seats = only_strict q z seats strict x others within.strict in also x (rw (← same) within)
+-- where the only seats have none, there are none
+pub none-second : (q : Question) (seats : List ℕ) (z : Divisors) → IsStrict q z seats → HaveNoSecond q seats → (x : Divisors) → ¬ IsSecond q x
+none-second q seats z strict none x (others, second) =
+    let same : others ≡ seats = only_strict q z seats strict x others (second-strict q others x second) in none x (rw (← same) second)

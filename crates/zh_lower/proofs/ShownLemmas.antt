@@ -47,7 +47,7 @@ same_matrix q one other divisors S T =
     = only_seats q one.divisors other.divisors one.seats other.seats S (weakened q other.divisors other.seats T) in
     ap (λ x. record { seats = other.seats; divisors = x }) divisors ∙ ap (λ s. record { seats = s; divisors = one.divisors }) seats
 
--- the third search
+-- the divisors of the decision
 same_readable : (q : Question) (seats rows columns : List ℕ) (x y : Divisors) → IsMadeReadable q seats rows columns x →
     IsMadeReadable q seats rows columns y → y ≡ x
 same_readable q seats rows columns x y (inl one) (inl other) = same_middle q 1000000 columns x y one.0 other.0

@@ -1,4 +1,6 @@
+pub mod Decided
 pub mod Extremes
+pub mod Rooms
 pub mod Seating
 pub mod Second
 pub mod Shown

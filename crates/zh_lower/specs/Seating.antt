@@ -5,6 +5,7 @@ use Rattle.zh_search.specs.Outcomes.{ComesToTie, NoneBefore}
 use Rattle.zh_matrices.specs.Question.{IsFirstWithoutVotes, Question}
 use Rattle.zh_matrices.specs.SeatMatrix.{IsStrict, SeatMatrix}
 use Rattle.zh_decided.specs.Boxes.{NoneGiven}
+use Rattle.zh_lower.specs.Decided.{IsInVain}
 use Rattle.zh_lower.specs.Shown.{IsShown}
 use Rattle.zh_lower.specs.declared.fault.LowerFault.{LowerFault}
 use Rattle.zh_lower.specs.declared.fault.LowerFault.TheVariants.{Exhausted, Memory, NoVotes, Tied}
@@ -16,10 +17,11 @@ pub record IsSeating (q : Question) (lower : SeatMatrix) : Type 0 where
   pub limits : AreWithinLimits q lower.divisors.of_rows lower.divisors.of_columns
   pub shown : IsShown q lower.divisors
 
--- no state of the first search has seats, and no divisors in millionths are those of the third
+-- no state of the search has seats, no divisors in millionths are those of the decision, and what is decided was tried
 pub record NoneFound (q : Question) : Type 0 where
   pub none_before : NoneBefore q 2001
   pub none_given : NoneGiven q
+  pub in_vain : IsInVain q
 
 -- what is so where a fault is returned; memory can be refused at any time
 abbrev pub HasFault : Question → LowerFault → Type 0

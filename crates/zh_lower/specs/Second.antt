@@ -58,7 +58,14 @@ pub record IsSecondWithin (q : Question) (top : ℕ) (seats : List ℕ) (x : Div
   pub strict : IsStrict q x seats
 
 -- within 1000, and within 1000000 only where there are none within 1000 for the same seats
+abbrev pub IsSecondFor : Question → List ℕ → Divisors → Type 0
+IsSecondFor q seats x = IsSecondWithin q (10 ^ 9) seats x
+    ⊎ (((y : Divisors) → ¬ IsSecondWithin q (10 ^ 9) seats y) × IsSecondWithin q (10 ^ 12) seats x)
+
+-- these seats have none
+abbrev pub HaveNoSecond : Question → List ℕ → Type 0
+HaveNoSecond q seats = (x : Divisors) → ¬ IsSecondFor q seats x
+
+-- those of some seats
 abbrev pub IsSecond : Question → Divisors → Type 0
-IsSecond q x = (seats : List ℕ) ×
-    (IsSecondWithin q (10 ^ 9) seats x
-    ⊎ (((y : Divisors) → ¬ IsSecondWithin q (10 ^ 9) seats y) × IsSecondWithin q (10 ^ 12) seats x))
+IsSecond q x = (seats : List ℕ) × IsSecondFor q seats x

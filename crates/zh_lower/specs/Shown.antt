@@ -1,4 +1,4 @@
--- The divisors that are shown: of the first search, of the second, or of the third.
+-- The divisors that are shown: of the search; the middle of those that give the seats; or those of the decision.
 use Rattle.std.specs.Prelude.{◌≡◌, ℕ, ◌⊎◌, List}
 use Rattle.zh_decided.specs.Boxes.{GiveWithin}
 use Rattle.zh_matrices.specs.Divisors.{Divisors, millionths}
@@ -22,14 +22,14 @@ pub record IsThird (q : Question) (x : Divisors) : Type 0 where
   pub give : GiveWithin q rows columns seats
   pub readable : IsMadeReadable q seats rows columns x
 
--- no divisors are those of the second search
+-- no divisors are such a middle
 abbrev pub HasNoSecond : Question → Type 0
 HasNoSecond q = (x : Divisors) → ¬ IsSecond q x
 
--- after the first search: of the second, and of the third only where there are none of the second
+-- after the search: a middle, and those of the decision only where there is none
 abbrev pub IsSecondOrThird : Question → Divisors → Type 0
 IsSecondOrThird q x = IsSecond q x ⊎ (HasNoSecond q × IsThird q x)
 
--- the divisors that a sheet shows: the first search comes to them, or no state of it has seats
+-- the divisors that a sheet shows: the search comes to them, or no state of it has seats
 abbrev pub IsShown : Question → Divisors → Type 0
 IsShown q x = IsReached q x ⊎ (NoneBefore q 2001 × IsSecondOrThird q x)

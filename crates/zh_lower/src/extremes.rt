@@ -3,15 +3,13 @@
 //! Rows stand at the least whole numbers, columns at the greatest, and move only as far as a cell makes them. So no
 //! row rises above, and no column falls below, what any divisors within the limits have that give these seats.
 ghost use Rattle.std.specs.Bool.{OnFalse, OnTrue};
-ghost use Rattle.std.specs.Prelude.{◌≡◌, ℕ, ◌+◌, ◌-◌, ◌*◌, ◌^◌, ◌<◌, ◌≤◌, All, length};
+ghost use Rattle.std.specs.Prelude.{◌≡◌, ℕ, ◌+◌, ◌-◌, ◌*◌, ◌^◌, ◌<◌, ◌≤◌, length};
 ghost use Rattle.zh_matrices.specs.Asked.{asked};
 ghost use Rattle.zh_matrices.specs.Divisors.{AreWithin, millionths};
 ghost use Rattle.zh_lower.specs.Extremes as words;
 ghost use Rattle.zh_lower.specs.Extremes.{ComeTo, Enclose, IfIn, IfOut, IfStill, IsAbove, IsBelow, NoneGive};
 
-use zh_matrices::Question;
-
-const MOST_OF_ROW: u64 = 1_000_000_000_000_000_000;
+use zh_matrices::{MOST_OF_ROW, Proposal};
 
 const ROUNDS: u32 = 1000;
 
@@ -59,27 +57,20 @@ fn lowered_by_cell(votes: u64, seats: u32, row: u64, divisor: u64) -> u64
 }
 
 /// The least divisor of a row, from `divisor` on, under which no quotient is above the half beyond its seats.
-fn raised(
-    question: &Question<'_>,
-    seats: &[u32],
-    of_columns: &[u64],
-    row: usize,
-    divisor: u64,
-) -> u128
-    requires columns { AreWithin question.now.columns (10 ^ 12) of_columns.now }
-    requires seats { length seats.now ≡ question.now.rows * question.now.columns }
-    requires few { All (λ s. s ≤ 400) seats.now }
-    requires row { row < question.now.rows }
+fn raised(proposal: &Proposal<'_>, of_columns: &[u64], row: usize, divisor: u64) -> u128
+    requires columns { AreWithin proposal.now.question.now.columns (10 ^ 12) of_columns.now }
+    requires row { row < proposal.now.question.now.rows }
     ensures at_least { divisor ≤ result }
-    ensures below { IsBelow (asked question.now) seats.now of_columns.now row result }
-    ensures least { (other : ℕ) → divisor ≤ other → IsBelow (asked question.now) seats.now of_columns.now row other → result ≤ other }
+    ensures below { IsBelow (asked proposal.now.question.now) proposal.now.seats.now of_columns.now row result }
+    ensures least { (other : ℕ) → divisor ≤ other →
+        IsBelow (asked proposal.now.question.now) proposal.now.seats.now of_columns.now row other → result ≤ other }
 {
     let mut least = u128::from(divisor);
-    for column in 0..question.columns {
-        let place = row * question.columns + column;
+    for column in 0..proposal.question.columns {
+        let place = row * proposal.question.columns + column;
         least = raised_by_cell(
-            question.votes[place],
-            seats[place],
+            proposal.question.votes[place],
+            proposal.seats[place],
             of_columns[column],
             least,
         );
@@ -89,50 +80,43 @@ fn raised(
 
 /// The greatest divisor of a column, up to `divisor`, under which no quotient is below the half before its seats; 0
 /// if there is none.
-fn lowered(
-    question: &Question<'_>,
-    seats: &[u32],
-    of_rows: &[u64],
-    column: usize,
-    divisor: u64,
-) -> u64
-    requires rows { AreWithin question.now.rows (10 ^ 18) of_rows.now }
-    requires seats { length seats.now ≡ question.now.rows * question.now.columns }
-    requires few { All (λ s. s ≤ 400) seats.now }
-    requires column { column < question.now.columns }
+fn lowered(proposal: &Proposal<'_>, of_rows: &[u64], column: usize, divisor: u64) -> u64
+    requires rows { AreWithin proposal.now.question.now.rows (10 ^ 18) of_rows.now }
+    requires column { column < proposal.now.question.now.columns }
     ensures at_most { result ≤ divisor }
-    ensures above { 1 ≤ result → IsAbove (asked question.now) seats.now of_rows.now column result }
-    ensures greatest { (other : ℕ) → other ≤ divisor → IsAbove (asked question.now) seats.now of_rows.now column other → other ≤ result }
+    ensures above { 1 ≤ result → IsAbove (asked proposal.now.question.now) proposal.now.seats.now of_rows.now column result }
+    ensures greatest { (other : ℕ) → other ≤ divisor →
+        IsAbove (asked proposal.now.question.now) proposal.now.seats.now of_rows.now column other → other ≤ result }
 {
     let mut greatest = divisor;
-    for row in 0..question.rows {
-        let place = row * question.columns + column;
-        greatest = lowered_by_cell(question.votes[place], seats[place], of_rows[row], greatest);
+    for row in 0..proposal.question.rows {
+        let place = row * proposal.question.columns + column;
+        greatest = lowered_by_cell(
+            proposal.question.votes[place],
+            proposal.seats[place],
+            of_rows[row],
+            greatest,
+        );
     }
     greatest
 }
 
 /// Raises each row as far as its cells ask for.
-fn raise_rows(
-    question: &Question<'_>,
-    seats: &[u32],
-    of_columns: &[u64],
-    of_rows: &mut [u64],
-) -> Move
-    requires columns { AreWithin question.now.columns (10 ^ 12) of_columns.now }
-    requires rows { AreWithin question.now.rows (10 ^ 18) of_rows.old }
-    requires seats { length seats.now ≡ question.now.rows * question.now.columns }
-    requires few { All (λ s. s ≤ 400) seats.now }
-    ensures rows { AreWithin question.now.rows (10 ^ 18) of_rows.new }
-    ensures least { IfIn result (words.AreLeastRows (asked question.now) seats.now of_columns.now of_rows.old of_rows.new) }
-    ensures enclose { (top : ℕ) → Enclose (asked question.now) top seats.now of_rows.old of_columns.now →
-        Enclose (asked question.now) top seats.now of_rows.new of_columns.now }
-    ensures out { IfOut result ((top : ℕ) → Enclose (asked question.now) top seats.now of_rows.old of_columns.now →
-        NoneGive (asked question.now) top seats.now) }
+fn raise_rows(proposal: &Proposal<'_>, of_columns: &[u64], of_rows: &mut [u64]) -> Move
+    requires columns { AreWithin proposal.now.question.now.columns (10 ^ 12) of_columns.now }
+    requires rows { AreWithin proposal.now.question.now.rows (10 ^ 18) of_rows.old }
+    ensures rows { AreWithin proposal.now.question.now.rows (10 ^ 18) of_rows.new }
+    ensures least { IfIn result
+        (words.AreLeastRows (asked proposal.now.question.now) proposal.now.seats.now of_columns.now of_rows.old of_rows.new) }
+    ensures enclose { (top : ℕ) → Enclose (asked proposal.now.question.now) top proposal.now.seats.now of_rows.old of_columns.now →
+        Enclose (asked proposal.now.question.now) top proposal.now.seats.now of_rows.new of_columns.now }
+    ensures out { IfOut result ((top : ℕ) →
+        Enclose (asked proposal.now.question.now) top proposal.now.seats.now of_rows.old of_columns.now →
+        NoneGive (asked proposal.now.question.now) top proposal.now.seats.now) }
 {
     let mut moved = false;
-    for row in 0..question.rows {
-        let divisor = raised(question, seats, of_columns, row, of_rows[row]);
+    for row in 0..proposal.question.rows {
+        let divisor = raised(proposal, of_columns, row, of_rows[row]);
         if divisor > u128::from(MOST_OF_ROW) {
             return Move::Out;
         }
@@ -143,29 +127,22 @@ fn raise_rows(
 }
 
 /// Lowers each column as far as its cells ask for.
-fn lower_columns(
-    question: &Question<'_>,
-    seats: &[u32],
-    of_rows: &[u64],
-    of_columns: &mut [u64],
-    top: u64,
-) -> Move
-    requires rows { AreWithin question.now.rows (10 ^ 18) of_rows.now }
-    requires columns { AreWithin question.now.columns top of_columns.old }
-    requires seats { length seats.now ≡ question.now.rows * question.now.columns }
-    requires few { All (λ s. s ≤ 400) seats.now }
-    ensures columns { AreWithin question.now.columns top of_columns.new }
+fn lower_columns(proposal: &Proposal<'_>, of_rows: &[u64], of_columns: &mut [u64], top: u64) -> Move
+    requires rows { AreWithin proposal.now.question.now.rows (10 ^ 18) of_rows.now }
+    requires columns { AreWithin proposal.now.question.now.columns top of_columns.old }
+    ensures columns { AreWithin proposal.now.question.now.columns top of_columns.new }
     ensures greatest { IfIn result
-        (words.AreGreatestColumns (asked question.now) seats.now of_rows.now of_columns.old of_columns.new) }
+        (words.AreGreatestColumns (asked proposal.now.question.now) proposal.now.seats.now of_rows.now of_columns.old of_columns.new) }
     ensures still { IfStill result (of_columns.new ≡ of_columns.old) }
-    ensures enclose { Enclose (asked question.now) top seats.now of_rows.now of_columns.old →
-        Enclose (asked question.now) top seats.now of_rows.now of_columns.new }
-    ensures out { IfOut result (Enclose (asked question.now) top seats.now of_rows.now of_columns.old →
-        NoneGive (asked question.now) top seats.now) }
+    ensures enclose { Enclose (asked proposal.now.question.now) top proposal.now.seats.now of_rows.now of_columns.old →
+        Enclose (asked proposal.now.question.now) top proposal.now.seats.now of_rows.now of_columns.new }
+    ensures out { IfOut result
+        (Enclose (asked proposal.now.question.now) top proposal.now.seats.now of_rows.now of_columns.old →
+        NoneGive (asked proposal.now.question.now) top proposal.now.seats.now) }
 {
     let mut moved = false;
-    for column in 0..question.columns {
-        let divisor = lowered(question, seats, of_rows, column, of_columns[column]);
+    for column in 0..proposal.question.columns {
+        let divisor = lowered(proposal, of_rows, column, of_columns[column]);
         if divisor == 0 {
             return Move::Out;
         }
@@ -177,31 +154,29 @@ fn lower_columns(
 
 /// Takes rows at 1 and columns at the top, and moves them for 1,000 rounds, or until nothing moves; unless one leaves its limits.
 pub(crate) fn settle(
-    question: &Question<'_>,
-    seats: &[u32],
+    proposal: &Proposal<'_>,
     top: u64,
     of_rows: &mut [u64],
     of_columns: &mut [u64],
 ) -> bool
     requires from_1 { 1 ≤ top }
     requires at_most { top ≤ 10 ^ 12 }
-    requires rows { length of_rows.old ≡ question.now.rows }
-    requires columns { length of_columns.old ≡ question.now.columns }
-    requires seats { length seats.now ≡ question.now.rows * question.now.columns }
-    requires few { All (λ s. s ≤ 400) seats.now }
-    ensures rows { AreWithin question.now.rows (10 ^ 18) of_rows.new }
-    ensures columns { AreWithin question.now.columns top of_columns.new }
-    ensures enclose { Enclose (asked question.now) top seats.now of_rows.new of_columns.new }
-    ensures rounds { OnTrue result (ComeTo (asked question.now) top seats.now 1000 (millionths of_rows.new of_columns.new)) }
-    ensures out { OnFalse result (NoneGive (asked question.now) top seats.now) }
+    requires rows { length of_rows.old ≡ proposal.now.question.now.rows }
+    requires columns { length of_columns.old ≡ proposal.now.question.now.columns }
+    ensures rows { AreWithin proposal.now.question.now.rows (10 ^ 18) of_rows.new }
+    ensures columns { AreWithin proposal.now.question.now.columns top of_columns.new }
+    ensures enclose { Enclose (asked proposal.now.question.now) top proposal.now.seats.now of_rows.new of_columns.new }
+    ensures rounds { OnTrue result
+        (ComeTo (asked proposal.now.question.now) top proposal.now.seats.now 1000 (millionths of_rows.new of_columns.new)) }
+    ensures out { OnFalse result (NoneGive (asked proposal.now.question.now) top proposal.now.seats.now) }
 {
     of_rows.fill(1);
     of_columns.fill(top);
     for _round in 0..ROUNDS {
-        if let Move::Out = raise_rows(question, seats, of_columns, of_rows) {
+        if let Move::Out = raise_rows(proposal, of_columns, of_rows) {
             return false;
         }
-        match lower_columns(question, seats, of_rows, of_columns, top) {
+        match lower_columns(proposal, of_rows, of_columns, top) {
             Move::Moved => {}
             Move::Still => return true,
             Move::Out => return false,

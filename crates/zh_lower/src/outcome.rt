@@ -1,18 +1,18 @@
 //! The lower apportionment as a whole.
 ghost use Rattle.std.specs.Prelude.{◌≡◌, ℕ, ◌*◌, IfOk, IsErrOf, List, length};
 ghost use Rattle.zh_matrices.specs.Asked.{asked};
-ghost use Rattle.zh_matrices.specs.Divisors.{Divisors, millionths};
+ghost use Rattle.zh_matrices.specs.Divisors.{Divisors};
 ghost use Rattle.zh_search.specs.Outcomes.{IsProper, NoneBefore};
 ghost use Rattle.zh_matrices.specs.Question.{AreSeatTotals, EachColumnHasVotes, IsFirstWithoutVotes, question};
 ghost use Rattle.zh_matrices.specs.SeatMatrix.{IsStrict, IsWeak};
+ghost use Rattle.zh_lower.specs.Rooms.{divisors_in};
 ghost use Rattle.zh_lower.specs.Seating.{LowerOutcome};
 ghost use Rattle.zh_lower.specs.Tables.{AreStarted, AreTables};
 
+use crate::decided::seats_by_decision;
 use crate::fault::LowerFault;
 use crate::lower::Lower;
-use crate::second::second_search;
 use crate::tables::Tables;
-use crate::third::third_search;
 use crate::votes::first_without_votes;
 use std::alloc::Global;
 use zh_matrices::{Matrix, Question};
@@ -20,33 +20,29 @@ use zh_search::{Ending, search};
 
 /// The seats and divisors at hand.
 fn lower_of(tables: Tables) -> Lower
-    requires { length tables.seats.items ≡ length tables.row_divisors.items * length tables.column_divisors.items }
-    ensures { result ≡ record { seats = tables.seats.items; divisors = millionths tables.row_divisors.items tables.column_divisors.items } }
+    requires { length tables.seats.items ≡ length tables.divisors.of_rows.items * length tables.divisors.of_columns.items }
+    ensures { result ≡ record { seats = tables.seats.items; divisors = divisors_in tables.divisors } }
 {
     let Tables {
         seats,
-        row_divisors,
-        column_divisors,
+        divisors,
         ..
     } = tables;
-    Lower::new(seats, row_divisors, column_divisors)
+    Lower::new(seats, divisors.of_rows, divisors.of_columns)
 }
 
-/// Seats with divisors by the third search, where the first two are exhausted.
-fn third_seats_on(mut tables: Tables, question: &Question<'_>) -> Result<Lower, LowerFault>
+/// Seats with divisors by the decision, where the search is exhausted.
+fn decided_seats_on(mut tables: Tables, question: &Question<'_>) -> Result<Lower, LowerFault>
     requires proper { IsProper (asked question.now) }
     requires tables { AreTables (asked question.now) tables }
     requires none { NoneBefore (asked question.now) 2001 }
     ensures { LowerOutcome (asked question.now) result }
 {
-    let found = third_search(
+    let found = seats_by_decision(
         question,
         &mut tables.decision,
         &mut tables.seats,
-        &mut tables.row_divisors,
-        &mut tables.column_divisors,
-        &mut tables.greatest,
-        &mut tables.line,
+        &mut tables.divisors,
     );
     if found {
         return Ok(lower_of(tables));
@@ -54,29 +50,7 @@ fn third_seats_on(mut tables: Tables, question: &Question<'_>) -> Result<Lower, 
     Err(LowerFault::Exhausted)
 }
 
-/// Seats with divisors by the second search, where the first is exhausted, or else by the third.
-fn second_seats_on(mut tables: Tables, question: &Question<'_>) -> Result<Lower, LowerFault>
-    requires proper { IsProper (asked question.now) }
-    requires tables { AreTables (asked question.now) tables }
-    requires none { NoneBefore (asked question.now) 2001 }
-    ensures { LowerOutcome (asked question.now) result }
-{
-    let found = second_search(
-        question,
-        &mut tables.logarithms,
-        &mut tables.seats,
-        &mut tables.row_divisors,
-        &mut tables.column_divisors,
-        &mut tables.greatest,
-        &mut tables.line,
-    );
-    if found {
-        return Ok(lower_of(tables));
-    }
-    third_seats_on(tables, question)
-}
-
-/// Seats with divisors, by the first search on these tables, and by the others where that is exhausted.
+/// Seats with divisors, by the search on these tables, or else by the decision.
 fn seats_on(mut tables: Tables, question: &Question<'_>) -> Result<Lower, LowerFault>
     requires proper { IsProper (asked question.now) }
     requires started { AreStarted (asked question.now) tables }
@@ -84,9 +58,9 @@ fn seats_on(mut tables: Tables, question: &Question<'_>) -> Result<Lower, LowerF
 {
     let ending = search(
         question,
-        &mut tables.row_divisors,
-        &mut tables.column_divisors,
-        &mut tables.line,
+        &mut tables.divisors.of_rows,
+        &mut tables.divisors.of_columns,
+        &mut tables.divisors.votes,
         &mut tables.quotients,
         &mut tables.seats,
         &mut tables.others,
@@ -94,11 +68,11 @@ fn seats_on(mut tables: Tables, question: &Question<'_>) -> Result<Lower, LowerF
     match ending {
         Some(Ending::Found) => Ok(lower_of(tables)),
         Some(Ending::Tied(row, column)) => Err(LowerFault::Tied(row, column)),
-        None => second_seats_on(tables, question),
+        None => decided_seats_on(tables, question),
     }
 }
 
-/// Seats with divisors, by the searches. All memory is taken at their start.
+/// Seats with divisors. All memory is taken at the start.
 fn seats_by_search(alloc: Global, question: &Question<'_>) -> Result<Lower, LowerFault>
     requires { IsProper (asked question.now) }
     ensures { LowerOutcome (asked question.now) result }
@@ -112,8 +86,8 @@ fn seats_by_search(alloc: Global, question: &Question<'_>) -> Result<Lower, Lowe
 /// The votes of each cell over its two divisors round to its seats, none on a half, and all totals are met.
 /// No other seats follow from any divisors, of any scale, and the divisors are those of the first state of the
 /// search (docs/DEFINITIONS.md) that gives seats; where none does, they lie in the middle of those that give them.
-/// `Tied` is returned if a state gives two different matrices, `Exhausted` if no state gives seats and the other two
-/// searches have none either, and `Memory` can come in place of every answer but `NoVotes`.
+/// `Tied` is returned if a state gives two different matrices, `Exhausted` if no state gives seats and the decision leaves
+/// none either, and `Memory` can come in place of every answer but `NoVotes`.
 pub fn find(
     alloc: Global,
     matrix: &Matrix,

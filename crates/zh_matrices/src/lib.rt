@@ -3,13 +3,17 @@
 #![tactic(auto)]
 
 pub use certificates::{follows, is_strict};
+pub use limits::{LINES, MOST_OF_COLUMN, MOST_OF_ROW};
 pub use matrix::Matrix;
+pub use proposal::Proposal;
 pub use question::Question;
 pub use rounding::Rounding;
 pub use totals::{column_sum, row_sum};
 
 mod certificates;
+mod limits;
 mod matrix;
+mod proposal;
 mod question;
 mod rounding;
 mod totals;

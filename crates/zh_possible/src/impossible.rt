@@ -11,10 +11,7 @@ use crate::filling::{fill_cells, seats_placed};
 use crate::rows::MarkedRows;
 use crate::turns::turn;
 use crate::ways::{Way, reach};
-use zh_matrices::Question;
-
-/// The most lines of one kind.
-const LINES: usize = 32;
+use zh_matrices::{LINES, Question};
 
 /// The rows that have no way.
 fn rows_without_way(question: &Question<'_>, ways: &[Option<Way>]) -> MarkedRows

@@ -35,10 +35,10 @@ fn decided(alloc: Global, question: &Question<'_>, whom: Whom) -> Result<String,
         Decision::NearlyTied(row, column, _) => {
             with_numbers(alloc, "nearly tied", &[u64::from(row), u64::from(column)])
         }
-        Decision::Beyond(_) => with_seats(alloc, "beyond", &room.seats, question.columns),
+        Decision::Beyond(_) => with_seats(alloc, "beyond", &room.findings.seats, question.columns),
         Decision::Seats => match whom {
-            Whom::Searches => with_seats(alloc, "missed", &room.seats, question.columns),
-            Whom::Decision => with_divisors(alloc, &room, question.columns),
+            Whom::Searches => with_seats(alloc, "missed", &room.findings.seats, question.columns),
+            Whom::Decision => with_divisors(alloc, &room.findings, question.columns),
         },
     }
 }
@@ -76,7 +76,7 @@ fn searched(
 /// The answer to the question of a text. Its lines are `rows` and `columns`, each with the seats of its lines, and for each
 /// row `votes`.
 ///
-/// Of the searches it is `seats`, row by row, with the divisors of rows and of columns in millionths; `no votes` with a row;
+/// It is `seats`, row by row, with the divisors of rows and of columns in millionths; `no votes` with a row;
 /// `tied` with a row and a column; or, where they are exhausted, the reason: `impossible` with the rows, `nearly tied` with a
 /// row and a column, or `beyond` or `missed` with the seats. The decision has `seats` with its own divisors, or such a reason.
 pub fn answer_to(alloc: Global, text: &str, whom: Whom) -> Result<String, CaseFault> {

@@ -1,4 +1,4 @@
-//! Whether a question keeps the limits of the searches.
+//! Whether a question keeps the limits.
 ghost use Rattle.std.specs.Prelude.{◌≡◌, ◌*◌, ◌^◌, ◌<◌, ◌≤◌, All, IsTrue, length};
 ghost use Rattle.zh_matrices.specs.Asked.{asked};
 ghost use Rattle.zh_matrices.specs.Question.{AreSeatTotals, EachColumnHasVotes, HasVotes, column_votes};

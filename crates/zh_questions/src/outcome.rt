@@ -3,7 +3,7 @@ ghost use Rattle.std.specs.Prelude.{◌≡◌, ◌≤◌, length};
 
 use std::alloc::{AllocError, Global};
 use zh_case_lines::push_number;
-use zh_decided::DecisionRoom;
+use zh_decided::Findings;
 use zh_lower::Lower;
 use zh_possible::MarkedRows;
 
@@ -122,15 +122,15 @@ pub(crate) fn with_seats(
 /// The seats that are decided, with their divisors, as `found` has them.
 pub(crate) fn with_divisors(
     alloc: Global,
-    room: &DecisionRoom,
+    findings: &Findings,
     columns: usize,
 ) -> Result<String, AllocError>
     requires { 1 ≤ columns }
 {
-    let mut text = with_seats(alloc, "seats", &room.seats, columns)?;
+    let mut text = with_seats(alloc, "seats", &findings.seats, columns)?;
     text.push_str("; rows")?;
-    push_numbers(&mut text, &room.of_rows)?;
+    push_numbers(&mut text, &findings.of_rows)?;
     text.push_str("; columns")?;
-    push_numbers(&mut text, &room.of_columns)?;
+    push_numbers(&mut text, &findings.of_columns)?;
     Ok(text)
 }

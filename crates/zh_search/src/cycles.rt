@@ -3,10 +3,7 @@
 //! A row leads to a column where its cell can go up, and a column to a row where its cell can go down.
 ghost use Rattle.std.specs.Prelude.{◌≡◌, ◌*◌, ◌<◌, length};
 
-use zh_matrices::Question;
-
-/// The most lines of one kind.
-const LINES: usize = 32;
+use zh_matrices::{LINES, Question};
 
 /// Whether a line leads on.
 fn leads_on(lines: &[Option<usize>], line: usize) -> bool {

@@ -12,11 +12,7 @@ ghost use Rattle.zh_search.specs.States.{renewed_column, renewed_row};
 
 use crate::quotient::Quotient;
 use zh_divisors::line;
-use zh_matrices::Question;
-
-const MOST_OF_ROW: u64 = 1_000_000_000_000_000_000;
-
-const MOST_OF_COLUMN: u64 = 1_000_000_000_000;
+use zh_matrices::{MOST_OF_COLUMN, MOST_OF_ROW, Question};
 
 /// Whether the quotients of a line do not add up to its total, or one of them lies on a half. They are kept at
 /// `first`, and then `step` places apart.

@@ -4,10 +4,7 @@
 //! turn, so that the totals of the lines between stay.
 ghost use Rattle.std.specs.Prelude.{◌≡◌, ◌*◌, length};
 
-use zh_matrices::{Question, column_sum, row_sum};
-
-/// The most lines of one kind.
-const LINES: usize = 32;
+use zh_matrices::{LINES, Question, column_sum, row_sum};
 
 /// No more seats are missing than there are.
 const MOST_PATHS: u32 = 400;

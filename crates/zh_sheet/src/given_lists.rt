@@ -12,13 +12,8 @@ use crate::seated::{seated_groups, seats_of, votes_of};
 use crate::sheet::Sheet;
 use std::alloc::{AllocError, Global};
 use zh_lower::{Lower, Matrix, is_strict};
+use zh_matrices::{MOST_OF_COLUMN, MOST_OF_ROW};
 use zh_totals::Totals;
-
-/// The greatest divisor of a constituency, in millionths.
-const MOST_OF_A_ROW: u64 = 1_000_000_000_000_000_000;
-
-/// The greatest divisor of a group, in millionths.
-const MOST_OF_A_COLUMN: u64 = 1_000_000_000_000;
 
 /// Whether each list with votes in a constituency stands there.
 fn none_hidden_in(totals: &Totals<'_>, constituency: u32) -> bool
@@ -66,8 +61,8 @@ fn do_fit(
     requires columns { columns ≤ 32 }
     ensures { IsTrue result ↔ DoFit rows columns (given_lists seats.now row_divisors.now column_divisors.now) }
 {
-    are_within(rows, MOST_OF_A_ROW, row_divisors)
-        && are_within(columns, MOST_OF_A_COLUMN, column_divisors)
+    are_within(rows, MOST_OF_ROW, row_divisors)
+        && are_within(columns, MOST_OF_COLUMN, column_divisors)
         && seats.len() == rows * columns
         && seats.iter().all(|x| *x <= 400)
 }

@@ -28,7 +28,7 @@ pub enum ExhaustedReason {
     NearlyTied(u32, u32),
     /// These are the only seats, but no divisors that leave the limits of a sheet some room give any.
     Beyond(ListSeats),
-    /// These are the only seats, and divisors that a sheet could show give them, which the searches have missed.
+    /// These are the only seats, and divisors that a sheet could show give them, which were missed.
     Missed(ListSeats),
 }
 
@@ -47,9 +47,13 @@ fn reason_of(question: &Question<'_>, groups: Vec<u32>, mut room: DecisionRoom) 
             ExhaustedReason::NearlyTied(constituency, groups[(column - 1) as usize])
         }
         Decision::Beyond(_divisors) => {
-            ExhaustedReason::Beyond(ListSeats::new(rows, groups, room.seats))
+            ExhaustedReason::Beyond(ListSeats::new(rows, groups, room.findings.seats))
         }
-        Decision::Seats => ExhaustedReason::Missed(ListSeats::new(rows, groups, room.seats)),
+        Decision::Seats => ExhaustedReason::Missed(ListSeats::new(
+            rows,
+            groups,
+            room.findings.seats,
+        )),
     }
 }
 

@@ -9,7 +9,7 @@ use Rattle.zh_sweeps.specs.Prices.{Cells, Priced}
 use Rattle.zh_sweeps.specs.Sweeps.{AreFair, CanPass, IsCircle, IsCycle, last_prices, next_prices, step_at}
 use Rattle.zh_sweeps.specs.declared.bounds.Bounds.{Bounds}
 use Rattle.zh_sweeps.specs.declared.cycle.Cycle.{Cycle}
-use Rattle.zh_sweeps.specs.declared.levels.Mark.{Mark}
+use Rattle.zh_sweeps.specs.declared.marks.Mark.{Mark}
 use Rattle.zh_sweeps.specs.declared.trail.Trail.{Trail}
 use Rattle.zh_sweeps.proofs.ChainLemmas.{along}
 use Rattle.zh_sweeps.proofs.TrailLemmas.{last_potential, last_step, source-of}

@@ -6,7 +6,7 @@ use Rattle.zh_sweeps.specs.Sweeps.{IsOut, step_at}
 use Rattle.zh_sweeps.specs.declared.bounds.Bounds.{Bounds}
 use Rattle.zh_sweeps.specs.declared.descent.Descent.{Descent}
 use Rattle.zh_sweeps.specs.declared.descent.Descent.TheVariants as descents
-use Rattle.zh_sweeps.specs.declared.levels.Mark.{Mark}
+use Rattle.zh_sweeps.specs.declared.marks.Mark.{Mark}
 use Rattle.zh_sweeps.specs.declared.trail.Trail.{Trail}
 use Rattle.zh_sweeps.proofs.ChainLemmas.{too_many}
 use Rattle.zh_sweeps.proofs.EncloseLemmas.{out-column, out-later, out-row}

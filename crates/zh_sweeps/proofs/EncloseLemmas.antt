@@ -4,7 +4,7 @@ use Rattle.zh_sweeps.specs.Levels.{AreColumnMarks, AreRowMarks, IsColumnMark, Is
 use Rattle.zh_sweeps.specs.Prices.{Priced}
 use Rattle.zh_sweeps.specs.Sweeps.{AreFair, AreOut, IsLow}
 use Rattle.zh_sweeps.specs.declared.bounds.Bounds.{Bounds}
-use Rattle.zh_sweeps.specs.declared.levels.Mark.{Mark}
+use Rattle.zh_sweeps.specs.declared.marks.Mark.{Mark}
 use Rattle.zh_sweeps.proofs.MarkLemmas.{IsColumnMaker}
 
 row-by : (m : Priced) (bounds : Bounds) (columns : List Mark) (a b e : ℕ) (x y : ℕ → ℕ) (d potential : ℕ) (maker : Option ℕ) →

@@ -7,7 +7,7 @@ use Rattle.zh_sweeps.specs.Prices.{Priced}
 use Rattle.zh_sweeps.specs.Sweeps.{step_at}
 use Rattle.zh_sweeps.specs.declared.bounds.Bounds.{Bounds}
 use Rattle.zh_sweeps.specs.declared.cycle.Transfer.{Transfer}
-use Rattle.zh_sweeps.specs.declared.levels.Mark.{Mark}
+use Rattle.zh_sweeps.specs.declared.marks.Mark.{Mark}
 
 -- what made a column: a row, or nothing
 abbrev pub IsColumnMaker : Priced → Bounds → List Mark → ℕ → ℕ → ℕ → Option ℕ → Type 0

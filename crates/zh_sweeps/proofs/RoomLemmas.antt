@@ -5,7 +5,7 @@ use Rattle.zh_matrices.specs.Question.{Question, cell}
 use Rattle.zh_sweeps.specs.Levels.{AreColumnMarks, AreRowMarks, HasRoom, IsLowColumn, IsLowRow, IsRowMaker, mark_at, potential_at}
 use Rattle.zh_sweeps.specs.Prices.{AreLogs, Logs, Priced, priced}
 use Rattle.zh_sweeps.specs.declared.bounds.Bounds.{Bounds}
-use Rattle.zh_sweeps.specs.declared.levels.Mark.{Mark}
+use Rattle.zh_sweeps.specs.declared.marks.Mark.{Mark}
 use Rattle.zh_sweeps.proofs.MarkLemmas.{IsColumnMaker}
 
 -- prices near 2^60

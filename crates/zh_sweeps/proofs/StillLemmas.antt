@@ -4,7 +4,7 @@ use Rattle.zh_sweeps.specs.Levels.{AreAbove, AreColumnMarks, AreRowMarks, mark_a
 use Rattle.zh_sweeps.specs.Prices.{Priced}
 use Rattle.zh_sweeps.specs.Sweeps.{IsStill, of_column, of_row}
 use Rattle.zh_sweeps.specs.declared.bounds.Bounds.{Bounds}
-use Rattle.zh_sweeps.specs.declared.levels.Mark.{Mark}
+use Rattle.zh_sweeps.specs.declared.marks.Mark.{Mark}
 use Rattle.zh_sweeps.specs.declared.sweeps.Potentials.{Potentials}
 use Rattle.zh_sweeps.proofs.EncloseLemmas.{columns-above, rows-above}
 use Rattle.zh_sweeps.proofs.TrailLemmas.{column-kept}

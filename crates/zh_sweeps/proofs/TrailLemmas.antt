@@ -6,7 +6,7 @@ use Rattle.zh_sweeps.specs.Prices.{Priced}
 use Rattle.zh_sweeps.specs.Sweeps.{step_at}
 use Rattle.zh_sweeps.specs.declared.bounds.Bounds.{Bounds}
 use Rattle.zh_sweeps.specs.declared.cycle.Transfer.{Transfer}
-use Rattle.zh_sweeps.specs.declared.levels.Mark.{Mark}
+use Rattle.zh_sweeps.specs.declared.marks.Mark.{Mark}
 use Rattle.zh_sweeps.specs.declared.trail.Trail.{Trail}
 use Rattle.zh_sweeps.proofs.MarkLemmas.{IsColumnMaker}
 

@@ -4,7 +4,7 @@ use Rattle.std.specs.Prelude.{◌≡◌, ◌≢◌, ℕ, ◌+◌, ◌-◌, ◌*�
 use Rattle.zh_sweeps.specs.Prices.{Priced}
 use Rattle.zh_sweeps.specs.Sweeps.{AreCapped, AreFair, AreFree, AreOut, IsCycle, IsStill, step_at}
 use Rattle.zh_sweeps.specs.declared.bounds.Bounds.{Bounds}
-use Rattle.zh_sweeps.specs.declared.levels.Mark.{Mark}
+use Rattle.zh_sweeps.specs.declared.marks.Mark.{Mark}
 use Rattle.zh_sweeps.specs.declared.trail.Trail.{Trail}
 use Rattle.zh_sweeps.specs.declared.descent.Descent.{Descent}
 use Rattle.zh_sweeps.specs.declared.descent.Descent.TheVariants as descents

@@ -1,17 +1,16 @@
 //! The levels of a sweep, one after the other.
-ghost use Rattle.std.specs.Prelude.{◌≡◌, ℕ, ◌*◌, ◌<◌, ◌≤◌, All, IfNone, IfSome, None, Some, length, slice_index};
-ghost use Rattle.zh_matrices.specs.Asked.{asked};
+ghost use Rattle.std.specs.Prelude.{◌≡◌, ℕ, ◌<◌, ◌≤◌, IfNone, IfSome, None, Some, slice_index};
 ghost use Rattle.zh_sweeps.specs.Levels as words;
-ghost use Rattle.zh_sweeps.specs.Prices.{priced};
-ghost use Rattle.zh_sweeps.specs.Taken.{logs};
+ghost use Rattle.zh_sweeps.specs.Taken.{priced_in};
 
 use crate::bounds::Bounds;
 use crate::cycle::Cycle;
-use crate::levels::{LINES, Mark, column_marks, row_marks};
-use crate::prices::LogTable;
+use crate::levels::{column_marks, row_marks};
+use crate::marks::Mark;
+use crate::prices::PricedSeats;
 use crate::sweeps::Potentials;
 use crate::trail::Trail;
-use zh_matrices::Question;
+use zh_matrices::{LINES, Question};
 
 /// The end of a sweep, or a column that falls even at its last level.
 #[derive(Clone, Copy)]
@@ -49,28 +48,23 @@ fn potentials(marks: &[Mark; LINES]) -> [u64; LINES]
 
 /// Goes on from these columns, with so many levels after this one.
 pub(crate) fn descend(
-    question: &Question<'_>,
-    logarithms: &LogTable<'_>,
-    seats: &[u32],
+    priced: &PricedSeats<'_>,
     bounds: Bounds,
     columns: &[Mark; LINES],
     levels: usize,
 ) -> Descent
-    requires votes { length logarithms.now.of_votes.now ≡ question.now.rows * question.now.columns }
-    requires seats { length seats.now ≡ question.now.rows * question.now.columns }
-    requires few { All (λ s. s ≤ 400) seats.now }
-    requires caps { (g : ℕ) → g < question.now.columns → words.potential_at columns.now g ≤ bounds.column_cap }
-    requires above { words.AreAbove (priced (asked question.now) (logs logarithms.now) seats.now) bounds columns.now }
+    requires caps { (g : ℕ) → g < priced.now.question.now.columns → words.potential_at columns.now g ≤ bounds.column_cap }
+    requires above { words.AreAbove (priced_in priced.now) bounds columns.now }
     requires levels { levels ≤ 32 }
-    ensures { words.Descends (priced (asked question.now) (logs logarithms.now) seats.now) bounds levels columns.now result }
+    ensures { words.Descends (priced_in priced.now) bounds levels columns.now result }
 {
-    let Some(rows) = row_marks(question, logarithms, seats, bounds, columns) else {
+    let Some(rows) = row_marks(priced, bounds, columns) else {
         return Descent::Out;
     };
-    let Some(lower) = column_marks(question, logarithms, seats, bounds, &rows, columns) else {
+    let Some(lower) = column_marks(priced, bounds, &rows, columns) else {
         return Descent::Out;
     };
-    let Some((fallen, maker)) = first_fallen(question, &lower) else {
+    let Some((fallen, maker)) = first_fallen(priced.question, &lower) else {
         return Descent::Still(Potentials {
             of_rows: potentials(&rows),
             of_columns: potentials(&lower),
@@ -79,7 +73,7 @@ pub(crate) fn descend(
     if levels == 0 {
         return Descent::Falls(Trail::new(maker, fallen, rows[maker].maker));
     }
-    match descend(question, logarithms, seats, bounds, &lower, levels - 1) {
+    match descend(priced, bounds, &lower, levels - 1) {
         Descent::Falls(trail) => {
             let Some(column) = trail.source else {
                 unreachable!();

@@ -1,15 +1,12 @@
 //! The slack up to which seats stand still.
-ghost use Rattle.std.specs.Prelude.{◌≡◌, ◌+◌, ◌-◌, ◌*◌, ◌<◌, ◌≤◌, All, length};
-ghost use Rattle.zh_matrices.specs.Asked.{asked};
+ghost use Rattle.std.specs.Prelude.{◌≡◌, ◌+◌, ◌-◌, ◌<◌, ◌≤◌};
 ghost use Rattle.zh_sweeps.specs.Gaps.{IsGap};
-ghost use Rattle.zh_sweeps.specs.Prices.{priced};
-ghost use Rattle.zh_sweeps.specs.Taken.{logs};
+ghost use Rattle.zh_sweeps.specs.Taken.{priced_in};
 
 use crate::bounds::Bounds;
 use crate::cycle::Cycle;
-use crate::prices::LogTable;
+use crate::prices::PricedSeats;
 use crate::sweeps::{Potentials, Swept, sweep};
-use zh_matrices::Question;
 
 /// Slacks of next seats, up to 2^36: at one the seats stand still with these potentials, and at a larger one there is this
 /// cycle.
@@ -22,18 +19,15 @@ pub struct Gap {
 }
 
 /// One half of a gap.
-fn halve(question: &Question<'_>, logarithms: &LogTable<'_>, seats: &[u32], gap: Gap) -> Gap
-    requires votes { length logarithms.now.of_votes.now ≡ question.now.rows * question.now.columns }
-    requires seats { length seats.now ≡ question.now.rows * question.now.columns }
-    requires few { All (λ s. s ≤ 400) seats.now }
-    requires gap { IsGap (priced (asked question.now) (logs logarithms.now) seats.now) gap }
+fn halve(priced: &PricedSeats<'_>, gap: Gap) -> Gap
+    requires gap { IsGap (priced_in priced.now) gap }
     requires wide { gap.still_at + 1 < gap.cycle_at }
-    ensures gap { IsGap (priced (asked question.now) (logs logarithms.now) seats.now) result }
+    ensures gap { IsGap (priced_in priced.now) result }
     ensures narrower { result.cycle_at - result.still_at < gap.cycle_at - gap.still_at }
     ensures within { result.cycle_at ≤ gap.cycle_at }
 {
     let middle = gap.still_at + (gap.cycle_at - gap.still_at) / 2;
-    match sweep(question, logarithms, seats, Bounds::free(middle, 0)) {
+    match sweep(priced, Bounds::free(middle, 0)) {
         Swept::Still(potentials) => Gap {
             still_at: middle,
             cycle_at: gap.cycle_at,
@@ -51,18 +45,15 @@ fn halve(question: &Question<'_>, logarithms: &LogTable<'_>, seats: &[u32], gap:
 }
 
 /// Narrows a gap to one unit.
-pub fn close_gap(question: &Question<'_>, logarithms: &LogTable<'_>, seats: &[u32], gap: Gap) -> Gap
-    requires votes { length logarithms.now.of_votes.now ≡ question.now.rows * question.now.columns }
-    requires seats { length seats.now ≡ question.now.rows * question.now.columns }
-    requires few { All (λ s. s ≤ 400) seats.now }
-    requires gap { IsGap (priced (asked question.now) (logs logarithms.now) seats.now) gap }
-    ensures gap { IsGap (priced (asked question.now) (logs logarithms.now) seats.now) result }
+pub fn close_gap(priced: &PricedSeats<'_>, gap: Gap) -> Gap
+    requires gap { IsGap (priced_in priced.now) gap }
+    ensures gap { IsGap (priced_in priced.now) result }
     ensures one_unit { result.cycle_at ≡ result.still_at + 1 }
     ensures within { result.cycle_at ≤ gap.cycle_at }
 {
     let mut gap = gap;
     while gap.still_at + 1 < gap.cycle_at {
-        gap = halve(question, logarithms, seats, gap);
+        gap = halve(priced, gap);
     }
     gap
 }

@@ -5,7 +5,7 @@
 pub use bounds::Bounds;
 pub use cycle::Cycle;
 pub use gaps::{Gap, close_gap};
-pub use prices::LogTable;
+pub use prices::{LogTable, PricedSeats};
 pub use sweeps::{Potentials, Swept, sweep};
 pub use turns::{make_cheapest, turn_cycle};
 
@@ -14,6 +14,7 @@ mod cycle;
 mod descent;
 mod gaps;
 mod levels;
+mod marks;
 mod prices;
 mod sweeps;
 mod trail;

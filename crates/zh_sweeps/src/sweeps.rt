@@ -1,17 +1,15 @@
 //! Sweeps.
-ghost use Rattle.std.specs.Prelude.{◌≡◌, ℕ, ◌*◌, ◌<◌, ◌≤◌, All, length};
-ghost use Rattle.zh_matrices.specs.Asked.{asked};
+ghost use Rattle.std.specs.Prelude.{◌≡◌, ℕ, ◌<◌};
 ghost use Rattle.zh_sweeps.specs.Levels.{potential_at};
-ghost use Rattle.zh_sweeps.specs.Prices.{priced};
 ghost use Rattle.zh_sweeps.specs.Sweeps.{EndsSweep};
-ghost use Rattle.zh_sweeps.specs.Taken.{logs};
+ghost use Rattle.zh_sweeps.specs.Taken.{priced_in};
 
 use crate::bounds::Bounds;
 use crate::cycle::Cycle;
 use crate::descent::{Descent, descend};
-use crate::levels::{LINES, Mark};
-use crate::prices::LogTable;
-use zh_matrices::Question;
+use crate::marks::Mark;
+use crate::prices::PricedSeats;
+use zh_matrices::LINES;
 
 /// Potentials of the rows and of the columns.
 #[derive(Clone, Copy)]
@@ -41,27 +39,12 @@ fn marks_at(potential: u64) -> [Mark; LINES]
     }; LINES]
 }
 
-/// Lowers rows and columns from their caps until they stand still. Seats are row by row, and at most 400 in a cell.
-pub fn sweep(
-    question: &Question<'_>,
-    logarithms: &LogTable<'_>,
-    seats: &[u32],
-    bounds: Bounds,
-) -> Swept
-    requires votes { length logarithms.now.of_votes.now ≡ question.now.rows * question.now.columns }
-    requires seats { length seats.now ≡ question.now.rows * question.now.columns }
-    requires few { All (λ s. s ≤ 400) seats.now }
-    ensures { EndsSweep (priced (asked question.now) (logs logarithms.now) seats.now) bounds result }
+/// Lowers rows and columns from their caps until they stand still.
+pub fn sweep(priced: &PricedSeats<'_>, bounds: Bounds) -> Swept
+    ensures { EndsSweep (priced_in priced.now) bounds result }
 {
     let columns = marks_at(bounds.column_cap);
-    match descend(
-        question,
-        logarithms,
-        seats,
-        bounds,
-        &columns,
-        question.columns,
-    ) {
+    match descend(priced, bounds, &columns, priced.question.columns) {
         Descent::Still(potentials) => Swept::Still(potentials),
         Descent::Cycle(cycle) => Swept::Cycle(cycle),
         Descent::Out => Swept::Out,

@@ -10,7 +10,7 @@ ghost use Rattle.zh_sweeps.specs.Turns.{IsCheapest, IsTurned, KeepsNearlyFair, M
 
 use crate::bounds::Bounds;
 use crate::cycle::{Cycle, Transfer};
-use crate::prices::LogTable;
+use crate::prices::{LogTable, PricedSeats};
 use crate::sweeps::{Potentials, Swept, sweep};
 use zh_matrices::Question;
 
@@ -47,9 +47,9 @@ pub fn turn_cycle(question: &Question<'_>, seats: &mut [u32], cycle: &Cycle)
 }
 
 /// Turns cycles until the matrix is cheapest, with potentials that show it.
-pub fn make_cheapest(
-    question: &Question<'_>,
-    logarithms: &LogTable<'_>,
+pub fn make_cheapest<'x>(
+    question: &'x Question<'x>,
+    logarithms: &'x LogTable<'x>,
     seats: &mut [u32],
 ) -> Potentials
     requires totals { AreSeatTotals question.now.rows question.now.row_totals.now }
@@ -60,7 +60,12 @@ pub fn make_cheapest(
     ensures still { StandsFree (priced (asked question.now) (logs logarithms.now) seats.new) 0 0 result }
 {
     loop {
-        match sweep(question, logarithms, seats, Bounds::free(0, 0)) {
+        let priced = PricedSeats {
+            question: &*question,
+            logarithms: &*logarithms,
+            seats: &*seats,
+        };
+        match sweep(&priced, Bounds::free(0, 0)) {
             Swept::Still(potentials) => return potentials,
             Swept::Cycle(cycle) => turn_cycle(question, seats, &cycle),
             Swept::Out => unreachable!(),

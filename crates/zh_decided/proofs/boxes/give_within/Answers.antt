@@ -27,7 +27,7 @@ returns-then-give_from-clause-give c = record {
   limits = c.if-give_from.ensures.limits refl;
   strict = c.if-give_from.ensures.strict refl;
   first = record {
-    logs = logs c.args.logarithms.now;
+    logs = logs c.args.priced.now.logarithms.now;
     tables = c.requires.tables;
     smaller = c.loop-smaller.smaller;
     few = omega arith;
@@ -37,5 +37,5 @@ returns-then-give_from-clause-give c = record {
 }
 
 pub returns-clause-outside : goal.returns-clause-outside
-returns-clause-outside c = outside (asked c.args.question.now) (logs c.args.logarithms.now) c.args.seats.now c.requires.tables
+returns-clause-outside c = outside (asked c.args.priced.now.question.now) (logs c.args.priced.now.logarithms.now) c.args.priced.now.seats.now c.requires.tables
     (λ k less. c.loop-smaller.invariant.moves k (omega arith))

@@ -10,7 +10,7 @@ use Rattle.zh_lower.proofs.extremes.lower_columns.Goals.{then-moved, else-moved}
 
 pub returns-then-divisor-eq0-clause-out : goal.returns-then-divisor-eq0-clause-out
 returns-then-divisor-eq0-clause-out c = λ enclose.
-    NoneGive-column (asked c.args.question.now) c.args.top c.loop-column.column c.args.seats.now c.args.of_rows.now c.loop-column.of_columns
+    NoneGive-column (asked c.args.proposal.now.question.now) c.args.top c.loop-column.column c.args.proposal.now.seats.now c.args.of_rows.now c.loop-column.of_columns
     c.loop-column-test.true (λ other within above. omega (arith, c.lowered-divisor.ensures.greatest other within above)) (c.loop-column.invariant.enclose enclose)
 
 same-number : (a b : ℕ) → not (eqb a b) ≡ false → a ≡ b
@@ -18,7 +18,7 @@ same-number a b e = first_of (search (rules, tests), grind (arith, rules), cc)
 
 pub loop-column-preserved : goal.loop-column-preserved
 loop-column-preserved c =
-    let one : IsGreatestColumn (asked c.args.question.now) c.args.seats.now c.args.of_rows.now c.loop-column.column
+    let one : IsGreatestColumn (asked c.args.proposal.now.question.now) c.args.proposal.now.seats.now c.args.of_rows.now c.loop-column.column
     (get_or c.loop-column.of_columns c.loop-column.column 0) c.lowered-divisor.result = record {
       at_most = c.lowered-divisor.ensures.at_most;
       above = c.lowered-divisor.ensures.above (omega arith);
@@ -28,7 +28,7 @@ loop-column-preserved c =
       columns = AreWithin-set _ _ _ _ _ (omega arith)
           (omega (arith, c.lowered-divisor.ensures.at_most, c.loop-column.invariant.columns.at_most c.loop-column.column 0 (omega (arith, c.loop-column.invariant.columns.one_each))))
           c.loop-column.invariant.columns;
-      greatest = greatest-set (asked c.args.question.now) c.args.seats.now c.args.of_rows.now c.args.of_columns.now c.loop-column.of_columns
+      greatest = greatest-set (asked c.args.proposal.now.question.now) c.args.proposal.now.seats.now c.args.of_rows.now c.args.of_columns.now c.loop-column.of_columns
           c.loop-column.column c.lowered-divisor.result (omega (arith, c.loop-column.invariant.columns.one_each)) c.loop-column.invariant.greatest
           (rw (c.loop-column.invariant.others c.loop-column.column (omega arith)) at one);
       others = others-set c.loop-column.column c.lowered-divisor.result c.args.of_columns.now c.loop-column.of_columns c.loop-column.invariant.others;
@@ -42,6 +42,6 @@ loop-column-preserved c =
             (c.loop-column.invariant.still w.if-moved.false)
       ];
       enclose = λ enclose.
-          Enclose-column (asked c.args.question.now) c.args.top c.loop-column.column c.lowered-divisor.result c.args.seats.now c.args.of_rows.now c.loop-column.of_columns
+          Enclose-column (asked c.args.proposal.now.question.now) c.args.top c.loop-column.column c.lowered-divisor.result c.args.proposal.now.seats.now c.args.of_rows.now c.loop-column.of_columns
           c.loop-column-test.true c.loop-column.invariant.columns.one_each c.lowered-divisor.ensures.greatest (c.loop-column.invariant.enclose enclose);
     }

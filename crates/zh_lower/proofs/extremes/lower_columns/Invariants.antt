@@ -6,11 +6,11 @@ use Rattle.zh_lower.proofs.extremes.lower_columns.Given as goal
 
 abbrev pub invariant-loop-column : goal.invariant-loop-column
 invariant-loop-column l = record {
-  columns : AreWithin l.question.columns l.top l.of_columns;
+  columns : AreWithin l.proposal.question.now.columns l.top l.of_columns;
   greatest : (g : ℕ) → g < l.column →
-      IsGreatestColumn (asked l.question) l.seats l.of_rows g (get_or l.initial.of_columns g 0) (get_or l.of_columns g 0);
+      IsGreatestColumn (asked l.proposal.question.now) l.proposal.seats.now l.of_rows g (get_or l.initial.of_columns g 0) (get_or l.of_columns g 0);
   others : (g : ℕ) → l.column ≤ g → get_or l.of_columns g 0 ≡ get_or l.initial.of_columns g 0;
   still : l.moved ≡ false → (g : ℕ) → g < l.column → get_or l.of_columns g 0 ≡ get_or l.initial.of_columns g 0;
-  enclose : Enclose (asked l.question) l.top l.seats l.of_rows l.initial.of_columns →
-      Enclose (asked l.question) l.top l.seats l.of_rows l.of_columns;
+  enclose : Enclose (asked l.proposal.question.now) l.top l.proposal.seats.now l.of_rows l.initial.of_columns →
+      Enclose (asked l.proposal.question.now) l.top l.proposal.seats.now l.of_rows l.of_columns;
 }

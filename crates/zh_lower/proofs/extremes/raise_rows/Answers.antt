@@ -8,12 +8,12 @@ use Rattle.zh_lower.proofs.extremes.raise_rows.Goals as goal
 
 pub returns-then-divisor-from-clause-out : goal.returns-then-divisor-from-clause-out
 returns-then-divisor-from-clause-out c = λ top enclose.
-    NoneGive-row (asked c.args.question.now) top c.loop-row.row c.raised-divisor.result c.args.seats.now c.loop-row.of_rows c.args.of_columns.now
+    NoneGive-row (asked c.args.proposal.now.question.now) top c.loop-row.row c.raised-divisor.result c.args.proposal.now.seats.now c.loop-row.of_rows c.args.of_columns.now
     c.loop-row-test.true (omega arith) c.raised-divisor.ensures.least (c.loop-row.invariant.enclose top enclose)
 
 pub loop-row-preserved : goal.loop-row-preserved
 loop-row-preserved c =
-    let one : IsLeastRow (asked c.args.question.now) c.args.seats.now c.args.of_columns.now c.loop-row.row (get_or c.loop-row.of_rows c.loop-row.row 0)
+    let one : IsLeastRow (asked c.args.proposal.now.question.now) c.args.proposal.now.seats.now c.args.of_columns.now c.loop-row.row (get_or c.loop-row.of_rows c.loop-row.row 0)
     c.raised-divisor.result = record {
       at_least = c.raised-divisor.ensures.at_least;
       below = c.raised-divisor.ensures.below;
@@ -22,11 +22,11 @@ loop-row-preserved c =
     record {
       rows = AreWithin-set _ _ _ _ _ (omega (arith, c.raised-divisor.ensures.at_least, c.loop-row.invariant.rows.from_1 c.loop-row.row 0 (omega (arith, c.loop-row.invariant.rows.one_each))))
           (omega arith) c.loop-row.invariant.rows;
-      least = least-set (asked c.args.question.now) c.args.seats.now c.args.of_columns.now c.args.of_rows.now c.loop-row.of_rows c.loop-row.row
+      least = least-set (asked c.args.proposal.now.question.now) c.args.proposal.now.seats.now c.args.of_columns.now c.args.of_rows.now c.loop-row.of_rows c.loop-row.row
           c.raised-divisor.result (omega (arith, c.loop-row.invariant.rows.one_each)) c.loop-row.invariant.least
           (rw (c.loop-row.invariant.others c.loop-row.row (omega arith)) at one);
       others = others-set c.loop-row.row c.raised-divisor.result c.args.of_rows.now c.loop-row.of_rows c.loop-row.invariant.others;
       enclose = λ top enclose.
-          Enclose-row (asked c.args.question.now) top c.loop-row.row c.raised-divisor.result c.args.seats.now c.loop-row.of_rows c.args.of_columns.now
+          Enclose-row (asked c.args.proposal.now.question.now) top c.loop-row.row c.raised-divisor.result c.args.proposal.now.seats.now c.loop-row.of_rows c.args.of_columns.now
           c.loop-row-test.true c.loop-row.invariant.rows.one_each c.raised-divisor.ensures.least (c.loop-row.invariant.enclose top enclose);
     }

@@ -10,7 +10,7 @@ loop-round-init c = record {
   rows = search rules;
   columns = search rules;
   enclose = search rules;
-  rounds = none-yet (asked c.args.question.now) c.args.top c.args.seats.now (millionths c.fill.new.self c.fill-2.new.self)
+  rounds = none-yet (asked c.args.proposal.now.question.now) c.args.top c.args.proposal.now.seats.now (millionths c.fill.new.self c.fill-2.new.self)
       (record { rows = search rules; columns = search rules });
 }
 
@@ -24,7 +24,7 @@ pub returns-in-Still : goal.returns-in-Still
 returns-in-Still c =
     let before = millionths c.loop-round.of_rows c.loop-round.of_columns in
     let after = millionths c.raise_rows.new.of_rows c.lower_columns.new.of_columns in
-    let round : IsRound (asked c.args.question.now) c.args.seats.now before after = record {
+    let round : IsRound (asked c.args.proposal.now.question.now) c.args.proposal.now.seats.now before after = record {
       rows = if-in c.raise_rows.result _ c.in_default.not-Out c.raise_rows.ensures.least;
       columns = c.in-Still.ensures.greatest;
     } in
@@ -33,9 +33,9 @@ returns-in-Still c =
       rows = c.raise_rows.ensures.rows;
       columns = c.lower_columns.ensures.columns;
       enclose = c.lower_columns.ensures.enclose (c.raise_rows.ensures.enclose c.args.top c.loop-round.invariant.enclose);
-      rounds = rw all at (so-many-more (asked c.args.question.now) c.args.top c.args.seats.now (c.loop-round._round + 1) (999 - c.loop-round._round) after
-          (one-more (asked c.args.question.now) c.args.top c.args.seats.now c.loop-round._round before after c.loop-round.invariant.rounds round)
-          (stands-still (asked c.args.question.now) c.args.seats.now before after c.in-Still.ensures.still round));
+      rounds = rw all at (so-many-more (asked c.args.proposal.now.question.now) c.args.top c.args.proposal.now.seats.now (c.loop-round._round + 1) (999 - c.loop-round._round) after
+          (one-more (asked c.args.proposal.now.question.now) c.args.top c.args.proposal.now.seats.now c.loop-round._round before after c.loop-round.invariant.rounds round)
+          (stands-still (asked c.args.proposal.now.question.now) c.args.proposal.now.seats.now before after c.in-Still.ensures.still round));
       out = tt;
     }
 
@@ -50,7 +50,7 @@ returns-in-Out-lower_columns c = record {
 
 pub loop-round-preserved : goal.loop-round-preserved
 loop-round-preserved c =
-    let round : IsRound (asked c.args.question.now) c.args.seats.now (millionths c.loop-round.of_rows c.loop-round.of_columns)
+    let round : IsRound (asked c.args.proposal.now.question.now) c.args.proposal.now.seats.now (millionths c.loop-round.of_rows c.loop-round.of_columns)
     (millionths c.raise_rows.new.of_rows c.lower_columns.new.of_columns) = record {
       rows = if-in c.raise_rows.result _ c.in_default.not-Out c.raise_rows.ensures.least;
       columns = c.in-Moved.ensures.greatest;
@@ -59,7 +59,7 @@ loop-round-preserved c =
       rows = c.raise_rows.ensures.rows;
       columns = c.lower_columns.ensures.columns;
       enclose = c.lower_columns.ensures.enclose (c.raise_rows.ensures.enclose c.args.top c.loop-round.invariant.enclose);
-      rounds = one-more (asked c.args.question.now) c.args.top c.args.seats.now c.loop-round._round
+      rounds = one-more (asked c.args.proposal.now.question.now) c.args.top c.args.proposal.now.seats.now c.loop-round._round
           (millionths c.loop-round.of_rows c.loop-round.of_columns) (millionths c.raise_rows.new.of_rows c.lower_columns.new.of_columns)
           c.loop-round.invariant.rounds round;
     }

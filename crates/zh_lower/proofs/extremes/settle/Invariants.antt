@@ -6,8 +6,8 @@ use Rattle.zh_lower.proofs.extremes.settle.Given as goal
 
 abbrev pub invariant-loop-round : goal.invariant-loop-round
 invariant-loop-round l = record {
-  rows : AreWithin l.question.rows (10 ^ 18) l.of_rows;
-  columns : AreWithin l.question.columns l.top l.of_columns;
-  enclose : Enclose (asked l.question) l.top l.seats l.of_rows l.of_columns;
-  rounds : ComeTo (asked l.question) l.top l.seats l._round (millionths l.of_rows l.of_columns);
+  rows : AreWithin l.proposal.question.now.rows (10 ^ 18) l.of_rows;
+  columns : AreWithin l.proposal.question.now.columns l.top l.of_columns;
+  enclose : Enclose (asked l.proposal.question.now) l.top l.proposal.seats.now l.of_rows l.of_columns;
+  rounds : ComeTo (asked l.proposal.question.now) l.top l.proposal.seats.now l._round (millionths l.of_rows l.of_columns);
 }

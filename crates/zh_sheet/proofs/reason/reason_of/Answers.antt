@@ -19,8 +19,8 @@ returns-in-Seats c = rw c.new-in-Seats.ensures (
   record {
     rows = refl;
     groups_are = refl;
-    divisors = millionths c.decide.new.room.of_rows.items c.decide.new.room.of_columns.items;
+    divisors = millionths c.decide.new.room.findings.of_rows.items c.decide.new.room.findings.of_columns.items;
     strict = c.in-Seats.ensures.decides.strict;
   },
-  (c.decide.new.room.of_rows.items, c.decide.new.room.of_columns.items, c.in-Seats.ensures.decides),
+  (c.decide.new.room.findings.of_rows.items, c.decide.new.room.findings.of_columns.items, c.in-Seats.ensures.decides),
 )

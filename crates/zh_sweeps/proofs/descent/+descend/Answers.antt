@@ -1,7 +1,7 @@
 use Rattle.std.proofs.Common.{◌-◌, arith}
 use Rattle.zh_matrices.specs.Asked.{asked}
 use Rattle.zh_sweeps.specs.Prices.{Priced, priced}
-use Rattle.zh_sweeps.specs.Taken.{logs}
+use Rattle.zh_sweeps.specs.Taken.{logs, priced_in}
 use Rattle.zh_sweeps.proofs.CircleLemmas.{cycle-of}
 use Rattle.zh_sweeps.proofs.DescentLemmas.{descends-later, goes_out-column}
 use Rattle.zh_sweeps.proofs.RoomLemmas.{priced-near}
@@ -11,16 +11,16 @@ use Rattle.zh_sweeps.proofs.descent.+descend.Goals as goal
 
 pub returns-in_default-column_marks : goal.returns-in_default-column_marks
 returns-in_default-column_marks t c =
-    goes_out-column (priced (asked c.args.question.now) (logs c.args.logarithms.now) c.args.seats.now) c.args.bounds c.args.levels
+    goes_out-column (priced_in c.args.priced.now) c.args.bounds c.args.levels
     c.args.columns.now
     c.in-Some.rows
-    (priced-near (asked c.args.question.now) (logs c.args.logarithms.now) c.args.seats.now c.args.logarithms.now.taken c.requires.votes
-    c.requires.seats c.requires.few)
+    (priced-near (asked c.args.priced.now.question.now) (logs c.args.priced.now.logarithms.now) c.args.priced.now.seats.now
+    c.args.priced.now.logarithms.now.taken c.args.priced.now.votes c.args.priced.now.each_cell c.args.priced.now.few)
     c.args.bounds.given_small c.args.bounds.taken_small c.requires.levels c.in-Some.ensures.marks c.in_default-column_marks.ensures.low
 
 pub returns-then-levels-eq0 : goal.returns-then-levels-eq0
 returns-then-levels-eq0 t c = (
-  IsTrail-new (priced (asked c.args.question.now) (logs c.args.logarithms.now) c.args.seats.now) c.args.bounds c.args.columns.now
+  IsTrail-new (priced_in c.args.priced.now) c.args.bounds c.args.columns.now
       c.in-Some.rows c.in-Some-column_marks.lower c.new.result c.in-Some-first_fallen.fallen c.in-Some-first_fallen.maker
       c.args.bounds.column_floor_from_1 c.in-Some-first_fallen.ensures.column c.in-Some.ensures.marks c.in-Some-column_marks.ensures.marks
       c.in-Some-first_fallen.ensures.maker
@@ -30,43 +30,25 @@ returns-then-levels-eq0 t c = (
 
 pub descend-requires : goal.descend-requires
 descend-requires t c =
-    let m : Priced = priced (asked c.args.question.now) (logs c.args.logarithms.now) c.args.seats.now in
+    let m : Priced = priced_in c.args.priced.now in
     let caps = caps-later m c.args.bounds c.args.columns.now c.in-Some.rows c.in-Some-column_marks.lower
     c.in-Some-column_marks.ensures.marks
     c.requires.caps in
     let above = above-later m c.args.bounds c.args.columns.now c.in-Some.rows c.in-Some-column_marks.lower c.in-Some.ensures.marks
     c.in-Some-column_marks.ensures.marks c.requires.above in (
       omega (arith, c.decreases),
-      (
-        c.requires.votes,
-        (
-          c.requires.seats,
-          (
-            c.requires.few,
-            (
-              caps,
-              (
-                above,
-                omega (
-                  arith,
-                  c.requires.levels,
-                ),
-              ),
-            ),
-          ),
-        ),
-      ),
+      (caps, (above, omega (arith, c.requires.levels))),
     )
 
 pub unreachable-requires : goal.unreachable-requires
 unreachable-requires t c =
-    source-there (priced (asked c.args.question.now) (logs c.args.logarithms.now) c.args.seats.now) c.args.bounds c.args.columns.now
+    source-there (priced_in c.args.priced.now) c.args.bounds c.args.columns.now
     c.in-Some.rows c.in-Some-column_marks.lower c.in-Falls.trail c.in-Falls.ensures.0 c.args.bounds.column_floor_from_1
     c.in-Some.ensures.marks c.in-Some-column_marks.ensures.marks c.in_default-source.is
 
 pub returns-in-Some-position : goal.returns-in-Some-position
 returns-in-Some-position t c =
-    cycle-of (priced (asked c.args.question.now) (logs c.args.logarithms.now) c.args.seats.now) c.args.bounds c.in-Some-column_marks.lower
+    cycle-of (priced_in c.args.priced.now) c.args.bounds c.in-Some-column_marks.lower
     c.in-Falls.trail c.in-Some-source.column c.in-Some-position.first c.circle_from.result c.in-Falls.ensures.0 c.in-Some-source.is
     c.in-Some-position.ensures.here c.in-Some-position.ensures.column
     (record {
@@ -79,14 +61,14 @@ returns-in-Some-position t c =
 
 pub unreachable-requires-in_default-maker : goal.unreachable-requires-in_default-maker
 unreachable-requires-in_default-maker t c =
-    source-made (priced (asked c.args.question.now) (logs c.args.logarithms.now) c.args.seats.now) c.args.bounds c.args.columns.now
+    source-made (priced_in c.args.priced.now) c.args.bounds c.args.columns.now
     c.in-Some.rows c.in-Some-column_marks.lower c.in-Falls.trail c.in-Some-source.column c.in-Falls.ensures.0
     c.args.bounds.column_floor_from_1
     c.in-Some.ensures.marks c.in-Some-column_marks.ensures.marks c.in-Some-source.is c.in_default-maker.is
 
 pub returns-in-Some-maker : goal.returns-in-Some-maker
 returns-in-Some-maker t c = (
-  IsTrail-more (priced (asked c.args.question.now) (logs c.args.logarithms.now) c.args.seats.now) c.args.bounds c.args.columns.now
+  IsTrail-more (priced_in c.args.priced.now) c.args.bounds c.args.columns.now
       c.in-Some.rows c.in-Some-column_marks.lower c.in-Falls.trail c.and.result c.in-Some-source.column c.in-Some-maker.giver
       c.args.bounds.column_floor_from_1 c.in-Some.ensures.marks c.in-Some-column_marks.ensures.marks c.in-Falls.ensures.0
       (omega (arith, c.in-Falls.ensures.1)) c.in-Some-source.is c.in-Some-maker.is c.in_default-position.ensures.nowhere
@@ -96,10 +78,10 @@ returns-in-Some-maker t c = (
 
 pub returns-in_default-descend : goal.returns-in_default-descend
 returns-in_default-descend t c =
-    descends-later (priced (asked c.args.question.now) (logs c.args.logarithms.now) c.args.seats.now) c.args.bounds (c.args.levels - 1)
+    descends-later (priced_in c.args.priced.now) c.args.bounds (c.args.levels - 1)
     c.args.levels
     c.args.columns.now c.in-Some.rows c.in-Some-column_marks.lower c.descend.result (omega arith)
-    (priced-near (asked c.args.question.now) (logs c.args.logarithms.now) c.args.seats.now c.args.logarithms.now.taken c.requires.votes
-    c.requires.seats c.requires.few)
+    (priced-near (asked c.args.priced.now.question.now) (logs c.args.priced.now.logarithms.now) c.args.priced.now.seats.now
+    c.args.priced.now.logarithms.now.taken c.args.priced.now.votes c.args.priced.now.each_cell c.args.priced.now.few)
     c.args.bounds.given_small c.args.bounds.taken_small c.requires.levels c.in-Some.ensures.marks c.in-Some-column_marks.ensures.marks
     c.in_default-descend.not-Falls c.descend.ensures

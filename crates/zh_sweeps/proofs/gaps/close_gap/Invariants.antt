@@ -1,13 +1,11 @@
 use Rattle.std.proofs.Common.{◌-◌, ◌≤◌}
-use Rattle.zh_matrices.specs.Asked.{asked}
 use Rattle.zh_sweeps.specs.Gaps.{IsGap}
-use Rattle.zh_sweeps.specs.Prices.{priced}
-use Rattle.zh_sweeps.specs.Taken.{logs}
+use Rattle.zh_sweeps.specs.Taken.{priced_in}
 use Rattle.zh_sweeps.proofs.gaps.close_gap.Given as goal
 
 abbrev pub invariant-loop-gap : goal.invariant-loop-gap
 invariant-loop-gap l = record {
-  gap : IsGap (priced (asked l.question) (logs l.logarithms) l.seats) l.gap;
+  gap : IsGap (priced_in l.priced) l.gap;
   within : l.gap.cycle_at ≤ l.initial.gap.cycle_at;
 }
 

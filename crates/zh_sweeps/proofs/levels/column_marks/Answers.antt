@@ -1,15 +1,14 @@
 use Rattle.std.proofs.Common.{rules, ℕ, ◌≤◌, arith}
-use Rattle.zh_matrices.specs.Asked.{asked}
 use Rattle.zh_sweeps.specs.Levels.{IsColumnMark, potential_at}
-use Rattle.zh_sweeps.specs.Prices.{Priced, priced}
-use Rattle.zh_sweeps.specs.Taken.{logs}
-use Rattle.zh_sweeps.specs.declared.levels.Mark.{Mark}
+use Rattle.zh_sweeps.specs.Prices.{Priced}
+use Rattle.zh_sweeps.specs.Taken.{priced_in}
+use Rattle.zh_sweeps.specs.declared.marks.Mark.{Mark}
 use Rattle.zh_sweeps.proofs.MarkLemmas.{marked}
 use Rattle.zh_sweeps.proofs.levels.column_marks.Goals as goal
 
 pub loop-column-preserved : goal.loop-column-preserved
 loop-column-preserved c =
-    let m : Priced = priced (asked c.args.question.now) (logs c.args.logarithms.now) c.args.seats.now in
+    let m : Priced = priced_in c.args.priced.now in
     let P : ℕ → Mark → Type 0 = λ g mark. IsColumnMark m c.args.bounds c.args.rows.now (potential_at c.args.before.now g) g mark in
     let Q : ℕ → Mark → Type 0 = λ g mark. c.args.bounds.column_floor ≤ mark.potential in
     record {

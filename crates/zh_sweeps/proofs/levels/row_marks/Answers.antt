@@ -1,15 +1,14 @@
 use Rattle.std.proofs.Common.{rules, ℕ, ◌≤◌, arith}
-use Rattle.zh_matrices.specs.Asked.{asked}
 use Rattle.zh_sweeps.specs.Levels.{IsRowMark}
-use Rattle.zh_sweeps.specs.Prices.{Priced, priced}
-use Rattle.zh_sweeps.specs.Taken.{logs}
-use Rattle.zh_sweeps.specs.declared.levels.Mark.{Mark}
+use Rattle.zh_sweeps.specs.Prices.{Priced}
+use Rattle.zh_sweeps.specs.Taken.{priced_in}
+use Rattle.zh_sweeps.specs.declared.marks.Mark.{Mark}
 use Rattle.zh_sweeps.proofs.MarkLemmas.{marked}
 use Rattle.zh_sweeps.proofs.levels.row_marks.Goals as goal
 
 pub loop-row-preserved : goal.loop-row-preserved
 loop-row-preserved c =
-    let m : Priced = priced (asked c.args.question.now) (logs c.args.logarithms.now) c.args.seats.now in
+    let m : Priced = priced_in c.args.priced.now in
     let P : ℕ → Mark → Type 0 = λ d mark. IsRowMark m c.args.bounds c.args.columns.now d mark in
     let Q : ℕ → Mark → Type 0 = λ d mark. c.args.bounds.row_floor ≤ mark.potential in
     record {

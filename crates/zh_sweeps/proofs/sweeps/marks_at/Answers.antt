@@ -1,7 +1,7 @@
 use Rattle.std.proofs.Common.{◌≡◌, None, replicate, ap}
 use Rattle.std.proofs.lemmas.List.{get_or-replicate}
 use Rattle.zh_sweeps.specs.Levels.{mark_at}
-use Rattle.zh_sweeps.specs.declared.levels.Mark.{Mark}
+use Rattle.zh_sweeps.specs.declared.marks.Mark.{Mark}
 use Rattle.zh_sweeps.proofs.sweeps.marks_at.Goals as goal
 
 pub returns : goal.returns

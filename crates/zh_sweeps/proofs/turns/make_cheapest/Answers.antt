@@ -5,8 +5,8 @@ use Rattle.zh_sweeps.proofs.CheapestLemmas.{cheapest}
 use Rattle.zh_sweeps.proofs.TurnLemmas.{few-fitting}
 use Rattle.zh_sweeps.proofs.turns.make_cheapest.Goals as goal
 
-pub sweep-requires-clause-few : goal.sweep-requires-clause-few
-sweep-requires-clause-few c =
+pub invariant_of-priced-clause-few : goal.invariant_of-priced-clause-few
+invariant_of-priced-clause-few c =
     few-fitting (asked c.args.question.now) c.loop-potentials.seats c.requires.totals c.loop-potentials.invariant
 
 pub returns-in-Still-clause-cheapest : goal.returns-in-Still-clause-cheapest

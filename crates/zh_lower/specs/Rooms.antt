@@ -1,0 +1,16 @@
+-- The room in which divisors are looked for.
+use Rattle.std.specs.Prelude.{◌≡◌, length}
+use Rattle.zh_matrices.specs.Divisors.{Divisors, millionths}
+use Rattle.zh_matrices.specs.Question.{Question}
+use Rattle.zh_lower.specs.declared.room.DivisorRoom.{DivisorRoom}
+
+-- its sizes
+pub record IsDivisorRoom (q : Question) (room : DivisorRoom) : Type 0 where
+  pub rows : length room.of_rows.items ≡ q.rows
+  pub columns : length room.of_columns.items ≡ q.columns
+  pub greatest : length room.greatest.items ≡ q.columns
+  pub votes : length room.votes.items ≡ q.rows
+
+-- the divisors that are left there
+abbrev pub divisors_in : DivisorRoom → Divisors
+divisors_in room = millionths room.of_rows.items room.of_columns.items

@@ -1,0 +1,109 @@
+//! Divisors for seats that are found elsewhere: in the middle of those that give them.
+ghost use Rattle.std.specs.Bool.{OnFalse, OnTrue};
+ghost use Rattle.std.specs.Prelude.{◌≡◌, ℕ, ◌*◌, ◌/◌, ◌^◌, ◌≤◌, ◌↔◌, IsTrue, List, length};
+ghost use Rattle.zh_matrices.specs.Asked.{asked};
+ghost use Rattle.zh_matrices.specs.Divisors.{AreWithin, AreWithinLimits, Divisors, millionths};
+ghost use Rattle.zh_search.specs.Outcomes.{IsProper};
+ghost use Rattle.zh_lower.specs.Rooms.{IsDivisorRoom, divisors_in};
+ghost use Rattle.zh_lower.specs.Second.{HaveNoSecond, IsMiddle, IsSecondFor, IsSecondWithin, middle_from};
+ghost use Rattle.zh_matrices.specs.SeatMatrix.{IsStrict};
+
+use crate::extremes::settle;
+use crate::middle::{middle, scale_down};
+use crate::room::DivisorRoom;
+use zh_matrices::{Proposal, Rounding, follows};
+
+const NARROW: u64 = 1_000_000_000;
+
+const WIDE: u64 = 1_000_000_000_000;
+
+/// Whether the middle from these columns gives the seats.
+fn middle_gives(proposal: &Proposal<'_>, room: &mut DivisorRoom) -> bool
+    requires proper { IsProper (asked proposal.now.question.now) }
+    requires room { IsDivisorRoom (asked proposal.now.question.now) room.old }
+    requires columns { AreWithin proposal.now.question.now.columns (10 ^ 12) room.old.of_columns.items }
+    ensures middle { divisors_in room.new ≡ middle_from (asked proposal.now.question.now) room.old.of_columns.items }
+    ensures limits { AreWithinLimits (asked proposal.now.question.now) room.new.of_rows.items room.new.of_columns.items }
+    ensures gives { IsTrue result ↔ IsStrict (asked proposal.now.question.now) (divisors_in room.new) proposal.now.seats.now }
+    ensures greatest { room.new.greatest.items ≡ room.old.greatest.items }
+    ensures room { IsDivisorRoom (asked proposal.now.question.now) room.new }
+{
+    middle(
+        proposal.question,
+        &mut room.of_rows,
+        &mut room.of_columns,
+        &mut room.votes,
+    );
+    follows(
+        Rounding::Strict,
+        proposal.question,
+        &room.of_rows,
+        &room.of_columns,
+        proposal.seats,
+    )
+}
+
+/// Whether the middle from the greatest columns gives the only seats: at a smaller scale, or else from themselves.
+pub(crate) fn gives_from(proposal: &Proposal<'_>, scale: u64, room: &mut DivisorRoom) -> bool
+    requires proper { IsProper (asked proposal.now.question.now) }
+    requires room { IsDivisorRoom (asked proposal.now.question.now) room.old }
+    requires greatest { AreWithin proposal.now.question.now.columns (10 ^ 12) room.old.greatest.items }
+    requires scale { 1 ≤ scale }
+    requires only { (x : Divisors) (others : List ℕ) →
+        IsStrict (asked proposal.now.question.now) x others → others ≡ proposal.now.seats.now }
+    ensures middle { IsTrue result → IsMiddle (asked proposal.now.question.now) scale room.old.greatest.items (divisors_in room.new) }
+    ensures strict { IsTrue result → IsStrict (asked proposal.now.question.now) (divisors_in room.new) proposal.now.seats.now }
+    ensures none { OnFalse result ((x : Divisors) → IsMiddle (asked proposal.now.question.now) scale room.old.greatest.items x →
+        ¬ IsStrict (asked proposal.now.question.now) x proposal.now.seats.now) }
+    ensures limits { AreWithinLimits (asked proposal.now.question.now) room.new.of_rows.items room.new.of_columns.items }
+    ensures room { IsDivisorRoom (asked proposal.now.question.now) room.new }
+{
+    scale_down(&room.greatest, scale, &mut room.of_columns);
+    if middle_gives(proposal, room) {
+        return true;
+    }
+    room.of_columns.copy_from_slice(&room.greatest);
+    middle_gives(proposal, room)
+}
+
+/// Whether there are divisors that give these seats, with columns within a top.
+fn find_within(proposal: &Proposal<'_>, top: u64, room: &mut DivisorRoom) -> bool
+    requires proper { IsProper (asked proposal.now.question.now) }
+    requires room { IsDivisorRoom (asked proposal.now.question.now) room.old }
+    requires from { 1000000 ≤ top }
+    requires at_most { top ≤ 10 ^ 12 }
+    ensures second { OnTrue result
+        (IsSecondWithin (asked proposal.now.question.now) top proposal.now.seats.now (divisors_in room.new)) }
+    ensures limits { IsTrue result →
+        AreWithinLimits (asked proposal.now.question.now) room.new.of_rows.items room.new.of_columns.items }
+    ensures none { OnFalse result
+        ((x : Divisors) → ¬ IsSecondWithin (asked proposal.now.question.now) top proposal.now.seats.now x) }
+    ensures room { IsDivisorRoom (asked proposal.now.question.now) room.new }
+{
+    if !settle(proposal, top, &mut room.of_rows, &mut room.greatest) {
+        return false;
+    }
+    if !follows(
+        Rounding::Strict,
+        proposal.question,
+        &room.of_rows,
+        &room.greatest,
+        proposal.seats,
+    ) {
+        return false;
+    }
+    gives_from(proposal, top / 1_000_000, room)
+}
+
+/// Whether there are divisors that give these seats, with columns within 1000, or else within 1000000.
+pub(crate) fn find_divisors(proposal: &Proposal<'_>, room: &mut DivisorRoom) -> bool
+    requires proper { IsProper (asked proposal.now.question.now) }
+    requires room { IsDivisorRoom (asked proposal.now.question.now) room.old }
+    ensures second { OnTrue result (IsSecondFor (asked proposal.now.question.now) proposal.now.seats.now (divisors_in room.new)) }
+    ensures limits { IsTrue result →
+        AreWithinLimits (asked proposal.now.question.now) room.new.of_rows.items room.new.of_columns.items }
+    ensures none { OnFalse result (HaveNoSecond (asked proposal.now.question.now) proposal.now.seats.now) }
+    ensures room { IsDivisorRoom (asked proposal.now.question.now) room.new }
+{
+    find_within(proposal, NARROW, room) || find_within(proposal, WIDE, room)
+}
