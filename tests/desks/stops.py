@@ -18,11 +18,13 @@ from watch import Device, QuickRoom, WatchedRoom, prepare, restore
 AT_ONCE = 3 * (os.cpu_count() or 1)  # nights; for most of its time a night waits
 
 
-def is_counted(call):
-    """Whether this is a call at which something is stopped: not one that looks alone, or that looks for an office which is not there;
-    what stands in `now` is made anew by a start; and files of desks that take no part are as those of desk 2."""
+def is_counted(room, call):
+    """Whether this is a call at which something is stopped: of the office or a desk itself, and not one that looks alone, or that looks
+    for an office which is not there. Files of desks that take no part are as those of desk 2; copies of the disk come at any time, and
+    have tests of their own."""
     looks = call.name in ("look", "chmod") or call.name == "open" and call.who != "office" and not os.path.exists(call.path)
-    return call.is_of_a_script() and not looks and not re.search(r"\.[3-8](\.new)?$|/office/now[^/]*(/.*)?$", call.path)
+    other = re.search(r"\.[3-8](\.new)?$|/now[^/]*(/|$)", call.path[len(str(room.path)):])
+    return call.pid in room.pids and not looks and not other
 
 
 def note_passing_on(night, call):
@@ -41,7 +43,7 @@ class Stop:
 
     def goes_on(self, call):
         note_passing_on(self.night, call)
-        if call.who != self.who or not is_counted(call):
+        if call.who != self.who or not is_counted(self.night.room, call):
             return True
         self.calls += 1
         if self.calls == self.number:
@@ -130,7 +132,7 @@ class Recorder:
 
     def goes_on(self, call):
         note_passing_on(self.night, call)
-        if is_counted(call):
+        if is_counted(self.night.room, call):
             for image, what in zip(self.device.images(), ("names and bytes as synced", "bytes as synced", "a write is torn")):
                 cut = Cut(self.night, call, image, what)
                 self.cuts.setdefault(cut.key(), cut)

@@ -17,7 +17,7 @@ NIGHT = [[(1, "return 1 1 1 525", "stored 1"),
           (2, "return 1 1 2 530", "stored 4"),
           (1, "close 1", "stored 5")],
          [(2, "return 3 1 1 90", "stored 6"),
-          (1, "sheet", "1 sheet provisional 6"),
+          (1, "sheet", "sheet provisional 6"),
           (2, "return 1 1 3 531", "refused closed"),
           (1, "reopen 1", "stored 7"),
           (1, "return 1 1 3 531", "stored 8"),
@@ -31,10 +31,12 @@ TRIES = 20  # of a line
 
 
 def final(answer):
-    """What is noted where this is shown: of a sheet its first line without the desk; a closing or reopening that is not repeated is
-    unanswered; and the line of this night that is refused is in doubt where it was repeated."""
-    first = re.sub(r"^\d (?=sheet )", "", answer.split("\n")[0])
-    return "unanswered" if NOT_REPEATED.fullmatch(first) else "refused closed" if first == "perhaps stored: show it" else first
+    """What is noted where this is shown: a closing or reopening that is not repeated is unanswered, the line of this night that is refused
+    is in doubt where it was repeated, and a sheet is shown with its desk."""
+    first = answer.split("\n")[0]
+    if NOT_REPEATED.fullmatch(first):
+        return "unanswered"
+    return "refused closed" if first == "perhaps stored: show it" else re.sub(r"^\d (?=sheet )", "", first)
 
 
 class Shown:

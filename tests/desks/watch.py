@@ -47,17 +47,13 @@ class QuickRoom(Room):
 class Call:
     """A call that a process is about to make."""
     pid: int
-    who: str  # office, or desk and its number
-    program: str  # its own name, as zhcount below the office
+    who: str  # office, or desk and its number; what an office has started is called as it is
     name: str
     path: str
 
     @property
     def file(self):
         return os.path.basename(self.path)
-
-    def is_of_a_script(self):
-        return self.program.startswith("python")
 
 
 class Watch(threading.Thread):
@@ -80,9 +76,9 @@ class Watch(threading.Thread):
                 self.hear(asking)
 
     def hear(self, asking):
-        pid, *fields = asking.recv(65536).decode().split("\n")[:-1]
         try:
-            if self.goes_on(Call(int(pid), *fields)):
+            pid, *fields = asking.recv(65536).decode().split("\n")[:-1] or "0"
+            if not fields or self.goes_on(Call(int(pid), *fields)):  # a process that is killed as it asks says nothing
                 asking.send(b".")
                 asking.close()
             else:
@@ -102,7 +98,13 @@ class WatchedRoom(QuickRoom):
 
     def __init__(self, goes_on):
         super().__init__()
-        self.watch = Watch(goes_on)
+        self.pids, self.starting = set(), threading.Lock()
+        self.watch = Watch(lambda call: self.hear(call, goes_on))
+
+    def hear(self, call, goes_on):
+        """Asks whether a call goes on, once it is known of whom it is."""
+        with self.starting:
+            return goes_on(call)
 
     def __exit__(self, *fault):
         super().__exit__(*fault)
@@ -111,7 +113,9 @@ class WatchedRoom(QuickRoom):
     def process(self, kind, words):
         who = f"desk {words[3]}" if kind is Desk else "office"
         watched = {"LD_PRELOAD": str(LIBRARY), "WATCHED": str(self.path), "WATCHER": self.watch.path, "WATCHED_AS": who}
-        self.processes.append(kind(words, {**self.environment, **watched}))
+        with self.starting:
+            self.processes.append(kind(words, {**self.environment, **watched}))
+            self.pids.add(self.processes[-1].process.pid)
         return self.processes[-1]
 
 
@@ -146,6 +150,8 @@ class Device:
         path = os.path.join(self.top, below)
         for name, (inode, mode) in names_of(ino, path).items():
             there = os.path.join(below, name)
+            if name.startswith("now"):  # a start removes what follows from a copy
+                continue
             yield there, mode, bytes_of(inode, os.path.join(path, name)) if stat.S_ISREG(mode) else b""
             if stat.S_ISDIR(mode):
                 yield from self.image(there, inode, names_of, bytes_of)

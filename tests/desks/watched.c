@@ -1,6 +1,6 @@
 /* Preloaded under a process, it asks before each call that opens, makes, changes, syncs or renames something below the folder in
- * WATCHED: it sends the process's number, what WATCHED_AS calls it, the program, the call and the path to the socket in WATCHER, a
- * field on each line, and goes on when that answers. Who is to be stopped gets no answer. */
+ * WATCHED: it sends the process's number, what WATCHED_AS calls it, the call and the path to the socket in WATCHER, a field on each
+ * line, and goes on when that answers. Who is to be stopped gets no answer. */
 #define _GNU_SOURCE
 #include <dlfcn.h>
 #include <errno.h>
@@ -39,7 +39,7 @@ static void ask(const char *call, int folder, const char *path) {
     }
     snprintf(whole, sizeof whole, "%s%s%s", found, found[0] && path[0] ? "/" : "", path);
     if (strncmp(whole, below, strlen(below)) == 0 && strchr("/", whole[strlen(below)])) {
-        snprintf(text, sizeof text, "%d\n%s\n%s\n%s\n%s\n", getpid(), as, program_invocation_short_name, call, whole);
+        snprintf(text, sizeof text, "%d\n%s\n%s\n%s\n", getpid(), as, call, whole);
         send_and_wait(watcher, text);
     }
     errno = before;
