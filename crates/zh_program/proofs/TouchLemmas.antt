@@ -72,6 +72,11 @@ module _ (of : Known) where
       (old new : WorldOf of) (result : Result (Unit {0}) TaskFault) → UsesTexts of Reads DoesWith old new result → LeavesNoMore (of.files.left old.files) (of.files.left new.files)
   texts_leave Reads DoesWith old new result by = λ c here. by.calls.2.leaves c (subst (λ (f : of.Folder). of.files.left f c) by.rest here)
 
+  version_stays : (old new : WorldOf of) (result : Result (Unit {0}) TaskFault) → WritesVersion of old new result → new.files ≡ old.files
+  version_stays old new (Ok done) by = ap (λ (w : WorldOf of). w.files) by.1
+  version_stays old new (Err faults.Write) by = ap (λ (w : WorldOf of). w.files) by.1
+  version_stays old new (Err fault) by = absurd by
+
   does_leave : (task : Task) (old new : WorldOf of) (ended : EndOf of) → Does of task old new ended → ended.used ≡ None
       → LeavesAsFound task (of.files.disk_at old.files) (of.files.left old.files) (of.files.left new.files)
   does_leave Rehearse old new ended by none = same_leaves old new (ap (λ (w : WorldOf of). w.files) by.rest)
@@ -85,6 +90,7 @@ module _ (of : Known) where
   does_leave (tasks.List setup table) old new ended by none = texts_leave _ _ old new ended.result by.1
   does_leave (Check paths) old new ended by none = texts_leave _ _ old new ended.result by.1
   does_leave (tasks.SheetSeats setup sheet layout) old new ended by none = texts_leave _ _ old new ended.result by.1
+  does_leave tasks.Version old new ended by none = same_leaves old new (version_stays old new ended.result by.1)
 
   -- and what is said after it leaves no more
   pub left_after : (task : Task) (old after new : WorldOf of) (ended : EndOf of) → Does of task old after ended
@@ -109,11 +115,6 @@ module _ (of : Known) where
   texts_stay : {X : Type 0} (Reads : of.Folder → of.Folder → Result X TaskFault → Type 0) (DoesWith : X → WorldOf of → WorldOf of → Result (Unit {0}) TaskFault → Type 0)
       (old new : WorldOf of) (result : Result (Unit {0}) TaskFault) → UsesTexts of Reads DoesWith old new result → of.files.places new.files ≡ of.files.places old.files
   texts_stay Reads DoesWith old new result by = ap of.files.places by.rest ∙ by.calls.2.stays
-
-  version_stays : (old new : WorldOf of) (result : Result (Unit {0}) TaskFault) → WritesVersion of old new result → new.files ≡ old.files
-  version_stays old new (Ok done) by = ap (λ (w : WorldOf of). w.files) by.1
-  version_stays old new (Err faults.Write) by = ap (λ (w : WorldOf of). w.files) by.1
-  version_stays old new (Err fault) by = absurd by
 
   pub does_touch : (task : Task) (old new : WorldOf of) (ended : EndOf of) → Does of task old new ended
       → Touches (disk_path task) (of.files.places old.files) (of.files.places new.files)
