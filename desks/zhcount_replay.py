@@ -249,12 +249,18 @@ def replay(path):
 
 
 def check_answers(protocols):
-    """Each line is in both protocols, and has its answer; but the last ones of a start may lack theirs."""
+    """Each line is in both protocols, and has its answer; but the last ones of a start may lack theirs, and of lines that waited for the
+    witness side by side, one of each desk, any."""
     for start, line in protocols.alone:
         raise Differs(f"start {start}, line {line} is in the protocol of its desk alone")
-    for line, following in zip(protocols.noted, protocols.noted[1:]):
-        if line.start == following.start and protocols.is_open(line) and not protocols.is_open(following):
-            raise Differs(f"start {line.start}, line {line.line} has no answer")
+    start, after = 0, {}  # how many answered lines of each desk follow in the start
+    for line in reversed(protocols.noted):
+        if line.start != start:
+            start, after = line.start, {}
+        if not protocols.is_open(line):
+            after[line.desk] = after.get(line.desk, 0) + 1
+        elif line.desk in after or max(after.values(), default=0) > 1:
+            raise Differs(f"start {start}, line {line.line} has no answer")
 
 
 def check_export(protocols, rerun):

@@ -10,12 +10,12 @@ def replay_compares():
     """a replay sees a line in its desk's protocol alone, one without its answer, another state, another export"""
     with Night() as night:
         night.begin()
-        night.send(["1 return 1 1 1 525", "2 return 2 1 1 240", "1 show 1 1"])
+        night.send(["1 return 1 1 1 525", "2 return 2 1 1 240", "1 show 1 1", "1 show 2 1"])
         night.begin()
         night.send(["2 return 3 1 1 90", "1 close 1"])
         night.end()
         night.kept()
-        same("a replay", (0, "the same: the answers to 5 lines in 2 starts, and the export\n"), night.replay())
+        same("a replay", (0, "the same: the answers to 6 lines in 2 starts, and the export\n"), night.replay())
         last, line = "\tnew\tclose 1\t", "\tnew\treturn 2 1 1 240\t"
         for said, *changes in [
                 ("start 2, line 2 is in the protocol of its desk alone", ("protocol", last)),
@@ -52,6 +52,19 @@ def several_wait():
         same("what is held", night.count.export(), night.made()[1])
 
 
+def answers_that_a_witness_had():
+    """where a later line alone of two that waited for the witness has its answer, that is no difference"""
+    with Night() as night:
+        night.begin()
+        night.send(["3 return 3 1 1 90", "2 return 2 1 1 240", "1 return 1 1 1 525"])
+        night.edit("protocol.2", "\tstored 2", "\tunanswered")
+        night.begin()
+        night.end()
+        night.kept()
+        status, said = night.replay()
+        same(f"a replay: {said}", 0, status)
+
+
 def export_of_a_stopped_start():
     """an export whose state a stop kept from being noted is no difference"""
     with Night() as night:
@@ -76,7 +89,7 @@ def run_ends_early():
             same(f"{wanted}: {said}", (1, True), (status, wanted in said))
 
 
-TESTS = [replay_compares, several_wait, export_of_a_stopped_start, run_ends_early]
+TESTS = [replay_compares, several_wait, answers_that_a_witness_had, export_of_a_stopped_start, run_ends_early]
 
 
 if __name__ == "__main__":
