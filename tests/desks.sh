@@ -34,7 +34,7 @@ side_by_side() {
 took() { echo "this took $SECONDS s"; }
 
 echo "== an office and its desks"
-side_by_side fast of_offices of_desks of_witness of_now of_copies rebuilds made_disks replays || exit 1
+side_by_side fast of_offices of_desks of_interplay of_witness of_now of_copies rebuilds made_disks replays || exit 1
 took
 echo "== a stop at each call, and a power cut at each moment"
 python3 tests/desks/stops.py || exit 1
