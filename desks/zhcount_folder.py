@@ -61,18 +61,6 @@ def make_folder(path):
         raise Stopped(f"others may use {path}: 'chmod 2750 {path}' makes it right", 3)
 
 
-def locked(path):
-    """A file that this process has locked until it ends, made where there is none; None if another process has it."""
-    at = os.open(path, os.O_RDWR | os.O_CREAT | os.O_CLOEXEC, READERS)
-    try:
-        os.fchmod(at, READERS)
-        fcntl.flock(at, fcntl.LOCK_EX | fcntl.LOCK_NB)
-        return at
-    except BlockingIOError:
-        os.close(at)
-        return None
-
-
 class Appended:
     """A file to which whole pieces are appended. What a stop left of a piece is cut off before the next one."""
 
@@ -132,10 +120,12 @@ class OfficeFolder(Folder):
     def take(self):
         """Makes the folder where there is none, and takes it: from there on no other office has it."""
         make_folder(self.path)
-        if locked(self("office")) is None:
-            raise Stopped(f"another office has {self.path}", 3)
-        if locked(self("protocol")) is None:
-            raise Stopped(f"zhcount-witness has {self.path}: end the office that started it, and wait a minute", 3)
+        self.lock = os.open(self("office"), os.O_RDWR | os.O_CREAT | os.O_CLOEXEC, READERS)
+        os.fchmod(self.lock, READERS)
+        try:
+            fcntl.flock(self.lock, fcntl.LOCK_EX | fcntl.LOCK_NB)
+        except BlockingIOError:
+            raise Stopped(f"another office has {self.path}", 3) from None
         self.whole = Protocol(self("protocol"))
         self.of_desk = {desk: Protocol(self("protocol", desk)) for desk in DESKS}
         self.make_sent()

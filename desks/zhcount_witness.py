@@ -16,7 +16,6 @@ from zhcount_desks import MIRRORED, UNANSWERED, Stopped, records_in
 SILENCE = 10  # seconds after which a witness that owes an acknowledgement has failed
 PULSE = 3  # seconds between two signs of life of one that owes none
 AGAIN = 3  # seconds before the command is started again
-PIECE = 65536  # bytes that are sent before the witness has to acknowledge them
 
 
 class Failed(Exception):
@@ -78,10 +77,6 @@ class Link:
         """What the witness has of each file: how many bytes, and their sum."""
         found = {}
         while (line := self.line()) != ["ready"]:
-            if line == ["office"]:
-                raise Stopped("an office runs in the witness's folder: whoever started it has taken over the count", 3)
-            if line == ["taken"]:
-                raise Failed("another zhcount-witness has its folder")
             if len(line) != 4 or line[1] not in MIRRORED or not line[2].isdigit():
                 raise Failed(f"it said '{' '.join(line)[:80]}'")
             found[line[1]] = int(line[2]), line[3]
@@ -128,8 +123,6 @@ class Witness:
         with self.changed:
             self.changed.wait_for(lambda: self.fault or self.is_there is not None, SILENCE)
             self.is_begun = True
-            if not self.fault and self.is_there is None:
-                self.turn(False, f"it is not ready after {SILENCE} seconds")
         self.check()
         for record in self.alone:
             self.folder.take_over(record)
@@ -191,8 +184,6 @@ class Witness:
                 self.turn(False, str(it))
             except Stopped as it:
                 self.fault = it.reason
-            except Exception as it:  # whatever it is: nobody may wait for a thread that has ended
-                self.turn(False, repr(it))
             finally:
                 if link:
                     link.end()
@@ -222,21 +213,19 @@ class Witness:
                 self.has[name] = size
 
     def differ(self, link, name, own, theirs):
-        """Answers that the witness alone has were never shown. Where the line is still unanswered, they are taken over; where the start
-        notes it as unanswered, or the next one did, the witness puts them aside. Anything else is another folder. How much the witness has then."""
+        """Answers that the witness alone has were never shown. Where the line is still unanswered, they are taken over; where the next start
+        has noted it as unanswered, the witness puts them aside. Anything else is another folder. How much the witness has then."""
         is_answers = name not in ("setup.toml", "protocol")
         noted, found = (records_in(it, name)[0] if is_answers else [] for it in (own, theirs))
         same = next((at for at, (one, other) in enumerate(zip(noted, found)) if one != other), min(len(noted), len(found)))
         alone, after = found[same:], {(it.start, it.line): it.answer for it in noted[same:]}
         size = len(spelled(found[:same]))
-        open_before = [(it.start, it.line) in self.unanswered for it in alone]
-        with self.changed:
-            if is_answers and not after and not self.is_begun and all(open_before):
+        if is_answers and not after and not self.is_begun and all((it.start, it.line) in self.unanswered for it in alone):
+            with self.changed:
                 self.alone += alone
                 self.content[name] += spelled(alone)
                 return len(self.content[name])
-        becomes = [after.get((it.start, it.line), UNANSWERED if is_open else "") for it, is_open in zip(alone, open_before)]
-        if is_answers and all(it == UNANSWERED for it in becomes):
+        if is_answers and all(after.get((it.start, it.line)) == UNANSWERED for it in alone):
             link.send(f"cut {name} {size}\n".encode())
             return link.has()[1]
         raise Stopped(f"the witness has another {name} than {self.folder.path}: if the witness has the newer one, --rebuild takes its folder", 3)
@@ -258,16 +247,9 @@ class Witness:
                 self.changed.wait_for(self.missing, PULSE)
 
     def pieces(self):
-        """What the witness lacks of each file, a line before its answer, as far as one acknowledgement may be about; where it lacks nothing, a
-        piece without bytes, as a sign of life."""
-        pieces, room = [], PIECE
+        """What the witness lacks of each file, a line before its answer; where it lacks nothing, a piece without bytes, as a sign of life."""
         with self.changed:
-            for name in self.missing():
-                at = self.has.get(name, 0)
-                data = self.content[name][at:at + room]
-                room -= len(data)
-                pieces += [(name, data)] if data else []
-        return pieces or [("protocol", b"")]
+            return [(it, self.content[it][self.has.get(it, 0):]) for it in self.missing()] or [("protocol", b"")]
 
 
 def spelled(records):
