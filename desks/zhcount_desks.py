@@ -166,6 +166,12 @@ class Program:
             raise Stopped(f"zhcount {task}: {plain(ran.stderr)}", 3)
         return ran.stdout, ran.stderr
 
+    def version(self):
+        """What the program says is its version; `-` where it says none, as an older one does."""
+        said = subprocess.run([self.name, "--version"], stdin=subprocess.DEVNULL, stdout=subprocess.PIPE, stderr=subprocess.DEVNULL).stdout
+        found = re.fullmatch(rb"zhcount (\S+)\n", said)
+        return found[1].decode("ascii", "replace") if found else "-"
+
     def sum(self):
         """The SHA-256 of the program's file; nothing where there is none."""
         path = shutil.which(self.name)

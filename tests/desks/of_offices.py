@@ -258,15 +258,17 @@ def garbage():
 
 
 def what_is_noted():
-    """a start has the sums of program and set-up; a backslash is escaped; the end writes status and export"""
+    """a start has the program's version, and the sums of program and set-up; a backslash is escaped; the end writes status and export"""
     with Room() as room:
         room.start()
         same("the answers", ["stored 1", "refused syntax"], room.ask(1, FIRST, "sh\\ow").out)
         room.stop()
         sums = [hashlib.sha256(it.read_bytes()).hexdigest() for it in (PROGRAM, room.setup)]
+        said = subprocess.run([PROGRAM, "--version"], capture_output=True, text=True).stdout
+        version = said.strip().replace("zhcount ", "") or "-"
         for name in ("protocol", "protocol.1"):
             start = next(it for it in room.records(name) if it.mark == "start")
-            that(f"the start: {start.text}", f"program {sums[0]} set-up {sums[1]}" in start.text)
+            that(f"the start: {start.text}", start.text == f"program {version} {sums[0]} set-up {sums[1]}")
         same("the text", "sh\\x5cow", room.of_desk(1)[1].text)
         same("the status", room.zhcount("status"), (room.folder / "status").read_text())
         same("the export", room.zhcount("export"), (room.folder / "held.csv").read_text())
