@@ -63,6 +63,7 @@ class Ending:
 
     def __init__(self):
         self.times, self.has_paused = 0, False
+        self.heeded = 0  # how often it was told before the end began
         self.fd, into = os.pipe2(os.O_NONBLOCK | os.O_CLOEXEC)
         signal.set_wakeup_fd(into, warn_on_full_buffer=False)
         for it in (signal.SIGTERM, signal.SIGINT, signal.SIGHUP):
@@ -78,7 +79,7 @@ class Ending:
             say("another program has the disk: waiting for its end")
         self.has_paused = True
         self.wait([], BUSY)
-        if self.times:
+        if self.times > self.heeded:
             raise Stopped("told to", 0)
 
     def wait(self, descriptors, seconds=None):

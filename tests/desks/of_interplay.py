@@ -3,7 +3,7 @@ than those of the desks. Names as arguments run those tests alone. The last line
 import sys
 
 from of_witness import TRACED, Witnessed
-from room import Room, main, same, that, until
+from room import PROGRAM, Room, main, same, that, until
 
 
 def shown_once_it_is_synced():
@@ -45,7 +45,29 @@ def number_of_a_start():
         that(f"the third start: {room.office.said()}", "start 3," in room.office.said())
 
 
-TESTS = [shown_once_it_is_synced, told_at_once, number_of_a_start]
+BUSY_ONCE = """#!/bin/bash
+[ $1 = status ] && [ -e '{flag}' ] && {{ rm '{flag}'; echo 'zhcount: disk busy' >&2; exit 1; }}
+exec '{program}' "$@"
+"""
+
+
+def disk_is_busy_at_the_end():
+    """an office that is told to end waits for a program that has just then opened the disk, and notes what is on it"""
+    with Room() as room:
+        script, flag = room.path / "stand-in", room.path / "flag"
+        script.write_text(BUSY_ONCE.format(flag=flag, program=PROGRAM))
+        script.chmod(0o755)
+        room.environment["ZHCOUNT"] = str(script)
+        room.start()
+        same("the answer", ["stored 1"], room.ask(1, "return 1 1 1 525").out)
+        flag.touch()
+        same(f"the status: {room.office.said()}", 0, room.stop())
+        that(f"it waits: {room.office.said()}", "another program has the disk" in room.office.said())
+        that(f"every line is answered: {room.office.said()}", "every line is answered" in room.office.said())
+        same("the last state", "1 commands", room.records("protocol")[-1].text)
+
+
+TESTS = [shown_once_it_is_synced, told_at_once, number_of_a_start, disk_is_busy_at_the_end]
 
 
 if __name__ == "__main__":
