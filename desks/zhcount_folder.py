@@ -3,10 +3,12 @@ import contextlib
 import fcntl
 import os
 import pwd
+import time
 
 from zhcount_desks import DESKS, Folder, Message, Record, Stopped, escaped, now, records_in
 
 READERS, WRITERS, BOTH = 0o640, 0o620, 0o660  # what the group may do, beside the owner
+MOMENT = 3  # seconds for which a replay may have the folder, while it reads its files
 
 
 def sync_folder(path):
@@ -59,6 +61,15 @@ def make_folder(path):
     refuse_another_users(path, "-R ")
     if os.stat(path).st_mode & 0o027:
         raise Stopped(f"others may use {path}: 'chmod 2750 {path}' makes it right", 3)
+
+
+def is_locked(at):
+    """Locks an open file, if no other process has it; whether it did."""
+    try:
+        fcntl.flock(at, fcntl.LOCK_EX | fcntl.LOCK_NB)
+        return True
+    except BlockingIOError:
+        return False
 
 
 class Appended:
@@ -122,10 +133,11 @@ class OfficeFolder(Folder):
         make_folder(self.path)
         self.lock = os.open(self("office"), os.O_RDWR | os.O_CREAT | os.O_CLOEXEC, READERS)
         os.fchmod(self.lock, READERS)
-        try:
-            fcntl.flock(self.lock, fcntl.LOCK_EX | fcntl.LOCK_NB)
-        except BlockingIOError:
-            raise Stopped(f"another office has {self.path}", 3) from None
+        end = time.monotonic() + MOMENT
+        while not is_locked(self.lock):
+            if time.monotonic() > end:
+                raise Stopped(f"another office has {self.path}", 3)
+            time.sleep(0.05)
         self.whole = Protocol(self("protocol"))
         self.of_desk = {desk: Protocol(self("protocol", desk)) for desk in DESKS}
         self.make_sent()

@@ -1,6 +1,8 @@
 """Tests of what no script does alone: a bell that rings too often, a desk that comes when the witness is away, a protocol that is older
 than those of the desks. Names as arguments run those tests alone. The last line is 'N passed, M failed'."""
+import fcntl
 import sys
+import threading
 
 from of_witness import TRACED, Witnessed
 from room import PROGRAM, Room, main, same, that, until
@@ -67,7 +69,20 @@ def disk_is_busy_at_the_end():
         same("the last state", "1 commands", room.records("protocol")[-1].text)
 
 
-TESTS = [shown_once_it_is_synced, told_at_once, number_of_a_start, disk_is_busy_at_the_end]
+def start_beside_a_replay():
+    """a start waits for a replay that is about to have read the folder"""
+    with Room() as room:
+        room.start()
+        room.stop()
+        with open(room.folder / "office", "rb") as lock:
+            fcntl.flock(lock, fcntl.LOCK_SH)
+            threading.Timer(1.5, lambda: fcntl.flock(lock, fcntl.LOCK_UN)).start()
+            room.start()
+        that(f"it has the folder: {room.office.said()}", "start 2," in room.office.said())
+
+
+TESTS = [shown_once_it_is_synced, told_at_once, number_of_a_start, disk_is_busy_at_the_end,
+         start_beside_a_replay]
 
 
 if __name__ == "__main__":
