@@ -17,6 +17,7 @@ def shown_once_it_is_synced():
         room.environment["TRACE"] = str(trace)
         desk = room.process(type(room.desk(2)), [sys.executable, wrapper, room.scripts / "zhcount-desk", "1", room.folder])
         same("the answer", "stored 1", desk.send("return 1 1 1 525"))
+        same("its end", 0, desk.end())
         calls = trace.read_text().split("\n")
         sent, said = calls.index("write lines.1 "), next(at for at, it in enumerate(calls) if it.startswith("said "))
         that(f"it is synced: {calls[sent:said]}", "fsync protocol.1 " in calls[sent:said])
