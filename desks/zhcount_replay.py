@@ -67,7 +67,7 @@ class Protocols:
                 try:
                     fcntl.flock(lock, fcntl.LOCK_SH | fcntl.LOCK_NB)
                 except BlockingIOError:
-                    raise Stopped(f"an office runs in {self.folder.path}: end it first") from None
+                    raise Stopped(f"an office or a witness runs in {self.folder.path}: end it first") from None
             return {name: self.bytes_of(name) for name in names}
 
     def bytes_of(self, name):

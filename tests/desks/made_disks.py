@@ -95,7 +95,7 @@ def while_the_office_runs():
         same("the answer", ["stored 1"], room.ask(1, "return 1 1 1 525").out)
         for words in (["--replay", room.folder], ["--rebuild", room.folder, room.path / "new.disk"]):
             ran = subprocess.run(room.script("zhcount-office", *words), capture_output=True, text=True)
-            same(f"{words[0]}: {ran.stderr}", (1, True), (ran.returncode, f"an office runs in {room.folder}: end it first" in ran.stdout))
+            same(f"{words[0]}: {ran.stderr}", (1, True), (ran.returncode, f"an office or a witness runs in {room.folder}: end it first" in ran.stdout))
         room.stop()
         same("a replay", 0, room.replay()[0])
         room.start()

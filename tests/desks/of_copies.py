@@ -7,9 +7,9 @@ import sys
 
 from of_now import NEVER, RETURNS, QuickRoom, compare, in_haste, link_of, names_of_now, table_of
 from of_offices import other_disk
-from of_witness import Witnessed
 from room import PROGRAM, Room, main, same, stays, that, until
 from watch import COMPILED, WatchedRoom, prepare
+from witnessed import Witnessed
 
 # A run that spoils the first byte of the disk for as long as a line is in the air.
 RUN_THAT_SPOILS = r"""put() {{ printf "$1" | dd of='{disk}' bs=1 conv=notrunc status=none; }}

@@ -1,64 +1,17 @@
 """Tests of an office with a witness: a second folder, reached by a command, which may be lost, stopped, slow or another office's. Names as
 arguments run those tests alone. The last line is 'N passed, M failed'."""
 import os
-import pathlib
-import random
+import resource
+import shlex
 import shutil
 import signal
 import subprocess
 import sys
-import threading
+import tempfile
 import time
 
-from room import PROGRAM, Desk, Room, export_of, main, same, stays, that, until
-
-MIRRORED = ("setup.toml", "protocol", *(f"protocol.{desk}" for desk in range(1, 9)))
-# A witness that isn't there while a file says so, and that says which process it is.
-COMMAND = '#!/bin/sh\n[ -e {away} ] && exit 1\necho $$ > {pid}\nexec {python} {script} {copy}\n'
-
-
-class Witnessed(Room):
-    """A room whose office has a witness."""
-
-    def __init__(self, *options, **more):
-        super().__init__(**more)
-        self.copy, self.away, self.pid = (self.path / it for it in ("copy", "away", "pid"))
-        command = self.path / "witness"
-        command.write_text(COMMAND.format(away=self.away, pid=self.pid, python=sys.executable, copy=self.copy,
-                                          script=self.scripts / "zhcount-witness"))
-        command.chmod(0o755)
-        self.options = ["--witness", str(command), *options]
-
-    def __exit__(self, *fault):
-        self.signal(signal.SIGCONT)
-        super().__exit__(*fault)
-
-    def signal(self, number):
-        """Sends the witness a signal, if there is one."""
-        try:
-            os.kill(int(self.pid.read_text()), number)
-        except (FileNotFoundError, ProcessLookupError, ValueError):
-            pass
-
-    def lose(self):
-        self.away.touch()
-        self.signal(signal.SIGKILL)
-
-    def differing(self):
-        """The files that the witness has otherwise than the office."""
-        return [it for it in MIRRORED if (self.folder / it).read_bytes() != (self.copy / it).read_bytes()]
-
-    def has_all(self):
-        until("the witness has all", lambda: not self.differing())
-
-    def rebuilt(self):
-        """What an export of a disk says that was made anew from the witness."""
-        disk = self.path / f"rebuilt-{time.monotonic_ns()}"
-        ran = subprocess.run(self.script("zhcount-office", "--rebuild", self.copy, disk), env={**os.environ, **self.environment},
-                             capture_output=True, text=True)
-        same(f"the status of the rebuilding: {ran.stdout}{ran.stderr}", 0, ran.returncode)
-        words = [PROGRAM, "export", "--setup", self.copy / "setup.toml", "--disk", disk]
-        return subprocess.run(words, capture_output=True, text=True).stdout
+from room import TOP, Process, Room, Skipped, main, same, stays, that, until
+from witnessed import Canton, Chance, Witnessed, check_what_is_held, enter, leave, night_that_is_lost, wait_for_answers
 
 
 def mirrored():
@@ -73,7 +26,7 @@ def mirrored():
         same("the answer", ["stored 3"], room.ask(2, "return 3 1 1 90").out)
         same("the end", 0, room.stop())
         same("what differs", [], room.differing())
-        same("the export", room.zhcount("export"), room.rebuilt())
+        same("the export", room.zhcount("export"), room.of(room.rebuilt(), "export"))
         room.check()
 
 
@@ -87,10 +40,10 @@ def nothing_before():
         room.signal(signal.SIGSTOP)
         desks[0].write("return 1 1 1 525\n")
         desks[1].write("return 2 1 1 240\n")
-        until("both lines are noted", lambda: [it.text for it in room.records("protocol")[-2:]] == ["return 1 1 1 525", "return 2 1 1 240"])
+        until("both lines are noted", lambda: sum(it.text.startswith("return ") for it in room.records("protocol")) == 2)
         stays("no answer is shown", lambda: len(room.of_desk(1)) == len(room.of_desk(2)) == 1 and len(desks[0].out) == len(desks[1].out) == 1)
         room.signal(signal.SIGCONT)
-        same("the answers", ["stored 1", "stored 2"], [it.answer() for it in desks])
+        same("the answers", ["stored 1", "stored 2"], sorted(it.answer() for it in desks))
         room.has_all()
         room.stop()
         room.check()
@@ -102,7 +55,7 @@ def goes_on_without():
         room.start()
         desk = room.desk(1)
         same("the answer", "stored 1", desk.send("return 1 1 1 525"))
-        room.lose()
+        room.lose_witness()
         same("the answer", "stored 2", desk.send("return 1 1 2 530"))
         until("the log says it", lambda: "no witness since" in room.office.said())
         that("the folder says it", (room.folder / "witness").read_text().startswith("no witness since"))
@@ -124,7 +77,7 @@ def waits_for_it():
         room.start()
         desk = room.desk(1)
         same("the answer", "stored 1", desk.send("return 1 1 1 525"))
-        room.lose()
+        room.lose_witness()
         until("the log says it", lambda: "waiting for the witness since" in room.office.said())
         desk.write("return 1 1 2 530\n")
         until("the line is noted", lambda: room.records("protocol")[-1].text == "return 1 1 2 530")
@@ -176,7 +129,7 @@ def alone(is_away):
         if is_away:
             that("what was not shown is put aside", b"stored 2" in (room.copy / "protocol.1.aside").read_bytes())
         room.stop()
-        same("the export", room.zhcount("export"), room.rebuilt())
+        same("the export", room.zhcount("export"), room.of(room.rebuilt(), "export"))
         room.check()
 
 
@@ -208,7 +161,7 @@ def torn_record():
         room.start()
         desk = room.desk(1)
         same("the answer", "stored 1", desk.send("return 1 1 1 525"))
-        room.lose()
+        room.lose_witness()
         same("the answer", "stored 2", desk.send("return 1 1 2 530"))
         torn = (room.folder / "protocol").read_bytes()[len((room.copy / "protocol").read_bytes()):][:40]
         with open(room.copy / "protocol", "ab") as file:
@@ -259,64 +212,217 @@ def each_piece_is_synced():
         that(f"pieces were acknowledged: {said}", said >= 4)
 
 
-def night_with_a_loss(seed):
-    """What desks were shown, of a night whose machine is lost at some moment; and the export of the disk made anew from the witness."""
-    chance = random.Random(seed)
+def slow_witness():
+    """a witness that takes seconds for its start, and for an answer, is waited for"""
+    with Witnessed() as room:
+        room.command.write_text(room.command.read_text().replace("exec", "sleep 3\nexec"))
+        room.start()
+        lines = room.office.error
+        that(f"it was there first: {lines}", "the witness is there since" in lines[0] and "desks can send lines" in lines[-1])
+        room.signal(signal.SIGSTOP)
+        desk = room.desk(1)
+        desk.write("return 1 1 1 525\n")
+        until("the line is noted", lambda: room.records("protocol")[-1].text == "return 1 1 1 525")
+        stays("no answer is shown", lambda: not desk.out, 3)
+        room.signal(signal.SIGCONT)
+        same("the answer", "stored 1", desk.answer())
+        that(f"it was there all the time: {room.office.said()}", "no witness" not in room.office.said())
+        room.stop()
+
+
+def full_volume():
+    """a witness without room ends, and says why; the office goes on, and says it too"""
+    with Witnessed() as room:
+        room.start()
+        desk = room.desk(1)
+        same("the answer", "stored 1", desk.send("return 1 1 1 525"))
+        room.has_all()
+        size = (room.copy / "protocol").stat().st_size
+        resource.prlimit(room.witness(), resource.RLIMIT_FSIZE, (size + 30, resource.RLIM_INFINITY))
+        room.away.touch()
+        same("the answer", "stored 2", desk.send("return 1 1 2 530"))
+        until("the log says it", lambda: "no witness since" in room.office.said())
+        that(f"and why: {room.office.said()}", f": it has ended: zhcount-witness: {room.copy}: File too large" in room.office.said())
+        same("the size of its protocol", size, (room.copy / "protocol").stat().st_size)
+        room.away.unlink()
+        room.has_all()
+        room.stop()
+
+
+def no_such_command():
+    """where the command can't be started, or says something else, the office goes on, and says why; one without words is refused"""
+    for words, why in [("/nowhere/witness 'a b'", "/nowhere/witness can't be started: No such file or directory"),
+                       ("echo Welcome", "it said 'Welcome'"), ("sh -c 'echo no such key >&2; exit 255'", "it has ended: no such key"),
+                       ("head -c 100000 /dev/zero", "what it says is not what zhcount-witness says")]:
+        with Room() as room:
+            room.options = ["--witness", words]
+            room.start()
+            same("the answer", ["stored 1"], room.ask(1, "return 1 1 1 525").out)
+            that(f"it says why: {room.office.said()}", "no witness since" in room.office.said() and why in room.office.said())
+            same("the end", 0, room.stop())
+            for nothing in ("", " ", "ssh 'other"):
+                ran = subprocess.run(room.script("zhcount-office", "--witness", nothing, room.setup, room.disk, room.folder), capture_output=True)
+                same(f"the status with '{nothing}'", 2, ran.returncode)
+
+
+def folder_of_another_witness():
+    """a folder that another witness has is refused by a text; that one ends when it has heard nothing for 20 seconds"""
+    with Witnessed() as room:
+        first = room.process(Process, room.script("zhcount-witness", room.copy))
+        until("it is ready", lambda: "ready" in first.out)
+        begun = time.monotonic()
+        room.start()
+        refused = f"it has ended: zhcount-witness: {room.copy}: another witness, or an office, has this folder"
+        that(f"it says so: {room.office.said()}", refused in room.office.said())
+        same("the answer", ["stored 1"], room.ask(1, "return 1 1 1 525").out)
+        same(f"the status of the first: {first.said()}", 1, first.wait())
+        that(f"after some 20 seconds: {time.monotonic() - begun}", 15 < time.monotonic() - begun < 29)
+        same("what it says", f"zhcount-witness: {room.copy}: nothing has come for 20 seconds", first.said())
+        until("the other has the folder", lambda: "the witness is there since" in room.office.said())
+        room.stop()
+        same("what differs", [], room.differing())
+
+
+def refused_folder():
+    """a folder that others may use, or that can't be made, is refused by a text; so are words of no form"""
+    with Witnessed() as room:
+        room.copy.mkdir(0o755)
+        for folder, text, said in [(room.copy, "", f"others may use {room.copy}: 'chmod 2750 {room.copy}' makes it right"),
+                                   (room.other / "no/copy", "", "No such file or directory"),
+                                   (room.other / "new", "append protocol x\n", "what came is of no form: append protocol x"),
+                                   (room.other / "new", "add protocol 0\n", "what came is of no form: add"),
+                                   (room.other / "new", "append lines.1 1\n\n", "what came is of no form: append lines.1 1")]:
+            refused = room.process(Process, room.script("zhcount-witness", folder))
+            same(f"the status: {refused.said()}", 1, refused.end(text))
+            that(f"it says so: {refused.said()}", refused.said().startswith(f"zhcount-witness: {folder}: {said}"))
+
+
+SLOW_LOCK = '''
+import fcntl, runpy, sys
+real = fcntl.flock
+def slow(*words):
+    open(sys.argv[1] + "/protocol", "a").write(RECORD)
+    return real(*words)
+fcntl.flock = slow
+sys.argv = sys.argv[1:]
+runpy.run_path(sys.argv[0], run_name="__main__")
+'''
+
+
+def lock_before_the_files():
+    """what a witness still wrote while the next one waited for the folder stays"""
+    with Witnessed() as room:
+        record = "2026-11-29T18:00:00.000+01:00\t1\t1\t1\t1\tnew\tclose 1\t\n"
+        (room.other / "slow.py").write_text(SLOW_LOCK.replace("RECORD", repr(record)))
+        room.copy.mkdir(0o750)
+        words = [sys.executable, room.other / "slow.py", *room.script("zhcount-witness", room.copy)[-2:]]
+        ran = subprocess.run(words, stdin=subprocess.DEVNULL, capture_output=True, text=True)
+        same(f"what it has: {ran.stderr}", record, (room.copy / "protocol").read_text())
+        that(f"what it says: {ran.stdout}", f"has protocol {len(record)} " in ran.stdout)
+
+
+def start_waits_for_it():
+    """where the witness is required no desk sees anything of a start before the witness has that too"""
+    with Witnessed("--witness-required") as room:
+        room.away.touch()
+        room.start(is_awaited=False)
+        desk = room.desk(1)
+        desk.write("return 1 1 1 525\n")
+        until("the start is noted", lambda: (room.folder / "protocol").exists() and room.records("protocol")[-1:] and
+              room.records("protocol")[-1].mark == "state")
+        stays("no desk is let in", lambda: not (room.folder / "lines.1").exists() and "start 1" not in desk.said(), 2)
+        until(f"the desk says it: {desk.said()}", lambda: "waiting for the witness since" in desk.said())
+        same("the end of an office that waits", 0, room.stop())
+        room.start(is_awaited=False)
+        room.away.unlink()
+        same("the answer", "stored 1", desk.answer())
+        room.stop()
+        same("what differs", [], room.differing())
+        room.check()
+
+
+def spoilt_in_the_night():
+    """a witness that has something else in the middle of a night is none, and the office goes on"""
+    with Witnessed() as room:
+        room.start()
+        desk = room.desk(1)
+        same("the answer", "stored 1", desk.send("return 1 1 1 525"))
+        room.has_all()
+        room.lose_witness()
+        same("the answer", "stored 2", desk.send("return 1 1 2 530"))
+        path = room.copy / "protocol.1"
+        path.write_bytes(path.read_bytes().replace(b"525", b"526"))
+        room.away.unlink()
+        until("the log says it", lambda: "still no witness: the witness has another protocol.1" in room.office.said())
+        same("the answer", "stored 3", desk.send("return 1 1 3 540"))
+        same("the end", 0, room.stop())
+
+
+def unanswered_at_the_end():
+    """an answer that the witness does not have at the end is shown to nobody, and given after the next start"""
     with Witnessed("--witness-required") as room:
         room.start()
-        shown = []
-        moment = threading.Timer(chance.uniform(0.05, 1.5), lambda: lost(room))
-
-        def enter(number):
-            desk, versions = room.process(Desk, room.script("zhcount-desk", str(number), room.folder)), {}
-            while room.office.process.poll() is None:
-                key = chance.randint(1, 3), chance.randint(1, 3)
-                versions[key] = versions.get(key, 0) + 1
-                line = f"return {key[0]} {key[1]} {versions[key]} {number}00{versions[key]}"
-                try:
-                    answer = desk.send(line)
-                except AssertionError:
-                    return
-                if answer.startswith("stored"):
-                    shown.append((int(answer.split()[1]), line))
-                elif answer == "(it has ended)" or answer.startswith("perhaps"):
-                    return
-
-        enterers = [threading.Thread(target=enter, args=(number,)) for number in range(1, 9)]
-        for it in [moment, *enterers]:
-            it.start()
-        moment.join()
-        for it in room.processes:
-            it.kill(signal.SIGKILL)
-        for it in enterers:
-            it.join()
-        return shown, room.rebuilt()
+        desk = room.desk(1)
+        same("the answer", "stored 1", desk.send("return 1 1 1 525"))
+        room.lose_witness()
+        until("the log says it", lambda: "waiting for the witness since" in room.office.said())
+        desk.write("return 1 1 2 530\n")
+        until("the line is noted", lambda: room.records("protocol")[-1].text == "return 1 1 2 530")
+        same("the end", 0, room.stop())
+        that(f"it says so: {room.office.said()}", "unanswered, since the witness does not have it: desk 1: return 1 1 2 530" in room.office.error[-1])
+        same("what desk 1 was shown", ["stored 1"], desk.out)
+        room.away.unlink()
+        room.start()
+        same("the answer", "same", desk.answer())
+        room.stop()
+        same("what differs", [], room.differing())
+        room.check()
 
 
-def lost(room):
-    """The office's machine burns: its processes, its folder and its disk."""
-    run = room.run_of_office()
-    for it in (room.office.process.pid, run):
-        os.kill(it, signal.SIGKILL)
-    room.office.wait()
-    shutil.rmtree(room.folder)
-    room.disk.unlink()
+def another_device():
+    """A folder on another device than the rooms."""
+    found = [it for it in (tempfile.gettempdir(), "/var/tmp", TOP) if os.stat(it).st_dev != os.stat(Room.shared()).st_dev]
+    if not found:
+        raise Skipped("there is one device alone")
+    return found[0]
 
 
 def machine_is_lost():
-    """whatever a desk was shown is held by the disk made anew from the witness, whenever the office's machine was lost"""
-    for seed in range(6):
-        shown, export = night_with_a_loss(seed)
-        held = {}
-        for row in export.splitlines()[1:]:
-            municipality, group, number, _ = row.split(",")
-            held[municipality, group] = int(number)
-        for _, line in shown:
-            _, municipality, group, number, _ = line.split(" ")
-            that(f"{line} is held, or a later one (seed {seed})", held.get((municipality, group), 0) >= int(number))
+    """whatever a desk was shown is held by the disk made anew from the witness on another device, whenever the office's machine was lost"""
+    that("answers were shown", sum(night_that_is_lost(seed, device=another_device()) for seed in range(4)) > 20)
 
 
-TESTS = [mirrored, nothing_before, goes_on_without, waits_for_it, silent_witness, answer_that_it_alone_has, answer_that_nobody_saw, another_office, torn_record,
-         each_piece_is_synced, machine_is_lost]
+# What the witness says comes later.
+RELAYED = """#!/bin/sh
+{away}
+sh -c 'echo $$ > {pid}; exec {words}' | while IFS= read -r line; do sleep 0.05; echo "$line"; done
+"""
+
+
+def either_is_lost():
+    """the witness's machine is lost among lines of eight desks, and comes back with nothing, and then the office's is lost"""
+    canton = Canton(Chance(2027))
+    with Witnessed(setup=canton.setup(), device=another_device()) as room:
+        away, words = room.command.read_text().split("\n", 2)[1], [sys.executable, room.scripts / "zhcount-witness", room.copy]
+        room.command.write_text(RELAYED.format(away=away, pid=room.pid, words=shlex.join(map(str, words))))
+        room.start()
+        entering = enter(room, canton, 1)
+        wait_for_answers(room, entering, 100)
+        room.lose_witness()
+        shutil.rmtree(room.copy)
+        wait_for_answers(room, entering, 200)
+        until("the log says that there is none", lambda: "no witness since" in room.office.said())
+        room.away.unlink()
+        until("the log says that it is there", lambda: room.office.said().count("the witness is there since") == 2)
+        wait_for_answers(room, entering, 300)
+        room.lose_office()
+        leave(entering)
+        check_what_is_held(room, entering, room.rebuilt())
+
+
+TESTS = [mirrored, nothing_before, goes_on_without, waits_for_it, silent_witness, answer_that_it_alone_has, answer_that_nobody_saw,
+         another_office, torn_record, each_piece_is_synced, slow_witness, full_volume, no_such_command, folder_of_another_witness,
+         refused_folder, lock_before_the_files, start_waits_for_it, spoilt_in_the_night, unanswered_at_the_end, machine_is_lost,
+         either_is_lost]
 if __name__ == "__main__":
     sys.exit(main(TESTS, at_once=4))

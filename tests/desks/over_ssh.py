@@ -1,10 +1,13 @@
 """Eight desks over a real sshd on the loopback, each with a key of its own, 2,000 lines each side by side: two connections are cut in
-the middle of a line, and the office is killed twice. Then what a key can't do. LINES takes another number of lines. The last line is
-'N passed, M failed'."""
+the middle of a line, and the office is killed twice. Then what a key can't do. Then a witness that is reached by ssh: the office's machine
+is lost at 50 moments, with eight desks that are not, as 400 connections would take minutes; and the network hangs. LINES takes another
+number of lines, LOSSES of losses. The last line is 'N passed, M failed'."""
+import concurrent.futures
 import getpass
 import os
 import pathlib
 import re
+import shlex
 import signal
 import socket
 import subprocess
@@ -13,12 +16,14 @@ import threading
 import time
 
 from room import TOP, Process, Room, main, same, that, until
+from witnessed import Witnessed, night_that_is_lost
 
 sys.path.insert(0, str(TOP / "examples/canton"))
 from canton import Canton, Chance
 from office import Office
 
 LINES = int(os.environ.get("LINES", "2000"))
+LOSSES = int(os.environ.get("LOSSES", "50"))
 CUT = {2: LINES // 3, 6: LINES // 2}  # desks whose connection is cut, and at which line
 KILLS = (LINES * 2, LINES * 5)  # after how many lines in all the office is killed
 SSHD = "/usr/sbin/sshd"
@@ -39,26 +44,39 @@ MaxStartups 100
 
 
 class Ssh:
-    """An sshd with a key for each desk."""
+    """An sshd with keys, each of which can do one thing."""
 
     def __init__(self, room):
-        self.room, self.folder = room, room.path / "ssh"
+        self.room, self.folder, self.lock = room, room.path / "ssh", threading.Lock()
         self.folder.mkdir(mode=0o700)
         with socket.socket() as probe:
             probe.bind(("127.0.0.1", 0))
             self.port = probe.getsockname()[1]
-        keys = []
-        for name in ["host", *range(1, 10)]:
-            subprocess.run(["ssh-keygen", "-q", "-t", "ed25519", "-N", "", "-f", self.folder / str(name)], check=True)
-            if name in range(1, 9):
-                command = " ".join(map(str, room.script("zhcount-desk", name, room.folder)))
-                keys.append(f'restrict,command="{command}" {(self.folder / f"{name}.pub").read_text()}')
-        (self.folder / "keys").write_text("".join(keys))
+        self.make_key("host")
+        (self.folder / "keys").touch()
         (self.folder / "config").write_text(CONFIG.format(port=self.port, folder=self.folder))
         if os.geteuid() == 0:
             pathlib.Path("/run/sshd").mkdir(mode=0o755, exist_ok=True)
         self.sshd = room.process(Process, [SSHD, "-D", "-e", "-f", self.folder / "config"])
         until(f"sshd listens: {self.sshd.said()}", lambda: "Server listening" in self.sshd.said() or self.sshd.process.poll() is not None)
+
+    def make_key(self, name):
+        """The public half of a new key."""
+        subprocess.run(["ssh-keygen", "-q", "-t", "ed25519", "-N", "", "-f", self.folder / str(name)], check=True)
+        return (self.folder / f"{name}.pub").read_text()
+
+    def let_in(self, name, *command):
+        """Makes a key that can do this alone."""
+        key = self.make_key(name)
+        with self.lock, open(self.folder / "keys", "a") as file:
+            file.write(f'restrict,command="{shlex.join(map(str, command))}" {key}')
+
+    def let_desks_in(self):
+        """Makes a key for each desk, and another one that nobody knows."""
+        for desk in range(1, 9):
+            self.let_in(desk, *self.room.script("zhcount-desk", desk, self.room.folder))
+        self.make_key(9)
+        return self
 
     def words(self, key, options=(), command=()):
         settings = ["BatchMode=yes", "IdentitiesOnly=yes", "StrictHostKeyChecking=no", f"UserKnownHostsFile={self.folder}/known"]
@@ -177,7 +195,7 @@ def side_by_side():
     canton = Canton(Chance(2027))
     with Room(setup=canton.setup()) as room:
         room.start()
-        ssh = Ssh(room)
+        ssh = Ssh(room).let_desks_in()
         clients = {desk: Client(ssh, desk, some_lines(canton, desk, LINES)) for desk in range(1, 9)}
         for it in clients.values():
             it.start()
@@ -203,7 +221,7 @@ def a_key_is_a_desk():
     """a key speaks for no other desk, opens no shell, forwards no port, and a dead connection lets go"""
     with Room() as room:
         room.start()
-        ssh = Ssh(room)
+        ssh = Ssh(room).let_desks_in()
         _, out, error = ssh.ask(3, command=[*room.script("zhcount-desk", 4, room.folder)], text="return 1 1 1 525\n4 return 1 1 2 5\n")
         same(f"the answers to desk 3: {error}", "stored 1\nrefused syntax\n", out)
         same("the lines of desk 4", [], room.of_desk(4))
@@ -231,5 +249,53 @@ def a_key_is_a_desk():
         room.check()
 
 
+def machine_is_lost():
+    """whatever eight desks were shown is held by the disk made anew from a witness by ssh, whenever the office's machine was lost"""
+    with Room() as other:
+        ssh = Ssh(other)
+
+        def night(seed):
+            def words(room):
+                ssh.let_in(f"witness{seed}", room.command)
+                return ssh.words(f"witness{seed}", ["-T"])
+            return night_that_is_lost(seed, words)
+
+        begun = time.monotonic()
+        with concurrent.futures.ThreadPoolExecutor(6) as pool:
+            shown = list(pool.map(night, range(LOSSES)))
+        print(f"      {LOSSES} losses in {time.monotonic() - begun:.0f} s, after {min(shown)} to {max(shown)} answers")
+        that(f"answers were shown: {shown}", sum(shown) > 20 * LOSSES)
+
+
+def parent_of(pid):
+    return int(re.search(r"PPid:\t(\d+)", pathlib.Path(f"/proc/{pid}/status").read_text())[1])
+
+
+def network_hangs():
+    """where the way to the witness hangs the answer is shown after ten seconds, and that there is none; a new connection has the folder soon"""
+    with Room() as other, Witnessed() as room:
+        ssh = Ssh(other)
+        ssh.let_in("witness", room.command)
+        room.options[1] = shlex.join(ssh.words("witness", ["-T"]))
+        room.start()
+        desk = room.desk(1)
+        same("the answer", "stored 1", desk.send("return 1 1 1 525"))
+        hung = parent_of(room.witness())
+        that("it is sshd", b"sshd" in pathlib.Path(f"/proc/{hung}/cmdline").read_bytes())
+        os.kill(hung, signal.SIGSTOP)
+        try:
+            begun = time.monotonic()
+            same("the answer", "stored 2", desk.send("return 1 1 2 530"))
+            that(f"after some ten seconds: {time.monotonic() - begun}", 5 < time.monotonic() - begun < 20)
+            until("the desk says it", lambda: "no witness since" in desk.said(), 3)
+            that(f"and why: {room.office.said()}", "it has said nothing for 10 seconds" in room.office.said())
+            until("it is there again", lambda: room.office.said().count("the witness is there since") == 2, 60)
+        finally:
+            os.kill(hung, signal.SIGCONT)
+        same("the answer", "stored 3", desk.send("return 2 1 1 240"))
+        room.stop()
+        same("what differs", [], room.differing())
+
+
 if __name__ == "__main__":
-    sys.exit(main([a_key_is_a_desk, side_by_side]))
+    sys.exit(main([network_hangs, a_key_is_a_desk, machine_is_lost, side_by_side], at_once=2))

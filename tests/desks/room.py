@@ -157,8 +157,9 @@ class Room:
     def start(self, is_awaited=True):
         self.office = self.process(Process, self.script("zhcount-office", *self.options, self.setup, self.disk, self.folder))
         if is_awaited:
-            until(f"an office: {self.office.said()}", lambda: "desks can send lines" in self.office.said() or self.office.process.poll())
-            if self.office.process.poll() is not None:
+            with contextlib.suppress(AssertionError):
+                until("an office", lambda: "desks can send lines" in self.office.said() or self.office.process.poll() is not None)
+            if "desks can send lines" not in self.office.said():
                 raise AssertionError(f"the office does not start: {self.office.said()}")
         return self.office
 

@@ -1,0 +1,227 @@
+"""A room whose office has a witness, and nights in which the machine of the one or of the other is lost."""
+import os
+import pathlib
+import random
+import shlex
+import shutil
+import signal
+import subprocess
+import sys
+import tempfile
+import threading
+import time
+
+from room import PROGRAM, TOP, Desk, Room, same, that, until
+
+sys.path.insert(0, str(TOP / "examples/canton"))
+from canton import Canton, Chance
+from office import Office
+
+MIRRORED = ("setup.toml", "protocol", *(f"protocol.{desk}" for desk in range(1, 9)))
+# A witness that isn't there while a file says so, and that says which process it is.
+COMMAND = '#!/bin/sh\n[ -e {away} ] && exit 1\necho $$ > {pid}\nexec {python} {script} {copy}\n'
+
+
+class Witnessed(Room):
+    """A room whose office has a witness, in a folder of its own; where that is wanted, on another device, whose syncs cost something."""
+
+    def __init__(self, *options, device=None, **more):
+        super().__init__(**more)
+        self.other = pathlib.Path(tempfile.mkdtemp(prefix="witness-", dir=device or self.shared()))
+        self.copy, self.away, self.pid, self.command = (self.other / it for it in ("copy", "away", "pid", "command"))
+        self.command.write_text(COMMAND.format(away=self.away, pid=self.pid, python=sys.executable, copy=self.copy,
+                                               script=self.scripts / "zhcount-witness"))
+        self.command.chmod(0o755)
+        self.options = ["--witness", str(self.command), *options]
+
+    def __exit__(self, *fault):
+        self.signal(signal.SIGCONT)
+        super().__exit__(*fault)
+        shutil.rmtree(self.other, ignore_errors=True)
+
+    def witness(self):
+        """The process of the witness; 0 where there is none."""
+        try:
+            pid = int(self.pid.read_text())
+            return pid if b"zhcount-witness" in pathlib.Path(f"/proc/{pid}/cmdline").read_bytes() else 0
+        except (FileNotFoundError, ProcessLookupError, ValueError):
+            return 0
+
+    def signal(self, number):
+        """Sends the witness a signal, if there is one."""
+        if pid := self.witness():
+            os.kill(pid, number)
+
+    def lose_witness(self):
+        self.away.touch()
+        self.signal(signal.SIGKILL)
+
+    def lose_office(self):
+        """The office's machine burns: its processes, its folder and its disk. The witness, if it stands beside, stays."""
+        lost = [self.office.process.pid, *descendants(self.office.process.pid, self.witness())]
+        for it in lost:
+            kill(it)
+        self.office.wait()
+        shutil.rmtree(self.folder)
+        self.disk.unlink()
+
+    def differing(self):
+        """The files that the witness has otherwise than the office."""
+        return [it for it in MIRRORED if not (self.copy / it).exists() or (self.folder / it).read_bytes() != (self.copy / it).read_bytes()]
+
+    def has_all(self):
+        until("the witness has all", lambda: not self.differing())
+
+    def rebuilt(self):
+        """A disk that is made anew from the witness, once that has ended."""
+        disk = self.other / f"rebuilt-{time.monotonic_ns()}"
+        until("the witness has ended", lambda: not self.witness())
+        ran = subprocess.run(self.script("zhcount-office", "--rebuild", self.copy, disk), env={**os.environ, **self.environment},
+                             capture_output=True, text=True)
+        same(f"the status of the rebuilding: {ran.stdout}{ran.stderr}", 0, ran.returncode)
+        return disk
+
+    def of(self, disk, task):
+        """What a task says of a disk that was made anew."""
+        words = [PROGRAM, task, "--setup", self.copy / "setup.toml", "--disk", disk]
+        return subprocess.run(words, stdin=subprocess.DEVNULL, capture_output=True, text=True).stdout
+
+
+def kill(pid):
+    try:
+        os.kill(pid, signal.SIGKILL)
+    except ProcessLookupError:
+        pass
+
+
+def descendants(pid, but):
+    """The processes below one, without this other one."""
+    found = []
+    for path in pathlib.Path(f"/proc/{pid}/task").glob("*/children"):
+        try:
+            found += [int(it) for it in path.read_text().split() if int(it) != but]
+        except (FileNotFoundError, ProcessLookupError):
+            continue
+    return [it for child in found for it in (child, *descendants(child, but))]
+
+
+class Entering(threading.Thread):
+    """Somebody at a desk, who enters lines of the desk's own municipalities until the desk is lost, and looks at those of others."""
+
+    def __init__(self, room, canton, number, seed):
+        super().__init__(daemon=True)
+        self.canton, self.number, self.chance = canton, number, random.Random(f"{seed} {number}")
+        self.own = [it for it in canton.municipalities() if it % 8 == number - 1]
+        self.desk, self.sent, self.numbers = room.process(Desk, room.script("zhcount-desk", str(number), room.folder)), [], {}
+
+    def run(self):
+        for line in self.lines():
+            self.sent.append(line)
+            try:
+                if self.desk.send(line) == "(it has ended)":
+                    return
+            except AssertionError:  # nothing for a long while: what was shown is looked at all the same
+                return
+
+    def lines(self):
+        while True:
+            draw = self.chance.random()
+            if draw < 0.1:
+                yield from ["open", *(self.entry("row", *it) for it in {self.place() for _ in range(4)}), "commit"]
+            elif draw < 0.2:
+                municipality, _ = self.place()
+                yield f"close {municipality}"
+                yield f"reopen {municipality}" if self.chance.random() < 0.7 else f"show {municipality} 1"
+            elif draw < 0.4:
+                yield f"show {self.chance.randint(1, 16)} 1"
+            else:
+                yield self.entry("return" if draw < 0.95 else "withdraw", *self.place())
+
+    def place(self):
+        municipality = self.chance.choice(self.own[:3])
+        return municipality, self.chance.choice(self.canton.lists_in(municipality))
+
+    def entry(self, word, municipality, group):
+        before = self.numbers.get((municipality, group), 0)
+        number = self.numbers[municipality, group] = before + (not before or self.chance.random() < 0.95)
+        return f"{word} {municipality} {group} {number}" + (f" {self.chance.randint(1, 999)}" if word != "withdraw" else "")
+
+    def shown(self):
+        return self.sent[:len(self.desk.out)]
+
+    def after(self, lines):
+        """What is held of the desk's own municipalities after these lines, and which of these are closed."""
+        office = Office(self.canton)
+        for place, line in enumerate(lines):
+            wanted = "" if line.startswith("show ") else office.answer(f"{self.number} {line}")[2:].split(" ")[0]
+            if wanted and place < len(self.desk.out):
+                same(f"desk {self.number}'s answer to {line}", wanted, self.desk.out[place].split(" ")[0])
+        return office.held, office.closed
+
+    def check(self, held, closed):
+        """What was shown is held, and nothing else but perhaps the line without an answer."""
+        answers = dict(zip(self.sent, self.desk.out))
+        found = {it: entry for it, entry in held.items() if it[0] in self.own}, {it for it in closed if it in self.own}
+        wanted = [self.after(self.shown()), self.after(self.sent)]
+        that(f"desk {self.number} was shown {self.desk.out[-1:]} to {self.shown()[-1:]}: {found}, wanted {wanted}", found in wanted)
+        for line, answer in answers.items():
+            word, *numbers = line.split(" ")
+            if word == "show" and answer.startswith("shows "):
+                there = held.get((int(numbers[0]), int(numbers[1])), (0, None))[0]
+                that(f"desk {self.number} was shown {answer} to {line}, and there is {there}", there >= int(answer.split(" ")[1]))
+
+
+def enter(room, canton, seed):
+    """Eight desks that enter lines."""
+    entering = [Entering(room, canton, number, seed) for number in range(1, 9)]
+    for it in entering:
+        it.start()
+    return entering
+
+
+def wait_for_answers(room, entering, count):
+    """Waits until desks were shown so many answers."""
+    def shown():
+        return sum(len(it.desk.out) for it in entering)
+    try:
+        return until(f"{count} answers", lambda: shown() >= count, 120)
+    except AssertionError as it:
+        raise AssertionError(f"{it}, but {shown()}: {room.office.said()}") from None
+
+
+def leave(entering):
+    """The desks are lost too. How many answers they were shown."""
+    for it in entering:
+        it.desk.kill()
+    for it in entering:
+        it.desk.wait()
+        it.join()
+    return sum(len(it.desk.out) for it in entering)
+
+
+def check_what_is_held(room, entering, disk):
+    """The disk that was made anew has what these desks were shown; and its status says what is closed."""
+    held = {}
+    for row in room.of(disk, "export").splitlines()[1:]:
+        municipality, group, number, votes = row.split(",")
+        held[int(municipality), int(group)] = int(number), None if votes == "withdrawn" else int(votes)
+    rows = [it.split(",") for it in room.of(disk, "status").splitlines()[1:]]
+    closed = {int(it[0]) for it in rows if it[0].isdigit() and len(it) > 5 and it[3] == "closed"}
+    for it in entering:
+        it.check(held, closed)
+
+
+def night_that_is_lost(seed, words=None, device=None):
+    """A night whose office's machine is lost at some moment; the disk made anew from the witness has what was shown. How many answers."""
+    canton, chance = Canton(Chance(2027)), random.Random(seed)
+    with Witnessed("--witness-required", setup=canton.setup(), device=device) as room:
+        if words:
+            room.options[1] = shlex.join(words(room))
+        room.start()
+        entering = enter(room, canton, seed)
+        wait_for_answers(room, entering, chance.randint(1, 200))
+        time.sleep(chance.random() / 50)
+        room.lose_office()
+        count = leave(entering)
+        check_what_is_held(room, entering, room.rebuilt())
+        return count
