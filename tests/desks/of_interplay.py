@@ -4,8 +4,9 @@ import fcntl
 import sys
 import threading
 
-from of_witness import TRACED, Witnessed
+from of_witness import TRACED
 from room import PROGRAM, Room, main, same, that, until
+from witnessed import Witnessed
 
 
 def shown_once_it_is_synced():
