@@ -16,6 +16,7 @@ SILENCE = 10  # seconds after which a witness that owes an acknowledgement has f
 PULSE = 3  # seconds between two signs of life of one that owes none
 AGAIN = 3  # seconds before the command is started again
 LONGEST = 200  # bytes of a line of the witness
+PIECE = 65536  # bytes that are sent before the witness has to acknowledge them, as it may be silent for so long alone
 
 
 class Failed(Exception):
@@ -303,9 +304,16 @@ class Witness:
                 self.changed.wait_for(self.missing, PULSE)
 
     def pieces(self):
-        """What the witness lacks of each file, a line before its answer; where it lacks nothing, a piece without bytes, as a sign of life."""
+        """What the witness lacks of each file, a line before its answer, as much as it acknowledges at once; where it lacks nothing, a piece
+        without bytes, as a sign of life."""
+        pieces, room = [], PIECE
         with self.changed:
-            return [(it, bytes(self.content[it][self.has.get(it, 0):])) for it in self.missing()] or [("protocol", b"")]
+            for name in self.missing():
+                at = self.has.get(name, 0)
+                data = bytes(self.content[name][at:at + room])
+                room -= len(data)
+                pieces += [(name, data)] if data else []
+        return pieces or [("protocol", b"")]
 
 
 def spelled(records):

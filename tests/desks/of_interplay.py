@@ -1,6 +1,7 @@
 """Tests of what no script does alone: a bell that rings too often, a desk that comes when the witness is away, a protocol that is older
 than those of the desks. Names as arguments run those tests alone. The last line is 'N passed, M failed'."""
 import fcntl
+import re
 import sys
 import threading
 
@@ -49,6 +50,20 @@ def number_of_a_start():
         that(f"the third start: {room.office.said()}", "start 3," in room.office.said())
 
 
+def in_pieces():
+    """a witness that lacks much gets it in pieces, so that none takes longer than it may be silent"""
+    with Witnessed() as room:
+        witnessed, room.options, trace = room.options, [], room.path / "trace"
+        room.start()
+        room.ask(1, *["x" * 3900] * 40)
+        room.stop()
+        room.options = ["--witness", f"sh -c \"tee '{trace}' | '{witnessed[1]}'\""]
+        room.start()
+        room.has_all()
+        sizes = [int(it) for it in re.findall(rb"append protocol(?:\.1)? (\d+)\n", trace.read_bytes())]
+        that(f"pieces: {sizes}", sum(sizes) > 300_000 and max(sizes) <= 65536)
+
+
 BUSY_ONCE = """#!/bin/bash
 [ $1 = status ] && [ -e '{flag}' ] && {{ rm '{flag}'; echo 'zhcount: disk busy' >&2; exit 1; }}
 exec '{program}' "$@"
@@ -84,7 +99,7 @@ def start_beside_a_replay():
 
 
 TESTS = [shown_once_it_is_synced, told_at_once, number_of_a_start, disk_is_busy_at_the_end,
-         start_beside_a_replay]
+         start_beside_a_replay, in_pieces]
 
 
 if __name__ == "__main__":
