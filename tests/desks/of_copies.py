@@ -2,6 +2,7 @@
 office. Names as arguments run those tests alone. The last line is 'N passed, M failed'."""
 import os
 import re
+import resource
 import signal
 import sys
 
@@ -170,6 +171,23 @@ def slow_child():
         same("and no folder", [], names_of_now(room))
 
 
+def no_room():
+    """an office that has no room for a copy or a sheet says so, and goes on"""
+    with QuickRoom() as room:
+        office = room.start()
+        room.shows(0)
+        resource.prlimit(office.process.pid, resource.RLIMIT_FSIZE, (500_000, resource.RLIM_INFINITY))
+        same("the answers", [f"stored {it}" for it in range(1, 10)], room.ask(1, *RETURNS).out)
+        has_failed(room, "not made anew: [Errno 27] File too large")
+        (room.folder / "sheet-9.new").mkdir()
+        same("the sheet", "2 sheet provisional 9", room.ask(2, "sheet").out[0])
+        has_failed(room, "a sheet is not put into the folder: ")
+        same("an older one stays", ["now", "now-0"], names_of_now(room))
+        resource.prlimit(office.process.pid, resource.RLIMIT_FSIZE, (resource.RLIM_INFINITY, resource.RLIM_INFINITY))
+        room.shows(9)
+        same("the end", 0, room.stop())
+
+
 def killed_office():
     """a child ends with its office, and the next start removes what it left"""
     with QuickRoom(every=NEVER) as room:
@@ -201,7 +219,7 @@ class Stop:
         self.number, self.calls = number, 0
 
     def goes_on(self, call):
-        is_of_now = re.search(r"/office/now[^/]*(/.*)?$", call.path) and call.name != "look" and call.is_of_a_script()
+        is_of_now = re.search(r"/office/now[^/]*(/.*)?$", call.path) and call.name != "look"
         if not is_of_now or call.pid != self.office.process.pid:
             return True
         self.calls += 1
@@ -253,7 +271,7 @@ def failed_disk():
 
 
 TESTS = [every_ten_seconds, lines_meanwhile, copies_between_lines, copies_and_a_witness, copy_of_other_commands, copy_of_another_disk,
-         failing_child, killed_child, slow_child, killed_office, failed_disk, stopped_office]
+         failing_child, killed_child, slow_child, no_room, killed_office, failed_disk, stopped_office]
 
 
 if __name__ == "__main__":
