@@ -236,17 +236,22 @@ class Stop:
             for number, line in enumerate(RETURNS[:2], 1):
                 desk = room.desk(1)
                 desk.write(f"{line}\n")
-                until(f"now-{number}, {self.number}: {room.office.said()}", lambda: self.starts_again(room) or link_of(room) == f"now-{number}")
-                until("the answer", lambda: desk.out)
-                desk.end()
-            until(f"nothing else, {self.number}", lambda: names_of_now(room) == ["now", "now-2"])
+                self.until(f"now-{number}", lambda: link_of(room) == f"now-{number}")
+                self.until("the answer", lambda: desk.out)
+                desk.process.stdin.close()
+                self.until("the end of the desk", lambda: desk.process.poll() is not None)
+            self.until("nothing else", lambda: names_of_now(room) == ["now", "now-2"])
             same("the rows", "municipality,list,number,votes\n1,1,1,525\n1,2,1,300\n", (room.folder / "now/held.csv").read_text())
             room.stop()
         return self.calls
 
-    def starts_again(self, room):
-        if room.office.process.poll() == -signal.SIGKILL:
-            room.start(is_awaited=False)
+    def until(self, what, holds):
+        """Waits until something holds, and starts the office again where it was stopped."""
+        until(f"stop {self.number}: {what}", lambda: self.starts_again() or holds(), 120)
+
+    def starts_again(self):
+        if self.room.office.process.poll() == -signal.SIGKILL:
+            self.room.start(is_awaited=False)
 
 
 def stopped_office():
@@ -255,7 +260,7 @@ def stopped_office():
     in_haste(COMPILED, 0.2)
     calls = Stop(0).run()
     that(f"calls: {calls}", calls > 20)
-    with concurrent.futures.ThreadPoolExecutor(8) as pool:
+    with concurrent.futures.ThreadPoolExecutor(5) as pool:
         list(pool.map(lambda number: Stop(number).run(), range(1, calls + 1)))
 
 
