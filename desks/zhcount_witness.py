@@ -298,7 +298,8 @@ class Witness:
                     raise Failed(f"it has {size} bytes of {name}, and not {self.has[name] + len(data)}")
                 with self.changed:
                     self.has[name] = size
-            self.is_back()
+            if sum(len(data) for _, data in pieces) < PIECE:  # it has all that was there when this was sent
+                self.is_back()
             self.wake()
             with self.changed:
                 self.changed.wait_for(self.missing, PULSE)
