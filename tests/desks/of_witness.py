@@ -258,7 +258,7 @@ def no_such_command():
             room.options = ["--witness", words]
             room.start()
             same("the answer", ["stored 1"], room.ask(1, "return 1 1 1 525").out)
-            that(f"it says why: {room.office.said()}", "no witness since" in room.office.said() and why in room.office.said())
+            until(f"it says why, {why}", lambda: any("no witness" in it and it.endswith(f": {why}") for it in room.office.error))
             same("the end", 0, room.stop())
             for nothing in ("", " ", "ssh 'other"):
                 ran = subprocess.run(room.script("zhcount-office", "--witness", nothing, room.setup, room.disk, room.folder), capture_output=True)
