@@ -168,7 +168,7 @@ def slow_child():
         same("the answer meanwhile", ["stored 1"], room.ask(1, RETURNS[0]).out)
         has_failed(room, "not made anew: not done after 1 seconds")
         room.stop()
-        same("nothing is left", [], room.left_over())
+        until("nothing is left", lambda: not room.left_over())
         same("and no folder", [], names_of_now(room))
 
 

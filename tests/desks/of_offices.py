@@ -83,7 +83,7 @@ def turns():
             until("the last one", lambda: room.of_desk(1) and room.of_desk(1)[-1].turn == 3)
         wanted = [(1, FIRST, "stored 1"), (2, "show 1 1", "shows 1 525"), (3, "show 1 3", "unanswered")]
         same("what was taken", wanted, [(it.turn, it.text, it.answer) for it in room.of_desk(1)])
-        that(f"it is said: {room.office.said()}", "desk 1: not taken" in room.office.said())
+        until("it is said", lambda: "desk 1: not taken" in room.office.said())
         room.stop(signal.SIGKILL)
         room.start()
         with open(room.folder / "lines.1", "wb", buffering=0) as pipe:
