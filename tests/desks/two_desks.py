@@ -3,6 +3,7 @@ import os
 import re
 import signal
 import subprocess
+import zlib
 
 from room import PROGRAM, final_answers, same, that, until
 
@@ -191,8 +192,9 @@ class Night:
         return None
 
     def has_record(self, desk):
-        """Whether the desk has something that it can speak of."""
-        return bool((self.room.folder / f"sent.{desk}").read_bytes() or self.room.of_desk(desk))
+        """Whether the desk has something that it can speak of: a record, or a line that is whole by its sum."""
+        line, *rest = (self.room.folder / f"sent.{desk}").read_bytes().split(b"\n")
+        return bool(self.room.of_desk(desk)) or len(rest) > 1 and rest[0] == b"%08x" % zlib.crc32(line)
 
     # Afterwards
 
