@@ -261,7 +261,8 @@ def no_such_command():
             until(f"it says why, {why}", lambda: any("no witness" in it and it.endswith(f": {why}") for it in room.office.error))
             same("the end", 0, room.stop())
             for nothing in ("", " ", "ssh 'other"):
-                ran = subprocess.run(room.script("zhcount-office", "--witness", nothing, room.setup, room.disk, room.folder), capture_output=True)
+                ran = subprocess.run(room.script("zhcount-office", "--witness", nothing, room.setup, room.disk, room.folder), capture_output=True,
+                                     timeout=10)
                 same(f"the status with '{nothing}'", 2, ran.returncode)
 
 

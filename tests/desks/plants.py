@@ -9,7 +9,8 @@ each in a file that is named after the mistake:
 
 Where a mistake can't change what anybody sees, 'changes nothing:' and the reason stand in place of 'seen by:', and no test is run.
 Names as arguments choose some. JOBS is how many run at once, 8 where it is not set, and PATIENCE for how many seconds a test waits
-for what has to happen, 15 where it is not set. The last line is 'N passed, M failed', and how many change nothing."""
+for what has to happen; where it is not set 15, and 60 for a whole night of stops. The last line is 'N passed, M failed', and how many
+change nothing."""
 import concurrent.futures
 import os
 import pathlib
@@ -69,7 +70,7 @@ def tried(test, wanted, scripts):
     if not re.fullmatch(r"\w+\.py \w+", test):
         raise Faulty(f"'seen by: {test}' is no file with a test in it")
     name, function = test.split(" ")
-    ran = subprocess.run([sys.executable, str(HERE / name), function], env={"PATIENCE": "15", **os.environ, "DESKS": scripts},
+    ran = subprocess.run([sys.executable, str(HERE / name), function], env={"PATIENCE": "60" if name == "stops.py" else "15", **os.environ, "DESKS": scripts},
                          stdout=subprocess.PIPE, stderr=subprocess.STDOUT, text=True)
     failed = re.search(r"^FAIL  .*?: (.*)", ran.stdout, re.MULTILINE)
     if ran.returncode == 1 and failed and wanted in failed[1]:
