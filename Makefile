@@ -1,5 +1,5 @@
 # Short names for the repository's commands. `make` lists them.
-.PHONY: help run build example night test test-needs proofs page test-page card install uninstall dist check quick cases refused wrong-bodies folder-bodies desks documents shape \
+.PHONY: help run build example night test test-needs proofs page test-page card install uninstall dist check quick cases refused wrong-bodies folder-bodies desks desk-bodies documents shape \
 	bench fmt
 
 PREFIX = /usr/local
@@ -65,6 +65,9 @@ wrong-bodies:
 
 desks:
 	@tests/desks.sh
+
+desk-bodies:
+	@tests/desks/plants.py $(BODIES)
 
 folder-bodies:
 	@tests/real_file_bodies.sh $(BODIES)

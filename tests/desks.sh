@@ -1,8 +1,7 @@
 #!/usr/bin/env bash
 # Tests of zhcount-office and zhcount-desk: kills at chosen moments, and what does not belong together; then a stop at each call and a
-# power cut at each moment; then eight desks over a real sshd on the loopback, with keys and a port of its own; then wrong lines planted
-# in the scripts, each of which a test has to see. ZHCOUNT is the program's path; if it is not set, crates/zhcount/out/zhcount. Each part
-# ends with 'N passed, M failed'.
+# power cut at each moment; then eight desks over a real sshd on the loopback, with keys and a port of its own. ZHCOUNT is the program's
+# path; if it is not set, crates/zhcount/out/zhcount. Each part ends with 'N passed, M failed'. tests/desks/plants.py tries these tests.
 set -u
 cd "$(dirname "$0")/.." || exit 2
 export PYTHONDONTWRITEBYTECODE=1
@@ -41,7 +40,4 @@ python3 tests/desks/stops.py || exit 1
 took
 echo "== eight desks over ssh"
 PATIENCE=$patience python3 tests/desks/over_ssh.py || exit 1
-took
-echo "== wrong lines planted in the scripts"
-python3 tests/desks/plants.py || exit 1
 took

@@ -1,3 +1,4 @@
+#!/usr/bin/env python3
 """Wrong lines, planted one by one in a copy of the scripts of desks/: each has to make its test fail. They stand in tests/desks/plants,
 each in a file that is named after the mistake:
 
