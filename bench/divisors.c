@@ -4,7 +4,6 @@
 
 #include <string.h>
 
-typedef unsigned __int128 u128;
 
 static const uint64_t MOST_OF_ROW = 1000000000000000000, MOST_OF_COLUMN = 1000000000000;
 static const u128 SQUARE = 1000000000000;

@@ -2,8 +2,6 @@
 
 #include <string.h>
 
-typedef unsigned __int128 u128;
-
 static const uint64_t ONE = 1000000, MOST_OF_ROW = 1000000000000000000, MOST_OF_COLUMN = 1000000000000;
 static const int ROUNDS = 1000;
 
@@ -114,14 +112,14 @@ static int is_on_cycle(const struct question *q, const char *half, const char *u
     return 0;
 }
 
-/* Whether the half cells can be rounded in two ways that meet all totals, the other cells' seats being these. */
-static int has_two_ways(const struct question *q, const char *half, const u128 *down) {
-    char up[CELLS] = {0};
+/* Rounds the half cells down so that no total is passed, and up again along paths until all totals are met. */
+int fill_ways(const struct question *q, struct ways *w) {
     int row_lacks[LINES], column_lacks[LINES];
+    memset(w->up, 0, sizeof w->up);
     for (int d = 0; d < q->rows; d++) {
         u128 total = 0;
         for (int g = 0; g < q->columns; g++)
-            total += down[d * q->columns + g];
+            total += w->down[d * q->columns + g];
         if (total > q->row_totals[d])
             return 0;
         row_lacks[d] = (int)(q->row_totals[d] - total);
@@ -129,7 +127,7 @@ static int has_two_ways(const struct question *q, const char *half, const u128 *
     for (int g = 0; g < q->columns; g++) {
         u128 total = 0;
         for (int d = 0; d < q->rows; d++)
-            total += down[d * q->columns + g];
+            total += w->down[d * q->columns + g];
         if (total > q->column_totals[g])
             return 0;
         column_lacks[g] = (int)(q->column_totals[g] - total);
@@ -137,32 +135,49 @@ static int has_two_ways(const struct question *q, const char *half, const u128 *
     for (int d = 0; d < q->rows; d++)
         for (; row_lacks[d] > 0; row_lacks[d]--) {
             char seen[LINES] = {0};
-            if (!reaches(q, half, up, column_lacks, seen, d))
+            if (!reaches(q, w->half, w->up, column_lacks, seen, d))
                 return 0;
         }
+    return 1;
+}
+
+/* Whether the half cells can be rounded in two ways that meet all totals. */
+static int has_two_ways(const struct question *q, struct ways *w) {
+    if (!fill_ways(q, w))
+        return 0;
     for (int d = 0; d < q->rows; d++)
-        if (is_on_cycle(q, half, up, d))
+        if (is_on_cycle(q, w->half, w->up, d))
             return 1;
     return 0;
 }
 
+/* The cells rounded with halves down, and which of them lie on a half; the first of these, or -1. */
+int round_ways(const struct question *q, const struct outcome *o, struct ways *w) {
+    int first = -1;
+    for (int k = q->rows * q->columns - 1; k >= 0; k--) {
+        int is_half;
+        u128 up = rounded(q->votes[k], o->of_rows[k / q->columns], o->of_columns[k % q->columns], &is_half);
+        w->half[k] = (char)is_half;
+        w->down[k] = up - (u128)is_half;
+        if (is_half)
+            first = k;
+    }
+    return first;
+}
+
 /* Whether the search is over: seats are found, or tied. */
 static int ends(const struct question *q, struct outcome *o) {
-    char half[CELLS];
-    u128 down[CELLS], columns[LINES] = {0};
-    int first = -1, right = 1;
+    struct ways w;
+    u128 columns[LINES] = {0};
+    int first = round_ways(q, o, &w), right = 1;
     for (int d = 0; d < q->rows; d++) {
         u128 row = 0;
         for (int g = 0; g < q->columns; g++) {
-            int k = d * q->columns + g, is_half;
-            u128 s = rounded(q->votes[k], o->of_rows[d], o->of_columns[g], &is_half);
+            int k = d * q->columns + g;
+            u128 s = w.down[k] + (u128)w.half[k];
             row += s;
             columns[g] += s;
             o->seats[k] = (uint32_t)s;
-            half[k] = (char)is_half;
-            down[k] = s - (u128)is_half;
-            if (is_half && first < 0)
-                first = k;
         }
         right &= row == q->row_totals[d];
     }
@@ -175,7 +190,7 @@ static int ends(const struct question *q, struct outcome *o) {
     o->answer = TIED;
     o->row = first / q->columns;
     o->column = first % q->columns;
-    return has_two_ways(q, half, down);
+    return has_two_ways(q, &w);
 }
 
 void search(const struct question *q, struct outcome *o) {

@@ -24,6 +24,20 @@ struct outcome {
     uint32_t seats[CELLS];
 };
 
+typedef unsigned __int128 u128;
+
+/* The cells rounded with halves down; which lie on a half, and which of these are rounded up. */
+struct ways {
+    u128 down[CELLS];
+    char half[CELLS], up[CELLS];
+};
+
+int round_ways(const struct question *q, const struct outcome *o, struct ways *w);
+int fill_ways(const struct question *q, struct ways *w);
+
+/* The fewest and the most seats of each cell over all distributions at a tie; how many cells these differ in. */
+int lot(const struct question *q, const struct outcome *tie, uint32_t *least, uint32_t *most);
+
 uint64_t line(int n, const uint64_t *votes, const uint64_t *others, uint32_t target, uint64_t most);
 
 /* The search, up to 1,000 rounds. */

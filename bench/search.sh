@@ -7,7 +7,7 @@ out=$(mktemp -d)
 trap 'rm -r "$out"' EXIT
 cc=${CC:-cc}
 
-parts=(bench/search.c bench/sweeps.c bench/decision.c bench/divisors.c)
+parts=(bench/search.c bench/sweeps.c bench/decision.c bench/divisors.c bench/lot.c)
 "$cc" -O2 -std=gnu11 "${parts[@]}" bench/worked.c -o "$out/worked"
 "$out/worked"
 "$cc" -O2 -std=gnu11 "${parts[@]}" bench/cases.c -o "$out/cases"
@@ -31,11 +31,11 @@ row() {
     in_rattle=$(measure "$out/rattle" "$proved" "$@")
     cmp -s "$out/c" "$out/rattle" || { echo "the answers differ for $*"; exit 1; }
     read -r half_steps decided < "$out/c.steps"
-    if [ "$what" = find ]; then
-        what="a round ($decided of $5 decided)" count=$((half_steps / 2))
-    else
-        what="a decision"
-    fi
+    case $what in
+        find) what="a round ($decided of $5 decided)" count=$((half_steps / 2)) ;;
+        decide) what="a decision" ;;
+        lot) what="a tie of equal votes, and its lot" ;;
+    esac
     awk -v shape="$2 x $3, $4" -v what="$what" -v count="$count" -v c="$in_c" -v rattle="$in_rattle" 'BEGIN {
         printf "%-14s  %-32s %8d %10.1f us %10.1f us %6.2f\n", shape, what, count, 1e6 * rattle / count, 1e6 * c / count, rattle / c
     }'
@@ -64,5 +64,6 @@ done << SHAPES
 26 12 200 ${ELECTIONS:-300}
 32 32 400 ${ELECTIONS:-300}
 SHAPES
+row lot 32 32 400 "${ELECTIONS:-300}"
 longest find 32 32 400 "${ELECTIONS:-300}"
 echo "both answered the same on all of these elections"

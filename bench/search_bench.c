@@ -1,8 +1,9 @@
 /* Finds the seats of made-up elections of a shape: WHAT ROWS COLUMNS HOUSE ELECTIONS [FIRST].
  *
- * WHAT is `find`, the search and the decision where that is exhausted, or `decide`, the decision alone. FIRST is the number
- * of the first election, or 1. It prints the answers, a number that the divisors and seats lead to, and, as errors, the
- * half-steps and how many of the elections have their seats by the decision. The proved program prints the first two. */
+ * WHAT is `find`, the search and the decision where that is exhausted, `decide`, the decision alone, or `lot`, the search
+ * where all votes are equal, and the seats that the lot decides. FIRST is the number of the first election, or 1. It prints
+ * the answers, a number that the divisors and seats lead to, and, as errors, the half-steps and how many of the elections
+ * have their seats by the decision. The proved program prints the first two. */
 #include "search.h"
 
 #include <stdio.h>
@@ -41,6 +42,19 @@ static int make(struct question *q, int rows, int columns, uint32_t house, uint6
     return 1;
 }
 
+/* Equal votes, and totals as even as can be; each election has other votes. */
+static int make_equal(struct question *q, int rows, int columns, uint32_t house, uint64_t election) {
+    q->rows = rows;
+    q->columns = columns;
+    for (int k = 0; k < rows * columns; k++)
+        q->votes[k] = 1000 * election;
+    for (int d = 0; d < rows; d++)
+        q->row_totals[d] = house / (uint32_t)rows + ((uint32_t)d < house % (uint32_t)rows);
+    for (int g = 0; g < columns; g++)
+        q->column_totals[g] = house / (uint32_t)columns + ((uint32_t)g < house % (uint32_t)columns);
+    return house >= (uint32_t)rows && house >= (uint32_t)columns;
+}
+
 static uint64_t mixed(uint64_t sum, uint64_t number) {
     return (sum ^ number) * 1099511628211u;
 }
@@ -69,10 +83,22 @@ static uint64_t mixed_in(uint64_t sum, const struct question *q, const struct ou
     return sum;
 }
 
+/* The fewest and the most seats of each cell at a tie. */
+static uint64_t lot_in(uint64_t sum, const struct question *q, const struct outcome *o) {
+    static uint32_t least[CELLS], most[CELLS];
+    lot(q, o, least, most);
+    for (int k = 0; k < q->rows * q->columns; k++)
+        sum = mixed(sum, least[k]);
+    for (int k = 0; k < q->rows * q->columns; k++)
+        sum = mixed(sum, most[k]);
+    return sum;
+}
+
 int main(int argc, char **argv) {
     if (argc < 6 || argc > 7)
         return 2;
-    int alone = strcmp(argv[1], "decide") == 0, rows = atoi(argv[2]), columns = atoi(argv[3]), elections = atoi(argv[5]);
+    int alone = strcmp(argv[1], "decide") == 0, equal = strcmp(argv[1], "lot") == 0;
+    int rows = atoi(argv[2]), columns = atoi(argv[3]), elections = atoi(argv[5]);
     uint32_t house = (uint32_t)atoi(argv[4]);
     uint64_t first = argc > 6 ? (uint64_t)atoll(argv[6]) : 1;
     if (rows < 1 || rows > LINES || columns < 1 || columns > LINES)
@@ -83,13 +109,15 @@ int main(int argc, char **argv) {
     long half_steps = 0, decided = 0;
     uint64_t sum = 0;
     for (int election = 0; election < elections; election++) {
-        if (!make(&q, rows, columns, house, first + (uint64_t)election))
+        if (!(equal ? make_equal : make)(&q, rows, columns, house, first + (uint64_t)election))
             continue;
         decided += run(&q, &o, alone);
         half_steps += o.half_steps;
         answers[o.answer]++;
         if (o.answer == FOUND)
             sum = mixed_in(sum, &q, &o);
+        if (equal && o.answer == TIED)
+            sum = lot_in(sum, &q, &o);
     }
     printf("%d found, %d tied, %d exhausted, %llu\n", answers[FOUND], answers[TIED], answers[EXHAUSTED], (unsigned long long)sum);
     fprintf(stderr, "%ld %ld\n", half_steps, decided);

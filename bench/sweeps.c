@@ -4,7 +4,6 @@
 
 #include <string.h>
 
-typedef unsigned __int128 u128;
 
 static const uint64_t BASE = (uint64_t)1 << 60;
 

@@ -34,13 +34,7 @@ fn middle_gives(proposal: &Proposal<'_>, room: &mut DivisorRoom) -> bool
         &mut room.of_columns,
         &mut room.votes,
     );
-    follows(
-        Rounding::Strict,
-        proposal.question,
-        &room.of_rows,
-        &room.of_columns,
-        proposal.seats,
-    )
+    follows(Rounding::Strict, proposal, &room.of_rows, &room.of_columns)
 }
 
 /// Whether the middle from the greatest columns gives the only seats: at a smaller scale, or else from themselves.
@@ -83,13 +77,7 @@ fn find_within(proposal: &Proposal<'_>, top: u64, room: &mut DivisorRoom) -> boo
     if !settle(proposal, top, &mut room.of_rows, &mut room.greatest) {
         return false;
     }
-    if !follows(
-        Rounding::Strict,
-        proposal.question,
-        &room.of_rows,
-        &room.greatest,
-        proposal.seats,
-    ) {
+    if !follows(Rounding::Strict, proposal, &room.of_rows, &room.greatest) {
         return false;
     }
     gives_from(proposal, top / 1_000_000, room)

@@ -7,79 +7,76 @@ ghost use Rattle.zh_matrices.specs.RoundingOf.{RoundsBy};
 ghost use Rattle.zh_matrices.specs.SeatMatrix.{EachRounds, Follows, IsStrict};
 
 use crate::matrix::Matrix;
-use crate::question::Question;
-use crate::rounding::{Rounding, rounds_by};
+use crate::proposal::Proposal;
+use crate::rounding::{Rounding, product, rounds_by};
 use crate::totals::{columns_add_up, rows_add_up};
 
-/// Whether the quotients of a row round to its seats.
-fn row_rounds(
+/// Seats that are held against divisors by a way of rounding.
+#[derive(Drop)]
+struct Trial<'a> {
     rounding: Rounding,
-    question: &Question<'_>,
-    of_rows: &[u64],
-    of_columns: &[u64],
-    seats: &[u32],
-    row: usize,
-) -> bool
-    requires limits { AreWithinLimits (asked question.now) of_rows.now of_columns.now }
-    requires seats { length seats.now ≡ question.now.rows * question.now.columns }
-    requires few { All (λ s. s ≤ 400) seats.now }
-    requires row { row < question.now.rows }
-    ensures { IsTrue result ↔ ((g : ℕ) → g < question.now.columns →
-        RoundsBy rounding (cell question.now.columns question.now.votes.now row g * (1000000 * 1000000))
-        (slice_index of_rows.now row * slice_index of_columns.now g) (cell question.now.columns seats.now row g)) }
-{
-    for column in 0..question.columns {
-        let place = row * question.columns + column;
-        if !rounds_by(
-            rounding,
-            question.votes[place],
-            of_rows[row],
-            of_columns[column],
-            seats[place],
-        ) {
-            return false;
-        }
-    }
-    true
+    proposal: &'a Proposal<'a>,
+    of_rows: &'a [u64],
+    of_columns: &'a [u64],
+    ghost limits: { AreWithinLimits (asked proposal.now.question.now) of_rows.now of_columns.now },
 }
 
-/// Whether the quotient of each cell rounds to its seats.
-fn each_rounds(
-    rounding: Rounding,
-    question: &Question<'_>,
-    of_rows: &[u64],
-    of_columns: &[u64],
-    seats: &[u32],
-) -> bool
-    requires limits { AreWithinLimits (asked question.now) of_rows.now of_columns.now }
-    requires seats { length seats.now ≡ question.now.rows * question.now.columns }
-    requires few { All (λ s. s ≤ 400) seats.now }
-    ensures { IsTrue result ↔ EachRounds (RoundsBy rounding) (asked question.now) (millionths of_rows.now of_columns.now) seats.now }
-{
-    for row in 0..question.rows {
-        if !row_rounds(rounding, question, of_rows, of_columns, seats, row) {
-            return false;
+impl<'a> Trial<'a> {
+    /// Whether the quotients of a row round to its seats.
+    fn row_rounds(&self, row: usize) -> bool
+        requires { row < self.now.proposal.now.question.now.rows }
+        ensures { IsTrue result ↔ ((g : ℕ) → g < self.now.proposal.now.question.now.columns →
+            RoundsBy self.now.rounding
+            (cell self.now.proposal.now.question.now.columns self.now.proposal.now.question.now.votes.now row g * (1000000 * 1000000))
+            (slice_index self.now.of_rows.now row * slice_index self.now.of_columns.now g)
+            (cell self.now.proposal.now.question.now.columns self.now.proposal.now.seats.now row g)) }
+    {
+        let question = self.proposal.question;
+        for column in 0..question.columns {
+            let place = row * question.columns + column;
+            let product = product(self.of_rows[row], self.of_columns[column]);
+            let seats = self.proposal.seats[place];
+            if !rounds_by(self.rounding, question.votes[place], product, seats) {
+                return false;
+            }
         }
+        true
     }
-    true
+
+    /// Whether the quotient of each cell rounds to its seats.
+    fn each_rounds(&self) -> bool
+        ensures { IsTrue result ↔ EachRounds (RoundsBy self.now.rounding) (asked self.now.proposal.now.question.now)
+            (millionths self.now.of_rows.now self.now.of_columns.now) self.now.proposal.now.seats.now }
+    {
+        for row in 0..self.proposal.question.rows {
+            if !self.row_rounds(row) {
+                return false;
+            }
+        }
+        true
+    }
 }
 
 /// Whether the seats have the totals, and the divisors give them by this way of rounding.
 pub fn follows(
     rounding: Rounding,
-    question: &Question<'_>,
+    proposal: &Proposal<'_>,
     of_rows: &[u64],
     of_columns: &[u64],
-    seats: &[u32],
 ) -> bool
-    requires limits { AreWithinLimits (asked question.now) of_rows.now of_columns.now }
-    requires seats { length seats.now ≡ question.now.rows * question.now.columns }
-    requires few { All (λ s. s ≤ 400) seats.now }
-    ensures { IsTrue result ↔ Follows (RoundsBy rounding) (asked question.now) (millionths of_rows.now of_columns.now) seats.now }
+    requires { AreWithinLimits (asked proposal.now.question.now) of_rows.now of_columns.now }
+    ensures { IsTrue result ↔ Follows (RoundsBy rounding) (asked proposal.now.question.now)
+        (millionths of_rows.now of_columns.now) proposal.now.seats.now }
 {
-    rows_add_up(question, seats)
-        && columns_add_up(question, seats)
-        && each_rounds(rounding, question, of_rows, of_columns, seats)
+    let trial = Trial {
+        rounding,
+        proposal,
+        of_rows,
+        of_columns,
+    };
+    rows_add_up(proposal.question, proposal.seats)
+        && columns_add_up(proposal.question, proposal.seats)
+        && trial.each_rounds()
 }
 
 /// Whether the seats, row by row and at most 400 each, have the totals, and follow from the divisors with
@@ -102,11 +99,9 @@ pub fn is_strict(
         (millionths row_divisors.now column_divisors.now) seats.now }
 {
     let question = matrix.question(row_totals, column_totals);
-    follows(
-        Rounding::Strict,
-        &question,
-        row_divisors,
-        column_divisors,
+    let proposal = Proposal {
+        question: &question,
         seats,
-    )
+    };
+    follows(Rounding::Strict, &proposal, row_divisors, column_divisors)
 }

@@ -1,5 +1,5 @@
 //! Whether a quotient rounds to a number of seats, tested by cross products below 2^127.
-ghost use Rattle.std.specs.Prelude.{◌+◌, ◌*◌, ◌^◌, ◌≤◌, ◌↔◌, IsTrue};
+ghost use Rattle.std.specs.Prelude.{◌≡◌, ◌+◌, ◌*◌, ◌^◌, ◌≤◌, ◌↔◌, IsTrue};
 ghost use Rattle.zh_divisors.specs.Rounding.{Rounds};
 ghost use Rattle.zh_matrices.specs.NearlyTied.{NearlyRounds};
 ghost use Rattle.zh_matrices.specs.RoundingOf.{RoundsBy};
@@ -55,22 +55,24 @@ fn nearly_rounds(votes: u128, product: u128, seats: u128) -> bool
     seats == 0 || 131_072 * ((2 * seats - 1) * product) <= 131_073 * (2 * votes)
 }
 
-/// Whether the votes of a cell over its two divisors, in millionths, round to its seats.
-pub(crate) fn rounds_by(
-    rounding: Rounding,
-    votes: u64,
-    row_divisor: u64,
-    column_divisor: u64,
-    seats: u32,
-) -> bool
-    requires votes { votes ≤ 10 ^ 14 }
+/// The product of the divisors of a row and of a column, in millionths.
+pub(crate) fn product(row_divisor: u64, column_divisor: u64) -> u128
     requires row { row_divisor ≤ 10 ^ 18 }
     requires column { column_divisor ≤ 10 ^ 12 }
+    ensures product { result ≡ row_divisor * column_divisor }
+    ensures at_most { result ≤ 10 ^ 30 }
+{
+    u128::from(row_divisor) * u128::from(column_divisor)
+}
+
+/// Whether the votes of a cell over the product of its two divisors, in millionths, round to its seats.
+pub(crate) fn rounds_by(rounding: Rounding, votes: u64, product: u128, seats: u32) -> bool
+    requires votes { votes ≤ 10 ^ 14 }
+    requires product { product ≤ 10 ^ 30 }
     requires seats { seats ≤ 400 }
-    ensures { IsTrue result ↔ RoundsBy rounding (votes * (1000000 * 1000000)) (row_divisor * column_divisor) seats }
+    ensures { IsTrue result ↔ RoundsBy rounding (votes * (1000000 * 1000000)) product seats }
 {
     let votes = u128::from(votes) * 1_000_000_000_000;
-    let product = u128::from(row_divisor) * u128::from(column_divisor);
     let seats = u128::from(seats);
     match rounding {
         Rounding::Strict => rounds(votes, product, seats),

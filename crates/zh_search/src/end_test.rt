@@ -10,7 +10,7 @@ ghost use Rattle.zh_matrices.specs.SeatMatrix.{IsWeak};
 use crate::cells::{first_half, round_cells};
 use crate::quotient::Quotient;
 use crate::two_ways::look_for_two_ways;
-use zh_matrices::{Question, Rounding, follows};
+use zh_matrices::{Proposal, Question, Rounding, follows};
 
 /// How a search ends.
 #[derive(Clone, Copy)]
@@ -28,7 +28,11 @@ fn may_follow(question: &Question<'_>, of_rows: &[u64], of_columns: &[u64], seat
     requires seats { length seats.now ≡ question.now.rows * question.now.columns }
     ensures { IsTrue result → IsWeak (asked question.now) (millionths of_rows.now of_columns.now) seats.now }
 {
-    seats.iter().all(|s| *s <= 400) && follows(Rounding::Weak, question, of_rows, of_columns, seats)
+    if seats.iter().any(|s| *s > 400) {
+        return false;
+    }
+    let proposal = Proposal { question, seats };
+    follows(Rounding::Weak, &proposal, of_rows, of_columns)
 }
 
 /// Whether the two are different ways to round that meet all totals.
@@ -69,7 +73,11 @@ pub(crate) fn end_test(
     ensures none { IfNone result (HasNone (asked question.now) (millionths of_rows.now of_columns.now)) }
 {
     round_cells(question, of_rows, of_columns, quotients, seats);
-    if follows(Rounding::Strict, question, of_rows, of_columns, seats) {
+    let proposal = Proposal {
+        question: &*question,
+        seats: &*seats,
+    };
+    if follows(Rounding::Strict, &proposal, of_rows, of_columns) {
         return Some(Ending::Found);
     }
     if let Some((row, column)) = first_half(question, quotients) {

@@ -3,7 +3,7 @@ ghost use Rattle.std.specs.Prelude.{◌≡◌, ◌≤◌, ◌*◌, ◌^◌, All,
 ghost use Rattle.zh_matrices.specs.Divisors.{AreWithin};
 
 use std::test::Fail;
-use zh_matrices::{Matrix, Rounding, follows};
+use zh_matrices::{Matrix, Proposal, Rounding, follows};
 
 const ONE: u64 = 1_000_000;
 
@@ -23,8 +23,12 @@ fn is_weak_alone(
     requires column_divisors { AreWithin matrix.now.columns (10 ^ 12) of_columns.now }
 {
     let question = matrix.question(totals, totals);
-    follows(Rounding::Weak, &question, of_rows, of_columns, seats)
-        && !follows(Rounding::Strict, &question, of_rows, of_columns, seats)
+    let proposal = Proposal {
+        question: &question,
+        seats,
+    };
+    follows(Rounding::Weak, &proposal, of_rows, of_columns)
+        && !follows(Rounding::Strict, &proposal, of_rows, of_columns)
 }
 
 #[test]

@@ -4,8 +4,8 @@ use Rattle.zh_matrices.specs.Divisors.{millionths}
 use Rattle.zh_search.proofs.PlaceLemmas.{HasNone-tested, rounded-few}
 use Rattle.zh_search.proofs.end_test.end_test.Goals as goal
 
-pub follows-requires-clause-few : goal.follows-requires-clause-few
-follows-requires-clause-few c =
+pub invariant_of-proposal-clause-few : goal.invariant_of-proposal-clause-few
+invariant_of-proposal-clause-few c =
     rw c.round_cells.ensures.seats (rounded-few (asked c.args.question.now) (millionths c.args.of_rows.now c.args.of_columns.now))
 
 pub returns-else-are_two_ways-clause-none : goal.returns-else-are_two_ways-clause-none
