@@ -2,5 +2,6 @@ pub mod CallerLemmas
 mod CellLemmas
 mod MatrixPlaceLemmas
 mod OneAnswerLemmas
+mod OneSetLemmas
 mod SumLemmas
 mod TwoRoundingLemmas

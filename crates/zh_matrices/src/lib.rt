@@ -3,6 +3,7 @@
 #![tactic(auto)]
 
 pub use certificates::{follows, is_strict};
+pub use laws::one_set_of_divisors;
 pub use limits::{LINES, MOST_OF_COLUMN, MOST_OF_ROW};
 pub use matrix::Matrix;
 pub use proposal::Proposal;
@@ -11,6 +12,7 @@ pub use rounding::Rounding;
 pub use totals::{column_sum, row_sum};
 
 mod certificates;
+mod laws;
 mod limits;
 mod matrix;
 mod proposal;
