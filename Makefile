@@ -73,7 +73,7 @@ folder-bodies:
 	@tests/real_file_bodies.sh $(BODIES)
 
 documents:
-	@tests/documents
+	@tests/documents && tests/translations && scripts/drawing --check
 
 shape:
 	@tests/shape.sh && tests/definitions --check && tests/owed

@@ -8,6 +8,7 @@ trap 'rm -rf "$folder"' EXIT
 export ZHCOUNT=$folder/program
 cat > "$ZHCOUNT" << 'END'
 #!/bin/sh
+[ "$1" != --help ] || { printf 'An office.\n\nUsage: zhcount\n' >&2; exit 2; }
 [ $# = 0 ] || { echo "no $1" >&2; exit 1; }
 while read -r desk _; do echo "$desk none"; done
 END
@@ -15,10 +16,11 @@ chmod +x "$ZHCOUNT"
 printf 'A form of lines:\n  %s: D show M L\n' "$folder/page.md" > "$folder/left_out"
 passed=0 failed=0
 
-# page TITLE STATUS TEXT: of a page, standard input and then a block that is left out, comes this status and this text.
+# page TITLE STATUS TEXT [BEFORE]: of a page, standard input and then a block that is left out, comes this status and this text. BEFORE
+# stands before its name.
 page() {
     { cat; printf '\n```text\nD show M L\n```\n'; } > "$folder/page.md"
-    ./documents --left-out "$folder/left_out" "$folder/page.md" > "$folder/printed" 2>&1
+    ./documents --left-out "$folder/left_out" "${4-}$folder/page.md" > "$folder/printed" 2>&1
     local status=$?
     if [ "$status" = "$2" ] && grep -qF -- "$3" "$folder/printed"; then
         passed=$((passed + 1))
@@ -102,6 +104,16 @@ PATH=$folder/installed:$PATH page "though it is installed here" 1 "zhcount: comm
     $ zhcount
     1 show 1 1
     1 none
+END
+
+page "where all is installed the program is on the PATH, and the folder is empty" 0 "1 passed, 0 failed" installed: << 'END'
+    $ ls
+    $ cp /usr/local/share/examples/zhcount/rehearsal.toml setup.toml
+    $ zhcount
+    1 show 1 1
+    1 none
+    $ command -v zhcount-office
+    /usr/local/bin/zhcount-office
 END
 
 page "a wrong line" 1 "printed:  1 none" << 'END'

@@ -37,10 +37,10 @@ class Wrong(Exception):
 
 
 class Shell:
-    """A shell that keeps its folder, its variables and its jobs from one command to the next."""
+    """A shell that keeps its folder, its variables and its jobs from one command to the next. What commands call /usr/local is `local`."""
 
-    def __init__(self, folder, room, environment):
-        self.folder, self.room, self.count = folder, room, 0
+    def __init__(self, folder, room, environment, local="/usr/local"):
+        self.folder, self.room, self.local, self.count = folder, room, str(local), 0
         how = {"stdin": subprocess.PIPE, "stdout": subprocess.PIPE, "text": True, "start_new_session": True}
         words = ["bash", "--noprofile", "--norc", "-c", LOOP, "bash"]
         self.process = subprocess.Popen(words, cwd=folder, env=environment, **how)
@@ -50,7 +50,7 @@ class Shell:
         self.count += 1
         room = self.room / str(self.count)
         room.mkdir(parents=True)
-        (room / "command").write_text(command + "\n")
+        (room / "command").write_text(command.replace("/usr/local", self.local) + "\n")
         (room / "input").write_text("".join(f"{line}\n" for line in typed))
         (room / "output").touch()
         if is_script:
@@ -64,7 +64,7 @@ class Shell:
             self.end()
             raise Wrong(f"it had not ended after {SECONDS} seconds")
         status = self.process.stdout.readline()
-        output = OF_A_JOB.sub("", (room / "output").read_text(errors="replace"))
+        output = OF_A_JOB.sub("", (room / "output").read_text(errors="replace")).replace(self.local, "/usr/local")
         if not status:
             raise Wrong(f"it ended the shell\n{output}")
         return int(status), output
