@@ -1,5 +1,5 @@
 -- Lists of divisors that are filled place by place.
-use Rattle.std.proofs.Common.{◌≡◌, ℕ, ◌+◌, ◌^◌, ◌<◌, ◌≤◌, List, map, replicate, length, get_or, set, inl, inr, ap, ◌∙◌, arith}
+use Rattle.std.proofs.Common.{◌≡◌, ℕ, ◌+◌, ◌^◌, ◌<◌, ◌≤◌, List, map, replicate, length, get_or, set, inl, inr, refl, ap, ◌∙◌, arith}
 use Rattle.std.proofs.lemmas.Bool.{cases_eq}
 use Rattle.std.proofs.lemmas.List.{get_or-replicate, get_or-set_other, get_or-set_same, length-replicate, length-set}
 use Rattle.std.proofs.lemmas.List.Edits.{fill_by_more}
@@ -10,15 +10,12 @@ use Rattle.zh_matrices.specs.Divisors.{AreWithin, millionths}
 use Rattle.zh_matrices.specs.Question.{Question}
 use Rattle.zh_search.specs.States.{middle_row}
 use Rattle.zh_search.specs.States.{start, started_columns}
+use Rattle.zh_search.proofs.LineLemmas.{IsRenewedBy}
 
 -- one more place is filled
 pub filled : (f : ℕ → ℕ) (xs : List ℕ) (i value : ℕ) → i < length xs → value ≡ f i → ((k : ℕ) → k < i → get_or xs k 0 ≡ f k) →
     (k : ℕ) → k < i + 1 → get_or (set xs i value) k 0 ≡ f k
 filled f xs i value within is done = rw is (fill_by_more f xs i 0 within done)
-
-pub kept : (before xs : List ℕ) (i value : ℕ) → ((k : ℕ) → i ≤ k → get_or xs k 0 ≡ get_or before k 0) →
-    (k : ℕ) → i + 1 ≤ k → get_or (set xs i value) k 0 ≡ get_or before k 0
-kept before xs i value rest k le = get_or-set_other xs i k value 0 (omega arith) ∙ rest k (omega arith)
 
 -- a fact of each place that is filled
 pub each_filled : (P : ℕ → Type 0) (xs : List ℕ) (i value : ℕ) → i < length xs → P value → ((k : ℕ) → k < i → P (get_or xs k 0)) →
@@ -43,6 +40,39 @@ AreWithin-filled n most xs long one small = record {
   from_1 = All-from_get_or (λ x. 1 ≤ x) xs 0 (λ d lt. one d (omega arith));
   at_most = All-from_get_or (λ x. x ≤ most) xs 0 (λ d lt. small d (omega arith));
 }
+
+-- of n divisors the first i are renewed, and the others are as before
+pub record AreRenewed (n most : ℕ) (f : ℕ → ℕ) (before xs : List ℕ) (i : ℕ) : Type 0 where
+  pub done : (k : ℕ) → k < i → get_or xs k 0 ≡ f k
+  pub rest : (k : ℕ) → i ≤ k → get_or xs k 0 ≡ get_or before k 0
+  pub divisors : AreWithin n most xs
+
+pub none_renewed : (n most : ℕ) (f : ℕ → ℕ) (xs : List ℕ) → AreWithin n most xs → AreRenewed n most f xs xs 0
+none_renewed n most f xs divisors = record { done = λ k lt. absurd (omega (arith, lt)); rest = λ k le. refl; divisors = divisors }
+
+pub one_renewed : (n most : ℕ) (f : ℕ → ℕ) (before xs : List ℕ) (i value : ℕ) → i < n → IsRenewedBy most value (f i) →
+    AreRenewed n most f before xs i → AreRenewed n most f before (set xs i value) (i + 1)
+one_renewed n most f before xs i value lt by renewed = record {
+  done = filled f xs i value (omega (arith, renewed.divisors.one_each)) by.is renewed.done;
+  rest = λ k le. get_or-set_other xs i k value 0 (omega arith) ∙ renewed.rest k (omega arith);
+  divisors = AreWithin-set n most i value xs by.from_1 by.at_most renewed.divisors;
+}
+
+pub one_kept : (n most : ℕ) (f : ℕ → ℕ) (before xs : List ℕ) (i : ℕ) → get_or before i 0 ≡ f i →
+    AreRenewed n most f before xs i → AreRenewed n most f before xs (i + 1)
+one_kept n most f before xs i is renewed = record {
+  done = λ k lt. elim (cases_eq k i) [
+    | inl here ↦ rw here (renewed.rest i (omega arith) ∙ is)
+    | inr other ↦ renewed.done k (omega arith)
+  ];
+  rest = λ k le. renewed.rest k (omega arith);
+  divisors = renewed.divisors;
+}
+
+pub all_renewed : (n most : ℕ) (f : ℕ → ℕ) (before xs : List ℕ) (i : ℕ) → n ≤ i → AreRenewed n most f before xs i →
+    xs ≡ map f (range_with_len 0 n)
+all_renewed n most f before xs i all renewed =
+    fill_by_all f xs n 0 renewed.divisors.one_each (λ k lt. renewed.done k (omega arith))
 
 -- all columns stand at 1
 pub AreWithin-started : (q : Question) (xs : List ℕ) → xs ≡ started_columns q → AreWithin q.columns (10 ^ 12) xs

@@ -1,5 +1,5 @@
 -- The rows and the columns of a question as lines of the line rule.
-use Rattle.std.proofs.Common.{◌≡◌, ℕ, zero, suc, ◌+◌, ◌*◌, ◌/◌, ◌^◌, ◌<◌, ◌≤◌, Bool, if◌then◌else◌, nat_le, List, length, get_or, slice_index, inl, inr, refl, sym, ap, ◌∙◌, arith}
+use Rattle.std.proofs.Common.{◌≡◌, ℕ, zero, suc, ◌+◌, ◌*◌, ◌/◌, ◌^◌, ◌<◌, ◌≤◌, Bool, true, false, if◌then◌else◌, nat_le, List, length, get_or, slice_index, inl, inr, refl, sym, ap, ◌∙◌, arith}
 use Rattle.std.proofs.lemmas.Bool.{cases_lt}
 use Rattle.std.proofs.lemmas.List.{get_or_default}
 use Rattle.std.proofs.lemmas.List.Elements.{All-from_get_or}
@@ -96,13 +96,31 @@ started_is n total most f votes others starts value long at same is =
     ∙ line_divisor-same n (slice_index votes) f (slice_index others) total most at
     ∙ ap (λ xs. line_divisor n f (slice_index xs) total most) same
 
-pub renewed_is : (n total most : ℕ) (f : ℕ → ℕ) (votes others : List ℕ) (D E value : ℕ) (unsettled : Bool) → length votes ≡ n →
-    ((i : ℕ) → i < n → get_or votes i 0 ≡ f i) → D ≡ E → unsettled ≡ is_unsettled n f (slice_index others) total E →
-    value ≡ (if unsettled then line_divisor (length votes) (slice_index votes) (slice_index others) total most else D) →
-    value ≡ renewed n f (slice_index others) total most E
-renewed_is n total most f votes others D E value unsettled long at D_is unsettled_is is =
-    is ∙ ap (λ b. if b then line_divisor (length votes) (slice_index votes) (slice_index others) total most else D) unsettled_is
-    ∙ ap (λ m. if is_unsettled n f (slice_index others) total E then line_divisor m (slice_index votes) (slice_index others) total most else D) long
-    ∙ ap (λ x. if is_unsettled n f (slice_index others) total E then x else D)
-    (line_divisor-same n (slice_index votes) f (slice_index others) total most at)
-    ∙ ap (λ x. if is_unsettled n f (slice_index others) total E then line_divisor n f (slice_index others) total most else x) D_is
+-- a divisor by the rule of a line is within its limits
+line_divisor-within : (most x value : ℕ) → 1 ≤ most → value ≡ clamped most x → (1 ≤ value) × (value ≤ most)
+line_divisor-within most x value some is = (omega arith, omega arith)
+
+-- the divisor of an unsettled line after a half-step
+pub record IsRenewedBy (most value renewed : ℕ) : Type 0 where
+  pub is : value ≡ renewed
+  pub from_1 : 1 ≤ value
+  pub at_most : value ≤ most
+
+pub renewed_by_line : (n total most : ℕ) (f : ℕ → ℕ) (votes others : List ℕ) (E value : ℕ) → 1 ≤ most → length votes ≡ n →
+    ((i : ℕ) → i < n → get_or votes i 0 ≡ f i) → is_unsettled n f (slice_index others) total E ≡ true →
+    value ≡ line_divisor (length votes) (slice_index votes) (slice_index others) total most →
+    IsRenewedBy most value (renewed n f (slice_index others) total most E)
+renewed_by_line n total most f votes others E value some long at unsettled is =
+    let (from_1, at_most) = line_divisor-within most _ value some is in
+    record {
+      is = started_is n total most f votes others others value long at refl is
+          ∙ ap (λ b. if b then line_divisor n f (slice_index others) total most else E) (sym unsettled);
+      from_1 = from_1;
+      at_most = at_most;
+    }
+
+-- and of a settled one
+pub renewed_kept : (n total most : ℕ) (f : ℕ → ℕ) (others : List ℕ) (E : ℕ) → is_unsettled n f (slice_index others) total E ≡ false →
+    E ≡ renewed n f (slice_index others) total most E
+renewed_kept n total most f others E settled =
+    ap (λ b. if b then line_divisor n f (slice_index others) total most else E) (sym settled)

@@ -6,8 +6,7 @@ use Rattle.std.proofs.lemmas.List.{ext_get_or}
 use Rattle.std.proofs.lemmas.List.Quantifiers.{position-Some}
 use Rattle.std.specs.List.{position}
 use Rattle.std.proofs.lemmas.List.FromFn.{get_or-map-range_with_len, length-map-range_with_len}
-use Rattle.std.proofs.lemmas.Nat.{div_below, div-mul-add}
-use Rattle.std.proofs.Math.Nat.{div-add-mod', mod-lt, mul-zero, mul-pos, mul-le-mul_right, le_antisymm, min-eq_right, min-le_left}
+use Rattle.std.proofs.Math.Nat.{div-add-mod', mul-pos, mul-le-mul_right, le_antisymm, min-eq_right, min-le_left}
 use Rattle.zh_divisors.specs.Line.{half_up}
 use Rattle.zh_divisors.specs.Rounding.{Rounds}
 use Rattle.zh_divisors.proofs.CallerLemmas.{half_up-at_least, half_up-at_most, term-le-sum_to}

@@ -1,4 +1,5 @@
 pub mod Outcomes
 pub mod Places
 pub mod Quotients
+pub mod Rooms
 pub mod States

@@ -63,10 +63,10 @@ pub record ComesToTie (q : Question) (d g : ℕ) : Type 0 where
   pub reached : IsReached q divisors
   pub tied : IsTiedAt q divisors d g
 
--- an end with these divisors and seats
-abbrev pub IsEnding : Question → Divisors → List ℕ → Ending → Type 0
-IsEnding q x seats Found = IsStrict q x seats
-IsEnding q x seats (Tied d g) = IsTiedAt q x d g
+-- an end with these divisors: with these seats, or with both of these matrices
+abbrev pub IsEnding : Question → Divisors → List ℕ → List ℕ → Ending → Type 0
+IsEnding q x seats others Found = IsStrict q x seats
+IsEnding q x seats others (Tied d g) = AreTwoWays q x seats others × IsFirstHalf q x d g
 
 -- a round ends after its half-step of the columns, or after that of the rows where no seats followed between
 abbrev pub EndsRound : Question → Divisors → Divisors → Type 0

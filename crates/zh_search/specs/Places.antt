@@ -1,5 +1,5 @@
 -- The cells of a matrix by their places, row by row, under divisors in millionths.
-use Rattle.std.specs.Prelude.{◌≡◌, ℕ, ◌*◌, ◌/◌, ◌%◌, ◌^◌, min, Bool, false, List, map, length, slice_index}
+use Rattle.std.specs.Prelude.{ℕ, ◌*◌, ◌/◌, ◌%◌, ◌^◌, min, Bool, false, List, map, slice_index}
 use Rattle.std.specs.List.{range_with_len}
 use Rattle.zh_divisors.specs.Line.{half_up}
 use Rattle.zh_matrices.specs.Divisors.{Divisors}
@@ -34,10 +34,3 @@ quotients q x = map (quotient_at q x) (range_with_len 0 (q.rows * q.columns))
 
 abbrev pub rounded : Question → Divisors → List ℕ
 rounded q x = map (rounded_at q x) (range_with_len 0 (q.rows * q.columns))
-
--- room for the votes of a column, for the quotients, and for two matrices of seats
-pub record IsRoom (q : Question) (line : List ℕ) (quotients : List Quotient) (seats others : List ℕ) : Type 0 where
-  pub line_length : length line ≡ q.rows
-  pub quotients_length : length quotients ≡ q.rows * q.columns
-  pub seats_length : length seats ≡ q.rows * q.columns
-  pub others_length : length others ≡ q.rows * q.columns

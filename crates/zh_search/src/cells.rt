@@ -5,8 +5,10 @@ ghost use Rattle.zh_matrices.specs.Asked.{asked};
 ghost use Rattle.zh_matrices.specs.Divisors.{AreWithinLimits, millionths};
 ghost use Rattle.zh_search.specs.Outcomes.{IsFirstHalf};
 ghost use Rattle.zh_search.specs.Places as places;
+ghost use Rattle.zh_search.specs.Rooms.{IsSearchRoom, divisors_of};
 
 use crate::quotient::{Quotient, product, votes_over};
+use crate::state::{SearchRoom, SearchState};
 use zh_matrices::Question;
 
 /// The product of the two divisors of a place.
@@ -23,6 +25,16 @@ fn product_at(question: &Question<'_>, of_rows: &[u64], of_columns: &[u64], plac
     )
 }
 
+/// The quotient of a place.
+fn quotient_at(question: &Question<'_>, state: &SearchState, place: usize) -> Quotient
+    requires limits { AreWithinLimits (asked question.now) state.now.of_rows.items state.now.of_columns.items }
+    requires place { place < question.now.rows * question.now.columns }
+    ensures { result ≡ places.quotient_at (asked question.now) (divisors_of state.now) place }
+{
+    let product = product_at(question, &state.of_rows, &state.of_columns, place);
+    votes_over(question.votes[place], product)
+}
+
 /// A quotient as a number of seats, and 400 where it is more.
 fn capped(quotient: u128) -> u32
     ensures { result ≡ min 400 quotient }
@@ -31,25 +43,34 @@ fn capped(quotient: u128) -> u32
 }
 
 /// The quotient of each cell, and the seats that it rounds to, a half up.
-pub(crate) fn round_cells(
+fn round_each(
     question: &Question<'_>,
-    of_rows: &[u64],
-    of_columns: &[u64],
+    state: &SearchState,
     quotients: &mut [Quotient],
     seats: &mut [u32],
 )
-    requires limits { AreWithinLimits (asked question.now) of_rows.now of_columns.now }
+    requires limits { AreWithinLimits (asked question.now) state.now.of_rows.items state.now.of_columns.items }
     requires quotients { length quotients.old ≡ question.now.rows * question.now.columns }
     requires seats { length seats.old ≡ question.now.rows * question.now.columns }
-    ensures quotients { quotients.new ≡ places.quotients (asked question.now) (millionths of_rows.now of_columns.now) }
-    ensures seats { seats.new ≡ places.rounded (asked question.now) (millionths of_rows.now of_columns.now) }
+    ensures quotients { quotients.new ≡ places.quotients (asked question.now) (divisors_of state.now) }
+    ensures seats { seats.new ≡ places.rounded (asked question.now) (divisors_of state.now) }
 {
     for place in 0..question.votes.len() {
-        let product = product_at(question, of_rows, of_columns, place);
-        let quotient = votes_over(question.votes[place], product);
+        let quotient = quotient_at(question, state, place);
         quotients[place] = quotient;
         seats[place] = capped(quotient.rounded);
     }
+}
+
+/// Leaves the quotients in the room, and the seats that they round to.
+pub(crate) fn round_cells(question: &Question<'_>, state: &SearchState, room: &mut SearchRoom)
+    requires limits { AreWithinLimits (asked question.now) state.now.of_rows.items state.now.of_columns.items }
+    requires room { IsSearchRoom (asked question.now) room.old }
+    ensures quotients { room.new.quotients.items ≡ places.quotients (asked question.now) (divisors_of state.now) }
+    ensures seats { room.new.seats.items ≡ places.rounded (asked question.now) (divisors_of state.now) }
+    ensures room { IsSearchRoom (asked question.now) room.new }
+{
+    round_each(question, state, &mut room.quotients, &mut room.seats);
 }
 
 /// The place of the first quotient on a half.
@@ -60,13 +81,13 @@ fn first_half_place(quotients: &[Quotient]) -> Option<usize>
 }
 
 /// Its row and column, both counted from 1.
-pub(crate) fn first_half(question: &Question<'_>, quotients: &[Quotient]) -> Option<(u32, u32)>
-    requires { length quotients.now ≡ question.now.rows * question.now.columns }
+pub(crate) fn first_half(question: &Question<'_>, room: &SearchRoom) -> Option<(u32, u32)>
+    requires { length room.now.quotients.items ≡ question.now.rows * question.now.columns }
     ensures { (of_rows of_columns : List ℕ) →
-        quotients.now ≡ places.quotients (asked question.now) (millionths of_rows of_columns) →
+        room.now.quotients.items ≡ places.quotients (asked question.now) (millionths of_rows of_columns) →
         IfSome result (λ cell. IsFirstHalf (asked question.now) (millionths of_rows of_columns) cell.0 cell.1) }
 {
-    match first_half_place(quotients) {
+    match first_half_place(&room.quotients) {
         Some(place) => Some((
             (place / question.columns) as u32 + 1,
             (place % question.columns) as u32 + 1,

@@ -1,14 +1,15 @@
 //! Whether a state of the search has seats, or a tie.
-ghost use Rattle.std.specs.Prelude.{◌≡◌, ◌*◌, IfNone, IfSome, IsTrue, length};
+ghost use Rattle.std.specs.Prelude.{◌≡◌, ◌*◌, ◌≤◌, ◌↔◌, All, IfNone, IfSome, IsTrue, length};
 ghost use Rattle.zh_matrices.specs.Asked.{asked};
-ghost use Rattle.zh_matrices.specs.Divisors.{AreWithinLimits, millionths};
+ghost use Rattle.zh_matrices.specs.Divisors.{AreWithinLimits};
 ghost use Rattle.zh_search.specs.Outcomes.{AreTwoWays, IsEnding, HasNone};
 ghost use Rattle.zh_search.specs.Outcomes.{IsProper};
 ghost use Rattle.zh_search.specs.Places.{quotients as quotients_of};
-ghost use Rattle.zh_matrices.specs.SeatMatrix.{IsWeak};
+ghost use Rattle.zh_search.specs.Rooms.{IsSearchRoom, divisors_of};
+ghost use Rattle.zh_matrices.specs.SeatMatrix.{IsStrict, IsWeak};
 
 use crate::cells::{first_half, round_cells};
-use crate::quotient::Quotient;
+use crate::state::{SearchRoom, SearchState};
 use crate::two_ways::look_for_two_ways;
 use zh_matrices::{Proposal, Question, Rounding, follows};
 
@@ -23,66 +24,70 @@ pub enum Ending {
 }
 
 /// Whether seats of any number are few, and follow weakly.
-fn may_follow(question: &Question<'_>, of_rows: &[u64], of_columns: &[u64], seats: &[u32]) -> bool
-    requires limits { AreWithinLimits (asked question.now) of_rows.now of_columns.now }
+fn may_follow(question: &Question<'_>, state: &SearchState, seats: &[u32]) -> bool
+    requires limits { AreWithinLimits (asked question.now) state.now.of_rows.items state.now.of_columns.items }
     requires seats { length seats.now ≡ question.now.rows * question.now.columns }
-    ensures { IsTrue result → IsWeak (asked question.now) (millionths of_rows.now of_columns.now) seats.now }
+    ensures { IsTrue result → IsWeak (asked question.now) (divisors_of state.now) seats.now }
 {
     if seats.iter().any(|s| *s > 400) {
         return false;
     }
     let proposal = Proposal { question, seats };
-    follows(Rounding::Weak, &proposal, of_rows, of_columns)
+    follows(Rounding::Weak, &proposal, &state.of_rows, &state.of_columns)
 }
 
-/// Whether the two are different ways to round that meet all totals.
-fn are_two_ways(
-    question: &Question<'_>,
-    of_rows: &[u64],
-    of_columns: &[u64],
-    seats: &[u32],
-    others: &[u32],
-) -> bool
-    requires limits { AreWithinLimits (asked question.now) of_rows.now of_columns.now }
-    requires seats { length seats.now ≡ question.now.rows * question.now.columns }
-    requires others { length others.now ≡ question.now.rows * question.now.columns }
-    ensures { IsTrue result → AreTwoWays (asked question.now) (millionths of_rows.now of_columns.now) seats.now others.now }
+/// Whether both matrices of the room follow weakly, and differ.
+fn are_two_ways(question: &Question<'_>, state: &SearchState, room: &SearchRoom) -> bool
+    requires limits { AreWithinLimits (asked question.now) state.now.of_rows.items state.now.of_columns.items }
+    requires room { IsSearchRoom (asked question.now) room.now }
+    ensures { IsTrue result → AreTwoWays (asked question.now) (divisors_of state.now) room.now.seats.items room.now.others.items }
 {
-    seats != others
-        && may_follow(question, of_rows, of_columns, seats)
-        && may_follow(question, of_rows, of_columns, others)
+    let seats = room.seats.as_slice();
+    let others = room.others.as_slice();
+    seats != others && may_follow(question, state, seats) && may_follow(question, state, others)
 }
 
-/// The end test at a state of the search. Its quotients stay in `quotients`, and the seats that are found in
-/// `seats`; `others` is room for the second matrix of a tie.
-pub(crate) fn end_test(
-    question: &Question<'_>,
-    of_rows: &[u64],
-    of_columns: &[u64],
-    quotients: &mut [Quotient],
-    seats: &mut [u32],
-    others: &mut [u32],
-) -> Option<Ending>
-    requires proper { IsProper (asked question.now) }
-    requires limits { AreWithinLimits (asked question.now) of_rows.now of_columns.now }
-    requires quotients { length quotients.old ≡ question.now.rows * question.now.columns }
-    requires seats { length seats.old ≡ question.now.rows * question.now.columns }
-    requires others { length others.old ≡ question.now.rows * question.now.columns }
-    ensures quotients { quotients.new ≡ quotients_of (asked question.now) (millionths of_rows.now of_columns.now) }
-    ensures ends { IfSome result (IsEnding (asked question.now) (millionths of_rows.now of_columns.now) seats.new) }
-    ensures none { IfNone result (HasNone (asked question.now) (millionths of_rows.now of_columns.now)) }
+/// Whether the seats of the room follow strictly.
+fn are_strict(question: &Question<'_>, state: &SearchState, room: &SearchRoom) -> bool
+    requires limits { AreWithinLimits (asked question.now) state.now.of_rows.items state.now.of_columns.items }
+    requires room { IsSearchRoom (asked question.now) room.now }
+    requires few { All (λ s. s ≤ 400) room.now.seats.items }
+    ensures { IsTrue result ↔ IsStrict (asked question.now) (divisors_of state.now) room.now.seats.items }
 {
-    round_cells(question, of_rows, of_columns, quotients, seats);
     let proposal = Proposal {
         question: &*question,
-        seats: &*seats,
+        seats: room.seats.as_slice(),
     };
-    if follows(Rounding::Strict, &proposal, of_rows, of_columns) {
+    follows(
+        Rounding::Strict,
+        &proposal,
+        &state.of_rows,
+        &state.of_columns,
+    )
+}
+
+/// The end test at a state of the search. Its quotients stay in the room, and the seats that are found; or both matrices of a tie.
+pub(crate) fn end_test(
+    question: &Question<'_>,
+    state: &SearchState,
+    room: &mut SearchRoom,
+) -> Option<Ending>
+    requires proper { IsProper (asked question.now) }
+    requires limits { AreWithinLimits (asked question.now) state.now.of_rows.items state.now.of_columns.items }
+    requires room { IsSearchRoom (asked question.now) room.old }
+    ensures quotients { room.new.quotients.items ≡ quotients_of (asked question.now) (divisors_of state.now) }
+    ensures ends { IfSome result
+        (IsEnding (asked question.now) (divisors_of state.now) room.new.seats.items room.new.others.items) }
+    ensures none { IfNone result (HasNone (asked question.now) (divisors_of state.now)) }
+    ensures room { IsSearchRoom (asked question.now) room.new }
+{
+    round_cells(question, state, room);
+    if are_strict(question, state, room) {
         return Some(Ending::Found);
     }
-    if let Some((row, column)) = first_half(question, quotients) {
-        look_for_two_ways(question, quotients, seats, others);
-        if are_two_ways(question, of_rows, of_columns, seats, others) {
+    if let Some((row, column)) = first_half(question, room) {
+        look_for_two_ways(question, room);
+        if are_two_ways(question, state, room) {
             return Some(Ending::Tied(row, column));
         }
     }

@@ -1,7 +1,6 @@
 //! The divisors of all rows, and of all columns, by those of the other side; and the half-steps of the search.
-ghost use Rattle.std.specs.Prelude.{◌≡◌, ℕ, ◌+◌, ◌*◌, ◌^◌, ◌<◌, ◌≤◌, All, if◌then◌else◌, map, length, slice_index};
+ghost use Rattle.std.specs.Prelude.{◌≡◌, ℕ, ◌+◌, ◌*◌, ◌^◌, ◌<◌, ◌≤◌, All, map, length};
 ghost use Rattle.std.specs.List.{range_with_len};
-ghost use Rattle.zh_divisors.specs.Line.{IsMatrixLine, line_divisor};
 ghost use Rattle.zh_matrices.specs.Asked.{asked};
 ghost use Rattle.zh_matrices.specs.Divisors.{AreWithin, AreWithinLimits, millionths};
 ghost use Rattle.zh_search.specs.Outcomes.{IsProper};
@@ -12,52 +11,33 @@ ghost use Rattle.zh_search.specs.States.{renewed_column, renewed_row};
 
 use crate::quotient::Quotient;
 use zh_divisors::line;
-use zh_matrices::{MOST_OF_COLUMN, MOST_OF_ROW, Question};
+use zh_matrices::{LINES, MOST_OF_COLUMN, MOST_OF_ROW, Question};
 
-/// Whether the quotients of a line do not add up to its total, or one of them lies on a half. They are kept at
-/// `first`, and then `step` places apart.
+/// Where the cells of a line are kept.
+#[derive(Drop)]
+struct LinePlaces {
+    first: usize,
+    /// The places from each to the next.
+    step: usize,
+    cells: usize,
+}
+
+/// Whether the quotients of a line do not add up to its total, or one of them lies on a half.
 #[tactic(auto, using(crate::proofs::QuotientLemmas::line_steps))]
-fn is_unsettled(quotients: &[Quotient], first: usize, step: usize, cells: usize, total: u32) -> bool
-    requires cells { cells ≤ 32 }
-    requires within { (i : ℕ) → i < cells → first + i * step < length quotients.now }
+fn is_unsettled(quotients: &[Quotient], places: LinePlaces, total: u32) -> bool
+    requires cells { places.cells ≤ 32 }
+    requires within { (i : ℕ) → i < places.cells → places.first + i * places.step < length quotients.now }
     requires small { All (λ quotient. quotient.rounded ≤ 10 ^ 27) quotients.now }
-    ensures { result ≡ are_unsettled cells (λ i. kept_at quotients.now (first + i * step)) total }
+    ensures { result ≡ are_unsettled places.cells (λ i. kept_at quotients.now (places.first + i * places.step)) total }
 {
     let mut sum = 0;
     let mut holds_half = false;
-    for i in 0..cells {
-        let quotient = quotients[first + i * step];
+    for i in 0..places.cells {
+        let quotient = quotients[places.first + i * places.step];
         sum += quotient.rounded;
         holds_half = holds_half || quotient.is_half;
     }
     sum != u128::from(total) || holds_half
-}
-
-/// The divisor of a line after a half-step.
-fn renewed(
-    unsettled: bool,
-    votes: &[u64],
-    others: &[u64],
-    total: u32,
-    most: u64,
-    divisor: u64,
-) -> u64
-    requires line { IsMatrixLine votes.now others.now }
-    requires some { 1 ≤ total }
-    requires few { total ≤ 400 }
-    requires from_1 { 1 ≤ divisor }
-    requires at_most { divisor ≤ most }
-    ensures renewed { result ≡ (if unsettled
-        then line_divisor (length votes.now) (slice_index votes.now) (slice_index others.now) total most
-        else divisor) }
-    ensures from_1 { 1 ≤ result }
-    ensures at_most { result ≤ most }
-{
-    if unsettled {
-        line(votes, others, total, most)
-    } else {
-        divisor
-    }
 }
 
 /// Gives each row its divisor by these columns.
@@ -79,25 +59,25 @@ pub fn middle_rows(question: &Question<'_>, of_columns: &[u64], of_rows: &mut [u
     }
 }
 
-/// Gives each column its divisor by these rows. `votes` takes the votes of a column.
-pub fn middle_columns(
-    question: &Question<'_>,
-    of_rows: &[u64],
-    of_columns: &mut [u64],
-    votes: &mut [u64],
-)
+/// Gives each column its divisor by these rows.
+pub fn middle_columns(question: &Question<'_>, of_rows: &[u64], of_columns: &mut [u64])
     requires proper { IsProper (asked question.now) }
     requires rows { AreWithin question.now.rows (10 ^ 18) of_rows.now }
     requires columns { length of_columns.old ≡ question.now.columns }
-    requires votes { length votes.old ≡ question.now.rows }
     ensures columns { of_columns.new ≡
         map (middle_column (asked question.now) (millionths of_rows.now of_columns.old)) (range_with_len 0 question.now.columns) }
     ensures limits { AreWithinLimits (asked question.now) of_rows.now of_columns.new }
 {
+    let mut votes = [0; LINES];
+    let votes = &mut votes[..question.rows];
     for column in 0..question.columns {
         question.copy_column(column, votes);
-        let total = question.column_totals[column];
-        of_columns[column] = line(votes, of_rows, total, MOST_OF_COLUMN);
+        of_columns[column] = line(
+            votes,
+            of_rows,
+            question.column_totals[column],
+            MOST_OF_COLUMN,
+        );
     }
 }
 
@@ -115,48 +95,45 @@ pub(crate) fn renew_rows(
         map (renewed_row (asked question.now) (millionths of_rows.old of_columns.now)) (range_with_len 0 question.now.rows) }
     ensures limits { AreWithinLimits (asked question.now) of_rows.new of_columns.now }
 {
-    let columns = question.columns;
     for row in 0..question.rows {
         let total = question.row_totals[row];
-        let unsettled = is_unsettled(quotients, row * columns, 1, columns, total);
-        of_rows[row] = renewed(
-            unsettled,
-            question.row(row),
-            of_columns,
-            total,
-            MOST_OF_ROW,
-            of_rows[row],
-        );
+        let places = LinePlaces {
+            first: row * question.columns,
+            step: 1,
+            cells: question.columns,
+        };
+        if is_unsettled(quotients, places, total) {
+            of_rows[row] = line(question.row(row), of_columns, total, MOST_OF_ROW);
+        }
     }
 }
 
-/// A half-step of the columns, from a state with these quotients. `line` takes the votes of a column.
+/// A half-step of the columns, from a state with these quotients.
 pub(crate) fn renew_columns(
     question: &Question<'_>,
     of_rows: &[u64],
     of_columns: &mut [u64],
-    line: &mut [u64],
     quotients: &[Quotient],
 )
     requires proper { IsProper (asked question.now) }
     requires limits { AreWithinLimits (asked question.now) of_rows.now of_columns.old }
-    requires line { length line.old ≡ question.now.rows }
     requires quotients { quotients.now ≡ quotients_of (asked question.now) (millionths of_rows.now of_columns.old) }
     ensures columns { of_columns.new ≡
         map (renewed_column (asked question.now) (millionths of_rows.now of_columns.old)) (range_with_len 0 question.now.columns) }
     ensures limits { AreWithinLimits (asked question.now) of_rows.now of_columns.new }
 {
+    let mut votes = [0; LINES];
+    let votes = &mut votes[..question.rows];
     for column in 0..question.columns {
-        question.copy_column(column, line);
+        question.copy_column(column, votes);
         let total = question.column_totals[column];
-        let unsettled = is_unsettled(quotients, column, question.columns, question.rows, total);
-        of_columns[column] = renewed(
-            unsettled,
-            line,
-            of_rows,
-            total,
-            MOST_OF_COLUMN,
-            of_columns[column],
-        );
+        let places = LinePlaces {
+            first: column,
+            step: question.columns,
+            cells: question.rows,
+        };
+        if is_unsettled(quotients, places, total) {
+            of_columns[column] = line(votes, of_rows, total, MOST_OF_COLUMN);
+        }
     }
 }

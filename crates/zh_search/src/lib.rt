@@ -4,7 +4,7 @@
 pub use end_test::Ending;
 pub use first_search::search;
 pub use half_step::{middle_columns, middle_rows};
-pub use quotient::Quotient;
+pub use state::{SearchRoom, SearchState};
 
 mod cells;
 mod cycles;
@@ -13,4 +13,5 @@ mod first_search;
 mod half_step;
 mod paths;
 mod quotient;
+mod state;
 mod two_ways;

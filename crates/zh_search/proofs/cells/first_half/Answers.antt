@@ -6,4 +6,5 @@ use Rattle.zh_search.proofs.cells.first_half.Goals as goal
 
 pub returns-in-Some : goal.returns-in-Some
 returns-in-Some c = λ of_rows of_columns is. IsFirstHalf-of _ _ c.in-Some.place _ _ refl
-    (IsFirstHalfPlace-of (asked c.args.question.now) (millionths of_rows of_columns) c.args.quotients.now c.in-Some.place is (sym c.in-Some.ensures)) refl refl
+    (IsFirstHalfPlace-of (asked c.args.question.now) (millionths of_rows of_columns) c.args.room.now.quotients.items c.in-Some.place is
+    (sym (rw c.deref.ensures.value at c.in-Some.ensures))) refl refl

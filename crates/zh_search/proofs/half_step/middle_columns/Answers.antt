@@ -21,6 +21,7 @@ loop-column-preserved c =
     let from_1 : 1 ≤ c.line.result = grind arith in
     let at_most : c.line.result ≤ 10 ^ 12 = grind arith in
     record {
+      room = long;
       done = filled (middle_column q (millionths c.args.of_rows.now c.args.of_columns.now)) c.loop-column.of_columns c.loop-column.column c.line.result within
           (started_is q.rows _ (10 ^ 12) (column_votes q c.loop-column.column) c.copy_column.new.into c.args.of_rows.now c.args.of_rows.now c.line.result
           long c.copy_column.ensures refl c.line.ensures)
