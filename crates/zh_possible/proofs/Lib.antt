@@ -1,8 +1,11 @@
 pub mod CallerLemmas
 mod CutLemmas
+mod DifferLemmas
 mod ImpossibleLemmas
 mod OneMoreLemmas
 mod PathLemmas
 mod StepLemmas
 mod TurnLemmas
+mod VoteBoundLemmas
 mod WayLemmas
+mod WithinLemmas

@@ -1,11 +1,12 @@
 -- Seats that are placed and passed on.
-use Rattle.std.proofs.Common.{◌≡◌, ◌≢◌, ℕ, ◌+◌, ◌-◌, ◌*◌, ◌/◌, ◌<◌, ◌≤◌, List, length, get_or, set, inl, inr, sym, ap, ◌∙◌, arith}
+use Rattle.std.proofs.Common.{◌≡◌, ◌≢◌, ℕ, ◌+◌, ◌-◌, ◌*◌, ◌/◌, ◌<◌, ◌≤◌, ◌⊎◌, List, length, set, inl, inr, sym, ap, ◌∙◌, arith}
 use Rattle.std.proofs.lemmas.Bool.{cases_eq}
 use Rattle.std.proofs.lemmas.List.{get_or-set_other, get_or-set_same, length-set}
 use Rattle.std.proofs.lemmas.Nat.{div-mul-add}
 use Rattle.std.proofs.Math.Nat.{mul-le-mul_right}
-use Rattle.zh_divisors.proofs.CallerLemmas.{sum_to-ext, term-le-sum_to}
-use Rattle.zh_matrices.specs.Question.{AreSeatTotals, Question, cell}
+use Rattle.zh_divisors.proofs.CallerLemmas.{sum_to-ext}
+use Rattle.zh_matrices.specs.Question.{Question, cell}
+use Rattle.zh_possible.specs.Bounds.{AreAtLeast, AreAtMost, CellBounds}
 use Rattle.zh_possible.specs.Ways.{ArePlaced, ColumnLacks, IsOneMore, IsPassed, RowLacks, column_seats, placed, row_seats}
 use Rattle.zh_possible.proofs.OneMoreLemmas.{sum_to-one_more}
 
@@ -70,16 +71,45 @@ placed-more : (q : Question) (s t : List ℕ) (d g : ℕ) → d < q.rows → g <
 placed-more q s t d g dm gn more =
     sum_to-one_more q.rows (row_seats q s) (row_seats q t) d dm (λ e em differ. row-same q s t d g e em differ more) (row-more q s t d g gn more)
 
--- a row that lacks a seat has few in each cell
-pub cell-few : (q : Question) (seats : List ℕ) (d g : ℕ) → AreSeatTotals q.rows q.row_totals → d < q.rows → g < q.columns → RowLacks q seats d →
-    cell q.columns seats d g < 400
-cell-few q seats d g totals dm gn lacks =
-    let most : get_or q.row_totals d 0 ≤ 400 = totals.at_most_400 d 0 (omega (arith, totals.one_each)) in
-    omega (arith, most, lacks, term-le-sum_to q.columns (cell q.columns seats d) g gn)
+-- the cells of two matrices of which one has one seat more
+cell-cases : (q : Question) (s t : List ℕ) (d g e f : ℕ) → e < q.rows → f < q.columns → IsOneMore q s t d g →
+    ((e ≡ d) × (f ≡ g)) ⊎ (cell q.columns t e f ≡ cell q.columns s e f)
+cell-cases q s t d g e f em fn more = elim (cases_eq e d) [
+  | inr other ↦ inr (more.rows e f em fn other)
+  | inl is ↦ elim (cases_eq f g) [ inl same ↦ inl (is, same) | inr other ↦ inr (rw is (more.columns f fn other)) ]
+]
 
-pub ArePlaced-placed : (q : Question) (s t : List ℕ) (d g : ℕ) → d < q.rows → g < q.columns → RowLacks q s d → ColumnLacks q s g →
-    0 < cell q.columns q.votes d g → IsOneMore q s t d g → ArePlaced q s → ArePlaced q t
-ArePlaced-placed q s t d g dm gn row_lacks column_lacks votes more before = record {
+at_least-more : (q : Question) (least s t : List ℕ) (d g : ℕ) → d < q.rows → g < q.columns → IsOneMore q s t d g →
+    AreAtLeast q least s → AreAtLeast q least t
+at_least-more q least s t d g dm gn more below e f em fn = elim (cell-cases q s t d g e f em fn more) [
+  | inl both ↦ rw (both.0, both.1) (omega (arith, more.here, below d g dm gn))
+  | inr same ↦ omega (arith, same, below e f em fn)
+]
+
+at_least-less : (q : Question) (least s t : List ℕ) (d g : ℕ) → d < q.rows → g < q.columns → IsOneMore q s t d g →
+    cell q.columns least d g < cell q.columns t d g → AreAtLeast q least t → AreAtLeast q least s
+at_least-less q least s t d g dm gn more some below e f em fn = elim (cell-cases q s t d g e f em fn more) [
+  | inl both ↦ rw (both.0, both.1) (omega (arith, more.here, some))
+  | inr same ↦ omega (arith, same, below e f em fn)
+]
+
+at_most-more : (q : Question) (most s t : List ℕ) (d g : ℕ) → d < q.rows → g < q.columns → IsOneMore q s t d g →
+    cell q.columns s d g < cell q.columns most d g → AreAtMost q most s → AreAtMost q most t
+at_most-more q most s t d g dm gn more room below e f em fn = elim (cell-cases q s t d g e f em fn more) [
+  | inl both ↦ rw (both.0, both.1) (omega (arith, more.here, room))
+  | inr same ↦ omega (arith, same, below e f em fn)
+]
+
+at_most-less : (q : Question) (most s t : List ℕ) (d g : ℕ) → d < q.rows → g < q.columns → IsOneMore q s t d g →
+    AreAtMost q most t → AreAtMost q most s
+at_most-less q most s t d g dm gn more below e f em fn = elim (cell-cases q s t d g e f em fn more) [
+  | inl both ↦ rw (both.0, both.1) (omega (arith, more.here, below d g dm gn))
+  | inr same ↦ omega (arith, same, below e f em fn)
+]
+
+pub ArePlaced-placed : (q : Question) (b : CellBounds) (s t : List ℕ) (d g : ℕ) → d < q.rows → g < q.columns → RowLacks q s d →
+    ColumnLacks q s g → cell q.columns s d g < cell q.columns b.most d g → IsOneMore q s t d g → ArePlaced q b s → ArePlaced q b t
+ArePlaced-placed q b s t d g dm gn row_lacks column_lacks room more before = record {
   one_each = more.one_each ∙ before.one_each;
   rows = λ e em. elim (cases_eq e d) [
     | inl is ↦ rw is (omega (arith, row-more q s t d g gn more, row_lacks))
@@ -89,73 +119,50 @@ ArePlaced-placed q s t d g dm gn row_lacks column_lacks votes more before = reco
     | inl is ↦ rw is (omega (arith, column-more q s t d g dm gn more, column_lacks))
     | inr other ↦ omega (arith, column-same q s t d g f fn other more, before.columns f fn)
   ];
-  on_votes = λ e f em fn none. elim (cases_eq e d) [
-    | inr other ↦ more.rows e f em fn other ∙ before.on_votes e f em fn none
-    | inl is ↦ elim (cases_eq f g) [
-      | inr other ↦
-          let there : cell q.columns q.votes d f ≡ 0 = rw is at none in
-          rw is (more.columns f fn other ∙ before.on_votes d f dm fn there)
-      | inl same ↦ let there : cell q.columns q.votes d g ≡ 0 = rw (is, same) at none in absurd (omega (arith, there, votes))
-    ]
-  ];
+  at_least = at_least-more q b.least s t d g dm gn more before.at_least;
+  at_most = at_most-more q b.most s t d g dm gn more room before.at_most;
 }
 
 pub placed-one_more : (q : Question) (s t : List ℕ) (d g : ℕ) → d < q.rows → g < q.columns → IsOneMore q s t d g → placed q t ≡ placed q s + 1
 placed-one_more = placed-more
 
 -- a row e passes a seat in column g to row d: between, row d has one more
-pub lacks-passed : (q : Question) (s m t : List ℕ) (d e g : ℕ) → e < q.rows → g < q.columns → e ≢ d → IsOneMore q s m d g → IsOneMore q t m e g →
-    ArePlaced q s → RowLacks q t e
-lacks-passed q s m t d e g em gn differ more less before =
+pub lacks-passed : (q : Question) (b : CellBounds) (s m t : List ℕ) (d e g : ℕ) → e < q.rows → g < q.columns → e ≢ d → IsOneMore q s m d g →
+    IsOneMore q t m e g → ArePlaced q b s → RowLacks q t e
+lacks-passed q b s m t d e g em gn differ more less before =
     omega (arith, row-same q s m d g e em differ more, row-more q t m e g gn less, before.rows e em)
 
-pub IsPassed-of : (q : Question) (s m t : List ℕ) (d e g : ℕ) → d < q.rows → e < q.rows → g < q.columns → IsOneMore q s m d g → IsOneMore q t m e g →
-    IsPassed q s t e d
-IsPassed-of q s m t d e g dm em gn more less = record {
+pub IsPassed-of : (q : Question) (s m t : List ℕ) (d e g : ℕ) → d < q.rows → e < q.rows → g < q.columns → e ≢ d → IsOneMore q s m d g →
+    IsOneMore q t m e g → IsPassed q s t e d
+IsPassed-of q s m t d e g dm em gn differ more less = record {
   placed = omega (arith, placed-more q s m d g dm gn more, placed-more q t m e g em gn less);
   columns = λ f fn. elim (cases_eq f g) [
     | inl is ↦ rw is (omega (arith, column-more q s m d g dm gn more, column-more q t m e g em gn less))
     | inr other ↦ sym (column-same q t m e g f fn other less) ∙ column-same q s m d g f fn other more
   ];
   others = λ x f xm fn not_e not_d. sym (less.rows x f xm fn not_e) ∙ more.rows x f xm fn not_d;
+  fewer = λ f fn. elim (cell-cases q t m e g e f em fn less) [
+    | inl both ↦ rw (both.1) (omega (arith, less.here, more.rows e g em gn differ))
+    | inr same ↦ omega (arith, same, more.rows e f em fn differ)
+  ];
 }
 
-pub ArePlaced-passed : (q : Question) (s m t : List ℕ) (d e g : ℕ) → d < q.rows → e < q.rows → g < q.columns → e ≢ d → RowLacks q s d →
-    0 < cell q.columns q.votes d g → IsOneMore q s m d g → IsOneMore q t m e g → ArePlaced q s → ArePlaced q t
-ArePlaced-passed q s m t d e g dm em gn differ lacks votes more less before =
-    let passed : IsPassed q s t e d = IsPassed-of q s m t d e g dm em gn more less in
+pub ArePlaced-passed : (q : Question) (b : CellBounds) (s m t : List ℕ) (d e g : ℕ) → d < q.rows → e < q.rows → g < q.columns → e ≢ d →
+    RowLacks q s d → cell q.columns s d g < cell q.columns b.most d g → cell q.columns b.least e g < cell q.columns s e g →
+    IsOneMore q s m d g → IsOneMore q t m e g → ArePlaced q b s → ArePlaced q b t
+ArePlaced-passed q b s m t d e g dm em gn differ lacks room some more less before =
+    let passed : IsPassed q s t e d = IsPassed-of q s m t d e g dm em gn differ more less in
+    let left : cell q.columns b.least e g < cell q.columns m e g = omega (arith, some, more.rows e g em gn differ) in
     record {
       one_each = sym less.one_each ∙ more.one_each ∙ before.one_each;
       rows = λ x xm. elim (cases_eq x e) [
-        | inl is ↦ rw is (omega (arith, lacks-passed q s m t d e g em gn differ more less before))
+        | inl is ↦ rw is (omega (arith, lacks-passed q b s m t d e g em gn differ more less before))
         | inr not_e ↦ elim (cases_eq x d) [
           | inl is ↦ rw is (omega (arith, row-same q t m e g d dm (λ same. differ (sym same)) less, row-more q s m d g gn more, lacks))
           | inr not_d ↦ omega (arith, row-same q t m e g x xm not_e less, row-same q s m d g x xm not_d more, before.rows x xm)
         ]
       ];
       columns = λ f fn. omega (arith, passed.columns f fn, before.columns f fn);
-      on_votes = λ x f xm fn none. elim (cases_eq f g) [
-        | inr other ↦
-            elim (cases_eq x e) [
-              | inl is ↦
-                  let there : cell q.columns q.votes e f ≡ 0 = rw is at none in
-                  rw is (sym (less.columns f fn other) ∙ more.rows e f em fn differ ∙ before.on_votes e f em fn there)
-              | inr not_e ↦ elim (cases_eq x d) [
-                | inl is ↦
-                    let there : cell q.columns q.votes d f ≡ 0 = rw is at none in
-                    rw is (sym (less.rows d f dm fn (λ same. differ (sym same))) ∙ more.columns f fn other ∙ before.on_votes d f dm fn there)
-                | inr not_d ↦ passed.others x f xm fn not_e not_d ∙ before.on_votes x f xm fn none
-              ]
-            ]
-        | inl same ↦
-            elim (cases_eq x e) [
-              | inl is ↦
-                  let there : cell q.columns q.votes e g ≡ 0 = rw (is, same) at none in
-                  absurd (omega (arith, before.on_votes e g em gn there, more.rows e g em gn differ, less.here))
-              | inr not_e ↦ elim (cases_eq x d) [
-                | inl is ↦ let there : cell q.columns q.votes d g ≡ 0 = rw (is, same) at none in absurd (omega (arith, there, votes))
-                | inr not_d ↦ passed.others x f xm fn not_e not_d ∙ before.on_votes x f xm fn none
-              ]
-            ]
-      ];
+      at_least = at_least-less q b.least t m e g em gn less left (at_least-more q b.least s m d g dm gn more before.at_least);
+      at_most = at_most-less q b.most t m e g em gn less (at_most-more q b.most s m d g dm gn more room before.at_most);
     }

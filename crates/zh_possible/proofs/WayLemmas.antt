@@ -7,8 +7,9 @@ use Rattle.std.proofs.Math.ListN.{get_or-eq_default}
 use Rattle.std.proofs.Math.Nat.{le_of_eq}
 use Rattle.zh_divisors.specs.Sums.{sum_to}
 use Rattle.zh_divisors.proofs.CallerLemmas.{sum_to-zero}
-use Rattle.zh_matrices.specs.Question.{Question}
-use Rattle.zh_possible.specs.Ways.{AreWays, CanGive, GivesBelow, IsSource, IsWay, RanksAreBelow, RowLacks, row_seats, way_at}
+use Rattle.zh_matrices.specs.Question.{Question, cell}
+use Rattle.zh_possible.specs.Bounds.{CellBounds}
+use Rattle.zh_possible.specs.Ways.{AreSources, AreWays, CanGive, GivesBelow, IsSource, IsWay, RanksAreBelow, RowLacks, row_seats, source_at, way_at}
 use Rattle.zh_possible.specs.declared.ways.Source.{Source}
 use Rattle.zh_possible.specs.declared.ways.Source.TheVariants.{Giver, Spare}
 use Rattle.zh_possible.specs.declared.ways.Way.{Way}
@@ -32,16 +33,16 @@ IsSome-of : (o : Option Way) (way : Way) → o ≡ Some way → IsSome o
 IsSome-of (Some other) way is = refl
 IsSome-of None way is = cc
 
-CanGive-more : (q : Question) (seats : List ℕ) (ways more : List (Option Way)) (g d : ℕ) → Extends ways more →
-    CanGive q seats ways g d → CanGive q seats more g d
-CanGive-more q seats ways more g d extends can =
+CanGive-more : (q : Question) (b : CellBounds) (seats : List ℕ) (ways more : List (Option Way)) (g d : ℕ) → Extends ways more →
+    CanGive q b seats ways g d → CanGive q b seats more g d
+CanGive-more q b seats ways more g d extends can =
     let (way, is) = some_way (way_at ways d) can.has_way in
     record { row = can.row; has_way = IsSome-of (way_at more d) way (extends d way is); seat = can.seat }
 
-IsSource-more : (q : Question) (seats : List ℕ) (ways more : List (Option Way)) (g : ℕ) (source : Source) → Extends ways more →
-    IsSource q seats ways g source → IsSource q seats more g source
-IsSource-more q seats ways more g Spare extends lacks = lacks
-IsSource-more q seats ways more g (Giver d) extends can = CanGive-more q seats ways more g d extends can
+IsSource-more : (q : Question) (b : CellBounds) (seats : List ℕ) (ways more : List (Option Way)) (g : ℕ) (source : Source) → Extends ways more →
+    IsSource q b seats ways g source → IsSource q b seats more g source
+IsSource-more q b seats ways more g Spare extends lacks = lacks
+IsSource-more q b seats ways more g (Giver d) extends can = CanGive-more q b seats ways more g d extends can
 
 GivesBelow-more : (ways more : List (Option Way)) (rank : ℕ) (source : Source) → Extends ways more →
     GivesBelow ways rank source → GivesBelow more rank source
@@ -49,12 +50,12 @@ GivesBelow-more ways more rank Spare extends below = tt
 GivesBelow-more ways more rank (Giver d) extends below =
     record { way = below.way; there = extends d below.way below.there; below = below.below }
 
-IsWay-more : (q : Question) (seats : List ℕ) (ways more : List (Option Way)) (d : ℕ) (way : Way) → Extends ways more →
-    IsWay q seats ways d way → IsWay q seats more d way
-IsWay-more q seats ways more d way extends is = record {
+IsWay-more : (q : Question) (b : CellBounds) (seats : List ℕ) (ways more : List (Option Way)) (d : ℕ) (way : Way) → Extends ways more →
+    IsWay q b seats ways d way → IsWay q b seats more d way
+IsWay-more q b seats ways more d way extends is = record {
   column = is.column;
-  votes = is.votes;
-  source = IsSource-more q seats ways more way.column way.source extends is.source;
+  room = is.room;
+  source = IsSource-more q b seats ways more way.column way.source extends is.source;
   below = GivesBelow-more ways more way.rank way.source extends is.below;
 }
 
@@ -63,16 +64,16 @@ extends-set ways row way new d other is =
     let differ : d ≢ row = λ same. let here : way_at ways row ≡ Some other = rw same at is in cc in
     get_or-set_other ways row d (Some way) None differ ∙ is
 
-pub AreWays-set : (q : Question) (seats : List ℕ) (ways : List (Option Way)) (row : ℕ) (way : Way) → row < length ways → way_at ways row ≡ None →
-    IsWay q seats ways row way → AreWays q seats ways → AreWays q seats (set ways row (Some way))
-AreWays-set q seats ways row way within new is all d other dm there = elim (cases_eq d row) [
+pub AreWays-set : (q : Question) (b : CellBounds) (seats : List ℕ) (ways : List (Option Way)) (row : ℕ) (way : Way) → row < length ways → way_at ways row ≡ None →
+    IsWay q b seats ways row way → AreWays q b seats ways → AreWays q b seats (set ways row (Some way))
+AreWays-set q b seats ways row way within new is all d other dm there = elim (cases_eq d row) [
   | inl same ↦
       let here : way_at (set ways row (Some way)) row ≡ Some other = rw same at there in
       let at : way_at (set ways row (Some way)) row ≡ Some way = get_or-set_same ways row (Some way) None within in
       let equal : way ≡ other = cc in
-      rw (same, ← equal) (IsWay-more q seats ways (set ways row (Some way)) row way (extends-set ways row way new) is)
+      rw (same, ← equal) (IsWay-more q b seats ways (set ways row (Some way)) row way (extends-set ways row way new) is)
   | inr differ ↦
-      IsWay-more q seats ways (set ways row (Some way)) d other (extends-set ways row way new)
+      IsWay-more q b seats ways (set ways row (Some way)) d other (extends-set ways row way new)
       (all d other dm (sym (get_or-set_other ways row d (Some way) None differ) ∙ there))
 ]
 
@@ -119,8 +120,8 @@ none_lacks-set q seats ways row way full all d dm some = elim (cases_eq d row) [
   | inr differ ↦ all d dm (rw (get_or-set_other ways row d (Some way) None differ) at some)
 ]
 
-pub AreWays-none : (q : Question) (seats : List ℕ) (ways : List (Option Way)) → ((d : ℕ) → way_at ways d ≡ None) → AreWays q seats ways
-AreWays-none q seats ways none d way dm there = let nothing : way_at ways d ≡ None = none d in cc
+pub AreWays-none : (q : Question) (b : CellBounds) (seats : List ℕ) (ways : List (Option Way)) → ((d : ℕ) → way_at ways d ≡ None) → AreWays q b seats ways
+AreWays-none q b seats ways none d way dm there = let nothing : way_at ways d ≡ None = none d in cc
 
 pub RanksAreBelow-none : (q : Question) (ways : List (Option Way)) (rank : ℕ) → ((d : ℕ) → way_at ways d ≡ None) → RanksAreBelow q ways rank
 RanksAreBelow-none q ways rank none d way dm there = let nothing : way_at ways d ≡ None = none d in cc
@@ -135,6 +136,25 @@ none_lacks-none q seats ways none d dm some =
 -- a test that failed
 pub not-both : {P : Type 0} (b : Bool) → (IsTrue b ↔ P) → P → b ≡ false → ⊥
 not-both b tells holds fails = let passes : IsTrue b = tells.1 holds in cc
+
+-- a way through a column with a source, after those of lower ranks
+IsSource-below : (q : Question) (b : CellBounds) (seats : List ℕ) (ways : List (Option Way)) (g rank : ℕ) (source : Source) →
+    RanksAreBelow q ways rank → IsSource q b seats ways g source → GivesBelow ways rank source
+IsSource-below q b seats ways g rank Spare ranks lacks = tt
+IsSource-below q b seats ways g rank (Giver d) ranks can =
+    let (way, is) = some_way (way_at ways d) can.has_way in
+    record { way = way; there = is; below = ranks d way can.row is }
+
+pub IsWay-of : (q : Question) (b : CellBounds) (seats : List ℕ) (ways : List (Option Way)) (sources : List (Option Source)) (d : ℕ) (way : Way) →
+    AreSources q b seats ways sources → RanksAreBelow q ways way.rank → way.column < q.columns →
+    cell q.columns seats d way.column < cell q.columns b.most d way.column → source_at sources way.column ≡ Some way.source →
+    IsWay q b seats ways d way
+IsWay-of q b seats ways sources d way all ranks column room is = record {
+  column = column;
+  room = room;
+  source = all.some way.column way.source column is;
+  below = IsSource-below q b seats ways way.column way.rank way.source ranks (all.some way.column way.source column is);
+}
 
 -- a new table
 pub all_none : (n d : ℕ) → way_at (replicate n None) d ≡ None

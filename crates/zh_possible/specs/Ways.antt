@@ -1,8 +1,10 @@
 -- Seats that are placed one by one, and the ways by which a row may take one more.
-use Rattle.std.specs.Prelude.{◌≡◌, ℕ, ◌+◌, ◌*◌, ◌<◌, ◌≤◌, Option, Some, None, IsSome, List, length, slice_index, slice_index_or}
+use Rattle.std.specs.Prelude.{◌≡◌, ℕ, ◌+◌, ◌*◌, ◌<◌, ◌≤◌, Bool, nat_lt, if◌then◌else◌, Option, Some, None, IsSome, is_none}
+use Rattle.std.specs.Prelude.{List, length, slice_index, slice_index_or}
 use Rattle.zh_divisors.specs.Sums.{sum_to}
-use Rattle.zh_matrices.specs.Fitting.{AreOnVotes}
 use Rattle.zh_matrices.specs.Question.{Question, cell}
+use Rattle.zh_possible.specs.Bounds.{AreAtLeast, AreAtMost, CellBounds}
+use Rattle.zh_possible.specs.Impossible.{is_among}
 use Rattle.zh_possible.specs.declared.ways.Source.{Source}
 use Rattle.zh_possible.specs.declared.ways.Source.TheVariants.{Giver, Spare}
 use Rattle.zh_possible.specs.declared.ways.Way.{Way}
@@ -32,12 +34,32 @@ RowLacks q seats d = row_seats q seats d < slice_index q.row_totals d
 abbrev pub ColumnLacks : Question → List ℕ → ℕ → Type 0
 ColumnLacks q seats g = column_seats q seats g < slice_index q.column_totals g
 
--- no line has more seats than it is to get, and there are none where there are no votes
-pub record ArePlaced (q : Question) (seats : List ℕ) : Type 0 where
+-- no line has more seats than it is to get, and each cell is within its bounds
+abbrev pub HaveRowsRoom : Question → List ℕ → Type 0
+HaveRowsRoom q seats = (d : ℕ) → d < q.rows → row_seats q seats d ≤ slice_index q.row_totals d
+
+abbrev pub HaveColumnsRoom : Question → List ℕ → Type 0
+HaveColumnsRoom q seats = (g : ℕ) → g < q.columns → column_seats q seats g ≤ slice_index q.column_totals g
+
+pub record ArePlaced (q : Question) (b : CellBounds) (seats : List ℕ) : Type 0 where
   pub one_each : length seats ≡ q.rows * q.columns
-  pub rows : (d : ℕ) → d < q.rows → row_seats q seats d ≤ slice_index q.row_totals d
-  pub columns : (g : ℕ) → g < q.columns → column_seats q seats g ≤ slice_index q.column_totals g
-  pub on_votes : AreOnVotes q seats
+  pub rows : HaveRowsRoom q seats
+  pub columns : HaveColumnsRoom q seats
+  pub at_least : AreAtLeast q b.least seats
+  pub at_most : AreAtMost q b.most seats
+
+-- no seats where there are no votes, and more than a row may get where there are some
+abbrev pub AreBoundByVotes : Question → List ℕ → Type 0
+AreBoundByVotes q most = (k : ℕ) → k < q.rows * q.columns →
+    slice_index most k ≡ (if nat_lt 0 (slice_index q.votes k) then 401 else 0)
+
+-- a cell has fewer seats than its most
+abbrev pub IsBelowMost : Question → CellBounds → List ℕ → ℕ → ℕ → Type 0
+IsBelowMost q b seats d g = cell q.columns seats d g < cell q.columns b.most d g
+
+-- and it has more than its fewest
+abbrev pub IsAboveLeast : Question → CellBounds → List ℕ → ℕ → ℕ → Type 0
+IsAboveLeast q b seats d g = cell q.columns b.least d g < cell q.columns seats d g
 
 -- one cell has one seat more
 pub record IsOneMore (q : Question) (before after : List ℕ) (d g : ℕ) : Type 0 where
@@ -57,52 +79,78 @@ pub record HasWayBelow (ways : List (Option Way)) (d rank : ℕ) : Type 0 where
   pub below : way.rank < rank
 
 -- a row that has a way can give up a seat in column g
-pub record CanGive (q : Question) (seats : List ℕ) (ways : List (Option Way)) (g d : ℕ) : Type 0 where
+pub record CanGive (q : Question) (b : CellBounds) (seats : List ℕ) (ways : List (Option Way)) (g d : ℕ) : Type 0 where
   pub row : d < q.rows
   pub has_way : IsSome (way_at ways d)
-  pub seat : 0 < cell q.columns seats d g
+  pub seat : IsAboveLeast q b seats d g
 
 -- where a seat in column g can come from
-abbrev pub IsSource : Question → List ℕ → List (Option Way) → ℕ → Source → Type 0
-IsSource q seats ways g Spare = ColumnLacks q seats g
-IsSource q seats ways g (Giver d) = CanGive q seats ways g d
+abbrev pub IsSource : Question → CellBounds → List ℕ → List (Option Way) → ℕ → Source → Type 0
+IsSource q b seats ways g Spare = ColumnLacks q seats g
+IsSource q b seats ways g (Giver d) = CanGive q b seats ways g d
 
 -- a giver has a way of lower rank
 abbrev pub GivesBelow : List (Option Way) → ℕ → Source → Type 0
 GivesBelow ways rank Spare = Unit {0}
 GivesBelow ways rank (Giver d) = HasWayBelow ways d rank
 
--- a way for row d to take a seat more: in a column where it has votes
-pub record IsWay (q : Question) (seats : List ℕ) (ways : List (Option Way)) (d : ℕ) (way : Way) : Type 0 where
+-- a way for row d to take a seat more: in a column where it has fewer than its most
+pub record IsWay (q : Question) (b : CellBounds) (seats : List ℕ) (ways : List (Option Way)) (d : ℕ) (way : Way) : Type 0 where
   pub column : way.column < q.columns
-  pub votes : 0 < cell q.columns q.votes d way.column
-  pub source : IsSource q seats ways way.column way.source
+  pub room : IsBelowMost q b seats d way.column
+  pub source : IsSource q b seats ways way.column way.source
   pub below : GivesBelow ways way.rank way.source
 
-abbrev pub AreWays : Question → List ℕ → List (Option Way) → Type 0
-AreWays q seats ways = (d : ℕ) (way : Way) → d < q.rows → way_at ways d ≡ Some way → IsWay q seats ways d way
+abbrev pub AreWays : Question → CellBounds → List ℕ → List (Option Way) → Type 0
+AreWays q b seats ways = (d : ℕ) (way : Way) → d < q.rows → way_at ways d ≡ Some way → IsWay q b seats ways d way
 
 -- the ranks of all ways are below this one
 abbrev pub RanksAreBelow : Question → List (Option Way) → ℕ → Type 0
 RanksAreBelow q ways rank = (d : ℕ) (way : Way) → d < q.rows → way_at ways d ≡ Some way → way.rank < rank
 
--- no seat in column g can come from anywhere
-pub record HasNoSource (q : Question) (seats : List ℕ) (ways : List (Option Way)) (g : ℕ) : Type 0 where
-  pub full : slice_index q.column_totals g ≤ column_seats q seats g
-  pub no_giver : (d : ℕ) → d < q.rows → IsSome (way_at ways d) → cell q.columns seats d g ≡ 0
+-- no row with a way can give up a seat in column g
+abbrev pub HasNoGiver : Question → CellBounds → List ℕ → List (Option Way) → ℕ → Type 0
+HasNoGiver q b seats ways g = (d : ℕ) → d < q.rows → IsSome (way_at ways d) →
+    cell q.columns seats d g ≤ cell q.columns b.least d g
 
--- row d has votes in closed columns alone
-abbrev pub HasNoWay : Question → List ℕ → List (Option Way) → ℕ → Type 0
-HasNoWay q seats ways d = (g : ℕ) → g < q.columns → 0 < cell q.columns q.votes d g → HasNoSource q seats ways g
+-- no seat in column g can come from anywhere
+pub record HasNoSource (q : Question) (b : CellBounds) (seats : List ℕ) (ways : List (Option Way)) (g : ℕ) : Type 0 where
+  pub full : slice_index q.column_totals g ≤ column_seats q seats g
+  pub no_giver : HasNoGiver q b seats ways g
+
+-- a source for each column that has one
+abbrev pub source_at : List (Option Source) → ℕ → Option Source
+source_at sources g = slice_index_or sources g None
+
+pub record AreSources (q : Question) (b : CellBounds) (seats : List ℕ) (ways : List (Option Way)) (sources : List (Option Source))
+    : Type 0 where
+  pub some : (g : ℕ) (source : Source) → g < q.columns → source_at sources g ≡ Some source → IsSource q b seats ways g source
+  pub none : (g : ℕ) → g < q.columns → source_at sources g ≡ None → HasNoSource q b seats ways g
+
+-- row d has its most in each column but closed ones
+abbrev pub HasNoWay : Question → CellBounds → List ℕ → List (Option Way) → ℕ → Type 0
+HasNoWay q b seats ways d = (g : ℕ) → g < q.columns → IsBelowMost q b seats d g → HasNoSource q b seats ways g
 
 -- no row without a way can get one
-abbrev pub AreAllFound : Question → List ℕ → List (Option Way) → Type 0
-AreAllFound q seats ways = (d : ℕ) → d < q.rows → way_at ways d ≡ None → HasNoWay q seats ways d
+abbrev pub AreAllFound : Question → CellBounds → List ℕ → List (Option Way) → Type 0
+AreAllFound q b seats ways = (d : ℕ) → d < q.rows → way_at ways d ≡ None → HasNoWay q b seats ways d
 
 -- a search for a row that lacks a seat came to its end: none with a way lacks one, and no other row can get a way
-pub record IsStuck (q : Question) (seats : List ℕ) (ways : List (Option Way)) : Type 0 where
-  pub all_found : AreAllFound q seats ways
+pub record IsStuck (q : Question) (b : CellBounds) (seats : List ℕ) (ways : List (Option Way)) : Type 0 where
+  pub all_found : AreAllFound q b seats ways
   pub none_lacks : (d : ℕ) → d < q.rows → IsSome (way_at ways d) → slice_index q.row_totals d ≤ row_seats q seats d
+
+-- the rows are those without a way
+abbrev pub AreWithoutWay : Question → List (Option Way) → List Bool → Type 0
+AreWithoutWay q ways rows = (d : ℕ) → d < q.rows → is_among rows d ≡ is_none (way_at ways d)
+
+-- some seats are left to place, and these rows have no way to take one
+pub record AreBlocked (q : Question) (b : CellBounds) (seats : List ℕ) (rows : List Bool) : Type 0 where
+  pub some_left : placed q seats < to_place q
+  pub each_placed : ArePlaced q b seats
+  pub ways : List (Option Way)
+  pub stuck : IsStuck q b seats ways
+  pub without : AreWithoutWay q ways rows
 
 -- a row that lacks a seat has a way
 pub record CanTake (q : Question) (seats : List ℕ) (ways : List (Option Way)) (d : ℕ) : Type 0 where
@@ -110,9 +158,11 @@ pub record CanTake (q : Question) (seats : List ℕ) (ways : List (Option Way)) 
   pub has_way : IsSome (way_at ways d)
   pub lacks : RowLacks q seats d
 
--- one row gave a seat in a column to another: the columns have as many seats as before, and the other rows are as they were
+-- one row gave a seat in a column to another: the columns have as many seats as before, the other rows are as they were, and
+-- nowhere does the giver have more
 pub record IsPassed (q : Question) (before after : List ℕ) (giver taker : ℕ) : Type 0 where
   pub placed : placed q after ≡ placed q before
   pub columns : (g : ℕ) → g < q.columns → column_seats q after g ≡ column_seats q before g
   pub others : (e f : ℕ) → e < q.rows → f < q.columns → (e ≡ giver → ⊥) → (e ≡ taker → ⊥) →
       cell q.columns after e f ≡ cell q.columns before e f
+  pub fewer : (f : ℕ) → f < q.columns → cell q.columns after giver f ≤ cell q.columns before giver f

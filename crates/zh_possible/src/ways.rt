@@ -1,10 +1,11 @@
 //! Ways by which a row may take one seat more: in a column that lacks one, or from a row that has a way itself.
-ghost use Rattle.std.specs.Prelude.{◌≡◌, ℕ, ◌*◌, ◌<◌, ◌↔◌, IfNone, IfSome, IsSome, IsTrue, None, length};
+ghost use Rattle.std.specs.Prelude.{◌≡◌, ℕ, ◌*◌, ◌<◌, ◌↔◌, IfNone, IfSome, IsTrue, None, Some, length};
 ghost use Rattle.zh_matrices.specs.Asked.{asked};
-ghost use Rattle.zh_matrices.specs.Question.{cell};
+ghost use Rattle.zh_possible.specs.Bounds.{asked_in, bounds_of};
 ghost use Rattle.zh_possible.specs.Ways as words;
 
-use zh_matrices::{Question, column_sum, row_sum};
+use crate::bounds::CellBounds;
+use zh_matrices::{LINES, Question, column_sum, row_sum};
 
 /// Where a seat in a column comes from.
 #[derive(Clone, Copy)]
@@ -45,20 +46,20 @@ pub(crate) fn column_lacks(question: &Question<'_>, seats: &[u32], column: usize
 
 /// A row that can give up a seat in a column.
 fn giver(
-    question: &Question<'_>,
+    bounds: &CellBounds<'_>,
     seats: &[u32],
     ways: &[Option<Way>],
     column: usize,
 ) -> Option<usize>
-    requires seats { length seats.now ≡ question.now.rows * question.now.columns }
+    requires seats { length seats.now ≡ bounds.now.question.now.rows * bounds.now.question.now.columns }
     requires ways { length ways.now ≡ 32 }
-    requires column { column < question.now.columns }
-    ensures giver { IfSome result (words.CanGive (asked question.now) seats.now ways.now column) }
-    ensures none { IfNone result ((d : ℕ) → d < question.now.rows → IsSome (words.way_at ways.now d) →
-        cell question.now.columns seats.now d column ≡ 0) }
+    requires column { column < bounds.now.question.now.columns }
+    ensures giver { IfSome result (words.CanGive (asked_in bounds.now) (bounds_of bounds.now) seats.now ways.now column) }
+    ensures none { IfNone result (words.HasNoGiver (asked_in bounds.now) (bounds_of bounds.now) seats.now ways.now column) }
 {
-    for row in 0..question.rows {
-        if ways[row].is_some() && seats[row * question.columns + column] > 0 {
+    for row in 0..bounds.question.rows {
+        let place = row * bounds.question.columns + column;
+        if ways[row].is_some() && bounds.least[place] < seats[place] {
             return Some(row);
         }
     }
@@ -67,76 +68,96 @@ fn giver(
 
 /// Where a seat in a column can come from.
 fn source_of(
-    question: &Question<'_>,
+    bounds: &CellBounds<'_>,
     seats: &[u32],
     ways: &[Option<Way>],
     column: usize,
 ) -> Option<Source>
-    requires seats { length seats.now ≡ question.now.rows * question.now.columns }
+    requires seats { length seats.now ≡ bounds.now.question.now.rows * bounds.now.question.now.columns }
     requires ways { length ways.now ≡ 32 }
-    requires column { column < question.now.columns }
-    ensures source { IfSome result (words.IsSource (asked question.now) seats.now ways.now column) }
-    ensures none { IfNone result (words.HasNoSource (asked question.now) seats.now ways.now column) }
+    requires column { column < bounds.now.question.now.columns }
+    ensures source { IfSome result (words.IsSource (asked_in bounds.now) (bounds_of bounds.now) seats.now ways.now column) }
+    ensures none { IfNone result (words.HasNoSource (asked_in bounds.now) (bounds_of bounds.now) seats.now ways.now column) }
 {
-    if column_lacks(question, seats, column) {
+    if column_lacks(bounds.question, seats, column) {
         return Some(Source::Spare);
     }
-    match giver(question, seats, ways, column) {
+    match giver(bounds, seats, ways, column) {
         Some(row) => Some(Source::Giver(row)),
         None => None,
     }
 }
 
-/// A way for a row, which gets this rank.
-fn way_of(
-    question: &Question<'_>,
+/// Where a seat in each column can come from.
+fn sources_of(
+    bounds: &CellBounds<'_>,
     seats: &[u32],
     ways: &[Option<Way>],
-    row: usize,
-    rank: usize,
-) -> Option<Way>
-    requires seats { length seats.now ≡ question.now.rows * question.now.columns }
+) -> [Option<Source>; LINES]
+    requires seats { length seats.now ≡ bounds.now.question.now.rows * bounds.now.question.now.columns }
     requires ways { length ways.now ≡ 32 }
-    requires ranks { words.RanksAreBelow (asked question.now) ways.now rank }
-    requires row { row < question.now.rows }
-    ensures way { IfSome result (words.IsWay (asked question.now) seats.now ways.now row) }
-    ensures rank { IfSome result (λ way. way.rank ≡ rank) }
-    ensures none { IfNone result (words.HasNoWay (asked question.now) seats.now ways.now row) }
+    ensures { words.AreSources (asked_in bounds.now) (bounds_of bounds.now) seats.now ways.now result }
 {
-    for column in 0..question.columns {
-        if question.votes[row * question.columns + column] > 0
-            && let Some(source) = source_of(question, seats, ways, column)
+    let mut sources = [None; LINES];
+    for column in 0..bounds.question.columns {
+        sources[column] = source_of(bounds, seats, ways, column);
+    }
+    sources
+}
+
+/// The first column with a source in which a row may have a seat more.
+fn open_column(
+    bounds: &CellBounds<'_>,
+    seats: &[u32],
+    sources: &[Option<Source>],
+    row: usize,
+) -> Option<(usize, Source)>
+    requires seats { length seats.now ≡ bounds.now.question.now.rows * bounds.now.question.now.columns }
+    requires sources { length sources.now ≡ 32 }
+    requires row { row < bounds.now.question.now.rows }
+    ensures column { IfSome result (λ next. next.0 < bounds.now.question.now.columns) }
+    ensures room { IfSome result (λ next. words.IsBelowMost (asked_in bounds.now) (bounds_of bounds.now) seats.now row next.0) }
+    ensures source { IfSome result (λ next. words.source_at sources.now next.0 ≡ Some next.1) }
+    ensures none { IfNone result ((g : ℕ) → g < bounds.now.question.now.columns →
+        words.IsBelowMost (asked_in bounds.now) (bounds_of bounds.now) seats.now row g → words.source_at sources.now g ≡ None) }
+{
+    for column in 0..bounds.question.columns {
+        let place = row * bounds.question.columns + column;
+        if seats[place] < bounds.most[place]
+            && let Some(source) = sources[column]
         {
-            return Some(Way {
-                column,
-                source,
-                rank,
-            });
+            return Some((column, source));
         }
     }
     None
 }
 
-/// The first row without a way that can get one, with that way.
+/// The first row without a way that can get one, with that way, which gets this rank.
 fn next_way(
-    question: &Question<'_>,
+    bounds: &CellBounds<'_>,
     seats: &[u32],
     ways: &[Option<Way>],
     rank: usize,
 ) -> Option<(usize, Way)>
-    requires seats { length seats.now ≡ question.now.rows * question.now.columns }
+    requires seats { length seats.now ≡ bounds.now.question.now.rows * bounds.now.question.now.columns }
     requires ways { length ways.now ≡ 32 }
-    requires ranks { words.RanksAreBelow (asked question.now) ways.now rank }
-    ensures row { IfSome result (λ next. next.0 < question.now.rows) }
+    requires ranks { words.RanksAreBelow (asked_in bounds.now) ways.now rank }
+    ensures row { IfSome result (λ next. next.0 < bounds.now.question.now.rows) }
     ensures new { IfSome result (λ next. words.way_at ways.now next.0 ≡ None) }
-    ensures way { IfSome result (λ next. words.IsWay (asked question.now) seats.now ways.now next.0 next.1) }
+    ensures way { IfSome result (λ next. words.IsWay (asked_in bounds.now) (bounds_of bounds.now) seats.now ways.now next.0 next.1) }
     ensures rank { IfSome result (λ next. next.1.rank ≡ rank) }
-    ensures none { IfNone result (words.AreAllFound (asked question.now) seats.now ways.now) }
+    ensures none { IfNone result (words.AreAllFound (asked_in bounds.now) (bounds_of bounds.now) seats.now ways.now) }
 {
-    for row in 0..question.rows {
+    let sources = sources_of(bounds, seats, ways);
+    for row in 0..bounds.question.rows {
         if ways[row].is_none()
-            && let Some(way) = way_of(question, seats, ways, row, rank)
+            && let Some((column, source)) = open_column(bounds, seats, &sources, row)
         {
+            let way = Way {
+                column,
+                source,
+                rank,
+            };
             return Some((row, way));
         }
     }
@@ -145,21 +166,21 @@ fn next_way(
 
 /// Finds ways until a row that lacks a seat has one; that row is returned, or none if no row can get one.
 pub(crate) fn reach(
-    question: &Question<'_>,
+    bounds: &CellBounds<'_>,
     seats: &[u32],
     ways: &mut [Option<Way>],
 ) -> Option<usize>
-    requires seats { length seats.now ≡ question.now.rows * question.now.columns }
+    requires seats { length seats.now ≡ bounds.now.question.now.rows * bounds.now.question.now.columns }
     requires ways { length ways.old ≡ 32 }
     requires none { (d : ℕ) → words.way_at ways.old d ≡ None }
-    ensures ways { words.AreWays (asked question.now) seats.now ways.new }
-    ensures reached { IfSome result (words.CanTake (asked question.now) seats.now ways.new) }
-    ensures stuck { IfNone result (words.IsStuck (asked question.now) seats.now ways.new) }
+    ensures ways { words.AreWays (asked_in bounds.now) (bounds_of bounds.now) seats.now ways.new }
+    ensures reached { IfSome result (words.CanTake (asked_in bounds.now) seats.now ways.new) }
+    ensures stuck { IfNone result (words.IsStuck (asked_in bounds.now) (bounds_of bounds.now) seats.now ways.new) }
 {
-    for rank in 0..question.rows {
-        let (row, way) = next_way(question, seats, ways, rank)?;
+    for rank in 0..bounds.question.rows {
+        let (row, way) = next_way(bounds, seats, ways, rank)?;
         ways[row] = Some(way);
-        if row_lacks(question, seats, row) {
+        if row_lacks(bounds.question, seats, row) {
             return Some(row);
         }
     }

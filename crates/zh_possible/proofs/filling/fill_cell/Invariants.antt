@@ -1,6 +1,10 @@
-use Rattle.zh_matrices.specs.Asked.{asked}
-use Rattle.zh_possible.specs.Ways.{ArePlaced}
+use Rattle.std.proofs.Common.{◌-◌}
+use Rattle.zh_possible.specs.Bounds.{asked_in, bounds_of}
+use Rattle.zh_possible.specs.Ways.{ArePlaced, placed, to_place}
 use Rattle.zh_possible.proofs.filling.fill_cell.Given as goal
 
-abbrev pub invariant-loop-seat : goal.invariant-loop-seat
-invariant-loop-seat l = ArePlaced (asked l.question) l.seats
+abbrev pub invariant-loop-seats : goal.invariant-loop-seats
+invariant-loop-seats l = ArePlaced (asked_in l.bounds) (bounds_of l.bounds) l.seats
+
+abbrev pub decreases-loop-seats : goal.decreases-loop-seats
+decreases-loop-seats l = to_place (asked_in l.bounds) - placed (asked_in l.bounds) l.seats

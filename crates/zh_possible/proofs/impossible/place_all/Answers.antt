@@ -1,19 +1,18 @@
-use Rattle.std.proofs.Common.{◌∙◌, arith}
+use Rattle.std.proofs.Common.{◌∙◌}
+use Rattle.std.proofs.lemmas.Result.{IfErr-weaker}
 use Rattle.zh_matrices.specs.Asked.{asked}
-use Rattle.zh_possible.proofs.CutLemmas.{ArePlaced-none, all_placed, placed-le}
+use Rattle.zh_possible.proofs.VoteBoundLemmas.{ArePlaced-none, too_few}
 use Rattle.zh_possible.proofs.impossible.place_all.Goals as goal
 
-pub fill_cells-requires-clause-placed : goal.fill_cells-requires-clause-placed
-fill_cells-requires-clause-placed c = ArePlaced-none (asked c.args.question.now) c.clear.new.cells (c.clear.ensures.length ∙ c.requires.seats) c.clear.ensures.zeros
+pub fill_cells-requires : goal.fill_cells-requires
+fill_cells-requires c =
+    ArePlaced-none (asked c.args.question.now) _ c.clear.new.cells
+    (record { none = c.no_seats-least.ensures.zeros; by_votes = c.bound_by_votes.ensures })
+    (c.clear.auto.cells ∙ c.requires.seats) c.clear.ensures
 
-pub returns-clause-fits : goal.returns-clause-fits
-returns-clause-fits c =
-    all_placed (asked c.args.question.now) c.loop-seat.seats c.requires.balanced c.loop-seat.invariant.each
-    (omega (
-      arith,
-      c.loop-seat.invariant.so_far,
-      c.loop-seat-test.false,
-      c.loop-seat.auto._seat-end,
-      c.seats_to_place-seat-end.ensures,
-      placed-le (asked c.args.question.now) c.loop-seat.seats c.loop-seat.invariant.each,
-    ))
+pub returns-clause-too_few : goal.returns-clause-too_few
+returns-clause-too_few c =
+    IfErr-weaker c.complete.result _ _ (λ rows blocked.
+    too_few (asked c.args.question.now) _ c.complete.new.seats rows
+    (record { none = c.no_seats-least.ensures.zeros; by_votes = c.bound_by_votes.ensures }) c.requires.totals blocked)
+    c.complete.ensures.blocked

@@ -1,10 +1,10 @@
-use Rattle.zh_matrices.specs.Asked.{asked}
+use Rattle.zh_possible.specs.Bounds.{asked_in, bounds_of}
 use Rattle.zh_possible.specs.Ways.{way_at}
 use Rattle.zh_possible.proofs.PathLemmas.{IsOnWay, rank_of}
 use Rattle.zh_possible.proofs.turns.turn.Given as goal
 
 abbrev pub invariant-loop-row : goal.invariant-loop-row
-invariant-loop-row l = IsOnWay (asked l.question) l.initial.seats l.seats l.ways l.row
+invariant-loop-row l = IsOnWay (asked_in l.bounds) (bounds_of l.bounds) l.initial.seats l.seats l.ways l.row
 
 abbrev pub decreases-loop-row : goal.decreases-loop-row
 decreases-loop-row l = rank_of (way_at l.ways l.row)

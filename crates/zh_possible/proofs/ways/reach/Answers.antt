@@ -1,29 +1,29 @@
 use Rattle.std.proofs.Common.{◌<◌, length, arith}
-use Rattle.zh_matrices.specs.Asked.{asked}
+use Rattle.zh_possible.specs.Bounds.{asked_in, bounds_of}
 use Rattle.zh_matrices.specs.Question.{Question}
 use Rattle.zh_possible.proofs.WayLemmas as tables
 use Rattle.zh_possible.proofs.ways.reach.Goals as goal
 
 pub loop-rank-init : goal.loop-rank-init
 loop-rank-init c = record {
-  ways = tables.AreWays-none (asked c.args.question.now) c.args.seats.now c.args.ways.now c.requires.none;
-  ranks = tables.RanksAreBelow-none (asked c.args.question.now) c.args.ways.now 0 c.requires.none;
-  count = tables.count-none c.args.question.now.rows c.args.ways.now c.requires.none;
-  none_lacks = tables.none_lacks-none (asked c.args.question.now) c.args.seats.now c.args.ways.now c.requires.none;
+  ways = tables.AreWays-none (asked_in c.args.bounds.now) (bounds_of c.args.bounds.now) c.args.seats.now c.args.ways.now c.requires.none;
+  ranks = tables.RanksAreBelow-none (asked_in c.args.bounds.now) c.args.ways.now 0 c.requires.none;
+  count = tables.count-none c.args.bounds.now.question.now.rows c.args.ways.now c.requires.none;
+  none_lacks = tables.none_lacks-none (asked_in c.args.bounds.now) c.args.seats.now c.args.ways.now c.requires.none;
 }
 
 pub returns-then-row_lacks-clause-ways : goal.returns-then-row_lacks-clause-ways
 returns-then-row_lacks-clause-ways c =
     let within : c.in_ok-row.row < length c.loop-rank.ways = omega (arith, c.loop-rank.auto.ways, c.in_ok-row.ensures.row) in
-    tables.AreWays-set (asked c.args.question.now) c.args.seats.now c.loop-rank.ways c.in_ok-row.row c.in_ok-row.way within
+    tables.AreWays-set (asked_in c.args.bounds.now) (bounds_of c.args.bounds.now) c.args.seats.now c.loop-rank.ways c.in_ok-row.row c.in_ok-row.way within
     c.in_ok-row.ensures.new c.in_ok-row.ensures.way c.loop-rank.invariant.ways
 
 pub loop-rank-preserved : goal.loop-rank-preserved
 loop-rank-preserved c =
-    let q : Question = asked c.args.question.now in
+    let q : Question = asked_in c.args.bounds.now in
     let within : c.in_ok-row.row < length c.loop-rank.ways = omega (arith, c.loop-rank.auto.ways, c.in_ok-row.ensures.row) in
     record {
-      ways = tables.AreWays-set q c.args.seats.now c.loop-rank.ways c.in_ok-row.row c.in_ok-row.way within
+      ways = tables.AreWays-set q (bounds_of c.args.bounds.now) c.args.seats.now c.loop-rank.ways c.in_ok-row.row c.in_ok-row.way within
           c.in_ok-row.ensures.new c.in_ok-row.ensures.way c.loop-rank.invariant.ways;
       ranks = tables.RanksAreBelow-set q c.loop-rank.ways c.in_ok-row.row c.loop-rank.rank c.in_ok-row.way within
           c.in_ok-row.ensures.rank c.loop-rank.invariant.ranks;
@@ -38,7 +38,7 @@ loop-rank-preserved c =
 
 pub returns-clause-stuck : goal.returns-clause-stuck
 returns-clause-stuck c = record {
-  all_found = λ d dm none. absurd (tables.each_has_way c.args.question.now.rows c.loop-rank.ways
+  all_found = λ d dm none. absurd (tables.each_has_way c.args.bounds.now.question.now.rows c.loop-rank.ways
       (omega (arith, c.loop-rank.invariant.count, c.loop-rank-test.false, c.loop-rank.auto.rank-end)) d dm none);
   none_lacks = c.loop-rank.invariant.none_lacks;
 }

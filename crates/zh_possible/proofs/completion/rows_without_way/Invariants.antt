@@ -1,7 +1,7 @@
 use Rattle.std.proofs.Common.{◌≡◌, ℕ, ◌<◌, is_none, length}
 use Rattle.zh_possible.specs.Impossible.{is_among}
 use Rattle.zh_possible.specs.Ways.{way_at}
-use Rattle.zh_possible.proofs.impossible.rows_without_way.Given as goal
+use Rattle.zh_possible.proofs.completion.rows_without_way.Given as goal
 
 abbrev pub invariant-loop-row : goal.invariant-loop-row
 invariant-loop-row l = record {
