@@ -1,3 +1,4 @@
+mod BoundLemmas
 pub mod CallerLemmas
 mod FilledLemmas
 mod LineLemmas
@@ -5,3 +6,4 @@ mod PlaceLemmas
 mod QuotientLemmas
 mod ReachedLemmas
 mod StateLemmas
+mod TieLemmas

@@ -1,10 +1,12 @@
 -- Places and cells.
-use Rattle.std.proofs.Common.{◌≡◌, ℕ, ◌+◌, ◌*◌, ◌-◌, ◌/◌, ◌%◌, ◌^◌, ◌<◌, ◌≤◌, Bool, false, true, Some, ◌↔◌, IsTrue, List, All, length, get_or, inl, inr, sym, ap, ◌∙◌, arith}
+use Rattle.std.proofs.Common.{◌≡◌, ℕ, ◌+◌, ◌*◌, ◌-◌, ◌/◌, ◌%◌, ◌^◌, ◌<◌, ◌≤◌, Bool, false, true, None, Some, ◌↔◌, IsTrue, List, All, length, get_or, inl, inr, sym, ap, ◌∙◌, arith}
 use Rattle.std.proofs.lemmas.Bool.{cases_lt}
 use Rattle.std.proofs.lemmas.List.Elements.{All-from_get_or}
 use Rattle.std.proofs.lemmas.List.{ext_get_or}
 use Rattle.std.proofs.lemmas.List.Quantifiers.{position-Some}
-use Rattle.std.specs.List.{position}
+use Rattle.std.proofs.lemmas.List.Sums.{fails_before_first}
+use Rattle.std.proofs.lemmas.Grind.{common_steps}
+use Rattle.std.specs.List.{position, position_or_len}
 use Rattle.std.proofs.lemmas.List.FromFn.{get_or-map-range_with_len, length-map-range_with_len}
 use Rattle.std.proofs.Math.Nat.{div-add-mod', mul-pos, mul-le-mul_right, le_antisymm, min-eq_right, min-le_left}
 use Rattle.zh_divisors.specs.Line.{half_up}
@@ -12,7 +14,7 @@ use Rattle.zh_divisors.specs.Rounding.{Rounds}
 use Rattle.zh_divisors.proofs.CallerLemmas.{half_up-at_least, half_up-at_most, term-le-sum_to}
 use Rattle.zh_matrices.specs.Divisors.{Divisors}
 use Rattle.zh_search.specs.Outcomes.{HasHalf, HasNone, IsFirstHalf, IsProper}
-use Rattle.zh_search.specs.Places.{is_half_at, no_quotient, product_at, quotient_at, quotients, rounded, rounded_at}
+use Rattle.zh_search.specs.Places.{HasNoHalf, is_half_at, no_quotient, product_at, quotient_at, quotients, rounded, rounded_at}
 use Rattle.zh_matrices.specs.Question.{Question, cell}
 use Rattle.zh_matrices.specs.SeatMatrix.{IsStrict}
 use Rattle.zh_search.specs.declared.quotient.Quotient.{Quotient}
@@ -54,7 +56,7 @@ strict_is q x seats proper scale strict =
     strict_at q x seats proper scale strict k within
     ∙ sym (get_or-map-range_with_len (rounded_at q x) 0 (q.rows * q.columns) k k 0 within (omega arith)))
 
-half_there : (q : Question) (x : Divisors) (d g : ℕ) → x.scale ≡ 1000000 → g < q.columns → HasHalf q x d g → IsTrue (is_half_at q x (d * q.columns + g))
+pub half_there : (q : Question) (x : Divisors) (d g : ℕ) → x.scale ≡ 1000000 → g < q.columns → HasHalf q x d g → IsTrue (is_half_at q x (d * q.columns + g))
 half_there q x d g scale lt half = rw (place-div d g q.columns lt, place-mod d g q.columns lt) (rw scale at half)
 
 -- the quotient that is kept for a place
@@ -88,6 +90,21 @@ IsFirstHalfPlace-of q x xs k is found =
           let yes : is_half_at q x j ≡ true = here in
           cc;
     }
+
+-- none is on a half
+position-None : {X : Type 0} (p : X → Bool) (xs : List X) (k : ℕ) (d : X) → position p xs ≡ None → k < length xs → p (get_or xs k d) ≡ false
+position-None p xs k d none lt =
+    let all : length xs ≤ position_or_len p xs = grind (arith, common_steps) in
+    fails_before_first p xs k d (omega arith)
+
+pub HasNoHalf-of : (q : Question) (x : Divisors) (xs : List Quotient) → xs ≡ quotients q x →
+    position (λ quotient. quotient.is_half) xs ≡ None → HasNoHalf q x
+HasNoHalf-of q x xs is none k within here =
+    let there : k < length xs = omega (arith, length-quotients q x xs is) in
+    let no = sym (ap (λ quotient. quotient.is_half) (quotient-is q x xs k is within))
+    ∙ position-None (λ quotient. quotient.is_half) xs k no_quotient none there in
+    let yes : is_half_at q x k ≡ true = here in
+    cc
 
 -- rows and columns from 1
 pub IsFirstHalf-of : (q : Question) (x : Divisors) (k d g : ℕ) → x.scale ≡ 1000000 → IsFirstHalfPlace q x k →

@@ -3,7 +3,7 @@ use Rattle.std.proofs.Common.{◌≡◌, ℕ, ◌+◌, ◌*◌, ◌<◌, List, O
 use Rattle.std.proofs.lemmas.Bool.{cases_eq, cases_lt}
 use Rattle.std.proofs.Math.Nat.{mul-mod_right, mul-add-mod_self_left}
 use Rattle.zh_matrices.specs.Divisors.{Divisors}
-use Rattle.zh_search.specs.Outcomes.{EndsRound, RoundGoesOn, HasNone, IsReached, NoneBefore}
+use Rattle.zh_search.specs.Outcomes.{EndsRound, RoundGoesOn, IsNoEnd, IsReached, NoneBefore}
 use Rattle.zh_matrices.specs.Question.{Question}
 use Rattle.zh_matrices.specs.SeatMatrix.{IsStrict}
 use Rattle.zh_search.specs.States.{start, state, with_columns_renewed, with_rows_renewed}
@@ -16,7 +16,7 @@ state-columns q n = rw (add-one (2 * n), mul-mod_right 2 n) refl
 state-rows : (q : Question) (n : ℕ) → state q (2 * n + 1 + 1) ≡ with_rows_renewed q (state q (2 * n + 1))
 state-rows q n = rw (add-one (2 * n + 1), mul-add-mod_self_left 2 n 1) refl
 
-NoneBefore-more : (q : Question) (n : ℕ) → NoneBefore q n → HasNone q (state q n) → NoneBefore q (n + 1)
+NoneBefore-more : (q : Question) (n : ℕ) → NoneBefore q n → IsNoEnd q (state q n) → NoneBefore q (n + 1)
 NoneBefore-more q n before here k lt = elim (cases_eq k n) [
   | inl is ↦ rw is here
   | inr other ↦ before k (omega arith)
@@ -40,14 +40,14 @@ round-none q n x y at goes before =
     let twice : 2 * n + 1 + 1 ≡ 2 * (n + 1) = omega arith in
     NoneBefore-more q (2 * (n + 1)) (rw twice at one) (rw (← round-state q n x y at goes) goes.none_after)
 
-pub start-none : (q : Question) → HasNone q (state q 0) → NoneBefore q 1
+pub start-none : (q : Question) → IsNoEnd q (state q 0) → NoneBefore q 1
 start-none q here k lt =
     let is : k ≡ 0 = omega arith in
     rw is here
 
 -- two half-steps without an end
-pub goes_on : {End : Type 0} (q : Question) (x y z : Divisors) (result : Option End) → y ≡ with_columns_renewed q x → z ≡ with_rows_renewed q y → HasNone q y →
-    IfNone result (HasNone q z) → IfNone result (RoundGoesOn q x z)
+pub goes_on : {End : Type 0} (q : Question) (x y z : Divisors) (result : Option End) → y ≡ with_columns_renewed q x → z ≡ with_rows_renewed q y → IsNoEnd q y →
+    IfNone result (IsNoEnd q z) → IfNone result (RoundGoesOn q x z)
 goes_on q x y z (Some end) columns rows between after = tt
 goes_on q x y z None columns rows between after = record {
   after_is = rows ∙ ap (with_rows_renewed q) columns;
@@ -83,14 +83,17 @@ round-reached q n x y few at before (inr (rows, none)) =
       none_before = NoneBefore-more q (2 * n + 1) before (rw between none);
     }
 
--- of the divisors that it comes to, one pair alone gives seats
-pub same-reached : (q : Question) (x y : Divisors) (s t : List ℕ) → IsReached q x → IsStrict q x s → IsReached q y → IsStrict q y t → y ≡ x
-same-reached q x y s t X S Y T = elim (cases_lt X.half_steps Y.half_steps) [
-  | inl lt ↦ absurd (Y.none_before X.half_steps lt s (rw (← X.divisors) S))
+-- of the divisors that it comes to, it ends at one pair alone
+pub same-end : (q : Question) (x y : Divisors) → IsReached q x → ¬ IsNoEnd q x → IsReached q y → ¬ IsNoEnd q y → y ≡ x
+same-end q x y X x_ends Y y_ends = elim (cases_lt X.half_steps Y.half_steps) [
+  | inl lt ↦ absurd (x_ends (rw X.divisors (Y.none_before X.half_steps lt)))
   | inr ge ↦ elim (cases_lt Y.half_steps X.half_steps) [
-    | inl lt ↦ absurd (X.none_before Y.half_steps lt t (rw (← Y.divisors) T))
+    | inl lt ↦ absurd (y_ends (rw Y.divisors (X.none_before Y.half_steps lt)))
     | inr le ↦
         let same : Y.half_steps ≡ X.half_steps = omega (arith, ge, le) in
         Y.divisors ∙ ap (λ n. state q n) same ∙ sym X.divisors
   ]
 ]
+
+pub same-reached : (q : Question) (x y : Divisors) (s t : List ℕ) → IsReached q x → IsStrict q x s → IsReached q y → IsStrict q y t → y ≡ x
+same-reached q x y s t X S Y T = same-end q x y X (λ goes. goes.none s S) Y (λ goes. goes.none t T)

@@ -2,4 +2,5 @@ pub mod Outcomes
 pub mod Places
 pub mod Quotients
 pub mod Rooms
+pub mod SeatBounds
 pub mod States

@@ -46,11 +46,20 @@ pub record IsTiedAt (q : Question) (x : Divisors) (d g : ℕ) : Type 0 where
 abbrev pub HasNone : Question → Divisors → Type 0
 HasNone q x = (seats : List ℕ) → ¬ IsStrict q x seats
 
--- nor from the first n states of the search
-abbrev pub NoneBefore : Question → ℕ → Type 0
-NoneBefore q n = (k : ℕ) → k < n → HasNone q (state q k)
+-- and no two different matrices, halves rounded either way
+abbrev pub IsNotTied : Question → Divisors → Type 0
+IsNotTied q x = (seats others : List ℕ) → ¬ AreTwoWays q x seats others
 
--- the search comes to these divisors: after so many of its 2,000 half-steps, and no seats follow before
+-- so the search goes on from them
+pub record IsNoEnd (q : Question) (x : Divisors) : Type 0 where
+  pub none : HasNone q x
+  pub not_tied : IsNotTied q x
+
+-- and from each of its first n states
+abbrev pub NoneBefore : Question → ℕ → Type 0
+NoneBefore q n = (k : ℕ) → k < n → IsNoEnd q (state q k)
+
+-- the search comes to these divisors: after so many of its 2,000 half-steps, and no state before has seats or a tie
 pub record IsReached (q : Question) (x : Divisors) : Type 0 where
   pub half_steps : ℕ
   pub few : half_steps ≤ 2000
@@ -68,14 +77,14 @@ abbrev pub IsEnding : Question → Divisors → List ℕ → List ℕ → Ending
 IsEnding q x seats others Found = IsStrict q x seats
 IsEnding q x seats others (Tied d g) = AreTwoWays q x seats others × IsFirstHalf q x d g
 
--- a round ends after its half-step of the columns, or after that of the rows where no seats followed between
+-- a round ends after its half-step of the columns, or after that of the rows where there was no end between
 abbrev pub EndsRound : Question → Divisors → Divisors → Type 0
 EndsRound q before after =
     (after ≡ with_columns_renewed q before)
-    ⊎ ((after ≡ with_rows_renewed q (with_columns_renewed q before)) × HasNone q (with_columns_renewed q before))
+    ⊎ ((after ≡ with_rows_renewed q (with_columns_renewed q before)) × IsNoEnd q (with_columns_renewed q before))
 
 -- a round without an end: its two half-steps led from one state to the other
 pub record RoundGoesOn (q : Question) (before after : Divisors) : Type 0 where
   pub after_is : after ≡ with_rows_renewed q (with_columns_renewed q before)
-  pub none_between : HasNone q (with_columns_renewed q before)
-  pub none_after : HasNone q after
+  pub none_between : IsNoEnd q (with_columns_renewed q before)
+  pub none_after : IsNoEnd q after

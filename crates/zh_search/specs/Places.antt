@@ -1,5 +1,5 @@
 -- The cells of a matrix by their places, row by row, under divisors in millionths.
-use Rattle.std.specs.Prelude.{ℕ, ◌*◌, ◌/◌, ◌%◌, ◌^◌, min, Bool, false, List, map, slice_index}
+use Rattle.std.specs.Prelude.{ℕ, ◌*◌, ◌/◌, ◌%◌, ◌^◌, ◌<◌, min, Bool, false, IsTrue, List, map, slice_index}
 use Rattle.std.specs.List.{range_with_len}
 use Rattle.zh_divisors.specs.Line.{half_up}
 use Rattle.zh_matrices.specs.Divisors.{Divisors}
@@ -17,6 +17,10 @@ rounded_at q x place = min 400 (half_up (slice_index q.votes place * 10 ^ 12) (p
 
 abbrev pub is_half_at : Question → Divisors → ℕ → Bool
 is_half_at q x place = is_half (slice_index q.votes place * 10 ^ 12) (product_at q x place)
+
+-- no quotient lies on a half
+abbrev pub HasNoHalf : Question → Divisors → Type 0
+HasNoHalf q x = (place : ℕ) → place < q.rows * q.columns → ¬ IsTrue (is_half_at q x place)
 
 -- its quotient, rounded half up, and whether it lies on a half
 abbrev pub quotient_at : Question → Divisors → ℕ → Quotient

@@ -19,3 +19,5 @@ pub record IsSearchRoom (q : Question) (room : SearchRoom) : Type 0 where
   pub quotients : length room.quotients.items ≡ q.rows * q.columns
   pub seats : length room.seats.items ≡ q.rows * q.columns
   pub others : length room.others.items ≡ q.rows * q.columns
+  pub least : length room.least.items ≡ q.rows * q.columns
+  pub most : length room.most.items ≡ q.rows * q.columns

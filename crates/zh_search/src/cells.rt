@@ -1,5 +1,5 @@
 //! The cells of a matrix under divisors, by their places row by row.
-ghost use Rattle.std.specs.Prelude.{◌≡◌, ℕ, List, ◌*◌, ◌^◌, ◌<◌, ◌≤◌, IfSome, min, length};
+ghost use Rattle.std.specs.Prelude.{◌≡◌, ℕ, List, ◌*◌, ◌^◌, ◌<◌, ◌≤◌, IfNone, IfSome, min, length};
 ghost use Rattle.std.specs.List.{position};
 ghost use Rattle.zh_matrices.specs.Asked.{asked};
 ghost use Rattle.zh_matrices.specs.Divisors.{AreWithinLimits, millionths};
@@ -12,7 +12,12 @@ use crate::state::{SearchRoom, SearchState};
 use zh_matrices::Question;
 
 /// The product of the two divisors of a place.
-fn product_at(question: &Question<'_>, of_rows: &[u64], of_columns: &[u64], place: usize) -> u128
+pub(crate) fn product_at(
+    question: &Question<'_>,
+    of_rows: &[u64],
+    of_columns: &[u64],
+    place: usize,
+) -> u128
     requires limits { AreWithinLimits (asked question.now) of_rows.now of_columns.now }
     requires place { place < question.now.rows * question.now.columns }
     ensures product { result ≡ places.product_at (asked question.now) (millionths of_rows.now of_columns.now) place }
@@ -26,7 +31,7 @@ fn product_at(question: &Question<'_>, of_rows: &[u64], of_columns: &[u64], plac
 }
 
 /// The quotient of a place.
-fn quotient_at(question: &Question<'_>, state: &SearchState, place: usize) -> Quotient
+pub(crate) fn quotient_at(question: &Question<'_>, state: &SearchState, place: usize) -> Quotient
     requires limits { AreWithinLimits (asked question.now) state.now.of_rows.items state.now.of_columns.items }
     requires place { place < question.now.rows * question.now.columns }
     ensures { result ≡ places.quotient_at (asked question.now) (divisors_of state.now) place }
@@ -83,9 +88,12 @@ fn first_half_place(quotients: &[Quotient]) -> Option<usize>
 /// Its row and column, both counted from 1.
 pub(crate) fn first_half(question: &Question<'_>, room: &SearchRoom) -> Option<(u32, u32)>
     requires { length room.now.quotients.items ≡ question.now.rows * question.now.columns }
-    ensures { (of_rows of_columns : List ℕ) →
+    ensures first { (of_rows of_columns : List ℕ) →
         room.now.quotients.items ≡ places.quotients (asked question.now) (millionths of_rows of_columns) →
         IfSome result (λ cell. IsFirstHalf (asked question.now) (millionths of_rows of_columns) cell.0 cell.1) }
+    ensures none { (of_rows of_columns : List ℕ) →
+        room.now.quotients.items ≡ places.quotients (asked question.now) (millionths of_rows of_columns) →
+        IfNone result (places.HasNoHalf (asked question.now) (millionths of_rows of_columns)) }
 {
     match first_half_place(&room.quotients) {
         Some(place) => Some((

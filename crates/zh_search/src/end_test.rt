@@ -1,16 +1,15 @@
 //! Whether a state of the search has seats, or a tie.
-ghost use Rattle.std.specs.Prelude.{◌≡◌, ◌*◌, ◌≤◌, ◌↔◌, All, IfNone, IfSome, IsTrue, length};
+ghost use Rattle.std.specs.Prelude.{◌≡◌, ◌≤◌, ◌↔◌, All, IfNone, IfSome, IsTrue};
 ghost use Rattle.zh_matrices.specs.Asked.{asked};
 ghost use Rattle.zh_matrices.specs.Divisors.{AreWithinLimits};
-ghost use Rattle.zh_search.specs.Outcomes.{AreTwoWays, IsEnding, HasNone};
-ghost use Rattle.zh_search.specs.Outcomes.{IsProper};
+ghost use Rattle.zh_search.specs.Outcomes.{IsEnding, IsNoEnd, IsProper};
 ghost use Rattle.zh_search.specs.Places.{quotients as quotients_of};
 ghost use Rattle.zh_search.specs.Rooms.{IsSearchRoom, divisors_of};
-ghost use Rattle.zh_matrices.specs.SeatMatrix.{IsStrict, IsWeak};
+ghost use Rattle.zh_matrices.specs.SeatMatrix.{IsStrict};
 
 use crate::cells::{first_half, round_cells};
 use crate::state::{SearchRoom, SearchState};
-use crate::two_ways::look_for_two_ways;
+use crate::two_ways::find_two_ways;
 use zh_matrices::{Proposal, Question, Rounding, follows};
 
 /// How a search ends.
@@ -21,30 +20,6 @@ pub enum Ending {
     /// Two different matrices follow from the divisors at hand, whose first quotient on a half is in this row
     /// and this column, both counted from 1.
     Tied(u32, u32),
-}
-
-/// Whether seats of any number are few, and follow weakly.
-fn may_follow(question: &Question<'_>, state: &SearchState, seats: &[u32]) -> bool
-    requires limits { AreWithinLimits (asked question.now) state.now.of_rows.items state.now.of_columns.items }
-    requires seats { length seats.now ≡ question.now.rows * question.now.columns }
-    ensures { IsTrue result → IsWeak (asked question.now) (divisors_of state.now) seats.now }
-{
-    if seats.iter().any(|s| *s > 400) {
-        return false;
-    }
-    let proposal = Proposal { question, seats };
-    follows(Rounding::Weak, &proposal, &state.of_rows, &state.of_columns)
-}
-
-/// Whether both matrices of the room follow weakly, and differ.
-fn are_two_ways(question: &Question<'_>, state: &SearchState, room: &SearchRoom) -> bool
-    requires limits { AreWithinLimits (asked question.now) state.now.of_rows.items state.now.of_columns.items }
-    requires room { IsSearchRoom (asked question.now) room.now }
-    ensures { IsTrue result → AreTwoWays (asked question.now) (divisors_of state.now) room.now.seats.items room.now.others.items }
-{
-    let seats = room.seats.as_slice();
-    let others = room.others.as_slice();
-    seats != others && may_follow(question, state, seats) && may_follow(question, state, others)
 }
 
 /// Whether the seats of the room follow strictly.
@@ -78,7 +53,7 @@ pub(crate) fn end_test(
     ensures quotients { room.new.quotients.items ≡ quotients_of (asked question.now) (divisors_of state.now) }
     ensures ends { IfSome result
         (IsEnding (asked question.now) (divisors_of state.now) room.new.seats.items room.new.others.items) }
-    ensures none { IfNone result (HasNone (asked question.now) (divisors_of state.now)) }
+    ensures none { IfNone result (IsNoEnd (asked question.now) (divisors_of state.now)) }
     ensures room { IsSearchRoom (asked question.now) room.new }
 {
     round_cells(question, state, room);
@@ -86,8 +61,7 @@ pub(crate) fn end_test(
         return Some(Ending::Found);
     }
     if let Some((row, column)) = first_half(question, room) {
-        look_for_two_ways(question, room);
-        if are_two_ways(question, state, room) {
+        if find_two_ways(question, state, room) {
             return Some(Ending::Tied(row, column));
         }
     }

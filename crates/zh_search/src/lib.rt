@@ -4,14 +4,16 @@
 pub use end_test::Ending;
 pub use first_search::search;
 pub use half_step::{middle_columns, middle_rows};
+pub use laws::seats_within_bounds;
+pub use seat_bounds::bound_cells;
 pub use state::{SearchRoom, SearchState};
 
 mod cells;
-mod cycles;
 mod end_test;
 mod first_search;
 mod half_step;
-mod paths;
+mod laws;
 mod quotient;
+mod seat_bounds;
 mod state;
 mod two_ways;

@@ -58,6 +58,17 @@ fn divided(raised: u128, double: u128) -> Quotient
     }
 }
 
+/// The quotient of votes over a product of two divisors in millionths, rounded to the nearest whole number, a half down.
+pub(crate) fn half_down(votes: u64, product: u128) -> u128
+    requires votes { votes ≤ 10 ^ 14 }
+    requires from_1 { 1 ≤ product }
+    requires at_most { product ≤ 10 ^ 36 }
+    ensures { result ≡ lines.half_down (votes * 10 ^ 12) product }
+{
+    let twice = 2 * (u128::from(votes) * 1_000_000_000_000);
+    (twice + product - 1) / (2 * product)
+}
+
 /// The quotient of votes over a product of two divisors in millionths.
 pub(crate) fn votes_over(votes: u64, product: u128) -> Quotient
     requires votes { votes ≤ 10 ^ 14 }

@@ -27,13 +27,16 @@ impl SearchState {
     }
 }
 
-/// What a search works in: the quotients of the cells, and two matrices of seats.
+/// What a search works in: the quotients of the cells, two matrices of seats, and the bounds of each cell.
 #[derive(Drop)]
 pub struct SearchRoom {
     pub(crate) quotients: Vec<Quotient>,
     pub seats: Vec<u32>,
     /// The seats that the same divisors give where halves are rounded otherwise.
     pub others: Vec<u32>,
+    /// The fewest and the most seats that the divisors leave to each cell.
+    pub(crate) least: Vec<u32>,
+    pub(crate) most: Vec<u32>,
 }
 
 impl SearchRoom {
@@ -50,6 +53,8 @@ impl SearchRoom {
             quotients: vec![in alloc; Quotient::NONE; cells]?,
             seats: vec![in alloc; 0; cells]?,
             others: vec![in alloc; 0; cells]?,
+            least: vec![in alloc; 0; cells]?,
+            most: vec![in alloc; 0; cells]?,
         })
     }
 }

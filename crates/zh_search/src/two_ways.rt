@@ -1,48 +1,83 @@
-//! Two ways to round the quotients that lie on a half.
-//!
-//! A cell has its seats in one matrix and its other choice in a second one; they differ by one where the
-//! quotient lies on a half. Nothing is promised of what is found here, since the end test checks it.
-ghost use Rattle.std.specs.Prelude.{◌≡◌, ◌*◌, length};
+//! Whether two different matrices follow from the divisors of a state, a half rounded either way.
+ghost use Rattle.std.specs.Bool.{OnFalse, OnTrue};
+ghost use Rattle.std.specs.Prelude.{◌≡◌, ◌≢◌, ℕ, ◌*◌, ◌<◌, IsTrue, List, length};
 ghost use Rattle.zh_matrices.specs.Asked.{asked};
-ghost use Rattle.zh_search.specs.Rooms.{IsSearchRoom};
+ghost use Rattle.zh_matrices.specs.Divisors.{AreWithinLimits};
+ghost use Rattle.zh_possible.specs.Bounds.{IsAnotherAt, IsFixedAt, IsWithin, asked_in, bounds_of};
+ghost use Rattle.zh_search.specs.Outcomes.{AreTwoWays, IsNotTied, IsProper};
+ghost use Rattle.zh_search.specs.Rooms.{IsSearchRoom, divisors_of};
 
-use crate::cycles::turn_cycle;
-use crate::paths::fill;
-use crate::quotient::Quotient;
-use crate::state::SearchRoom;
+use crate::seat_bounds::bound_room;
+use crate::state::{SearchRoom, SearchState};
 use zh_matrices::Question;
+use zh_possible::{CellBounds, differ_at, fill_within};
 
-/// Starts with each half down, and its other choice up.
-fn round_halves_down(quotients: &[Quotient], seats: &mut [u32], others: &mut [u32])
-    requires seats { length seats.old ≡ length quotients.now }
-    requires others { length others.old ≡ length quotients.now }
+/// Leaves another matrix within the bounds in `others`, with other seats in a place; false where all have the same there.
+fn other_at(bounds: &CellBounds<'_>, seats: &[u32], place: usize, others: &mut [u32]) -> bool
+    requires within { IsWithin (asked_in bounds.now) (bounds_of bounds.now) seats.now }
+    requires place { place < bounds.now.question.now.rows * bounds.now.question.now.columns }
+    requires others { length others.old ≡ bounds.now.question.now.rows * bounds.now.question.now.columns }
+    ensures differs { OnTrue result (IsAnotherAt (asked_in bounds.now) (bounds_of bounds.now) seats.now place others.new) }
+    ensures same { OnFalse result (IsFixedAt (asked_in bounds.now) (bounds_of bounds.now) seats.now place) }
+{
+    if bounds.most[place] <= bounds.least[place] {
+        return false;
+    }
+    differ_at(bounds, seats, place, others)
+}
+
+/// Leaves another matrix within the bounds in `others`; false where there is none.
+fn find_other(bounds: &CellBounds<'_>, seats: &[u32], others: &mut [u32]) -> bool
+    requires within { IsWithin (asked_in bounds.now) (bounds_of bounds.now) seats.now }
+    requires others { length others.old ≡ bounds.now.question.now.rows * bounds.now.question.now.columns }
+    ensures within { OnTrue result (IsWithin (asked_in bounds.now) (bounds_of bounds.now) others.new) }
+    ensures differ { IsTrue result → seats.now ≢ others.new }
+    ensures only { OnFalse result ((s : List ℕ) → IsWithin (asked_in bounds.now) (bounds_of bounds.now) s → s ≡ seats.now) }
 {
     for place in 0..seats.len() {
-        let rounded = seats[place];
-        others[place] = rounded;
-        if rounded > 0 && quotients[place].is_half {
-            seats[place] = rounded - 1;
+        if other_at(bounds, seats, place, others) {
+            return true;
         }
     }
+    false
 }
 
-/// Looks for two ways that meet all totals, from seats that are rounded half up: first for one, and then for
-/// cells that can all take their other choice.
-fn look(question: &Question<'_>, quotients: &[Quotient], seats: &mut [u32], others: &mut [u32])
-    requires quotients { length quotients.now ≡ question.now.rows * question.now.columns }
-    requires seats { length seats.old ≡ question.now.rows * question.now.columns }
-    requires others { length others.old ≡ question.now.rows * question.now.columns }
+/// Leaves two different matrices within the bounds in `seats` and `others`; false where there are none.
+fn find_both(bounds: &CellBounds<'_>, seats: &mut [u32], others: &mut [u32]) -> bool
+    requires seats { length seats.old ≡ bounds.now.question.now.rows * bounds.now.question.now.columns }
+    requires others { length others.old ≡ bounds.now.question.now.rows * bounds.now.question.now.columns }
+    ensures one { OnTrue result (IsWithin (asked_in bounds.now) (bounds_of bounds.now) seats.new) }
+    ensures other { OnTrue result (IsWithin (asked_in bounds.now) (bounds_of bounds.now) others.new) }
+    ensures differ { IsTrue result → seats.new ≢ others.new }
+    ensures none { OnFalse result ((s t : List ℕ) → IsWithin (asked_in bounds.now) (bounds_of bounds.now) s →
+        IsWithin (asked_in bounds.now) (bounds_of bounds.now) t → s ≡ t) }
 {
-    round_halves_down(quotients, seats, others);
-    fill(question, seats, others);
-    turn_cycle(question, seats, others);
+    if !fill_within(bounds, seats) {
+        return false;
+    }
+    find_other(bounds, seats, others)
 }
 
-/// Leaves in the room what it finds.
-pub(crate) fn look_for_two_ways(question: &Question<'_>, room: &mut SearchRoom)
+/// Leaves two different matrices that follow from the divisors of a state in the room; false where there are none.
+pub(crate) fn find_two_ways(
+    question: &Question<'_>,
+    state: &SearchState,
+    room: &mut SearchRoom,
+) -> bool
+    requires proper { IsProper (asked question.now) }
+    requires limits { AreWithinLimits (asked question.now) state.now.of_rows.items state.now.of_columns.items }
     requires room { IsSearchRoom (asked question.now) room.old }
+    ensures two { OnTrue result
+        (AreTwoWays (asked question.now) (divisors_of state.now) room.new.seats.items room.new.others.items) }
+    ensures none { OnFalse result (IsNotTied (asked question.now) (divisors_of state.now)) }
     ensures room { IsSearchRoom (asked question.now) room.new }
     ensures quotients { room.new.quotients.items ≡ room.old.quotients.items }
 {
-    look(question, &room.quotients, &mut room.seats, &mut room.others);
+    bound_room(question, state, room);
+    let bounds = CellBounds {
+        question: &*question,
+        least: room.least.as_slice(),
+        most: room.most.as_slice(),
+    };
+    find_both(&bounds, &mut room.seats, &mut room.others)
 }

@@ -1,6 +1,7 @@
 use Rattle.std.proofs.Common.{refl}
 use Rattle.zh_matrices.specs.Asked.{asked}
 use Rattle.zh_search.specs.Rooms.{divisors_of}
+use Rattle.zh_search.proofs.BoundLemmas.{not_tied-without}
 use Rattle.zh_search.proofs.PlaceLemmas.{HasNone-tested, rounded-few}
 use Rattle.zh_search.proofs.end_test.end_test.Goals as goal
 
@@ -8,12 +9,17 @@ pub are_strict-requires-clause-few : goal.are_strict-requires-clause-few
 are_strict-requires-clause-few c =
     rw c.round_cells.ensures.seats (rounded-few (asked c.args.question.now) (divisors_of c.args.state.now))
 
-pub returns-else-are_two_ways-clause-none : goal.returns-else-are_two_ways-clause-none
-returns-else-are_two_ways-clause-none c =
-    HasNone-tested (asked c.args.question.now) _ c.round_cells.new.room.seats.items _ c.requires.proper refl c.round_cells.ensures.seats
-    c.are_strict.ensures c.if-are_strict.false
+pub returns-else-find_two_ways-clause-none : goal.returns-else-find_two_ways-clause-none
+returns-else-find_two_ways-clause-none c = record {
+  none = HasNone-tested (asked c.args.question.now) _ c.round_cells.new.room.seats.items _ c.requires.proper refl c.round_cells.ensures.seats
+      c.are_strict.ensures c.if-are_strict.false;
+  not_tied = c.if-find_two_ways.ensures.none;
+}
 
 pub returns-in_default-clause-none : goal.returns-in_default-clause-none
-returns-in_default-clause-none c =
-    HasNone-tested (asked c.args.question.now) _ c.round_cells.new.room.seats.items _ c.requires.proper refl c.round_cells.ensures.seats
-    c.are_strict.ensures c.if-are_strict.false
+returns-in_default-clause-none c = record {
+  none = HasNone-tested (asked c.args.question.now) _ c.round_cells.new.room.seats.items _ c.requires.proper refl c.round_cells.ensures.seats
+      c.are_strict.ensures c.if-are_strict.false;
+  not_tied = not_tied-without (asked c.args.question.now) c.args.state.now.of_rows.items c.args.state.now.of_columns.items
+      (c.in_default.ensures.none _ _ c.round_cells.ensures.quotients);
+}
