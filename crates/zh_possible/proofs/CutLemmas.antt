@@ -1,5 +1,5 @@
 -- Where no more seats can be placed, no matrix within the bounds has all totals; where all are placed, they are one.
-use Rattle.std.proofs.Common.{◌≡◌, ℕ, zero, suc, ◌+◌, ◌<◌, ◌≤◌, ◌⊎◌, Bool, true, false, cond, Option, Some, None, IsSome, is_none, Result, Ok, Err, IfErr, is_ok}
+use Rattle.std.proofs.Common.{◌≡◌, ℕ, zero, suc, ◌+◌, ◌<◌, ◌≤◌, ◌⊎◌, Bool, true, false, cond, Option, Some, None, IsSome, is_none, Result, Ok, Err, IfErr, OnOk, is_ok}
 use Rattle.std.proofs.Common.{List, slice_index, refl, sym, ◌∙◌, inl, inr, arith, add-one, below_more}
 use Rattle.std.proofs.lemmas.Bool.{cases_eq, cases_lt}
 use Rattle.std.proofs.Math.Nat.{le_of_eq}
@@ -21,7 +21,7 @@ some_less (suc n) f g less = elim (cases_lt (f n) (g n)) [
   | inr le ↦ let (i, lt, smaller) = some_less n f g (omega arith) in (i, omega arith, smaller)
 ]
 
-sum_to-less : (n : ℕ) (f g : ℕ → ℕ) (j : ℕ) → ((i : ℕ) → i < n → f i ≤ g i) → j < n → f j < g j → sum_to n f < sum_to n g
+pub sum_to-less : (n : ℕ) (f g : ℕ → ℕ) (j : ℕ) → ((i : ℕ) → i < n → f i ≤ g i) → j < n → f j < g j → sum_to n f < sum_to n g
 sum_to-less zero f g j below within less = absurd (omega arith)
 sum_to-less (suc n) f g j below within less = elim (cases_eq j n) [
   | inl is ↦
@@ -149,3 +149,7 @@ pub none-after : (q : Question) (b : CellBounds) (seats : List ℕ) (r : Result 
     IfErr r (AreBlocked q b seats) → (t : List ℕ) → ¬ IsWithin q b t
 none-after q b seats (Ok u) failed blocked t within = cc
 none-after q b seats (Err rows) failed blocked t within = none-within q b seats rows blocked t within
+
+pub within-after : (r : Result (Unit {0}) (List Bool)) (P : Type 0) → is_ok r ≡ true → OnOk r P → P
+within-after (Ok u) P done p = p
+within-after (Err rows) P done p = cc

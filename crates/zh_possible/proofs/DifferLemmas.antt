@@ -1,10 +1,12 @@
 -- Bounds of which one is tightened.
-use Rattle.std.proofs.Common.{◌≡◌, ◌≢◌, ℕ, ◌+◌, ◌-◌, ◌*◌, ◌<◌, ◌≤◌, List, length, get_or, set, slice_index, inl, inr, ap, ◌∙◌, arith}
+use Rattle.std.proofs.Common.{◌≡◌, ◌≢◌, ℕ, ◌+◌, ◌-◌, ◌*◌, ◌<◌, ◌≤◌, List, length, get_or, set, slice_index, inl, inr, refl, sym, ap, ◌∙◌, arith}
 use Rattle.std.proofs.lemmas.Bool.{cases_eq, cases_lt}
-use Rattle.std.proofs.lemmas.List.{get_or-set_other, get_or-set_same}
-use Rattle.std.proofs.Math.Nat.{mul-le-mul_right}
-use Rattle.zh_matrices.specs.Question.{IsSized, Question}
+use Rattle.std.proofs.lemmas.List.{get_or-set_other, get_or-set_same, length-set}
+use Rattle.std.proofs.Math.Nat.{le_of_eq, mul-le-mul_right}
+use Rattle.zh_divisors.proofs.CallerLemmas.{sum_to-le}
+use Rattle.zh_matrices.specs.Question.{IsSized, Question, cell}
 use Rattle.zh_possible.specs.Bounds.{AreAtLeast, AreAtMost, CellBounds, IsAnotherAt, IsWithin}
+use Rattle.zh_possible.specs.Ways.{ArePlaced}
 use Rattle.zh_possible.proofs.TurnLemmas.{cell-within}
 use Rattle.zh_possible.proofs.WithinLemmas.{at_most-at}
 
@@ -121,6 +123,33 @@ IsFewer-of q b copy seats place sized long lt same within some = record {
   some = some;
 }
 
+-- the matrix with one seat less there is placed
+pub fewer-placed : (q : Question) (b : CellBounds) (seats tight : List ℕ) (place : ℕ) → IsFewer q b seats tight place →
+    slice_index b.least place < slice_index seats place → ArePlaced q (lowered b tight) (set seats place (get_or seats place 0 - 1))
+fewer-placed q b seats tight place fewer above =
+    let but : AreSameBut (q.rows * q.columns) seats (set seats place (get_or seats place 0 - 1)) place (get_or seats place 0 - 1)
+    = AreSameBut-set (q.rows * q.columns) seats seats place (get_or seats place 0 - 1) fewer.there (le_of_eq (sym fewer.within.one_each)) (λ k kn. refl) in
+    let below : AreAtMost q seats (set seats place (get_or seats place 0 - 1))
+    = at_most-wide q seats (set seats place (get_or seats place 0 - 1)) (set seats place (get_or seats place 0 - 1)) place (get_or seats place 0 - 1) but
+    (omega arith) (λ d g dm gn. omega arith) in
+    record {
+      one_each = length-set seats place (get_or seats place 0 - 1) ∙ fewer.within.one_each;
+      rows = λ d dm. omega (
+        arith,
+        sum_to-le q.columns (cell q.columns (set seats place (get_or seats place 0 - 1)) d) (cell q.columns seats d) (λ g gn. below d g dm gn),
+        fewer.within.rows_add_up d dm,
+      );
+      columns = λ g gn. omega (
+        arith,
+        sum_to-le q.rows (λ d. cell q.columns (set seats place (get_or seats place 0 - 1)) d g) (λ d. cell q.columns seats d g) (λ d dm. below d g dm gn),
+        fewer.within.columns_add_up g gn,
+      );
+      at_least = at_most-tight q seats (set seats place (get_or seats place 0 - 1)) b.least place (get_or seats place 0 - 1) but
+          (omega (arith, above)) fewer.within.at_least;
+      at_most = at_most-tight q b.most tight (set seats place (get_or seats place 0 - 1)) place (get_or seats place 0 - 1) fewer.but
+          (le_of_eq but.here) (λ d g dm gn. omega (arith, below d g dm gn, fewer.within.at_most d g dm gn));
+    }
+
 pub fewer-differs : (q : Question) (b : CellBounds) (seats tight t : List ℕ) (place : ℕ) → IsFewer q b seats tight place →
     IsWithin q (lowered b tight) t → IsAnotherAt q b seats place t
 fewer-differs q b seats tight t place fewer other = record {
@@ -149,6 +178,17 @@ IsMore-of q b copy seats place sized long lt same within = record {
   but = same_but q b.least copy place (get_or seats place 0 + 1) sized long lt same;
   within = within;
   there = lt;
+}
+
+-- a matrix that has it is placed within them
+pub more-placed : (q : Question) (b : CellBounds) (seats tight others : List ℕ) (place : ℕ) → IsMore q b seats tight place → ArePlaced q b others →
+    slice_index others place ≡ slice_index seats place + 1 → ArePlaced q (raised b tight) others
+more-placed q b seats tight others place more placed is = record {
+  one_each = placed.one_each;
+  rows = placed.rows;
+  columns = placed.columns;
+  at_least = at_least-tight q b.least tight others place (get_or seats place 0 + 1) more.but (le_of_eq (sym is)) placed.at_least;
+  at_most = placed.at_most;
 }
 
 pub more-differs : (q : Question) (b : CellBounds) (seats tight t : List ℕ) (place : ℕ) → IsMore q b seats tight place →

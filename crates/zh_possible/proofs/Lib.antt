@@ -4,6 +4,7 @@ mod DifferLemmas
 mod ImpossibleLemmas
 mod OneMoreLemmas
 mod PathLemmas
+mod RaiseLemmas
 mod StepLemmas
 mod TurnLemmas
 mod VoteBoundLemmas

@@ -4,10 +4,10 @@ use Rattle.std.proofs.lemmas.Bool.{cases_eq}
 use Rattle.std.proofs.lemmas.List.{get_or-set_other, get_or-set_same, length-set}
 use Rattle.std.proofs.lemmas.Nat.{div-mul-add}
 use Rattle.std.proofs.Math.Nat.{mul-le-mul_right}
-use Rattle.zh_divisors.proofs.CallerLemmas.{sum_to-ext}
+use Rattle.zh_divisors.proofs.CallerLemmas.{sum_to-ext, sum_to-le}
 use Rattle.zh_matrices.specs.Question.{Question, cell}
 use Rattle.zh_possible.specs.Bounds.{AreAtLeast, AreAtMost, CellBounds}
-use Rattle.zh_possible.specs.Ways.{ArePlaced, ColumnLacks, IsOneMore, IsPassed, RowLacks, column_seats, placed, row_seats}
+use Rattle.zh_possible.specs.Ways.{ArePlaced, ColumnLacks, IsAboveLeast, IsOneMore, IsPassed, RowLacks, column_seats, placed, row_seats}
 use Rattle.zh_possible.proofs.OneMoreLemmas.{sum_to-one_more}
 
 -- the place of a cell is within the matrix
@@ -50,18 +50,18 @@ IsOneMore-taken q seats d g long dm gn some =
     }
 
 -- the sums of the lines
-row-more : (q : Question) (s t : List ℕ) (d g : ℕ) → g < q.columns → IsOneMore q s t d g → row_seats q t d ≡ row_seats q s d + 1
+pub row-more : (q : Question) (s t : List ℕ) (d g : ℕ) → g < q.columns → IsOneMore q s t d g → row_seats q t d ≡ row_seats q s d + 1
 row-more q s t d g gn more =
     sum_to-one_more q.columns (cell q.columns s d) (cell q.columns t d) g gn more.columns more.here
 
-row-same : (q : Question) (s t : List ℕ) (d g e : ℕ) → e < q.rows → e ≢ d → IsOneMore q s t d g → row_seats q t e ≡ row_seats q s e
+pub row-same : (q : Question) (s t : List ℕ) (d g e : ℕ) → e < q.rows → e ≢ d → IsOneMore q s t d g → row_seats q t e ≡ row_seats q s e
 row-same q s t d g e em differ more = sum_to-ext q.columns _ _ (λ f fn. more.rows e f em fn differ)
 
-column-more : (q : Question) (s t : List ℕ) (d g : ℕ) → d < q.rows → g < q.columns → IsOneMore q s t d g → column_seats q t g ≡ column_seats q s g + 1
+pub column-more : (q : Question) (s t : List ℕ) (d g : ℕ) → d < q.rows → g < q.columns → IsOneMore q s t d g → column_seats q t g ≡ column_seats q s g + 1
 column-more q s t d g dm gn more =
     sum_to-one_more q.rows (λ e. cell q.columns s e g) (λ e. cell q.columns t e g) d dm (λ e em differ. more.rows e g em gn differ) more.here
 
-column-same : (q : Question) (s t : List ℕ) (d g f : ℕ) → f < q.columns → f ≢ g → IsOneMore q s t d g → column_seats q t f ≡ column_seats q s f
+pub column-same : (q : Question) (s t : List ℕ) (d g f : ℕ) → f < q.columns → f ≢ g → IsOneMore q s t d g → column_seats q t f ≡ column_seats q s f
 column-same q s t d g f fn differ more = sum_to-ext q.rows _ _ (λ e em. elim (cases_eq e d) [
   | inl is ↦ rw is (more.columns f fn differ)
   | inr other ↦ more.rows e f em fn other
@@ -122,6 +122,19 @@ ArePlaced-placed q b s t d g dm gn row_lacks column_lacks room more before = rec
   at_least = at_least-more q b.least s t d g dm gn more before.at_least;
   at_most = at_most-more q b.most s t d g dm gn more room before.at_most;
 }
+
+pub ArePlaced-taken : (q : Question) (b : CellBounds) (s t : List ℕ) (d g : ℕ) → d < q.rows → g < q.columns → IsOneMore q t s d g →
+    IsAboveLeast q b s d g → ArePlaced q b s → ArePlaced q b t
+ArePlaced-taken q b s t d g dm gn less above before =
+    let below : AreAtMost q s t = at_most-less q s t s d g dm gn less (λ e f em fn. omega arith) in
+    record {
+      one_each = sym less.one_each ∙ before.one_each;
+      rows = λ e em. omega (arith, sum_to-le q.columns (cell q.columns t e) (cell q.columns s e) (λ f fn. below e f em fn), before.rows e em);
+      columns = λ f fn.
+          omega (arith, sum_to-le q.rows (λ e. cell q.columns t e f) (λ e. cell q.columns s e f) (λ e em. below e f em fn), before.columns f fn);
+      at_least = at_least-less q b.least t s d g dm gn less above before.at_least;
+      at_most = at_most-less q b.most t s d g dm gn less before.at_most;
+    }
 
 pub placed-one_more : (q : Question) (s t : List ℕ) (d g : ℕ) → d < q.rows → g < q.columns → IsOneMore q s t d g → placed q t ≡ placed q s + 1
 placed-one_more = placed-more

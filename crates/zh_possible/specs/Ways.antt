@@ -1,5 +1,5 @@
 -- Seats that are placed one by one, and the ways by which a row may take one more.
-use Rattle.std.specs.Prelude.{◌≡◌, ℕ, ◌+◌, ◌*◌, ◌<◌, ◌≤◌, Bool, nat_lt, if◌then◌else◌, Option, Some, None, IsSome, is_none}
+use Rattle.std.specs.Prelude.{◌≡◌, ◌≢◌, ℕ, ◌+◌, ◌*◌, ◌<◌, ◌≤◌, Bool, nat_lt, if◌then◌else◌, Option, Some, None, IsSome, is_none}
 use Rattle.std.specs.Prelude.{List, length, slice_index, slice_index_or}
 use Rattle.zh_divisors.specs.Sums.{sum_to}
 use Rattle.zh_matrices.specs.Question.{Question, cell}
@@ -60,6 +60,23 @@ IsBelowMost q b seats d g = cell q.columns seats d g < cell q.columns b.most d g
 -- and it has more than its fewest
 abbrev pub IsAboveLeast : Question → CellBounds → List ℕ → ℕ → ℕ → Type 0
 IsAboveLeast q b seats d g = cell q.columns b.least d g < cell q.columns seats d g
+
+-- another column in which row d can give up a seat, and another row that can give one up in column g
+pub record IsOtherColumn (q : Question) (b : CellBounds) (seats : List ℕ) (d g f : ℕ) : Type 0 where
+  pub there : f < q.columns
+  pub differs : f ≢ g
+  pub above : IsAboveLeast q b seats d f
+
+pub record IsOtherRow (q : Question) (b : CellBounds) (seats : List ℕ) (d g e : ℕ) : Type 0 where
+  pub there : e < q.rows
+  pub differs : e ≢ d
+  pub above : IsAboveLeast q b seats e g
+
+abbrev pub HasNoOtherColumn : Question → CellBounds → List ℕ → ℕ → ℕ → Type 0
+HasNoOtherColumn q b seats d g = (f : ℕ) → f < q.columns → f ≢ g → cell q.columns seats d f ≤ cell q.columns b.least d f
+
+abbrev pub HasNoOtherRow : Question → CellBounds → List ℕ → ℕ → ℕ → Type 0
+HasNoOtherRow q b seats d g = (e : ℕ) → e < q.rows → e ≢ d → cell q.columns seats e g ≤ cell q.columns b.least e g
 
 -- one cell has one seat more
 pub record IsOneMore (q : Question) (before after : List ℕ) (d g : ℕ) : Type 0 where

@@ -5,7 +5,8 @@ ghost use Rattle.zh_possible.specs.Bounds.{IsAnotherAt, IsFixedAt, IsWithin, ask
 
 use crate::bounds::CellBounds;
 use crate::cells::{CELLS, copy_cells, no_seats};
-use crate::within::fill_within;
+use crate::completion::complete;
+use crate::raising::raise;
 
 /// Leaves in `others` a matrix within the bounds with fewer seats in a place; false where there is none.
 fn fewer_at(bounds: &CellBounds<'_>, seats: &[u32], place: usize, others: &mut [u32]) -> bool
@@ -16,7 +17,7 @@ fn fewer_at(bounds: &CellBounds<'_>, seats: &[u32], place: usize, others: &mut [
     ensures none { OnFalse result ((t : List ℕ) → IsWithin (asked_in bounds.now) (bounds_of bounds.now) t →
         slice_index seats.now place ≤ slice_index t place) }
 {
-    if seats[place] == 0 {
+    if seats[place] <= bounds.least[place] {
         return false;
     }
     let mut most = no_seats::<CELLS>();
@@ -27,7 +28,9 @@ fn fewer_at(bounds: &CellBounds<'_>, seats: &[u32], place: usize, others: &mut [
         least: bounds.least,
         most: &most,
     };
-    fill_within(&lowered, others)
+    others.copy_from_slice(seats);
+    others[place] = seats[place] - 1;
+    complete(&lowered, others).is_ok()
 }
 
 /// Leaves in `others` a matrix within the bounds with more seats in a place; false where there is none.
@@ -42,6 +45,12 @@ fn more_at(bounds: &CellBounds<'_>, seats: &[u32], place: usize, others: &mut [u
     if seats[place] >= bounds.most[place] {
         return false;
     }
+    let row = place / bounds.question.columns;
+    let column = place % bounds.question.columns;
+    others.copy_from_slice(seats);
+    if !raise(bounds, others, row, column) {
+        return false;
+    }
     let mut least = no_seats::<CELLS>();
     copy_cells(bounds.question, bounds.least, &mut least);
     least[place] = seats[place] + 1;
@@ -50,7 +59,7 @@ fn more_at(bounds: &CellBounds<'_>, seats: &[u32], place: usize, others: &mut [u
         least: &least,
         most: bounds.most,
     };
-    fill_within(&raised, others)
+    complete(&raised, others).is_ok()
 }
 
 /// Leaves in `others` a matrix within the bounds with other seats in a place; false where all have the same there.

@@ -17,6 +17,7 @@ mod differing;
 mod filling;
 mod impossible;
 mod laws;
+mod raising;
 mod rows;
 mod turns;
 mod ways;

@@ -1,13 +1,10 @@
 //! Seats that are placed and passed on, one at a time.
 ghost use Rattle.std.specs.Prelude.{◌≡◌, ◌≢◌, ◌+◌, ◌*◌, ◌<◌, length};
-ghost use Rattle.zh_matrices.specs.Asked.{asked};
-ghost use Rattle.zh_matrices.specs.Question.{cell};
 ghost use Rattle.zh_possible.specs.Bounds.{asked_in, bounds_of};
 ghost use Rattle.zh_possible.specs.Ways as words;
 
 use crate::bounds::CellBounds;
 use crate::ways::{Source, Way};
-use zh_matrices::Question;
 
 /// A seat that one row gives another in a column.
 #[derive(Clone, Copy)]
@@ -31,15 +28,15 @@ fn give(bounds: &CellBounds<'_>, seats: &mut [u32], row: usize, column: usize)
     seats[place] += 1;
 }
 
-/// A cell gets one seat less.
-fn take(question: &Question<'_>, seats: &mut [u32], row: usize, column: usize)
-    requires seats { length seats.old ≡ question.now.rows * question.now.columns }
-    requires row { row < question.now.rows }
-    requires column { column < question.now.columns }
-    requires some { 0 < cell question.now.columns seats.old row column }
-    ensures { words.IsOneMore (asked question.now) seats.new seats.old row column }
+/// A cell gives up a seat.
+pub(crate) fn take(bounds: &CellBounds<'_>, seats: &mut [u32], row: usize, column: usize)
+    requires seats { length seats.old ≡ bounds.now.question.now.rows * bounds.now.question.now.columns }
+    requires row { row < bounds.now.question.now.rows }
+    requires column { column < bounds.now.question.now.columns }
+    requires spare { words.IsAboveLeast (asked_in bounds.now) (bounds_of bounds.now) seats.old row column }
+    ensures { words.IsOneMore (asked_in bounds.now) seats.new seats.old row column }
 {
-    seats[row * question.columns + column] -= 1;
+    seats[row * bounds.question.columns + column] -= 1;
 }
 
 /// A row that lacks a seat gets one in a column that lacks one.
@@ -51,7 +48,7 @@ pub(crate) fn place(bounds: &CellBounds<'_>, seats: &mut [u32], row: usize, colu
     requires column_lacks { words.ColumnLacks (asked_in bounds.now) seats.old column }
     requires room { words.IsBelowMost (asked_in bounds.now) (bounds_of bounds.now) seats.old row column }
     ensures placed { words.ArePlaced (asked_in bounds.now) (bounds_of bounds.now) seats.new }
-    ensures one_more { words.placed (asked_in bounds.now) seats.new ≡ words.placed (asked_in bounds.now) seats.old + 1 }
+    ensures one_more { words.IsOneMore (asked_in bounds.now) seats.old seats.new row column }
 {
     give(bounds, seats, row, column);
 }
@@ -71,7 +68,7 @@ fn pass(bounds: &CellBounds<'_>, seats: &mut [u32], seat: Handover)
     ensures lacks { words.RowLacks (asked_in bounds.now) seats.new seat.giver }
 {
     give(bounds, seats, seat.taker, seat.column);
-    take(bounds.question, seats, seat.giver, seat.column);
+    take(bounds, seats, seat.giver, seat.column);
 }
 
 /// Passes seats on along the ways from a row that lacks one, up to a column that lacks one.

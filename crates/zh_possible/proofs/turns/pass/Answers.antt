@@ -3,8 +3,8 @@ use Rattle.zh_possible.specs.Bounds.{asked_in, bounds_of}
 use Rattle.zh_possible.proofs.TurnLemmas.{ArePlaced-passed, IsPassed-of, lacks-passed}
 use Rattle.zh_possible.proofs.turns.pass.Goals as goal
 
-pub take-requires-clause-some : goal.take-requires-clause-some
-take-requires-clause-some c =
+pub take-requires-clause-spare : goal.take-requires-clause-spare
+take-requires-clause-spare c =
     omega (arith, c.give.ensures.rows c.args.seat.giver c.args.seat.column c.requires.giver c.requires.column c.requires.differ, c.requires.spare)
 
 pub returns-clause-placed : goal.returns-clause-placed

@@ -1,5 +1,7 @@
+use Rattle.std.proofs.Common.{arith}
 use Rattle.zh_possible.specs.Bounds.{asked_in, bounds_of}
 use Rattle.zh_possible.proofs.PathLemmas.{IsNext-of, IsOnWay-next, has-room, spare-lacks}
+use Rattle.zh_possible.proofs.TurnLemmas.{placed-one_more}
 use Rattle.zh_possible.proofs.turns.turn.Goals as goal
 
 pub place-requires-clause-column : goal.place-requires-clause-column
@@ -47,3 +49,12 @@ loop-row-preserved c =
     (IsNext-of (asked_in c.args.bounds.now) (bounds_of c.args.bounds.now) c.args.seats.now _ _ _ _ _
     c.requires.ways c.loop-row.invariant c.in-Some.is c.in-Giver.is)
     c.pass.ensures.placed c.pass.ensures.passed c.pass.ensures.lacks
+
+pub returns-in-Spare-clause-one_more : goal.returns-in-Spare-clause-one_more
+returns-in-Spare-clause-one_more c =
+    omega (
+      arith,
+      placed-one_more (asked_in c.args.bounds.now) c.loop-row.seats c.place.new.seats c.loop-row.row c.in-Some.way.column c.loop-row.invariant.here.row
+          (c.requires.ways c.loop-row.row c.in-Some.way c.loop-row.invariant.here.row c.in-Some.is).column c.place.ensures.one_more,
+      c.loop-row.invariant.same,
+    )
