@@ -1,6 +1,7 @@
 pub mod CallerLemmas
 mod DecidedLemmas
 mod ExtremeLemmas
+mod LotLemmas
 mod MiddleLemmas
 mod RoundLemmas
 mod SeatingLemmas

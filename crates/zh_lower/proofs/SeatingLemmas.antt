@@ -1,36 +1,118 @@
 -- What each end gives.
-use Rattle.std.proofs.Common.{◌≡◌, ℕ, ◌-◌, List, Result, Ok, Err, IfOk, refl, inr, arith}
+use Rattle.std.proofs.Common.{◌≡◌, ℕ, ◌-◌, ◌<◌, ◌≤◌, List, Result, Ok, Err, IfOk, slice_index, refl, ap, inl, inr, arith}
+use Rattle.std.proofs.lemmas.Bool.{cases_lt}
 use Rattle.std.specs.Prelude.{IsErrOf}
 use Rattle.zh_matrices.specs.Divisors.{AreWithinLimits, Divisors, millionths}
 use Rattle.zh_search.specs.Outcomes.{ComesToTie, IsProper}
-use Rattle.zh_matrices.specs.Question.{IsFirstWithoutVotes, Question}
+use Rattle.zh_search.specs.Rooms.{divisors_of}
+use Rattle.zh_divisors.proofs.CallerLemmas.{term-le-sum_to}
+use Rattle.zh_matrices.specs.Question.{AreSeatTotals, IsFirstWithoutVotes, Question, cell, row_votes}
 use Rattle.zh_matrices.specs.SeatMatrix.{IsStrict, IsWeak, SeatMatrix}
-use Rattle.zh_lower.specs.Seating.{HasFault, LowerOutcome}
+use Rattle.zh_lower.specs.Seating.{LowerOutcome, NoneFound}
 use Rattle.zh_lower.specs.Shown.{IsShown}
 use Rattle.zh_lower.specs.declared.fault.LowerFault.{LowerFault}
-use Rattle.zh_lower.specs.declared.fault.LowerFault.TheVariants.{Memory, Tied}
-use Rattle.zh_matrices.proofs.CallerLemmas.{no_seats, only_seats}
+use Rattle.zh_lower.specs.Ties.{HandsOver, IsLowerTie}
+use Rattle.zh_lower.specs.declared.fault.LowerFault.TheVariants as faults
+use Rattle.zh_lower.specs.declared.tie.NoLower.{NoLower}
+use Rattle.zh_lower.specs.declared.tie.NoLower.TheVariants.{Exhausted, NoVotes, Tied}
+use Rattle.zh_lower.specs.declared.tie.Tie.{Tie}
+use Rattle.zh_matrices.proofs.CallerLemmas.{no_seats, only_seats, positive_place}
+use Rattle.zh_possible.proofs.CallerLemmas.{fits-weak}
+use Rattle.zh_search.proofs.CallerLemmas.{same-tie, tie-is-end}
+
+tied_is : (result : Result SeatMatrix NoLower) (one other : Tie) → result ≡ Err (Tied one) → IsErrOf result (Tied other) → one ≡ other
+tied_is result one other is same = cc
 
 votes_there : (q : Question) → IsProper q → (d : ℕ) → ¬ IsFirstWithoutVotes q d
 votes_there q proper d first = first.none (proper.row_votes (d - 1) (omega (arith, first.from_1, first.there)))
 
--- a fault of a question with votes in each row
-pub faulted : (q : Question) (fault : LowerFault) → IsProper q → HasFault q fault → LowerOutcome q (Err fault)
-faulted q fault proper has = record { seats = tt; fault = has; no_votes = λ d first. absurd (votes_there q proper d first) }
+tied-none : (q : Question) (d g : ℕ) → ComesToTie q d g → (x : Divisors) (seats : List ℕ) → ¬ IsStrict q x seats
+tied-none q d g is =
+    let ways = is.tied.ways in
+    no_seats q is.divisors is.tied.seats is.tied.others ways.one_way ways.other_way ways.differ
+
+-- no state has seats, nor the decision
+pub exhausted : (q : Question) → IsProper q → NoneFound q → HandsOver q (Err Exhausted)
+exhausted q proper none = record {
+  outcome = record {
+    seats = tt;
+    fault = none;
+    no_votes = λ d first. absurd (votes_there q proper d first);
+    tied = λ d g comes. absurd (tie-is-end q d g comes none.none_before);
+  };
+  tie = λ tie is. cc;
+}
+
+-- the search comes to a tie
+tied_there : (q : Question) (d g e f : ℕ) → ComesToTie q d g → ComesToTie q e f → faults.Tied d g ≡ faults.Tied e f
+tied_there q d g e f one other = let (row, column) = same-tie q d g e f one other in rw (row, column) refl
+
+pub tied : (q : Question) (tie : Tie) → IsLowerTie q tie → HandsOver q (Err (Tied tie))
+tied q tie is =
+    let comes : ComesToTie q tie.row tie.column = record { divisors = divisors_of tie.divisors; reached = is.reached; tied = is.tied } in
+    record {
+      outcome = record {
+        seats = tt;
+        fault = comes;
+        no_votes = λ d first. absurd (votes_there q is.proper d first);
+        tied = λ d g other. inl (ap (λ fault. Err fault) (tied_there q tie.row tie.column d g comes other));
+      };
+      tie = λ other same. rw (tied_is (Err (Tied tie)) tie other refl same) at is;
+    }
+
+-- a row without votes is none in which a matrix has seats
+no_weak : (q : Question) (d : ℕ) (x : Divisors) (seats : List ℕ) → AreSeatTotals q.rows q.row_totals → IsFirstWithoutVotes q d → ¬ IsWeak q x seats
+no_weak q d x seats totals first weak =
+    let dm : d - 1 < q.rows = omega (arith, first.from_1, first.there) in
+    let some : 1 ≤ slice_index q.row_totals (d - 1) = totals.from_1 (d - 1) 0 (omega (arith, totals.one_each)) in
+    let sum = weak.rows_add_up (d - 1) dm in
+    let (g, gn, positive) = positive_place q.columns (cell q.columns seats (d - 1)) (omega (arith, sum, some)) in
+    let term = term-le-sum_to q.columns (row_votes q (d - 1)) g gn in
+    let votes : row_votes q (d - 1) g ≡ 0 = elim (cases_lt 0 (row_votes q (d - 1) g)) [
+      | inl lt ↦ absurd (first.none (omega (arith, lt, term)))
+      | inr le ↦ omega arith
+    ] in
+    let none = (fits-weak q x seats weak).on_votes (d - 1) g dm gn votes in
+    absurd (omega (arith, none, positive))
+
+row_not_before : (q : Question) (d e : ℕ) → IsFirstWithoutVotes q d → IsFirstWithoutVotes q e → e ≤ d
+row_not_before q d e one other =
+    elim (cases_lt (d - 1) (e - 1)) [
+      | inl lt ↦ absurd (one.none (other.before (d - 1) lt))
+      | inr le ↦ omega (arith, le, one.from_1)
+    ]
+
+-- the first row without votes
+pub without_votes : (q : Question) (d : ℕ) → AreSeatTotals q.rows q.row_totals → IsFirstWithoutVotes q d → HandsOver q (Err (NoVotes d))
+without_votes q d totals first = record {
+  outcome = record {
+    seats = tt;
+    fault = first;
+    no_votes = λ e other.
+        let same : d ≡ e = omega (arith, row_not_before q d e first other, row_not_before q e d other first) in
+        inl (ap (λ row. Err (faults.NoVotes row)) same);
+    tied = λ e g comes. absurd (no_weak q d comes.divisors comes.tied.seats totals first comes.tied.ways.one_way);
+  };
+  tie = λ tie is. cc;
+}
 
 -- the seats and divisors at hand
 pub seated : (q : Question) (lower : SeatMatrix) (seats of_rows of_columns : List ℕ) → IsProper q →
     lower ≡ record { seats = seats; divisors = millionths of_rows of_columns } → IsStrict q (millionths of_rows of_columns) seats →
-    AreWithinLimits q of_rows of_columns → IsShown q (millionths of_rows of_columns) → LowerOutcome q (Ok lower)
+    AreWithinLimits q of_rows of_columns → IsShown q (millionths of_rows of_columns) → HandsOver q (Ok lower)
 seated q lower seats of_rows of_columns proper is strict limits shown = record {
-  seats = rw is (record { strict = strict; in_millionths = refl; limits = limits; shown = shown });
-  fault = tt;
-  no_votes = λ d first. absurd (votes_there q proper d first);
+  outcome = record {
+    seats = rw is (record { strict = strict; in_millionths = refl; limits = limits; shown = shown });
+    fault = tt;
+    no_votes = λ d first. absurd (votes_there q proper d first);
+    tied = λ d g comes. absurd (tied-none q d g comes (millionths of_rows of_columns) seats strict);
+  };
+  tie = λ tie is. cc;
 }
 
 -- memory can be refused before a row is looked at
-pub memory_refused : (q : Question) → LowerOutcome q (Err Memory)
-memory_refused q = record { seats = tt; fault = tt; no_votes = λ d first. inr refl }
+pub memory_refused : (q : Question) → LowerOutcome q (Err faults.Memory)
+memory_refused q = record { seats = tt; fault = tt; no_votes = λ d first. inr refl; tied = λ d g comes. inr refl }
 
 -- no other seats follow
 pub only_answer : (q : Question) (result : Result SeatMatrix LowerFault) → LowerOutcome q result →
@@ -38,14 +120,9 @@ pub only_answer : (q : Question) (result : Result SeatMatrix LowerFault) → Low
 only_answer q (Ok lower) found = λ x seats weak. only_seats q lower.divisors x lower.seats seats found.seats.strict weak
 only_answer q (Err fault) found = tt
 
-tied-none : (q : Question) (d g : ℕ) → ComesToTie q d g → (x : Divisors) (seats : List ℕ) → ¬ IsStrict q x seats
-tied-none q d g is =
-    let ways = is.tied.ways in
-    no_seats q is.divisors is.tied.seats is.tied.others ways.one_way ways.other_way ways.differ
-
 -- nor any strictly where some are tied
-pub no_answer : (q : Question) (result : Result SeatMatrix LowerFault) (d g : ℕ) → LowerOutcome q result → IsErrOf result (Tied d g) →
+pub no_answer : (q : Question) (result : Result SeatMatrix LowerFault) (d g : ℕ) → LowerOutcome q result → IsErrOf result (faults.Tied d g) →
     (x : Divisors) (seats : List ℕ) → ¬ IsStrict q x seats
 no_answer q result d g found is =
-    let found_tied : LowerOutcome q (Err (Tied d g)) = rw is at found in
+    let found_tied : LowerOutcome q (Err (faults.Tied d g)) = rw is at found in
     tied-none q d g found_tied.fault

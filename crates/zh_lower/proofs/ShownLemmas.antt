@@ -38,7 +38,7 @@ same_second q x y (seats, inl one) (others, inr (none, other)) = absurd (not_bot
 same_second q x y (seats, inr (none, one)) (others, inl other) = absurd (not_both q (10 ^ 9) (10 ^ 12) others seats y x other none one)
 
 none_reached : (q : Question) (x : Divisors) (seats : List ℕ) → IsReached q x → NoneBefore q 2001 → ¬ IsStrict q x seats
-none_reached q x seats reached none strict = none reached.half_steps (omega (arith, reached.few)) seats (rw (← reached.divisors) strict)
+none_reached q x seats reached none strict = (none reached.half_steps (omega (arith, reached.few))).none seats (rw (← reached.divisors) strict)
 
 same_matrix : (q : Question) (one other : SeatMatrix) → other.divisors ≡ one.divisors → IsStrict q one.divisors one.seats →
     IsStrict q other.divisors other.seats → other ≡ one

@@ -5,3 +5,4 @@ pub mod Seating
 pub mod Second
 pub mod Shown
 pub mod Tables
+pub mod Ties

@@ -9,7 +9,6 @@ pub record IsDivisorRoom (q : Question) (room : DivisorRoom) : Type 0 where
   pub rows : length room.of_rows.items ≡ q.rows
   pub columns : length room.of_columns.items ≡ q.columns
   pub greatest : length room.greatest.items ≡ q.columns
-  pub votes : length room.votes.items ≡ q.rows
 
 -- the divisors that are left there
 abbrev pub divisors_in : DivisorRoom → Divisors

@@ -30,8 +30,10 @@ HasFault q (NoVotes d) = IsFirstWithoutVotes q d
 HasFault q (Tied d g) = ComesToTie q d g
 HasFault q Exhausted = NoneFound q
 
--- seats, or a fault that there is; a row without votes is always reported where memory is not refused
+-- seats, or a fault that there is; a row without votes, and a tie to which the search comes, are always reported where memory is
+-- not refused
 pub record LowerOutcome (q : Question) (result : Result SeatMatrix LowerFault) : Type 0 where
   pub seats : IfOk result (IsSeating q)
   pub fault : IfErr result (HasFault q)
   pub no_votes : (d : ℕ) → IsFirstWithoutVotes q d → IsErrOf result (NoVotes d) ⊎ IsErrOf result Memory
+  pub tied : (d g : ℕ) → ComesToTie q d g → IsErrOf result (Tied d g) ⊎ IsErrOf result Memory

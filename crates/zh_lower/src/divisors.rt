@@ -28,12 +28,7 @@ fn middle_gives(proposal: &Proposal<'_>, room: &mut DivisorRoom) -> bool
     ensures greatest { room.new.greatest.items ≡ room.old.greatest.items }
     ensures room { IsDivisorRoom (asked proposal.now.question.now) room.new }
 {
-    middle(
-        proposal.question,
-        &mut room.of_rows,
-        &mut room.of_columns,
-        &mut room.votes,
-    );
+    middle(proposal.question, &mut room.of_rows, &mut room.of_columns);
     follows(Rounding::Strict, proposal, &room.of_rows, &room.of_columns)
 }
 

@@ -8,7 +8,9 @@
 pub use fault::LowerFault;
 pub use laws::one_answer;
 pub use lower::Lower;
-pub use outcome::find;
+pub use outcome::{find, find_or_tie};
+pub use ranges::{Ranges, lot};
+pub use tie::{NoLower, Tie};
 pub use zh_matrices::{Matrix, is_strict};
 
 mod decided;
@@ -19,6 +21,8 @@ mod laws;
 mod lower;
 mod middle;
 mod outcome;
+mod ranges;
 mod room;
 mod tables;
+mod tie;
 mod votes;

@@ -10,23 +10,17 @@ use zh_search::{middle_columns, middle_rows};
 
 const TIMES: u32 = 16;
 
-/// Takes each row, and then each column, to the middle of its range, 16 times. `votes` takes the votes of a column.
-pub(crate) fn middle(
-    question: &Question<'_>,
-    of_rows: &mut [u64],
-    of_columns: &mut [u64],
-    votes: &mut [u64],
-)
+/// Takes each row, and then each column, to the middle of its range, 16 times.
+pub(crate) fn middle(question: &Question<'_>, of_rows: &mut [u64], of_columns: &mut [u64])
     requires proper { IsProper (asked question.now) }
     requires rows { length of_rows.old ≡ question.now.rows }
     requires columns { AreWithin question.now.columns (10 ^ 12) of_columns.old }
-    requires votes { length votes.old ≡ question.now.rows }
     ensures middle { millionths of_rows.new of_columns.new ≡ middle_from (asked question.now) of_columns.old }
     ensures limits { AreWithinLimits (asked question.now) of_rows.new of_columns.new }
 {
     for _time in 0..TIMES {
         middle_rows(question, of_columns, of_rows);
-        middle_columns(question, of_rows, of_columns, votes);
+        middle_columns(question, of_rows, of_columns);
     }
 }
 

@@ -3,82 +3,109 @@ ghost use Rattle.std.specs.Prelude.{◌≡◌, ℕ, ◌*◌, IfOk, IsErrOf, List
 ghost use Rattle.zh_matrices.specs.Asked.{asked};
 ghost use Rattle.zh_matrices.specs.Divisors.{Divisors};
 ghost use Rattle.zh_search.specs.Outcomes.{IsProper, NoneBefore};
+ghost use Rattle.zh_search.specs.Rooms.{divisors_of};
 ghost use Rattle.zh_matrices.specs.Question.{AreSeatTotals, EachColumnHasVotes, IsFirstWithoutVotes, question};
 ghost use Rattle.zh_matrices.specs.SeatMatrix.{IsStrict, IsWeak};
-ghost use Rattle.zh_lower.specs.Rooms.{divisors_in};
 ghost use Rattle.zh_lower.specs.Seating.{LowerOutcome};
 ghost use Rattle.zh_lower.specs.Tables.{AreStarted, AreTables};
+ghost use Rattle.zh_lower.specs.Ties.{HandsOver};
 
 use crate::decided::seats_by_decision;
 use crate::fault::LowerFault;
 use crate::lower::Lower;
 use crate::tables::Tables;
+use crate::tie::{NoLower, Tie};
 use crate::votes::first_without_votes;
 use std::alloc::Global;
 use zh_matrices::{Matrix, Question};
 use zh_search::{Ending, search};
 
-/// The seats and divisors at hand.
-fn lower_of(tables: Tables) -> Lower
-    requires { length tables.seats.items ≡ length tables.divisors.of_rows.items * length tables.divisors.of_columns.items }
-    ensures { result ≡ record { seats = tables.seats.items; divisors = divisors_in tables.divisors } }
+/// The seats and divisors that the search found.
+fn found_on(tables: Tables) -> Lower
+    requires { length tables.room.seats.items ≡ length tables.state.of_rows.items * length tables.state.of_columns.items }
+    ensures { result ≡ record { seats = tables.room.seats.items; divisors = divisors_of tables.state } }
 {
-    let Tables {
-        seats,
-        divisors,
-        ..
-    } = tables;
-    Lower::new(seats, divisors.of_rows, divisors.of_columns)
+    let Tables { state, room, .. } = tables;
+    Lower::new(room.seats, state.of_rows, state.of_columns)
+}
+
+/// The tie to which the search came.
+fn tie_on(tables: Tables, row: u32, column: u32) -> Tie
+    ensures { result ≡ record { row = row; column = column; divisors = tables.state; seats = tables.room.seats } }
+{
+    let Tables { state, room, .. } = tables;
+    Tie {
+        row,
+        column,
+        divisors: state,
+        seats: room.seats,
+    }
 }
 
 /// Seats with divisors by the decision, where the search is exhausted.
-fn decided_seats_on(mut tables: Tables, question: &Question<'_>) -> Result<Lower, LowerFault>
+fn decided_seats_on(mut tables: Tables, question: &Question<'_>) -> Result<Lower, NoLower>
     requires proper { IsProper (asked question.now) }
     requires tables { AreTables (asked question.now) tables }
     requires none { NoneBefore (asked question.now) 2001 }
-    ensures { LowerOutcome (asked question.now) result }
+    ensures { HandsOver (asked question.now) result }
 {
     let found = seats_by_decision(
         question,
         &mut tables.decision,
-        &mut tables.seats,
+        &mut tables.room.seats,
         &mut tables.divisors,
     );
-    if found {
-        return Ok(lower_of(tables));
+    if !found {
+        return Err(NoLower::Exhausted);
     }
-    Err(LowerFault::Exhausted)
+    let Tables { room, divisors, .. } = tables;
+    Ok(Lower::new(room.seats, divisors.of_rows, divisors.of_columns))
 }
 
 /// Seats with divisors, by the search on these tables, or else by the decision.
-fn seats_on(mut tables: Tables, question: &Question<'_>) -> Result<Lower, LowerFault>
+fn seats_on(mut tables: Tables, question: &Question<'_>) -> Result<Lower, NoLower>
     requires proper { IsProper (asked question.now) }
     requires started { AreStarted (asked question.now) tables }
-    ensures { LowerOutcome (asked question.now) result }
+    ensures { HandsOver (asked question.now) result }
 {
-    let ending = search(
-        question,
-        &mut tables.divisors.of_rows,
-        &mut tables.divisors.of_columns,
-        &mut tables.divisors.votes,
-        &mut tables.quotients,
-        &mut tables.seats,
-        &mut tables.others,
-    );
+    let ending = search(question, &mut tables.state, &mut tables.room);
     match ending {
-        Some(Ending::Found) => Ok(lower_of(tables)),
-        Some(Ending::Tied(row, column)) => Err(LowerFault::Tied(row, column)),
+        Some(Ending::Found) => Ok(found_on(tables)),
+        Some(Ending::Tied(row, column)) => Err(NoLower::Tied(tie_on(tables, row, column))),
         None => decided_seats_on(tables, question),
     }
 }
 
 /// Seats with divisors. All memory is taken at the start.
-fn seats_by_search(alloc: Global, question: &Question<'_>) -> Result<Lower, LowerFault>
+fn seats_by_search(alloc: Global, question: &Question<'_>) -> Result<Lower, NoLower>
     requires { IsProper (asked question.now) }
-    ensures { LowerOutcome (asked question.now) result }
+    ensures { HandsOver (asked question.now) result }
 {
     let tables = Tables::new(alloc, question)?;
     seats_on(tables, question)
+}
+
+/// The seats of each group in each constituency, as `find` gives them; a tie is handed over with what `lot` asks for.
+pub fn find_or_tie(
+    alloc: Global,
+    matrix: &Matrix,
+    row_totals: &[u32],
+    column_totals: &[u32],
+) -> Result<Lower, NoLower>
+    requires row_totals { AreSeatTotals matrix.now.rows row_totals.now }
+    requires column_totals { AreSeatTotals matrix.now.columns column_totals.now }
+    requires votes { EachColumnHasVotes (question matrix.now row_totals.now column_totals.now) }
+    ensures outcome { HandsOver (question matrix.now row_totals.now column_totals.now) result }
+
+    // A row without votes is reported even where memory is refused.
+    ensures no_votes { (d : ℕ) → IsFirstWithoutVotes (question matrix.now row_totals.now column_totals.now) d →
+        IsErrOf result (NoLower.NoVotes d) }
+{
+    let question = matrix.question(row_totals, column_totals);
+    if let Some(row) = first_without_votes(&question) {
+        return Err(NoLower::NoVotes(row));
+    }
+    seats_by_search(alloc, &question)
 }
 
 /// The seats of each group in each constituency (GPR section 104), with divisors that give them.
@@ -109,9 +136,5 @@ pub fn find(
     ensures no_answer { (d g : ℕ) → IsErrOf result (LowerFault.Tied d g) → (divisors : Divisors) (seats : List ℕ) →
         ¬ IsStrict (question matrix.now row_totals.now column_totals.now) divisors seats }
 {
-    let question = matrix.question(row_totals, column_totals);
-    if let Some(row) = first_without_votes(&question) {
-        return Err(LowerFault::NoVotes(row));
-    }
-    seats_by_search(alloc, &question)
+    Ok(find_or_tie(alloc, matrix, row_totals, column_totals)?)
 }

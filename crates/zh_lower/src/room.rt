@@ -3,33 +3,28 @@
 use std::alloc::{AllocError, Global};
 use zh_matrices::Question;
 
-/// The divisors of a search in millionths, and what a search for them works on.
+/// Divisors in millionths, and what a search for them works on.
 #[derive(Drop)]
 pub(crate) struct DivisorRoom {
     pub of_rows: Vec<u64>,
     pub of_columns: Vec<u64>,
     /// The greatest columns that give some seats.
     pub greatest: Vec<u64>,
-    /// The votes of a line.
-    pub votes: Vec<u64>,
 }
 
 impl DivisorRoom {
-    ghost use Rattle.std.specs.Prelude.{◌≡◌, IfOk};
+    ghost use Rattle.std.specs.Prelude.{IfOk};
     ghost use Rattle.zh_matrices.specs.Asked.{asked};
-    ghost use Rattle.zh_search.specs.States.{started_columns};
     ghost use Rattle.zh_lower.specs.Rooms.{IsDivisorRoom};
 
-    /// Room for a search that has not begun: every column stands at 1.
+    /// Room for the divisors of a question.
     pub fn new(alloc: Global, question: &Question<'_>) -> Result<DivisorRoom, AllocError>
-        ensures room { IfOk result (IsDivisorRoom (asked question.now)) }
-        ensures columns { IfOk result (λ room. room.of_columns.items ≡ started_columns (asked question.now)) }
+        ensures { IfOk result (IsDivisorRoom (asked question.now)) }
     {
         Ok(DivisorRoom {
             of_rows: vec![in alloc; 0; question.rows]?,
-            of_columns: vec![in alloc; 1_000_000; question.columns]?,
+            of_columns: vec![in alloc; 0; question.columns]?,
             greatest: vec![in alloc; 0; question.columns]?,
-            votes: vec![in alloc; 0; question.rows]?,
         })
     }
 }

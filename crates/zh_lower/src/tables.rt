@@ -4,18 +4,16 @@ use crate::room::DivisorRoom;
 use std::alloc::{AllocError, Global};
 use zh_decided::DecisionRoom;
 use zh_matrices::Question;
-use zh_search::Quotient;
+use zh_search::{SearchRoom, SearchState};
 
-/// The divisors of a search, with the seats that they give. The memory of all is taken before the first begins.
+/// A state of the search, with what a search, the decision and the divisors after it work on. The memory of all is taken
+/// before the first begins.
 #[derive(Drop)]
 pub(crate) struct Tables {
-    pub divisors: DivisorRoom,
-    /// The quotients of the cells.
-    pub quotients: Vec<Quotient>,
-    pub seats: Vec<u32>,
-    /// The seats that the same divisors give where halves are rounded otherwise.
-    pub others: Vec<u32>,
+    pub state: SearchState,
+    pub room: SearchRoom,
     pub decision: DecisionRoom,
+    pub divisors: DivisorRoom,
 }
 
 impl Tables {
@@ -27,13 +25,11 @@ impl Tables {
     pub fn new(alloc: Global, question: &Question<'_>) -> Result<Tables, AllocError>
         ensures { IfOk result (AreStarted (asked question.now)) }
     {
-        let cells = question.votes.len();
         Ok(Tables {
-            divisors: DivisorRoom::new(alloc, question)?,
-            quotients: vec![in alloc; Quotient::NONE; cells]?,
-            seats: vec![in alloc; 0; cells]?,
-            others: vec![in alloc; 0; cells]?,
+            state: SearchState::new(alloc, question)?,
+            room: SearchRoom::new(alloc, question)?,
             decision: DecisionRoom::new(alloc, question.rows, question.columns)?,
+            divisors: DivisorRoom::new(alloc, question)?,
         })
     }
 }
