@@ -11,7 +11,7 @@ use Rattle.zh_matrices.specs.Divisors.{AreWithinLimits, Divisors, millionths}
 use Rattle.zh_matrices.specs.Question.{Question, cell}
 use Rattle.zh_matrices.specs.SeatMatrix.{IsWeak, MayRound, RowsAddUp}
 use Rattle.zh_matrices.proofs.CallerLemmas.{column_of, place-div, place-mod, row_of}
-use Rattle.zh_possible.specs.Bounds.{CellBounds, IsFixedAt, IsWithin}
+use Rattle.zh_possible.specs.Bounds.{IsWithin}
 use Rattle.zh_search.specs.Outcomes.{AreTwoWays, IsNotTied, IsProper}
 use Rattle.zh_search.specs.Places.{HasNoHalf, product_at}
 use Rattle.zh_search.specs.SeatBounds.{least_at, least_seats, most_at, most_seats, seat_bounds}
@@ -193,22 +193,6 @@ two_ways q of_rows of_columns s t proper limits one other differ = record {
   other_way = within-weak q of_rows of_columns t proper limits other;
   differ = differ;
 }
-
--- a cell whose most is its least has the same seats in all
-fixed_at-cell : (q : Question) (bounds : CellBounds) (s t : List ℕ) (d g : ℕ) → d < q.rows → g < q.columns →
-    cell q.columns bounds.most d g ≤ cell q.columns bounds.least d g → IsWithin q bounds s → IsWithin q bounds t →
-    cell q.columns t d g ≡ cell q.columns s d g
-fixed_at-cell q bounds s t d g dw gw none one other =
-    omega (arith, none, one.at_least d g dw gw, one.at_most d g dw gw, other.at_least d g dw gw, other.at_most d g dw gw)
-
-pub fixed_at : (q : Question) (bounds : CellBounds) (s : List ℕ) (k : ℕ) → k < q.rows * q.columns →
-    get_or bounds.most k 0 ≤ get_or bounds.least k 0 → IsWithin q bounds s → IsFixedAt q bounds s k
-fixed_at q bounds s k within none one t other =
-    let place : k / q.columns * q.columns + k % q.columns ≡ k = div-add-mod' k q.columns in
-    let here : cell q.columns bounds.most (k / q.columns) (k % q.columns) ≤ cell q.columns bounds.least (k / q.columns) (k % q.columns)
-    = rw place none in
-    rw place at (fixed_at-cell q bounds s t (k / q.columns) (k % q.columns) (row_of q.rows q.columns k within)
-    (column_of q.rows q.columns k within) here one other)
 
 -- the same of what is left in a room
 pub two-left : (q : Question) (of_rows of_columns least most one other seats others : List ℕ) (result : Bool) → IsProper q →

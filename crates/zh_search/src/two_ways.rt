@@ -1,9 +1,9 @@
 //! Whether two different matrices follow from the divisors of a state, a half rounded either way.
 ghost use Rattle.std.specs.Bool.{OnFalse, OnTrue};
-ghost use Rattle.std.specs.Prelude.{◌≡◌, ◌≢◌, ℕ, ◌*◌, ◌<◌, IsTrue, List, length};
+ghost use Rattle.std.specs.Prelude.{◌≡◌, ◌≢◌, ℕ, ◌*◌, IsTrue, List, length};
 ghost use Rattle.zh_matrices.specs.Asked.{asked};
 ghost use Rattle.zh_matrices.specs.Divisors.{AreWithinLimits};
-ghost use Rattle.zh_possible.specs.Bounds.{IsAnotherAt, IsFixedAt, IsWithin, asked_in, bounds_of};
+ghost use Rattle.zh_possible.specs.Bounds.{IsWithin, asked_in, bounds_of};
 ghost use Rattle.zh_search.specs.Outcomes.{AreTwoWays, IsNotTied, IsProper};
 ghost use Rattle.zh_search.specs.Rooms.{IsSearchRoom, divisors_of};
 
@@ -11,20 +11,6 @@ use crate::seat_bounds::bound_room;
 use crate::state::{SearchRoom, SearchState};
 use zh_matrices::Question;
 use zh_possible::{CellBounds, differ_at, fill_within};
-
-/// Leaves another matrix within the bounds in `others`, with other seats in a place; false where all have the same there.
-fn other_at(bounds: &CellBounds<'_>, seats: &[u32], place: usize, others: &mut [u32]) -> bool
-    requires within { IsWithin (asked_in bounds.now) (bounds_of bounds.now) seats.now }
-    requires place { place < bounds.now.question.now.rows * bounds.now.question.now.columns }
-    requires others { length others.old ≡ bounds.now.question.now.rows * bounds.now.question.now.columns }
-    ensures differs { OnTrue result (IsAnotherAt (asked_in bounds.now) (bounds_of bounds.now) seats.now place others.new) }
-    ensures same { OnFalse result (IsFixedAt (asked_in bounds.now) (bounds_of bounds.now) seats.now place) }
-{
-    if bounds.most[place] <= bounds.least[place] {
-        return false;
-    }
-    differ_at(bounds, seats, place, others)
-}
 
 /// Leaves another matrix within the bounds in `others`; false where there is none.
 fn find_other(bounds: &CellBounds<'_>, seats: &[u32], others: &mut [u32]) -> bool
@@ -35,7 +21,7 @@ fn find_other(bounds: &CellBounds<'_>, seats: &[u32], others: &mut [u32]) -> boo
     ensures only { OnFalse result ((s : List ℕ) → IsWithin (asked_in bounds.now) (bounds_of bounds.now) s → s ≡ seats.now) }
 {
     for place in 0..seats.len() {
-        if other_at(bounds, seats, place, others) {
+        if differ_at(bounds, seats, place, others) {
             return true;
         }
     }
