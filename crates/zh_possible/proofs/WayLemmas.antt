@@ -77,6 +77,12 @@ AreWays-set q b seats ways row way within new is all d other dm there = elim (ca
       (all d other dm (sym (get_or-set_other ways row d (Some way) None differ) ∙ there))
 ]
 
+-- sources stay sources when a row gets a way
+pub AreSources-set : (q : Question) (b : CellBounds) (seats : List ℕ) (ways : List (Option Way)) (sources : List (Option Source)) (row : ℕ)
+    (way : Way) → way_at ways row ≡ None → AreSources q b seats ways sources → AreSources q b seats (set ways row (Some way)) sources
+AreSources-set q b seats ways sources row way new all g source gn is =
+    IsSource-more q b seats ways (set ways row (Some way)) g source (extends-set ways row way new) (all g source gn is)
+
 pub RanksAreBelow-set : (q : Question) (ways : List (Option Way)) (row rank : ℕ) (way : Way) → row < length ways → way.rank ≡ rank →
     RanksAreBelow q ways rank → RanksAreBelow q (set ways row (Some way)) (rank + 1)
 RanksAreBelow-set q ways row rank way within is all d other dm there = elim (cases_eq d row) [
@@ -152,9 +158,20 @@ pub IsWay-of : (q : Question) (b : CellBounds) (seats : List ℕ) (ways : List (
 IsWay-of q b seats ways sources d way all ranks column room is = record {
   column = column;
   room = room;
-  source = all.some way.column way.source column is;
-  below = IsSource-below q b seats ways way.column way.rank way.source ranks (all.some way.column way.source column is);
+  source = all way.column way.source column is;
+  below = IsSource-below q b seats ways way.column way.rank way.source ranks (all way.column way.source column is);
 }
+
+-- no sources yet
+pub AreSources-none : (q : Question) (b : CellBounds) (seats : List ℕ) (ways : List (Option Way)) (sources : List (Option Source)) →
+    ((g : ℕ) → source_at sources g ≡ None) → AreSources q b seats ways sources
+AreSources-none q b seats ways sources none g source gn is = let nothing : source_at sources g ≡ None = none g in cc
+
+pub no_sources : (n g : ℕ) → source_at (replicate n None) g ≡ None
+no_sources n g = elim (cases_lt g n) [
+  | inl inside ↦ get_or-replicate n g None None inside
+  | inr outside ↦ get_or-eq_default (replicate n None) None (omega (arith, length-replicate {A = Option Source} n None))
+]
 
 -- a new table
 pub all_none : (n d : ℕ) → way_at (replicate n None) d ≡ None

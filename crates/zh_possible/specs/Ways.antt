@@ -135,14 +135,17 @@ pub record HasNoSource (q : Question) (b : CellBounds) (seats : List ℕ) (ways 
   pub full : slice_index q.column_totals g ≤ column_seats q seats g
   pub no_giver : HasNoGiver q b seats ways g
 
--- a source for each column that has one
+-- sources of some columns
 abbrev pub source_at : List (Option Source) → ℕ → Option Source
 source_at sources g = slice_index_or sources g None
 
-pub record AreSources (q : Question) (b : CellBounds) (seats : List ℕ) (ways : List (Option Way)) (sources : List (Option Source))
-    : Type 0 where
-  pub some : (g : ℕ) (source : Source) → g < q.columns → source_at sources g ≡ Some source → IsSource q b seats ways g source
-  pub none : (g : ℕ) → g < q.columns → source_at sources g ≡ None → HasNoSource q b seats ways g
+abbrev pub AreSources : Question → CellBounds → List ℕ → List (Option Way) → List (Option Source) → Type 0
+AreSources q b seats ways sources = (g : ℕ) (source : Source) → g < q.columns → source_at sources g ≡ Some source →
+    IsSource q b seats ways g source
+
+-- where there is none in the table, there is none
+abbrev pub AreAllSources : Question → CellBounds → List ℕ → List (Option Way) → List (Option Source) → Type 0
+AreAllSources q b seats ways sources = (g : ℕ) → g < q.columns → source_at sources g ≡ None → HasNoSource q b seats ways g
 
 -- row d has its most in each column but closed ones
 abbrev pub HasNoWay : Question → CellBounds → List ℕ → List (Option Way) → ℕ → Type 0

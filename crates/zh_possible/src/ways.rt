@@ -88,21 +88,25 @@ fn source_of(
     }
 }
 
-/// Where a seat in each column can come from.
-fn sources_of(
+/// Looks for a source for each column that has none yet.
+fn add_sources(
     bounds: &CellBounds<'_>,
     seats: &[u32],
     ways: &[Option<Way>],
-) -> [Option<Source>; LINES]
+    sources: &mut [Option<Source>],
+)
     requires seats { length seats.now ≡ bounds.now.question.now.rows * bounds.now.question.now.columns }
     requires ways { length ways.now ≡ 32 }
-    ensures { words.AreSources (asked_in bounds.now) (bounds_of bounds.now) seats.now ways.now result }
+    requires table { length sources.old ≡ 32 }
+    requires sources { words.AreSources (asked_in bounds.now) (bounds_of bounds.now) seats.now ways.now sources.old }
+    ensures sources { words.AreSources (asked_in bounds.now) (bounds_of bounds.now) seats.now ways.now sources.new }
+    ensures none { words.AreAllSources (asked_in bounds.now) (bounds_of bounds.now) seats.now ways.now sources.new }
 {
-    let mut sources = [None; LINES];
     for column in 0..bounds.question.columns {
-        sources[column] = source_of(bounds, seats, ways, column);
+        if sources[column].is_none() {
+            sources[column] = source_of(bounds, seats, ways, column);
+        }
     }
-    sources
 }
 
 /// The first column with a source in which a row may have a seat more.
@@ -132,33 +136,29 @@ fn open_column(
     None
 }
 
-/// The first row without a way that can get one, with that way, which gets this rank.
-fn next_way(
+/// The first row without a way that may have a seat more in a column with a source, with the column and the source.
+fn next_row(
     bounds: &CellBounds<'_>,
     seats: &[u32],
     ways: &[Option<Way>],
-    rank: usize,
-) -> Option<(usize, Way)>
+    sources: &[Option<Source>],
+) -> Option<(usize, usize, Source)>
     requires seats { length seats.now ≡ bounds.now.question.now.rows * bounds.now.question.now.columns }
     requires ways { length ways.now ≡ 32 }
-    requires ranks { words.RanksAreBelow (asked_in bounds.now) ways.now rank }
+    requires table { length sources.now ≡ 32 }
+    requires all { words.AreAllSources (asked_in bounds.now) (bounds_of bounds.now) seats.now ways.now sources.now }
     ensures row { IfSome result (λ next. next.0 < bounds.now.question.now.rows) }
     ensures new { IfSome result (λ next. words.way_at ways.now next.0 ≡ None) }
-    ensures way { IfSome result (λ next. words.IsWay (asked_in bounds.now) (bounds_of bounds.now) seats.now ways.now next.0 next.1) }
-    ensures rank { IfSome result (λ next. next.1.rank ≡ rank) }
+    ensures column { IfSome result (λ next. next.1 < bounds.now.question.now.columns) }
+    ensures room { IfSome result (λ next. words.IsBelowMost (asked_in bounds.now) (bounds_of bounds.now) seats.now next.0 next.1) }
+    ensures source { IfSome result (λ next. words.source_at sources.now next.1 ≡ Some next.2) }
     ensures none { IfNone result (words.AreAllFound (asked_in bounds.now) (bounds_of bounds.now) seats.now ways.now) }
 {
-    let sources = sources_of(bounds, seats, ways);
     for row in 0..bounds.question.rows {
         if ways[row].is_none()
-            && let Some((column, source)) = open_column(bounds, seats, &sources, row)
+            && let Some((column, source)) = open_column(bounds, seats, sources, row)
         {
-            let way = Way {
-                column,
-                source,
-                rank,
-            };
-            return Some((row, way));
+            return Some((row, column, source));
         }
     }
     None
@@ -177,8 +177,15 @@ pub(crate) fn reach(
     ensures reached { IfSome result (words.CanTake (asked_in bounds.now) seats.now ways.new) }
     ensures stuck { IfNone result (words.IsStuck (asked_in bounds.now) (bounds_of bounds.now) seats.now ways.new) }
 {
+    let mut sources = [None; LINES];
     for rank in 0..bounds.question.rows {
-        let (row, way) = next_way(bounds, seats, ways, rank)?;
+        add_sources(bounds, seats, ways, &mut sources);
+        let (row, column, source) = next_row(bounds, seats, ways, &sources)?;
+        let way = Way {
+            column,
+            source,
+            rank,
+        };
         ways[row] = Some(way);
         if row_lacks(bounds.question, seats, row) {
             return Some(row);

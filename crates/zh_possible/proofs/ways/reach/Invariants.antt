@@ -1,11 +1,13 @@
-use Rattle.std.proofs.Common.{◌≡◌, ℕ, ◌<◌, ◌≤◌, IsSome, get_or}
+use Rattle.std.proofs.Common.{◌≡◌, ℕ, ◌<◌, ◌≤◌, IsSome, get_or, length}
 use Rattle.zh_possible.specs.Bounds.{asked_in, bounds_of}
-use Rattle.zh_possible.specs.Ways.{AreWays, RanksAreBelow, row_seats, way_at}
+use Rattle.zh_possible.specs.Ways.{AreSources, AreWays, RanksAreBelow, row_seats, way_at}
 use Rattle.zh_possible.proofs.WayLemmas.{count}
 use Rattle.zh_possible.proofs.ways.reach.Given as goal
 
 abbrev pub invariant-loop-rank : goal.invariant-loop-rank
 invariant-loop-rank l = record {
+  table : length l.sources ≡ 32;
+  sources : AreSources (asked_in l.bounds) (bounds_of l.bounds) l.seats l.ways l.sources;
   ways : AreWays (asked_in l.bounds) (bounds_of l.bounds) l.seats l.ways;
   ranks : RanksAreBelow (asked_in l.bounds) l.ways l.rank;
   count : count l.bounds.question.now.rows l.ways ≡ l.rank;
