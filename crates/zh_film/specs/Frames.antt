@@ -1,12 +1,12 @@
 -- What is known of a conversation, time after time.
-use Rattle.std.specs.Prelude.{◌≢◌, ℕ, List, [], ◌∷◌, map, Option}
+use Rattle.std.specs.Prelude.{◌≡◌, ◌≢◌, ◌⊎◌, ◌+◌, ℕ, List, [], ◌∷◌, map, Option}
 use Rattle.std.specs.declared.io.traits.Read.{Ghosts as Readers}
 use Rattle.std.specs.declared.io.traits.Write.{Ghosts as Writers}
 use Rattle.zh_disk.specs.Disk.{Trail}
 use Rattle.zh_disk.specs.declared.disk.Disk.{Ghosts as Disks}
 use Rattle.zh_film.specs.Scenes.{Scene, scenes}
 use Rattle.zh_film.specs.declared.kind.FrameKind.{FrameKind}
-use Rattle.zh_film.specs.declared.kind.FrameKind.TheVariants.{Between, Failed}
+use Rattle.zh_film.specs.declared.kind.FrameKind.TheVariants.{Asks, Between, Ended, Failed}
 use Rattle.zh_film.specs.declared.film.Film.{Film}
 
 -- at one time: what the input has left, what is written, if that is known, and the disk
@@ -42,6 +42,25 @@ InOrder P first (f ∷ fs) now = P f now × InOrder P first fs f
 abbrev pub NoneFailed : List Frame → Type 0
 NoneFailed [] = Unit {0}
 NoneFailed (f ∷ fs) = (f.kind ≢ Failed) × NoneFailed fs
+
+-- a read of these gave no byte: the input is at its end
+abbrev pub HasEnded : List Frame → Type 0
+HasEnded [] = ⊥
+HasEnded (f ∷ fs) = (f.kind ≡ Ended) ⊎ HasEnded fs
+
+-- of these, the latest first, no read is made after one that gave no byte
+abbrev pub EndsOnce : List Frame → Type 0
+EndsOnce [] = Unit {0}
+EndsOnce (f ∷ fs) = (f.kind ≡ Asks → ¬ HasEnded fs) × EndsOnce fs
+
+-- how many reads are made
+abbrev pub reads_noted : FrameKind → ℕ
+reads_noted Asks = 1
+reads_noted kind = 0
+
+abbrev pub reads_in : List Frame → ℕ
+reads_in [] = 0
+reads_in (f ∷ fs) = reads_noted f.kind + reads_in fs
 
 -- a read that failed is the last thing of these, the latest first
 abbrev pub FailsLast : List Frame → Type 0

@@ -1,3 +1,4 @@
 pub mod Reel
+pub mod Answer
 pub mod Scenes
 pub mod Frames

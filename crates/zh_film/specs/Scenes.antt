@@ -1,8 +1,7 @@
 -- What a film shows.
-use Rattle.std.specs.Prelude.{List, map, Result, Ok, Err}
+use Rattle.std.specs.Prelude.{List, map}
 use Rattle.zh_film.specs.Reel.{shots_on}
 use Rattle.zh_film.specs.declared.kind.FrameKind.{FrameKind}
-use Rattle.zh_film.specs.declared.kind.FrameKind.TheVariants.{Between, Failed}
 use Rattle.zh_film.specs.declared.film.Film.{Film}
 use Rattle.zh_film.specs.declared.film.Shot.{Shot}
 
@@ -12,11 +11,6 @@ pub record Scene (R W D : Type 0) : Type 0 where
   pub reader : R
   pub writer : W
   pub disk : D
-
--- what is noted after a read
-abbrev pub kind_after : {T E : Type 0} → Result T E → FrameKind
-kind_after (Ok count) = Between
-kind_after (Err fault) = Failed
 
 module _ {R W D : Type 0} where
   abbrev pub scene : FrameKind → R → W → D → Scene R W D
@@ -28,3 +22,7 @@ module _ {R W D : Type 0} where
   -- the latest first
   abbrev pub scenes : Film R W D → List (Scene R W D)
   scenes film = map scene_of (shots_on film.shots)
+
+  -- what the reads that it made gave, the latest first
+  abbrev pub answers_noted : Film R W D → List FrameKind
+  answers_noted film = shots_on film.answers

@@ -2,8 +2,10 @@
 ghost use Rattle.std.specs.Prelude.{◌≡◌, ◌∷◌, []};
 ghost use Rattle.std.specs.Io.{ReadsAtMost};
 ghost use Rattle.std.specs.Io.KnownBytes.{ReadConsumes};
-ghost use Rattle.zh_film.specs.Scenes.{kind_after, scene, scenes};
+ghost use Rattle.zh_film.specs.Answer.{kind_after};
+ghost use Rattle.zh_film.specs.Scenes.{answers_noted, scene, scenes};
 
+use crate::answer::{ask, kind_after};
 use crate::kind::FrameKind;
 use crate::reel::Reel;
 use std::io;
@@ -26,6 +28,7 @@ pub(crate) struct Shot<R, W, D> {
 #[derive(Drop)]
 pub struct Film<R, W, D> {
     shots: Reel<Shot<R, W, D>>,
+    answers: Reel<FrameKind>,
 }
 
 impl<R, W, D> Film<R, W, D> {
@@ -33,7 +36,10 @@ impl<R, W, D> Film<R, W, D> {
     pub fn new() -> Film<R, W, D>
         ensures { scenes result ≡ [] }
     {
-        Film { shots: Reel::new() }
+        Film {
+            shots: Reel::new(),
+            answers: Reel::new(),
+        }
     }
 
     /// Notes what the three are now.
@@ -45,7 +51,8 @@ impl<R, W, D> Film<R, W, D> {
 
     /// Notes what the three are before a read, after one, or elsewhere.
     fn add(&mut self, kind: FrameKind, reader: &R, writer: &W, disk: &D)
-        ensures { scenes self.new ≡ scene kind reader.now writer.now disk.now ∷ scenes self.old }
+        ensures noted { scenes self.new ≡ scene kind reader.now writer.now disk.now ∷ scenes self.old }
+        ensures unasked { answers_noted self.new ≡ answers_noted self.old }
     {
         let shot = Shot {
             kind,
@@ -56,7 +63,7 @@ impl<R, W, D> Film<R, W, D> {
         self.shots.push(Snapshot::of(&shot));
     }
 
-    /// Reads once, and notes what the three are before the read and after it.
+    /// Reads once, and notes what the three are before the read and after it. A read that gives no byte is noted as the end.
     pub fn read(
         &mut self,
         reader: &mut R,
@@ -68,16 +75,13 @@ impl<R, W, D> Film<R, W, D> {
         R: Read,
         ensures bound { ReadsAtMost result into.new }
         ensures bytes { ReadConsumes (R.remaining reader.old) (R.remaining reader.new) result into.new }
+        ensures noted { answers_noted self.new ≡ kind_after result ∷ answers_noted self.old }
         ensures scenes { scenes self.new ≡ scene (kind_after result) reader.new writer.now disk.now
             ∷ (scene FrameKind.Asks reader.old writer.now disk.now ∷ scenes self.old) }
     {
         self.add(FrameKind::Asks, reader, writer, disk);
-        let done = reader.read(into);
-        let kind = match done {
-            Ok(_) => FrameKind::Between,
-            Err(_) => FrameKind::Failed,
-        };
-        self.add(kind, reader, writer, disk);
-        done
+        let given = ask(reader, into, &mut self.answers);
+        self.add(kind_after(&given), reader, writer, disk);
+        given
     }
 }

@@ -7,6 +7,8 @@ pub enum FrameKind {
     Asks,
     /// A read has just failed.
     Failed,
-    /// Neither.
+    /// A read has just given no byte: the input is at its end.
+    Ended,
+    /// None of these.
     Between,
 }

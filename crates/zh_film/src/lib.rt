@@ -1,6 +1,7 @@
 //! A film of a conversation, which only clauses read: what a reader, a writer and a disk were, time after time.
 #![tactic(auto)]
 
+mod answer;
 mod film;
 mod kind;
 mod reel;

@@ -3,10 +3,11 @@ use Rattle.std.proofs.Common.{◌≡◌, ◌≢◌, inl, inr, ℕ, List, [], ◌
 use Rattle.std.proofs.Common.{append_assoc, append-nil, take-append-drop, Option, Some, Result, Err}
 use Rattle.std.specs.Prelude.{◌↔◌, IsErrOf}
 use Rattle.std.specs.Io.KnownBytes.{Appends, Consumes}
-use Rattle.zh_film.specs.Frames.{FailsLast, Frame, InOrder, NoneFailed}
+use Rattle.zh_film.specs.Frames.{EndsOnce, FailsLast, Frame, HasEnded, InOrder, NoneFailed}
 use Rattle.zh_film.specs.declared.kind.FrameKind.{FrameKind}
 use Rattle.zh_film.specs.declared.kind.FrameKind.TheVariants.{Asks, Between, Failed}
-use Rattle.zh_office.specs.Filmed.{IsOn, FilmsSteps, FilmsFrontSteps}
+use Rattle.zh_office.specs.Filmed.{IsOn, FilmsSteps, FilmsFrontSteps, frame_as}
+use Rattle.zh_office.proofs.FilmReadLemmas.{notes_between, notes_none, notes_then}
 use Rattle.zh_ledger.specs.Submissions.{OnDisk}
 use Rattle.zh_office.specs.Office.{Office}
 use Rattle.zh_office.specs.Order.{Step, ComesAfter, IsInOrder, disk_after, texts}
@@ -38,7 +39,7 @@ rests first a b done rest written disk text still unread answered = record {
 pub over : (first : Frame) (done : List Step) (s : Session) → IsOn first done s → (rest : List Step) → InOrder (ComesAfter (done ++ rest) first) first s.film (frame_at s)
 over first done s on rest =
     subst (λ (l : List Frame). InOrder (ComesAfter (done ++ rest) first) first l (frame_at s)) (sym on.noted)
-    (rests first (frame_at s) (frame_at s) done rest on.written on.disk refl refl (λ is. refl) (λ asks. absurd cc), on.order rest)
+    (rests first (frame_as on.kind s) (frame_at s) done rest on.written on.disk refl refl (λ is. refl) (λ asks. absurd (on.silent asks)), on.order rest)
 
 -- and no read failed at all
 fails_last : (fs : List Frame) → NoneFailed fs → FailsLast fs
@@ -48,9 +49,12 @@ fails_last (f ∷ fs) none = none.1
 -- the beginning
 pub starts : (s : Session) → s.film ≡ frame_at s ∷ [] → IsOn (frame_at s) [] s
 starts s noted = record {
+  kind = Between;
+  silent = λ is. cc;
   before = [];
   noted = noted;
   calm = subst NoneFailed (sym noted) ((λ is. cc), tt);
+  once = subst EndsOnce (sym noted) ((λ asks. absurd cc), tt);
   order = λ rest. rests (frame_at s) (frame_at s) (frame_at s) [] rest (Appends-nil s.written) refl refl refl (λ is. refl) (λ asks. absurd cc);
   written = Appends-nil s.written;
   disk = refl;
@@ -61,20 +65,29 @@ pub film_ends : (first : Frame) (done : List Step) (s : Session) → IsOn first 
 film_ends first done s on = record {
   follow = subst (λ (steps : List Step). InOrder (ComesAfter steps first) first s.film (frame_at s)) (append-nil done) (over first done s on []);
   failed = fails_last s.film on.calm;
+  ended = on.once;
 }
 
 -- steps, and others after them
 pub FilmsSteps-none : (s : Session) → FilmsSteps s [] s
-FilmsSteps-none s = λ first done on. subst (λ (steps : List Step). IsOn first steps s) (sym (append-nil done)) on
+FilmsSteps-none s = record {
+  unread = notes_none s.film;
+  on = λ first done on. subst (λ (steps : List Step). IsOn first steps s) (sym (append-nil done)) on;
+}
 
 pub FilmsSteps-append : (old mid new : Session) (xs ys : List Step) → FilmsSteps old xs mid → FilmsSteps mid ys new → FilmsSteps old (xs ++ ys) new
-FilmsSteps-append old mid new xs ys a b = λ first done on.
-    subst (λ (steps : List Step). IsOn first steps new) (append_assoc done xs ys) (b first (done ++ xs) (a first done on))
+FilmsSteps-append old mid new xs ys a b = record {
+  unread = notes_then old.film mid.film new.film a.unread b.unread;
+  on = λ first done on. subst (λ (steps : List Step). IsOn first steps new) (append_assoc done xs ys) (b.on first (done ++ xs) (a.on first done on));
+}
 
 pub FilmsFrontSteps-after : (old mid new : Session) (xs ys : List Step) → FilmsSteps old xs mid → FilmsFrontSteps mid ys new → FilmsFrontSteps old (xs ++ ys) new
-FilmsFrontSteps-after old mid new xs ys a b = λ first done on.
-    let then = b first (done ++ xs) (a first done on) in
-    (subst (λ (steps : List Step). IsInOrder steps first new.film (frame_at new)) (append_assoc done xs ys) then.0, then.1)
+FilmsFrontSteps-after old mid new xs ys a b = record {
+  unread = notes_then old.film mid.film new.film a.unread b.unread;
+  broken = λ first done on.
+      let then = b.broken first (done ++ xs) (a.on first done on) in
+      (subst (λ (steps : List Step). IsInOrder steps first new.film (frame_at new)) (append_assoc done xs ys) then.0, then.1);
+}
 
 -- a step is done, and that is noted; then its answer is written, or a front of it
 module _ (first : Frame) (done : List Step) (old mid new : Session) (x : Step) (on : IsOn first done old)
@@ -83,7 +96,7 @@ module _ (first : Frame) (done : List Step) (old mid new : Session) (x : Step) (
   after_it : x.disk ≡ disk_after first.disk (done ++ x ∷ [])
   after_it = sym (disk-append first.disk done (x ∷ []))
 
-  works : (rest : List Step) → ComesAfter (done ++ x ∷ rest) first (frame_at old) (frame_at mid)
+  works : (rest : List Step) → ComesAfter (done ++ x ∷ rest) first (frame_as on.kind old) (frame_at mid)
   works rest = record {
     done = done;
     one = x ∷ [];
@@ -94,7 +107,7 @@ module _ (first : Frame) (done : List Step) (old mid new : Session) (x : Step) (
     disk = disk ∙ after_it;
     moves = inl (record { still = on.disk; unwritten = unwritten });
     unread = λ is. left;
-    answered = λ asks. absurd cc;
+    answered = λ asks. absurd (on.silent asks);
   }
 
   tells : (rest : List Step) (text more : List ℕ) → text ++ more ≡ texts (x ∷ []) → Appends mid.written new.written text → ComesAfter (done ++ x ∷ rest) first (frame_at mid) (frame_at new)
@@ -121,9 +134,12 @@ module _ (first : Frame) (done : List Step) (old mid new : Session) (x : Step) (
       let whole : x.text ++ [] ≡ texts (x ∷ []) = refl in
       let all : new.film ≡ frame_at new ∷ (frame_at mid ∷ old.film) = noted' ∙ ap (λ (l : List Frame). frame_at new ∷ l) noted in
       record {
+        kind = Between;
+        silent = λ is. cc;
         before = frame_at mid ∷ old.film;
         noted = all;
         calm = subst NoneFailed (sym all) ((λ is. cc), ((λ is. cc), on.calm));
+        once = subst EndsOnce (sym all) ((λ asks. absurd cc), ((λ asks. absurd cc), on.once));
         order = λ rest. subst (λ (steps : List Step). InOrder (ComesAfter steps first) first (frame_at mid ∷ old.film) (frame_at new)) (sym (append_assoc done (x ∷ []) rest))
             (until rest x.text [] whole written);
         written = subst (Appends first.written new.written) (ap (λ (l : List ℕ). texts done ++ l) (sym (append-nil x.text)) ∙ sym (texts-append done (x ∷ [])))
@@ -139,14 +155,32 @@ module _ (first : Frame) (done : List Step) (old mid new : Session) (x : Step) (
           follow = subst (λ (l : List Frame). InOrder (ComesAfter (done ++ x ∷ []) first) first l (frame_at new)) (sym all)
               (until [] (take front x.text) (drop front x.text) (take-append-drop front x.text ∙ sym (append-nil x.text)) written);
           failed = subst FailsLast (sym all) on.calm;
+          ended = subst EndsOnce (sym all) ((λ asks. absurd cc), on.once);
         },
         subst NoneFailed (sym all) ((λ is. cc), on.calm),
       )
 
+-- the same, whatever was done before it
+pub films_answer : (old mid new : Session) (x : Step) → mid.left ≡ old.left → mid.written ≡ old.written → mid.office.history.trail ≡ x.disk → new.left ≡ mid.left
+    → new.office.history.trail ≡ x.disk → mid.film ≡ frame_at mid ∷ old.film → new.film ≡ frame_at new ∷ mid.film → Appends mid.written new.written x.text
+    → FilmsSteps old (x ∷ []) new
+films_answer old mid new x left unwritten disk left' disk' noted noted' written = record {
+  unread = notes_then old.film mid.film new.film (notes_between (frame_at mid) old.film mid.film refl noted) (notes_between (frame_at new) mid.film new.film refl noted');
+  on = λ first done on. answered first done old mid new x on left unwritten disk left' disk' noted noted' written;
+}
+
+pub films_front : (old mid new : Session) (x : Step) → mid.left ≡ old.left → mid.written ≡ old.written → mid.office.history.trail ≡ x.disk → new.left ≡ mid.left
+    → new.office.history.trail ≡ x.disk → mid.film ≡ frame_at mid ∷ old.film → new.film ≡ mid.film → (front : ℕ) → Appends mid.written new.written (take front x.text)
+    → FilmsFrontSteps old (x ∷ []) new
+films_front old mid new x left unwritten disk left' disk' noted same front written = record {
+  unread = notes_between (frame_at mid) old.film new.film refl (same ∙ noted);
+  broken = λ first done on. broken first done old mid new x on left unwritten disk left' disk' noted same front written;
+}
+
 -- a read is made, and noted
 module _ (first : Frame) (done : List Step) (old new : Session) (kind : FrameKind) (input : List ℕ) (on : IsOn first done old)
     (taken : Consumes first.left old.left input) (lines : map Some (ended_lines input) ≡ map (λ s. s.line) done)
-    (written : new.written ≡ old.written) (disk : new.office ≡ old.office) where
+    (written : new.written ≡ old.written) (disk : new.office ≡ old.office) (unended : ¬ HasEnded old.film) where
   abbrev asking : Frame
   asking = record { kind = Asks; left = old.left; written = old.written; disk = old.office.history.trail }
 
@@ -156,8 +190,8 @@ module _ (first : Frame) (done : List Step) (old new : Session) (kind : FrameKin
   trail : new.office.history.trail ≡ old.office.history.trail
   trail = ap (λ (o : OnDisk Office). o.history.trail) disk
 
-  asks : (rest : List Step) → ComesAfter (done ++ rest) first (frame_at old) asking
-  asks rest = rests first (frame_at old) asking done rest on.written on.disk refl refl (λ is. refl) (λ asks. absurd cc)
+  asks : (rest : List Step) → ComesAfter (done ++ rest) first (frame_as on.kind old) asking
+  asks rest = rests first (frame_as on.kind old) asking done rest on.written on.disk refl refl (λ is. refl) (λ asks. absurd (on.silent asks))
 
   takes : (rest : List Step) → ComesAfter (done ++ rest) first asking then
   takes rest = rests first asking then done rest on.written on.disk written trail (λ other. absurd (other refl)) (λ is. (input, taken, lines))
@@ -165,18 +199,22 @@ module _ (first : Frame) (done : List Step) (old new : Session) (kind : FrameKin
   until_read : (rest : List Step) → InOrder (ComesAfter (done ++ rest) first) first (asking ∷ old.film) then
   until_read rest = (takes rest, subst (λ (l : List Frame). InOrder (ComesAfter (done ++ rest) first) first l asking) (sym on.noted) (asks rest, on.order rest))
 
-  pub was_read : kind ≡ Between → new.film ≡ then ∷ (asking ∷ old.film) → IsOn first done new
-  was_read between noted =
-      let same : then ≡ frame_at new = ap (λ (e : FrameKind). record { kind = e; left = new.left; written = new.written; disk = new.office.history.trail }) between in
-      let all : new.film ≡ frame_at new ∷ (asking ∷ old.film) = noted ∙ ap (λ (f : Frame). f ∷ (asking ∷ old.film)) same in
-      record {
-        before = asking ∷ old.film;
-        noted = all;
-        calm = subst NoneFailed (sym all) ((λ is. cc), ((λ is. cc), on.calm));
-        order = λ rest. subst (InOrder (ComesAfter (done ++ rest) first) first (asking ∷ old.film)) same (until_read rest);
-        written = subst (λ (w : Option (List ℕ)). Appends first.written w (texts done)) (sym written) on.written;
-        disk = trail ∙ on.disk;
-      }
+  -- the end is met once: of a read that is asked for, none before it gave no byte
+  asks_once : kind ≢ Asks → EndsOnce (then ∷ (asking ∷ old.film))
+  asks_once silent = ((λ asks. absurd (silent asks)), ((λ asks. unended), on.once))
+
+  pub was_read : kind ≢ Asks → kind ≢ Failed → new.film ≡ then ∷ (asking ∷ old.film) → IsOn first done new
+  was_read silent calm noted = record {
+    kind = kind;
+    silent = silent;
+    before = asking ∷ old.film;
+    noted = noted;
+    calm = subst NoneFailed (sym noted) (calm, ((λ is. cc), on.calm));
+    once = subst EndsOnce (sym noted) (asks_once silent);
+    order = until_read;
+    written = subst (λ (w : Option (List ℕ)). Appends first.written w (texts done)) (sym written) on.written;
+    disk = trail ∙ on.disk;
+  }
 
   pub read_failed : kind ≡ Failed → new.film ≡ then ∷ (asking ∷ old.film) → IsInOrder done first new.film (frame_at new)
   read_failed failed noted = record {
@@ -187,6 +225,7 @@ module _ (first : Frame) (done : List Step) (old new : Session) (kind : FrameKin
           until_read [],
         ));
     failed = subst FailsLast (sym noted) ((λ is. cc), on.calm);
+    ended = subst EndsOnce (sym noted) (asks_once (λ asks. let wrong : Failed ≡ Asks = sym failed ∙ asks in absurd cc));
   }
 
 -- where no read failed, the result is not that one did

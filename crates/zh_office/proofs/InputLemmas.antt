@@ -1,13 +1,13 @@
 -- Serving an input block by block.
-use Rattle.std.proofs.Common.{◌≡◌, inl, inr, ℕ, ◌+◌, ◌-◌, ◌^◌, min, List, [], ◌∷◌, ◌++◌, map, take, length, refl, sym, ap, ◌∙◌, subst, arith, append_assoc, Option, Some, None, length-append}
+use Rattle.std.proofs.Common.{◌≡◌, ◌≢◌, inl, inr, ℕ, ◌+◌, ◌-◌, ◌^◌, min, List, [], ◌∷◌, ◌++◌, map, take, length, refl, sym, ap, ◌∙◌, subst, arith, append_assoc, Option, Some, None, length-append}
 use Rattle.std.proofs.lemmas.List.{append-nil, map-append}
 use Rattle.std.specs.Io.KnownBytes.{Appends, Consumes, Keeps, IsAtEnd}
 use Rattle.zh_ledger.specs.Submissions.{followed_by}
 use Rattle.zh_office.specs.Runs.{text_after}
 use Rattle.zh_office.specs.Text.{HasNoEnd, ended, unfinished, truncated, ended_lines, last_line, lines_of}
-use Rattle.zh_film.specs.Frames.{Frame, NoneFailed}
+use Rattle.zh_film.specs.Frames.{Frame, HasEnded, NoneFailed}
 use Rattle.zh_film.specs.declared.kind.FrameKind.{FrameKind}
-use Rattle.zh_film.specs.declared.kind.FrameKind.TheVariants.{Asks, Between, Failed}
+use Rattle.zh_film.specs.declared.kind.FrameKind.TheVariants.{Asks, Between, Ended, Failed}
 use Rattle.zh_office.specs.Filmed.{FilmsAll, FilmsFront, IsOn, TakesBlock}
 use Rattle.zh_office.specs.Order.{Step, IsInOrder}
 use Rattle.zh_office.specs.Served.{Session, AnswersAll, BreaksOff, KeepsLog, ServesAll, ServesEnded, ServesFront, frame_at, step_of, steps_broken, steps_in, steps_of}
@@ -16,6 +16,7 @@ use Rattle.zh_office.proofs.RunLemmas.{Runs-append, Runs-one}
 use Rattle.zh_office.proofs.LoggedLemmas.{run_is_logged}
 use Rattle.zh_office.proofs.BlockLemmas.{Appends-append, Consumes-append, Consumes-none, AnswersAll-none, AnswersAll-append}
 use Rattle.zh_office.proofs.FilmLemmas.{film_ends, read_failed, starts, was_read}
+use Rattle.zh_office.proofs.FilmReadLemmas.{no_end_more, no_end_read}
 use Rattle.zh_office.proofs.StepLemmas.{lines-of, steps-append}
 
 -- these lines are answered, and the film is in order
@@ -43,7 +44,7 @@ Filmed-append old now new lines more f a = record {
   on =
       subst (λ (steps : List Step). IsOn (frame_at old) steps new)
       (sym (steps-append old.office now.office new.office lines more f.answers.out a.answers.out f.answers.log a.answers.log f.answers.run a.answers.run))
-      (a.shown (frame_at old) (steps_in lines old now f.answers) f.on);
+      (a.shown.on (frame_at old) (steps_in lines old now f.answers) f.on);
 }
 
 -- what was read so far has been answered up to its last LF, and what counts of the rest is held
@@ -53,6 +54,7 @@ pub record Serving (old now : Session) (line : List ℕ) (count : ℕ) : Type 0 
   pub films : Filmed (ended_lines input) old now
   pub held : line ≡ truncated (unfinished input)
   pub counted : count ≡ min (length (ended_lines input)) (2 ^ 64 - 1)
+  pub unended : ¬ HasEnded now.film
 
 pub Serving-start : (old : Session) (film : List Frame) (line : List ℕ) → line ≡ [] → film ≡ frame_at old ∷ [] → Serving old (seen_by old old.left film) line 0
 Serving-start old film line none noted = record {
@@ -61,6 +63,7 @@ Serving-start old film line none noted = record {
   films = record { answers = read_more [] old old old.left film (AnswersAll-none old); on = starts (seen_by old old.left film) noted };
   held = none;
   counted = refl;
+  unended = λ ended. no_end_more (frame_at old) [] refl (subst HasEnded noted ended);
 }
 
 -- what is held has no end of a line
@@ -72,12 +75,22 @@ Serving-clean old now line count s =
 abbrev steps_so_far : (old now : Session) (line : List ℕ) (count : ℕ) → Serving old now line count → List Step
 steps_so_far old now line count s = steps_in (ended_lines s.input) old now s.films.answers
 
-Serving-seen : (old now : Session) (left : Option (List ℕ)) (film : List Frame) (line : List ℕ) (count : ℕ) (s : Serving old now line count) → IsRead now left film Between
-    → Filmed (ended_lines s.input) old (seen_by now left film)
-Serving-seen old now left film line count s is = record {
+-- it did not fail
+abbrev pub HasGiven : FrameKind → Type 0
+HasGiven kind = (kind ≢ Asks) × (kind ≢ Failed)
+
+pub gave_bytes : HasGiven Between
+gave_bytes = ((λ is. cc), (λ is. cc))
+
+pub gave_none : HasGiven Ended
+gave_none = ((λ is. cc), (λ is. cc))
+
+Serving-seen : (old now : Session) (left : Option (List ℕ)) (film : List Frame) (line : List ℕ) (count : ℕ) (s : Serving old now line count) (kind : FrameKind) → HasGiven kind
+    → IsRead now left film kind → Filmed (ended_lines s.input) old (seen_by now left film)
+Serving-seen old now left film line count s kind given is = record {
   answers = read_more (ended_lines s.input) old now left film s.films.answers;
-  on = was_read (frame_at old) (steps_so_far old now line count s) now (seen_by now left film) Between s.input s.films.on s.read
-      (lines-of old.office (ended_lines s.input) s.films.answers.out s.films.answers.log now.office s.films.answers.run) refl refl refl is;
+  on = was_read (frame_at old) (steps_so_far old now line count s) now (seen_by now left film) kind s.input s.films.on s.read
+      (lines-of old.office (ended_lines s.input) s.films.answers.out s.films.answers.log now.office s.films.answers.run) refl refl s.unended given.0 given.1 is;
 }
 
 -- the log of a run is what was done
@@ -110,8 +123,9 @@ Serving-more old now left film new line block line' count more total s is read b
       input = s.input ++ block;
       read = Consumes-append old.left now.left new.left s.input block s.read read;
       films = subst (λ ls. Filmed ls old new) (sym lines)
-          (Filmed-append old (seen_by now left film) new (ended_lines s.input) (ended_lines (line ++ block)) (Serving-seen old now left film line count s is) b.films);
+          (Filmed-append old (seen_by now left film) new (ended_lines s.input) (ended_lines (line ++ block)) (Serving-seen old now left film line count s Between gave_bytes is) b.films);
       held = b.left ∙ more_rest s.input line block s.held;
+      unended = λ ended. no_end_read _ _ now.film film refl refl is s.unended (b.films.shown.unread.ended.0 ended);
       counted = omega (arith, total_is, s.counted, b.counted, simp length-append at (ap length lines));
     }
 
@@ -157,7 +171,7 @@ breaks_filmed old now new front lines others all f b all_is =
     let steps : steps_of old.office (front ++ breaks.answered) _ _ breaks.mid _ ≡ before ++ then
     = steps-append old.office now.office breaks.mid front breaks.answered f.answers.out breaks.out f.answers.log breaks.log f.answers.run breaks.run in
     subst (λ (xs : List Step). IsInOrder xs (frame_at old) new.film (frame_at new)) (sym (ap (λ (xs : List Step). xs ++ last) steps ∙ append_assoc before then last))
-    (b.shown (frame_at old) before f.on).0
+    (b.shown.broken (frame_at old) before f.on).0
 
 -- an answer within a block was not written whole
 pub Serving-breaks : (old now : Session) (left : Option (List ℕ)) (film : List Frame) (new : Session) (line block : List ℕ) (count : ℕ)
@@ -165,7 +179,7 @@ pub Serving-breaks : (old now : Session) (left : Option (List ℕ)) (film : List
     → ServesFront old new
 Serving-breaks old now left film new line block count s is read b =
     let seen = seen_by now left film in
-    let f = Serving-seen old now left film line count s is in
+    let f = Serving-seen old now left film line count s Between gave_bytes is in
     let all = more_lines s.input line block s.held ∙ sym (append-nil (ended_lines s.input ++ ended_lines (line ++ block))) in
     let breaks = BreaksOff-after old seen new (ended_lines s.input) (ended_lines (line ++ block)) [] (ended_lines (s.input ++ block)) f.answers b.breaks all in
     record {
@@ -188,18 +202,18 @@ read_on first reader reader' input before none =
     subst (λ xs. Consumes first reader' xs) (append-nil input) (Consumes-append first reader reader' input [] before none)
 
 pub Serving-breaks_calm : (old now : Session) (left : Option (List ℕ)) (film : List Frame) (new : Session) (line : List ℕ) (lines : List (List ℕ)) (count : ℕ)
-    → Serving old now line count → IsRead now left film Between → FilmsFront lines (seen_by now left film) new → NoneFailed new.film
-Serving-breaks_calm old now left film new line lines count s is b =
-    let f = Serving-seen old now left film line count s is in
-    (b.shown (frame_at old) (steps_in (ended_lines s.input) old (seen_by now left film) f.answers) f.on).1
+    → Serving old now line count → (kind : FrameKind) → HasGiven kind → IsRead now left film kind → FilmsFront lines (seen_by now left film) new → NoneFailed new.film
+Serving-breaks_calm old now left film new line lines count s kind given is b =
+    let f = Serving-seen old now left film line count s kind given is in
+    (b.shown.broken (frame_at old) (steps_in (ended_lines s.input) old (seen_by now left film) f.answers) f.on).1
 
 -- the answer to the last line was not written whole
 pub Serving-last_breaks : (old now : Session) (left : Option (List ℕ)) (film : List Frame) (new : Session) (line : List ℕ) (count : ℕ)
-    → Serving old now line count → IsRead now left film Between → Consumes now.left new.left [] → IsAtEnd new.left → FilmsFront (last_line line) (seen_by now left film) new
+    → Serving old now line count → IsRead now left film Ended → Consumes now.left new.left [] → IsAtEnd new.left → FilmsFront (last_line line) (seen_by now left film) new
     → ServesFront old new
 Serving-last_breaks old now left film new line count s is read at_end b =
     let seen = seen_by now left film in
-    let f = Serving-seen old now left film line count s is in
+    let f = Serving-seen old now left film line count s Ended gave_none is in
     let all = ap (λ ls. ended_lines s.input ++ ls) (sym (last_held s.input line s.held)) ∙ sym (append-nil (ended_lines s.input ++ last_line line)) in
     let breaks = BreaksOff-after old seen new (ended_lines s.input) (last_line line) [] (lines_of s.input) f.answers b.breaks all in
     record {
@@ -214,13 +228,13 @@ Serving-last_breaks old now left film new line count s is read at_end b =
 
 -- the last line is answered
 Serving-last : (old now : Session) (left : Option (List ℕ)) (film : List Frame) (new : Session) (line : List ℕ) (count : ℕ)
-    (s : Serving old now line count) → IsRead now left film Between → FilmsAll (last_line line) (seen_by now left film) new → Filmed (lines_of s.input) old new
+    (s : Serving old now line count) → IsRead now left film Ended → FilmsAll (last_line line) (seen_by now left film) new → Filmed (lines_of s.input) old new
 Serving-last old now left film new line count s is then =
     subst (λ ls. Filmed (ended_lines s.input ++ ls) old new) (last_held s.input line s.held)
-    (Filmed-append old (seen_by now left film) new (ended_lines s.input) (last_line line) (Serving-seen old now left film line count s is) then)
+    (Filmed-append old (seen_by now left film) new (ended_lines s.input) (last_line line) (Serving-seen old now left film line count s Ended gave_none is) then)
 
 pub Serving-last_calm : (old now : Session) (left : Option (List ℕ)) (film : List Frame) (new : Session) (line : List ℕ) (count : ℕ)
-    → Serving old now line count → IsRead now left film Between → FilmsAll (last_line line) (seen_by now left film) new → NoneFailed new.film
+    → Serving old now line count → IsRead now left film Ended → FilmsAll (last_line line) (seen_by now left film) new → NoneFailed new.film
 Serving-last_calm old now left film new line count s is then = (Serving-last old now left film new line count s is then).on.calm
 
 -- the turns ended before the input
@@ -248,12 +262,12 @@ Serving-fails old now left film line count s is read =
       answers = answers;
       kept = answers_kept (ended_lines s.input) old seen answers;
       order = read_failed (frame_at old) (steps_so_far old now line count s) now seen Failed s.input s.films.on s.read
-          (lines-of old.office (ended_lines s.input) s.films.answers.out s.films.answers.log now.office s.films.answers.run) refl refl refl is;
+          (lines-of old.office (ended_lines s.input) s.films.answers.out s.films.answers.log now.office s.films.answers.run) refl refl s.unended refl is;
     }
 
 -- the input ended, and its last line is answered
 pub Serving-ends : (old now : Session) (left : Option (List ℕ)) (film : List Frame) (new : Session) (line : List ℕ) (count more total : ℕ)
-    → Serving old now line count → IsRead now left film Between → Consumes now.left new.left [] → IsAtEnd new.left
+    → Serving old now line count → IsRead now left film Ended → Consumes now.left new.left [] → IsAtEnd new.left
     → (more ≡ length (last_line line)) × FilmsAll (last_line line) (seen_by now left film) new → total ≡ min (count + more) (2 ^ 64 - 1)
     → ServesAll old new total
 Serving-ends old now left film new line count more total s is read at_end (more_is, then) total_is =
@@ -263,6 +277,7 @@ Serving-ends old now left film new line count more total s is read at_end (more_
       input = s.input;
       read = read_on old.left now.left new.left s.input s.read read;
       end = at_end;
+      met = then.shown.unread.ended.1 (subst HasEnded (sym is) (inl refl));
       answers = all.answers;
       kept = answers_kept (lines_of s.input) old new all.answers;
       counted = omega (arith, total_is, s.counted, more_is, ap length last, length-append (ended_lines s.input) (last_line (unfinished s.input)));

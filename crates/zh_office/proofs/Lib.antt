@@ -8,6 +8,7 @@ mod LoggedLemmas
 mod NightLemmas
 mod OtherDeskLemmas
 mod FilmLemmas
+mod FilmReadLemmas
 mod StepLemmas
 mod ReadCountLemmas
 mod RunLemmas

@@ -1,31 +1,47 @@
 -- What answering lines does to a film that is in order.
-use Rattle.std.specs.Prelude.{◌≡◌, ◌<◌, ℕ, List, [], ◌∷◌, ◌++◌, length, take, Option, Result, OnOk, OnErr}
+use Rattle.std.specs.Prelude.{◌≡◌, ◌≢◌, ◌↔◌, ◌<◌, ℕ, List, [], ◌∷◌, ◌++◌, length, take, Option, Result, OnOk, OnErr}
 use Rattle.std.specs.Io.KnownBytes.{Appends}
 use Rattle.zh_commands.specs.declared.output.WriteFault.{WriteFault}
-use Rattle.zh_film.specs.Frames.{Frame, InOrder, NoneFailed}
+use Rattle.zh_film.specs.Frames.{EndsOnce, Frame, HasEnded, InOrder, NoneFailed, reads_in}
+use Rattle.zh_film.specs.declared.kind.FrameKind.{FrameKind}
+use Rattle.zh_film.specs.declared.kind.FrameKind.TheVariants.{Asks}
 use Rattle.zh_answers.specs.declared.answer.Answer.{Answer}
 use Rattle.zh_office.specs.Order.{Step, ComesAfter, IsInOrder, disk_after, texts}
 use Rattle.zh_office.specs.Runs.{Turn, text_after}
 use Rattle.zh_office.specs.Served.{Session, AnswersAll, BreaksOff, frame_at, step_of, steps_broken, steps_in}
 use Rattle.zh_office.specs.Text.{ended_lines, truncated, unfinished}
 
+-- a session's frame with another note
+abbrev pub frame_as : FrameKind → Session → Frame
+frame_as kind s = record (frame_at s) { kind = kind }
+
 -- All is in order up to now, which the film shows, whatever comes after it: these steps are done and answered, and no read failed.
 pub record IsOn (first : Frame) (done : List Step) (s : Session) : Type 0 where
+  pub kind : FrameKind
+  pub silent : kind ≢ Asks
   pub before : List Frame
-  pub noted : s.film ≡ frame_at s ∷ before
+  pub noted : s.film ≡ frame_as kind s ∷ before
   pub calm : NoneFailed s.film
-  pub order : (rest : List Step) → InOrder (ComesAfter (done ++ rest) first) first before (frame_at s)
+  pub once : EndsOnce s.film
+  pub order : (rest : List Step) → InOrder (ComesAfter (done ++ rest) first) first before (frame_as kind s)
   pub written : Appends first.written s.written (texts done)
   pub disk : s.office.history.trail ≡ disk_after first.disk done
 
+-- no read is noted from the one to the other
+pub record NotesNoRead (old new : List Frame) : Type 0 where
+  pub reads : reads_in new ≡ reads_in old
+  pub ended : HasEnded new ↔ HasEnded old
+
 -- these steps more are done and answered
-abbrev pub FilmsSteps : Session → List Step → Session → Type 0
-FilmsSteps old more new = (first : Frame) (done : List Step) → IsOn first done old → IsOn first (done ++ more) new
+pub record FilmsSteps (old : Session) (more : List Step) (new : Session) : Type 0 where
+  pub unread : NotesNoRead old.film new.film
+  pub on : (first : Frame) (done : List Step) → IsOn first done old → IsOn first (done ++ more) new
 
 -- of these steps more the last is not answered whole, and nothing comes after it
-abbrev pub FilmsFrontSteps : Session → List Step → Session → Type 0
-FilmsFrontSteps old more new =
-    (first : Frame) (done : List Step) → IsOn first done old → IsInOrder (done ++ more) first new.film (frame_at new) × NoneFailed new.film
+pub record FilmsFrontSteps (old : Session) (more : List Step) (new : Session) : Type 0 where
+  pub unread : NotesNoRead old.film new.film
+  pub broken : (first : Frame) (done : List Step) → IsOn first done old
+      → IsInOrder (done ++ more) first new.film (frame_at new) × NoneFailed new.film
 
 -- these lines are answered, and the answers written
 pub record FilmsAll (lines : List (List ℕ)) (old new : Session) : Type 0 where

@@ -2,7 +2,7 @@
 use Rattle.std.specs.Prelude.{◌≡◌, ◌≢◌, ◌⊎◌, ◌≤◌, ℕ, List, [], ◌∷◌, ◌++◌, flat_map, length, map, Option, Some}
 use Rattle.std.specs.Io.KnownBytes.{Appends, Consumes}
 use Rattle.zh_disk.specs.Disk.{Trail}
-use Rattle.zh_film.specs.Frames.{Frame, InOrder, FailsLast}
+use Rattle.zh_film.specs.Frames.{EndsOnce, FailsLast, Frame, InOrder}
 use Rattle.zh_film.specs.declared.kind.FrameKind.TheVariants.{Asks}
 use Rattle.zh_office.specs.Text.{ended_lines}
 
@@ -51,7 +51,9 @@ pub record ComesAfter (steps : List Step) (first a b : Frame) : Type 0 where
   pub answered : a.kind ≡ Asks → (input : List ℕ) × Consumes first.left a.left input
       × (map Some (ended_lines input) ≡ map (λ s. s.line) done)
 
--- each two that follow each other, from the first over these, the latest first, to the last; no read is made after a failed one
+-- each two that follow each other, from the first over these, the latest first, to the last; no read is made after one that failed,
+-- or that gave no byte
 pub record IsInOrder (steps : List Step) (first : Frame) (film : List Frame) (last : Frame) : Type 0 where
   pub follow : InOrder (ComesAfter steps first) first film last
   pub failed : FailsLast film
+  pub ended : EndsOnce film

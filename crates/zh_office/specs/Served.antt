@@ -1,9 +1,9 @@
 -- What was served of a reader's bytes.
-use Rattle.std.specs.Prelude.{◌≡◌, ◌<◌, ◌≤◌, ◌⊎◌, ◌-◌, ◌*◌, ◌^◌, ℕ, List, [], ◌∷◌, ◌++◌, take, min, length, IsTrue}
+use Rattle.std.specs.Prelude.{◌≡◌, ◌<◌, ◌≤◌, ◌⊎◌, ◌+◌, ◌-◌, ◌*◌, ◌^◌, ℕ, List, [], ◌∷◌, ◌++◌, take, min, length, IsTrue}
 use Rattle.std.specs.Prelude.{Option, Some}
 use Rattle.std.specs.Io.KnownBytes.{Appends, Consumes, IsAtEnd}
 use Rattle.zh_disk.specs.History.{History}
-use Rattle.zh_film.specs.Frames.{Frame, now_at}
+use Rattle.zh_film.specs.Frames.{Frame, HasEnded, now_at, reads_in}
 use Rattle.zh_film.specs.declared.kind.FrameKind.TheVariants.{Failed}
 use Rattle.zh_ledger.specs.Submissions.{OnDisk, on_disk, Log, followed_by, IsLogged}
 use Rattle.zh_answers.specs.declared.answer.Answer.{Answer}
@@ -60,11 +60,13 @@ steps_in lines old new answers = steps_of old.office lines answers.out answers.l
 abbrev pub IsFilmed : List Step → Session → Session → Type 0
 IsFilmed steps old new = IsInOrder steps (frame_at old) new.film (frame_at new)
 
--- the input was read to its end, all its lines are answered, and this is their number, which stops at the greatest u64
+-- the input was read to its end, where a read gave no byte, all its lines are answered, and this is their number, which stops at
+-- the greatest u64
 pub record ServesAll (old new : Session) (count : ℕ) : Type 0 where
   pub input : List ℕ
   pub read : Consumes old.left new.left input
   pub end : IsAtEnd new.left
+  pub met : HasEnded new.film
   pub answers : AnswersAll (lines_of input) old new
   pub counted : count ≡ min (length (lines_of input)) (2 ^ 64 - 1)
   pub kept : KeepsLog old answers.log new
@@ -120,10 +122,20 @@ pub record TakesReads (reader reader' : Option (List ℕ)) (reads : ℕ) : Type 
   pub least : reads ≤ length bytes
   pub most : length bytes ≤ 8192 * reads
 
--- fewer such reads than this can have taken it
-abbrev pub TakesFewerReads : Option (List ℕ) → Option (List ℕ) → ℕ → Type 0
-TakesFewerReads reader reader' bound = (reads : ℕ) × (reads < bound) × TakesReads reader reader' reads
+-- what is known of the reads of a run: those that its film shows, and what they took
+abbrev pub ReadsOf : Type 1
+ReadsOf = List Frame → Option (List ℕ) → Option (List ℕ) → ℕ → Type 0
 
--- this many such reads at most can have taken it
-abbrev pub TakesReadsUpTo : Option (List ℕ) → Option (List ℕ) → ℕ → Type 0
-TakesReadsUpTo reader reader' bound = (reads : ℕ) × (reads ≤ bound) × TakesReads reader reader' reads
+-- this many are made, none met the end, and each took some
+abbrev pub MakesAllReads : ReadsOf
+MakesAllReads film reader reader' bound = (reads_in film ≡ bound) × (¬ HasEnded film) × TakesReads reader reader' bound
+
+-- this many at most are made, and each but the last took some
+abbrev pub EndsWithinReads : ReadsOf
+EndsWithinReads film reader reader' bound =
+    (reads : ℕ) × (reads_in film ≡ reads + 1) × (reads < bound) × TakesReads reader reader' reads
+
+-- this many at most are made, and each but one at most took some
+abbrev pub MakesReadsUpTo : ReadsOf
+MakesReadsUpTo film reader reader' bound =
+    (reads : ℕ) × (reads ≤ reads_in film) × (reads_in film ≤ reads + 1) × (reads_in film ≤ bound) × TakesReads reader reader' reads

@@ -8,7 +8,7 @@ ghost use Rattle.zh_office.specs.Filmed.{FilmsAll, FilmsFront, TakesBlock, Write
 ghost use Rattle.zh_office.specs.Runs.{Continues, answer_text};
 ghost use Rattle.zh_office.specs.Text.{HasNoEnd, ended_lines, last_line};
 ghost use Rattle.zh_office.specs.Served.{session, HasFailedRead};
-ghost use Rattle.zh_office.specs.Served.{ServesAll, ServesEnded, ServesFront, TakesFewerReads, TakesReads, TakesReadsUpTo};
+ghost use Rattle.zh_office.specs.Served.{EndsWithinReads, MakesAllReads, MakesReadsUpTo, ServesAll, ServesEnded, ServesFront};
 
 use crate::office::Office;
 use crate::partial_line::{PartialLine, extend_line, split_line};
@@ -202,11 +202,16 @@ impl<'s> Office<'s> {
         ensures failed { HasFailedRead (frames R.Read W.Write D.Disk film.new) ↔ IsErrOf result ServeFault.Read }
         // However it ends: the history of the disk goes on from that before, and none of its failures is forgotten.
         ensures disk { Continues (on_disk self.old.ledger (D.history disk.old)) (on_disk self.new.ledger (D.history disk.new)) }
-        // Each read but the last took a byte at least. So as many bytes as turns were there, where the turns are used up.
-        ensures enough { IsErrOf result ServeFault.Turns → TakesReads (R.remaining reader.old) (R.remaining reader.new) turns }
-        ensures most { OnOk result (TakesFewerReads (R.remaining reader.old) (R.remaining reader.new) turns) }
-        ensures most_at_read { IsErrOf result ServeFault.Read → TakesFewerReads (R.remaining reader.old) (R.remaining reader.new) turns }
-        ensures most_at_write { IsErrOf result ServeFault.Write → TakesReadsUpTo (R.remaining reader.old) (R.remaining reader.new) turns }
+        // As many reads as were allowed are made where it ends with that fault, and never more. Each but the last took a byte at
+        // least.
+        ensures enough { IsErrOf result ServeFault.Turns → MakesAllReads (frames R.Read W.Write D.Disk film.new)
+            (R.remaining reader.old) (R.remaining reader.new) turns }
+        ensures most { OnOk result (EndsWithinReads (frames R.Read W.Write D.Disk film.new)
+            (R.remaining reader.old) (R.remaining reader.new) turns) }
+        ensures most_at_read { IsErrOf result ServeFault.Read → EndsWithinReads (frames R.Read W.Write D.Disk film.new)
+            (R.remaining reader.old) (R.remaining reader.new) turns }
+        ensures most_at_write { IsErrOf result ServeFault.Write → MakesReadsUpTo (frames R.Read W.Write D.Disk film.new)
+            (R.remaining reader.old) (R.remaining reader.new) turns }
     {
         let mut block = blank_block();
         let mut line = PartialLine::new();

@@ -16,7 +16,7 @@ use Rattle.zh_office.specs.declared.service.ServeFault.TheVariants as serving
 use Rattle.zh_tasks.specs.Format.{IsOfFormat}
 use Rattle.zh_tasks.specs.Opened.{IsFrom, WithOffice}
 use Rattle.zh_tasks.specs.Rehearse.{IsRehearsal, Rehearsed}
-use Rattle.zh_tasks.specs.Run.{Serves, Streams, streams}
+use Rattle.zh_tasks.specs.Run.{Serves, Streams, UsesUpReads, streams}
 use Rattle.zh_tasks.specs.declared.fault.TaskFault.{TaskFault}
 use Rattle.zh_tasks.specs.declared.fault.TaskFault.TheVariants as faults
 use Rattle.zh_tasks.proofs.RunLemmas.{serves_as}
@@ -45,6 +45,12 @@ unformatted nothing old new faults.Memory is same = same
 unformatted nothing old new faults.Device is same = same
 unformatted nothing old new faults.InUse is same = same
 unformatted nothing old new fault is same = absurd is
+
+pub unused_reads : (film : List Frame) (r r' : Option (List ℕ)) (limit : ℕ) (fault : TaskFault) → IsOfFormat fault → UsesUpReads film r r' limit (Err fault)
+unused_reads film r r' limit faults.Memory is = tt
+unused_reads film r r' limit faults.Device is = tt
+unused_reads film r r' limit faults.InUse is = tt
+unused_reads film r r' limit fault is = absurd is
 
 -- lines that were served on its disk
 pub rehearsed : (nothing : Type 0) (old new : Streams) (canton : Canton) (first last : History) (result : Result (Unit {0}) TaskFault) → canton ≡ rehearsal

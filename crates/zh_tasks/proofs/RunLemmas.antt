@@ -6,11 +6,11 @@ use Rattle.zh_film.specs.Frames.{Frame}
 use Rattle.zh_ledger.specs.declared.fault.OpenFault.{OpenFault}
 use Rattle.zh_ledger.specs.Submissions.{OnDisk}
 use Rattle.zh_office.specs.Office.{Office}
-use Rattle.zh_office.specs.Served.{ServesEnded, ServesFront, Session, TakesFewerReads, TakesReads, TakesReadsUpTo}
+use Rattle.zh_office.specs.Served.{EndsWithinReads, MakesAllReads, MakesReadsUpTo, ServesEnded, ServesFront, Session}
 use Rattle.zh_office.specs.declared.service.ServeFault.{ServeFault}
 use Rattle.zh_office.specs.declared.service.ServeFault.TheVariants as serving
 use Rattle.zh_tasks.specs.Opened.{IsFrom, WithOffice}
-use Rattle.zh_tasks.specs.Run.{IsReadWithin, Served, Serves, ServesWhole, Streams, beside, streams}
+use Rattle.zh_tasks.specs.Run.{IsReadWithin, Served, Serves, ServesWhole, Streams, UsesUpReads, beside, streams}
 use Rattle.zh_tasks.specs.declared.fault.TaskFault.{TaskFault}
 use Rattle.zh_tasks.specs.declared.fault.TaskFault.TheVariants as faults
 
@@ -26,22 +26,27 @@ broke_off old new Spans start end result serving.Write begins is read write turn
 broke_off old new Spans start end result serving.Turns begins is read write turns = record { start = start; end = end; spans = begins; serving = turns is }
 
 -- and how many reads were made before it
-read_before : (r r' : Option (List ℕ)) (limit : ℕ) (result : Result ℕ ServeFault) (fault : ServeFault) → result ≡ Err fault
-    → (IsErrOf result serving.Read → TakesFewerReads r r' limit)
-    → (IsErrOf result serving.Write → TakesReadsUpTo r r' limit)
-    → (IsErrOf result serving.Turns → TakesReads r r' limit)
-    → IsReadWithin r r' limit (Err (faults.Serve fault))
-read_before r r' limit result serving.Read is read write turns = read is
-read_before r r' limit result serving.Write is read write turns = write is
-read_before r r' limit result serving.Turns is read write turns = turns is
+read_before : (film : List Frame) (r r' : Option (List ℕ)) (limit : ℕ) (result : Result ℕ ServeFault) (fault : ServeFault) → result ≡ Err fault
+    → (IsErrOf result serving.Read → EndsWithinReads film r r' limit)
+    → (IsErrOf result serving.Write → MakesReadsUpTo film r r' limit)
+    → (IsErrOf result serving.Turns → MakesAllReads film r r' limit)
+    → IsReadWithin film r r' limit (Err (faults.Serve fault))
+read_before film r r' limit result serving.Read is read write turns = read is
+read_before film r r' limit result serving.Write is read write turns = write is
+read_before film r r' limit result serving.Turns is read write turns = turns is
 
-pub read_off : (r r' : Option (List ℕ)) (limit allowed : ℕ) (result : Result ℕ ServeFault) (fault : ServeFault) → result ≡ Err fault → allowed ≡ limit
-    → (IsErrOf result serving.Read → TakesFewerReads r r' allowed)
-    → (IsErrOf result serving.Write → TakesReadsUpTo r r' allowed)
-    → (IsErrOf result serving.Turns → TakesReads r r' allowed)
-    → IsReadWithin r r' limit (Err (faults.Serve fault))
-read_off r r' limit allowed result fault is same read write turns =
-    subst (λ n. IsReadWithin r r' n (Err (faults.Serve fault))) same (read_before r r' allowed result fault is read write turns)
+pub read_off : (film : List Frame) (r r' : Option (List ℕ)) (limit allowed : ℕ) (result : Result ℕ ServeFault) (fault : ServeFault) → result ≡ Err fault → allowed ≡ limit
+    → (IsErrOf result serving.Read → EndsWithinReads film r r' allowed)
+    → (IsErrOf result serving.Write → MakesReadsUpTo film r r' allowed)
+    → (IsErrOf result serving.Turns → MakesAllReads film r r' allowed)
+    → IsReadWithin film r r' limit (Err (faults.Serve fault))
+read_off film r r' limit allowed result fault is same read write turns =
+    subst (λ n. IsReadWithin film r r' n (Err (faults.Serve fault))) same (read_before film r r' allowed result fault is read write turns)
+
+-- a run that has used up its reads
+pub uses_up : (film : List Frame) (r r' : Option (List ℕ)) (limit : ℕ) (result : Result (Unit {0}) TaskFault) → IsReadWithin film r r' limit result → UsesUpReads film r r' limit result
+uses_up film r r' limit (Err (faults.Serve serving.Turns)) within = within
+uses_up film r r' limit result within = tt
 
 -- the same of an office that began in another way too
 module _ (old new : Streams) (Spans Spans' : OnDisk Office → OnDisk Office → Type 0) (turn : (start end : OnDisk Office) → Spans start end → Spans' start end) where

@@ -1,5 +1,5 @@
 -- What a rehearsal does.
-use Rattle.std.specs.Prelude.{◌≡◌, ℕ, false, List, Some, Result, Err, IsTrue, codes, ◌++◌, ◌∷◌, []}
+use Rattle.std.specs.Prelude.{◌≡◌, ◌^◌, ℕ, false, List, Some, Result, Err, IsTrue, codes, ◌++◌, ◌∷◌, []}
 use Rattle.zh_setups.specs.Rehearsal.{rehearsal}
 use Rattle.zh_returns.specs.Tally.{empty}
 use Rattle.zh_desks.specs.Batches.{no_batches}
@@ -14,7 +14,7 @@ use Rattle.zh_ledger.specs.Submissions.{OnDisk}
 use Rattle.zh_office.specs.Office.{Office}
 use Rattle.zh_tasks.specs.World.{EndOf, Known, WorldOf}
 use Rattle.zh_tasks.specs.Remarks.{BecameOf}
-use Rattle.zh_tasks.specs.Run.{Serves, Streams, streams_of}
+use Rattle.zh_tasks.specs.Run.{Serves, Streams, UsesUpReads, streams_of}
 use Rattle.zh_tasks.specs.declared.used.Used.TheVariants.{Rehearsal}
 use Rattle.zh_tasks.specs.declared.fault.TaskFault.{TaskFault}
 use Rattle.zh_tasks.specs.declared.fault.TaskFault.TheVariants as faults
@@ -55,3 +55,4 @@ pub record Rehearses (of : Known) (old new : WorldOf of)
   pub said : BecameOf new.remark (of.errors.contents old.faults) (of.errors.contents new.faults) announcement
   pub served : Rehearsed ((new.input ≡ old.input) × (new.output ≡ old.output) × (scenes film ≡ []))
       (streams_of of old []) (streams_of of new (rehearsal_shown of film)) ended.result
+  pub reads : UsesUpReads (rehearsal_shown of film) (of.readers.remaining old.input) (of.readers.remaining new.input) (2 ^ 32) ended.result

@@ -5,7 +5,7 @@ use Rattle.zh_film.specs.Frames.{Frame, frames}
 use Rattle.zh_film.specs.Scenes.{scenes}
 use Rattle.zh_ledger.specs.Submissions.{OnDisk}
 use Rattle.zh_office.specs.Office.{Office}
-use Rattle.zh_office.specs.Served.{Session, ServesAll, ServesEnded, ServesFront, TakesFewerReads, TakesReads, TakesReadsUpTo}
+use Rattle.zh_office.specs.Served.{EndsWithinReads, MakesAllReads, MakesReadsUpTo, ServesAll, ServesEnded, ServesFront, Session}
 use Rattle.zh_office.specs.declared.service.ServeFault.TheVariants as serving
 use Rattle.zh_tasks.specs.World.{Known, ObservedOf, WorldOf}
 use Rattle.zh_tasks.specs.Opened.{LeavesDisk, WithOffice}
@@ -46,12 +46,17 @@ Serves old new Spans (Err (faults.Serve serving.Turns)) = Served old new Spans S
 Serves old new Spans (Err (faults.Serve serving.Write)) = Served old new Spans ServesFront
 Serves old new Spans (Err fault) = ⊥
 
--- a run takes no more of its input than so many reads can, and ends with `turns` only after what so many can have taken
-abbrev pub IsReadWithin : Option (List ℕ) → Option (List ℕ) → ℕ → Result (Unit {0}) TaskFault → Type 0
-IsReadWithin left left' limit (Err (faults.Open fault)) = Unit {0}
-IsReadWithin left left' limit (Err (faults.Serve serving.Write)) = TakesReadsUpTo left left' limit
-IsReadWithin left left' limit (Err (faults.Serve serving.Turns)) = TakesReads left left' limit
-IsReadWithin left left' limit result = TakesFewerReads left left' limit
+-- a run makes this many reads of its input at most, which its film shows, and ends with `turns` only once it has made as many
+abbrev pub IsReadWithin : List Frame → Option (List ℕ) → Option (List ℕ) → ℕ → Result (Unit {0}) TaskFault → Type 0
+IsReadWithin film left left' limit (Err (faults.Open fault)) = Unit {0}
+IsReadWithin film left left' limit (Err (faults.Serve serving.Write)) = MakesReadsUpTo film left left' limit
+IsReadWithin film left left' limit (Err (faults.Serve serving.Turns)) = MakesAllReads film left left' limit
+IsReadWithin film left left' limit result = EndsWithinReads film left left' limit
+
+-- where it ends with `turns` it has made this many reads, each of which took some
+abbrev pub UsesUpReads : List Frame → Option (List ℕ) → Option (List ℕ) → ℕ → Result (Unit {0}) TaskFault → Type 0
+UsesUpReads film left left' limit (Err (faults.Serve serving.Turns)) = MakesAllReads film left left' limit
+UsesUpReads film left left' limit result = Unit {0}
 
 -- the streams of a world
 abbrev pub streams_of : (of : Known) → WorldOf of → List Frame → Streams
@@ -64,5 +69,6 @@ pub record Ran (of : Known) (canton : Canton) (before after : WorldOf of × of.D
   pub served : WithOffice canton (of.disks.history before.1) (of.disks.history after.1)
       ((after.0.input ≡ before.0.input) × (after.0.output ≡ before.0.output) × (scenes done.1.film ≡ []))
       (Serves (streams_of of before.0 []) (streams_of of after.0 (frames of.readers of.writers of.disks done.1.film))) done.0
-  pub reads : IsReadWithin (of.readers.remaining before.0.input) (of.readers.remaining after.0.input) (2 ^ 32) done.0
+  pub reads : IsReadWithin (frames of.readers of.writers of.disks done.1.film)
+      (of.readers.remaining before.0.input) (of.readers.remaining after.0.input) (2 ^ 32) done.0
   pub disk : LeavesDisk (of.disks.history before.1) (of.disks.history after.1) done.0

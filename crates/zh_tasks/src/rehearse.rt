@@ -1,11 +1,11 @@
 //! A rehearsal.
 
-ghost use Rattle.std.specs.Prelude.{◌≡◌, []};
+ghost use Rattle.std.specs.Prelude.{◌≡◌, ◌^◌, []};
 ghost use Rattle.zh_film.specs.Frames.{frames};
 ghost use Rattle.zh_film.specs.Scenes.{scenes};
 ghost use Rattle.zh_tasks.specs.Rehearse.{Rehearsed, Rehearses, announcement};
 ghost use Rattle.zh_tasks.specs.Remarks.{BecameOf};
-ghost use Rattle.zh_tasks.specs.Run.{streams};
+ghost use Rattle.zh_tasks.specs.Run.{UsesUpReads, streams};
 ghost use Rattle.zh_tasks.specs.World.{known};
 
 use crate::fault::TaskFault;
@@ -35,9 +35,11 @@ fn serve_rehearsal<I: Read, O: Write>(
     film: &mut Film<I, O, MemoryDisk>,
 ) -> Result<(), TaskFault>
     requires { scenes film.old ≡ [] }
-    ensures { Rehearsed ((input.new ≡ input.old) × (out.new ≡ out.old) × (scenes film.new ≡ []))
+    ensures served { Rehearsed ((input.new ≡ input.old) × (out.new ≡ out.old) × (scenes film.new ≡ []))
         (streams (I.remaining input.old) (O.contents out.old) (frames I.Read O.Write ⟦<MemoryDisk as Disk>⟧ film.old))
         (streams (I.remaining input.new) (O.contents out.new) (frames I.Read O.Write ⟦<MemoryDisk as Disk>⟧ film.new)) result }
+    ensures reads { UsesUpReads (frames I.Read O.Write ⟦<MemoryDisk as Disk>⟧ film.new)
+        (I.remaining input.old) (I.remaining input.new) (2 ^ 32) result }
 {
     let setup = rehearsal(alloc)?;
     let mut disk = MemoryDisk::blank(alloc)?;

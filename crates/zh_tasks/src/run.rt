@@ -40,7 +40,7 @@ pub(crate) fn serve_on<I: Read, O: Write, D: Disk>(
         ((input.new ≡ input.old) × (out.new ≡ out.old) × (scenes film.new ≡ []))
         (Serves (streams (I.remaining input.old) (O.contents out.old) (frames I.Read O.Write D.Disk film.old))
         (streams (I.remaining input.new) (O.contents out.new) (frames I.Read O.Write D.Disk film.new))) result }
-    ensures reads { IsReadWithin (I.remaining input.old) (I.remaining input.new) (2 ^ 32) result }
+    ensures reads { IsReadWithin (frames I.Read O.Write D.Disk film.new) (I.remaining input.old) (I.remaining input.new) (2 ^ 32) result }
     ensures disk { LeavesDisk (D.history disk.old) (D.history disk.new) result }
 {
     let mut office = Office::open(alloc, setup, disk)?;
@@ -61,7 +61,7 @@ fn serve_lines<I: Read, O: Write, D: Disk>(
     ensures served { Serves (streams (I.remaining input.old) (O.contents out.old) (frames I.Read O.Write D.Disk film.old))
         (streams (I.remaining input.new) (O.contents out.new) (frames I.Read O.Write D.Disk film.new))
         (IsThis (on_disk office.old (D.history disk.old)) (D.history disk.new)) result }
-    ensures reads { IsReadWithin (I.remaining input.old) (I.remaining input.new) (2 ^ 32) result }
+    ensures reads { IsReadWithin (frames I.Read O.Write D.Disk film.new) (I.remaining input.old) (I.remaining input.new) (2 ^ 32) result }
 {
     office.serve(input, out, disk, film, most_reads())?;
     if office.faulted() {

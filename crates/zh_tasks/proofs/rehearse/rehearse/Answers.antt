@@ -11,5 +11,6 @@ returns g c = record {
   used = refl;
   rest = refl;
   said = c.announce-world.ensures;
-  served = rehearsed_blank _ _ _ _ _ c.serve_rehearsal-result.result c.serve_rehearsal-result.ensures (blank_frames _ _ c.new-film.ensures);
+  served = rehearsed_blank _ _ _ _ _ c.serve_rehearsal-result.result c.serve_rehearsal-result.ensures.served (blank_frames _ _ c.new-film.ensures);
+  reads = c.serve_rehearsal-result.ensures.reads;
 }

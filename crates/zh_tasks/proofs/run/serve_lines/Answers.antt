@@ -50,7 +50,7 @@ returns-clause-served g c = record {
 pub returns-in_err-serve-clause-reads : goal.returns-in_err-serve-clause-reads
 returns-in_err-serve-clause-reads g c =
     let is : c.from_residual.result ≡ Err (faults.Serve c.in_err-serve.field-0.0) = search rules in
-    rw is (read_off _ _ _ _ c.serve.result c.in_err-serve.field-0.0 (search rules) c.most_reads.ensures c.serve.ensures.most_at_read c.serve.ensures.most_at_write c.serve.ensures.enough)
+    rw is (read_off _ _ _ _ _ c.serve.result c.in_err-serve.field-0.0 (search rules) c.most_reads.ensures c.serve.ensures.most_at_read c.serve.ensures.most_at_write c.serve.ensures.enough)
 
 pub returns-then-faulted-clause-reads : goal.returns-then-faulted-clause-reads
 returns-then-faulted-clause-reads g c = rw (← c.most_reads.ensures) c.in_ok-serve.ensures.most

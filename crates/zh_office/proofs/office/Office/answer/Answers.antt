@@ -7,7 +7,7 @@ use Rattle.zh_office.specs.Office.{Office}
 use Rattle.zh_office.specs.Order.{Step}
 use Rattle.zh_office.specs.Runs.{answer_text}
 use Rattle.zh_office.specs.Served.{Session, session, step_of}
-use Rattle.zh_office.proofs.FilmLemmas.{answered, broken}
+use Rattle.zh_office.proofs.FilmLemmas.{films_answer, films_front}
 use Rattle.zh_office.proofs.office.Office.answer.Goals as goal
 
 pub returns-in_err-write_answer : goal.returns-in_err-write_answer
@@ -32,7 +32,7 @@ returns-in_err-write_answer g c =
       ok = tt;
       err = front;
       shown = tt;
-      broken = λ first done on. broken first done old mid new step on refl refl refl refl refl (ap (map (frame_of g.R.Read g.W.Write g.D.Disk)) c.note.ensures) refl front.0 front.2;
+      broken = films_front old mid new step refl refl refl refl refl (ap (map (frame_of g.R.Read g.W.Write g.D.Disk)) c.note.ensures) refl front.0 front.2;
     })
 
 pub returns : goal.returns
@@ -55,7 +55,7 @@ returns g c =
       turn = c.line-answer.ensures.turn;
       ok = written;
       err = tt;
-      shown = λ first done on. answered first done old mid new step on refl refl refl refl refl
+      shown = films_answer old mid new step refl refl refl refl refl
           (ap (map (frame_of g.R.Read g.W.Write g.D.Disk)) c.note.ensures) (ap (map (frame_of g.R.Read g.W.Write g.D.Disk)) c.note-2.ensures) written;
       broken = tt;
     }

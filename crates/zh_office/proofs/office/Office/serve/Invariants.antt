@@ -1,4 +1,5 @@
-use Rattle.zh_film.specs.Frames.{frames}
+use Rattle.std.proofs.Common.{◌≡◌}
+use Rattle.zh_film.specs.Frames.{frames, reads_in}
 use Rattle.zh_office.specs.Served.{session, TakesReads}
 use Rattle.zh_office.proofs.InputLemmas.{Serving}
 use Rattle.zh_office.proofs.office.Office.serve.Given as goal
@@ -13,4 +14,5 @@ invariant-loop g l =
       serving : Serving (session (contents l.fn.writer) l.fn.self (history l.fn.disk) (remaining l.fn.reader) (shown l.fn.film))
           (session (contents l.writer) l.self (history l.disk) (remaining l.reader) (shown l.film)) l.line.items l.count;
       reads : TakesReads (remaining l.fn.reader) (remaining l.reader) l.counter;
+      asked : reads_in (shown l.film) ≡ l.counter;
     }
