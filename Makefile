@@ -76,7 +76,7 @@ documents:
 	@tests/documents && tests/translations && scripts/drawing --check
 
 shape:
-	@tests/shape.sh && tests/definitions --check && tests/owed
+	@tests/shape.sh && tests/definitions --check && tests/owed && tests/sentences
 
 bench:
 	@bench/run
