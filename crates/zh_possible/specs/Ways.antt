@@ -34,13 +34,14 @@ RowLacks q seats d = row_seats q seats d < slice_index q.row_totals d
 abbrev pub ColumnLacks : Question → List ℕ → ℕ → Type 0
 ColumnLacks q seats g = column_seats q seats g < slice_index q.column_totals g
 
--- no line has more seats than it is to get, and each cell is within its bounds
+-- no row, or no column, has more seats than it is to get
 abbrev pub HaveRowsRoom : Question → List ℕ → Type 0
 HaveRowsRoom q seats = (d : ℕ) → d < q.rows → row_seats q seats d ≤ slice_index q.row_totals d
 
 abbrev pub HaveColumnsRoom : Question → List ℕ → Type 0
 HaveColumnsRoom q seats = (g : ℕ) → g < q.columns → column_seats q seats g ≤ slice_index q.column_totals g
 
+-- no line has more, and each cell is within its bounds
 pub record ArePlaced (q : Question) (b : CellBounds) (seats : List ℕ) : Type 0 where
   pub one_each : length seats ≡ q.rows * q.columns
   pub rows : HaveRowsRoom q seats
@@ -57,7 +58,7 @@ AreBoundByVotes q most = (k : ℕ) → k < q.rows * q.columns →
 abbrev pub IsBelowMost : Question → CellBounds → List ℕ → ℕ → ℕ → Type 0
 IsBelowMost q b seats d g = cell q.columns seats d g < cell q.columns b.most d g
 
--- and it has more than its fewest
+-- a cell has more seats than its fewest
 abbrev pub IsAboveLeast : Question → CellBounds → List ℕ → ℕ → ℕ → Type 0
 IsAboveLeast q b seats d g = cell q.columns b.least d g < cell q.columns seats d g
 
