@@ -148,7 +148,7 @@ expect "it makes the same archive" cmp "$archive" "$room/first.tar.gz"
 unset ZHCOUNT
 # One file has the version; what says it otherwise is held against it.
 program=crates/zhcount/out/zhcount
-versions() { grep -rhoE 'zhcount[- ][0-9]+\.[0-9]+\.[0-9]+' docs crates/zh_tasks/{src,specs} | grep -o '[0-9.]*$' | sort -u; }
+versions() { grep -rhoE '(zhcount[- ]|Version )[0-9]+\.[0-9]+\.[0-9]+' README.md docs crates/zh_tasks/{src,specs} | grep -o '[0-9.]*$' | sort -u; }
 expect "pages and sources say no other version" [ "$(versions)" = "$version" ]
 expect "the page has it in its foot" grep -qF "'$version'" page/index.html
 is_version() { [ "$("$program" --version)" = "zhcount $version" ]; }
