@@ -159,11 +159,46 @@ static int try_turn(const char *line, const char *turn, int decision, int count)
     return 0;
 }
 
+/* A turn `lot QUESTION -> RANGES`, whose question has commas between its lines: as above. */
+static int try_lot(char *line) {
+    static struct question q;
+    static struct outcome o;
+    static uint32_t least[CELLS], most[CELLS];
+    char *wanted = strstr(line, " -> "), *next;
+    int rows = 0;
+    if (strncmp(line, "lot ", 4) != 0 || !wanted)
+        return 0;
+    *wanted = 0;
+    memset(&q, 0, sizeof q);
+    for (char *part = line + 4; part; part = next) {
+        next = strstr(part, ", ");
+        if (next) {
+            *next = 0;
+            next += 2;
+        }
+        take_line(&q, &rows, part);
+    }
+    search(&q, &o);
+    answer[0] = 0;
+    if (o.answer == TIED) {
+        lot(&q, &o, least, most);
+        add_seats("least", &q, least);
+        add_seats("; most", &q, most);
+    } else
+        add_word("no tie");
+    if (is_wanted(wanted + 4))
+        return 1;
+    printf("wrong: a lot of %d rows: %s, and not %s", q.rows, answer, wanted + 4);
+    return -1;
+}
+
 /* A file of cases: how many questions were asked, and how many were answered otherwise. */
 static void try_file(FILE *file, int *asked, int *wrong) {
     int count = 0, rows = 0, open = 0;
     while (fgets(line_read, sizeof line_read, file)) {
-        int done = open ? 0 : try_turn(line_read, "question ", 0, count) + try_turn(line_read, "decision ", 1, count);
+        int done = 0;
+        if (!open)
+            done = try_turn(line_read, "question ", 0, count) + try_turn(line_read, "decision ", 1, count) + try_lot(line_read);
         *asked += done != 0;
         *wrong += done < 0;
         if (strncmp(line_read, "file ", 5) == 0 && count < QUESTIONS) {

@@ -11,7 +11,7 @@ parts=(bench/search.c bench/sweeps.c bench/decision.c bench/divisors.c bench/lot
 "$cc" -O2 -std=gnu11 "${parts[@]}" bench/worked.c -o "$out/worked"
 "$out/worked"
 "$cc" -O2 -std=gnu11 "${parts[@]}" bench/cases.c -o "$out/cases"
-"$out/cases" crates/zh_cases/data/{decisions,questions,small_questions,third_searches,largest_questions}.case
+"$out/cases" crates/zh_cases/data/{decisions,questions,small_questions,third_searches,largest_questions,ties}.case
 "$cc" -O2 -std=gnu11 "${parts[@]}" bench/search_bench.c -o "$out/plain"
 proved=${ZH_BENCH:-}
 if [ -z "$proved" ]; then

@@ -42,12 +42,12 @@ static int make(struct question *q, int rows, int columns, uint32_t house, uint6
     return 1;
 }
 
-/* Equal votes, and totals as even as can be; each election has other votes. */
-static int make_equal(struct question *q, int rows, int columns, uint32_t house, uint64_t election) {
+/* Equal votes, and totals as even as can be. */
+static int make_equal(struct question *q, int rows, int columns, uint32_t house) {
     q->rows = rows;
     q->columns = columns;
     for (int k = 0; k < rows * columns; k++)
-        q->votes[k] = 1000 * election;
+        q->votes[k] = 1000;
     for (int d = 0; d < rows; d++)
         q->row_totals[d] = house / (uint32_t)rows + ((uint32_t)d < house % (uint32_t)rows);
     for (int g = 0; g < columns; g++)
@@ -109,7 +109,7 @@ int main(int argc, char **argv) {
     long half_steps = 0, decided = 0;
     uint64_t sum = 0;
     for (int election = 0; election < elections; election++) {
-        if (!(equal ? make_equal : make)(&q, rows, columns, house, first + (uint64_t)election))
+        if (!(equal ? make_equal(&q, rows, columns, house) : make(&q, rows, columns, house, first + (uint64_t)election)))
             continue;
         decided += run(&q, &o, alone);
         half_steps += o.half_steps;

@@ -3,6 +3,7 @@ ghost use Rattle.std.specs.Prelude.{◌≡◌, ◌*◌, ◌^◌, ◌≤◌, All,
 ghost use Rattle.zh_matrices.specs.Question.{AreSeatTotals, EachColumnHasVotes, question};
 
 use crate::decision::run_decision;
+use crate::equal::run_equal;
 use crate::numbers::Numbers;
 use crate::shape::Shape;
 use crate::tally::Tally;
@@ -56,7 +57,7 @@ fn sums_of(
 }
 
 /// Whether these are totals of 1 to 400 seats, one for each of so many lines.
-fn are_totals(lines: usize, totals: &[u32]) -> bool
+pub(crate) fn are_totals(lines: usize, totals: &[u32]) -> bool
     ensures { IsTrue result → AreSeatTotals lines totals.now }
 {
     totals.len() == lines && totals.iter().all(|seats| (1..=400).contains(seats))
@@ -110,8 +111,8 @@ fn run_find(
     Ok(())
 }
 
-/// Makes an election, and notes what becomes of it.
-pub(crate) fn run_election(
+/// Makes an election with votes of many magnitudes, and notes what becomes of it.
+fn run_made(
     alloc: Global,
     task: Task,
     shape: &Shape,
@@ -131,6 +132,20 @@ pub(crate) fn run_election(
     let (row_totals, column_totals) = (row_totals.seats(), column_totals.seats());
     match task {
         Task::Find => run_find(alloc, shape, &matrix, row_totals, column_totals, tally),
-        Task::Decide => run_decision(alloc, &matrix.question(row_totals, column_totals), tally),
+        _ => run_decision(alloc, &matrix.question(row_totals, column_totals), tally),
+    }
+}
+
+/// Makes an election, and notes what becomes of it.
+pub(crate) fn run_election(
+    alloc: Global,
+    task: Task,
+    shape: &Shape,
+    numbers: &mut Numbers,
+    tally: &mut Tally,
+) -> Result<(), AllocError> {
+    match task {
+        Task::Lot => run_equal(alloc, shape, tally),
+        _ => run_made(alloc, task, shape, numbers, tally),
     }
 }

@@ -1,13 +1,14 @@
 //! Lower apportionments of made-up elections, to be measured by `make bench`.
 //!
-//! Its arguments are `find`, or `decide` for the decision alone, the rows, the columns, the seats of the house, the number of
-//! elections, and the number of the first one, if it is not 1. It prints how many had seats, were tied and were exhausted,
-//! and a number that all divisors and seats go into; `bench/search_bench.c` prints the same, of a search and a decision that
-//! were written apart from these.
+//! Its arguments are `find`, `decide` for the decision alone, or `lot` for ties of equal votes; then the rows, the columns,
+//! the seats of the house, the number of elections, and the number of the first one, if it is not 1. It prints how many had
+//! seats, were tied and were exhausted, and a number that all divisors and seats go into, or all ranges of seats;
+//! `bench/search_bench.c` prints the same, of a search and a decision that were written apart from these.
 #![tactic(auto)]
 
 mod decision;
 mod election;
+mod equal;
 mod numbers;
 mod shape;
 mod tally;

@@ -59,13 +59,24 @@ impl Tally {
         self.found = self.found.saturating_add(1);
         self.mix_all(&findings.of_rows);
         self.mix_all(&findings.of_columns);
-        for cell in findings.seats.iter() {
-            self.mix(u64::from(*cell));
-        }
+        self.mix_seats(&findings.seats);
     }
 
     pub(crate) fn note_tied(&mut self) {
         self.tied = self.tied.saturating_add(1);
+    }
+
+    /// A tie, and the fewest and the most seats of each cell go into the sum.
+    pub(crate) fn note_lot(&mut self, least: &[u32], most: &[u32]) {
+        self.note_tied();
+        self.mix_seats(least);
+        self.mix_seats(most);
+    }
+
+    fn mix_seats(&mut self, seats: &[u32]) {
+        for cell in seats {
+            self.mix(u64::from(*cell));
+        }
     }
 
     pub(crate) fn note_exhausted(&mut self) {

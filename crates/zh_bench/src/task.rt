@@ -6,6 +6,8 @@ pub(crate) enum Task {
     Find,
     /// The decision alone.
     Decide,
+    /// The search where all votes are equal, and the seats that the lot decides.
+    Lot,
 }
 
 impl Task {
@@ -13,6 +15,7 @@ impl Task {
         match word {
             "find" => Some(Task::Find),
             "decide" => Some(Task::Decide),
+            "lot" => Some(Task::Lot),
             _ => None,
         }
     }

@@ -1,7 +1,7 @@
 //! A turn: what is done, and the answer that is expected.
 
 use crate::fixture::Fixture;
-use crate::question::ask;
+use crate::question::{ask, ask_lot};
 use crate::refusals::refuse;
 use crate::serving::read_limits;
 use std::fs;
@@ -43,6 +43,7 @@ pub(crate) fn act(
         }
         "question" => ask(rt, fixture, rest, Whom::Searches),
         "decision" => ask(rt, fixture, rest, Whom::Decision),
+        "lot" => ask_lot(rt, fixture, rest),
         "reason" => fixture.reason(),
         _ => Ok(String::from_str(rt.alloc(), act_on_office(rt, fixture, word, rest)?)?),
     }

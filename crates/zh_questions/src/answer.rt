@@ -5,12 +5,12 @@ ghost use Rattle.zh_matrices.specs.Question.{AreSeatTotals, EachColumnHasVotes, 
 ghost use Rattle.zh_possible.specs.Ways.{AreBalanced};
 
 use crate::limits::{are_totals, are_votes, each_column_has_votes};
-use crate::outcome::{found, impossible, with_divisors, with_seats};
+use crate::outcome::{found, impossible, ranges, with_divisors, with_seats};
 use crate::written::Written;
 use std::alloc::{AllocError, Global};
 use zh_case_lines::{CaseFault, with_numbers};
 use zh_decided::{Decision, DecisionRoom, decide};
-use zh_lower::{LowerFault, Matrix, find};
+use zh_lower::{LowerFault, Matrix, NoLower, find, find_or_tie, lot};
 use zh_matrices::Question;
 use zh_possible::are_balanced;
 
@@ -21,6 +21,8 @@ pub enum Whom {
     Searches,
     /// The decision alone.
     Decision,
+    /// The search, and at a tie for the seats that the lot decides.
+    Lot,
 }
 
 /// What is decided. Seats have their divisors where the decision alone is asked; else they were missed.
@@ -37,8 +39,8 @@ fn decided(alloc: Global, question: &Question<'_>, whom: Whom) -> Result<String,
         }
         Decision::Beyond(_) => with_seats(alloc, "beyond", &room.findings.seats, question.columns),
         Decision::Seats => match whom {
-            Whom::Searches => with_seats(alloc, "missed", &room.findings.seats, question.columns),
             Whom::Decision => with_divisors(alloc, &room.findings, question.columns),
+            _ => with_seats(alloc, "missed", &room.findings.seats, question.columns),
         },
     }
 }
@@ -73,12 +75,35 @@ fn searched(
     }
 }
 
+/// The fewest and the most seats of each cell where the search comes to a tie.
+fn drawn(
+    alloc: Global,
+    matrix: &Matrix,
+    row_totals: &[u32],
+    column_totals: &[u32],
+) -> Result<String, AllocError>
+    requires some_column { 1 ≤ matrix.now.columns }
+    requires row_totals { AreSeatTotals matrix.now.rows row_totals.now }
+    requires column_totals { AreSeatTotals matrix.now.columns column_totals.now }
+    requires votes { EachColumnHasVotes (question matrix.now row_totals.now column_totals.now) }
+{
+    match find_or_tie(alloc, matrix, row_totals, column_totals) {
+        Err(NoLower::Tied(tie)) => {
+            let question = matrix.question(row_totals, column_totals);
+            ranges(alloc, &lot(alloc, &question, &tie)?, question.columns)
+        }
+        Err(NoLower::Memory) => Err(AllocError),
+        _ => String::from_str(alloc, "no tie"),
+    }
+}
+
 /// The answer to the question of a text. Its lines are `rows` and `columns`, each with the seats of its lines, and for each
 /// row `votes`.
 ///
 /// It is `seats`, row by row, with the divisors of rows and of columns in millionths; `no votes` with a row;
 /// `tied` with a row and a column; or, where they are exhausted, the reason: `impossible` with the rows, `nearly tied` with a
 /// row and a column, or `beyond` or `missed` with the seats. The decision has `seats` with its own divisors, or such a reason.
+/// The lot has `least` and `most` with seats, or `no tie`.
 pub fn answer_to(alloc: Global, text: &str, whom: Whom) -> Result<String, CaseFault> {
     let written = Written::read(alloc, text)?;
     let (row_totals, column_totals) = (
@@ -103,5 +128,6 @@ pub fn answer_to(alloc: Global, text: &str, whom: Whom) -> Result<String, CaseFa
     match whom {
         Whom::Searches => Ok(searched(alloc, &matrix, row_totals, column_totals)?),
         Whom::Decision => Ok(decided(alloc, &question, whom)?),
+        Whom::Lot => Ok(drawn(alloc, &matrix, row_totals, column_totals)?),
     }
 }

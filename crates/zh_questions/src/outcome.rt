@@ -4,7 +4,7 @@ ghost use Rattle.std.specs.Prelude.{◌≡◌, ◌≤◌, length};
 use std::alloc::{AllocError, Global};
 use zh_case_lines::push_number;
 use zh_decided::Findings;
-use zh_lower::Lower;
+use zh_lower::{Lower, Ranges};
 use zh_possible::MarkedRows;
 
 /// Appends the seats of a row.
@@ -116,6 +116,16 @@ pub(crate) fn with_seats(
 {
     let mut text = String::from_str(alloc, word)?;
     push_cells(&mut text, seats, columns)?;
+    Ok(text)
+}
+
+/// The fewest and the most seats of each cell.
+pub(crate) fn ranges(alloc: Global, ranges: &Ranges, columns: usize) -> Result<String, AllocError>
+    requires { 1 ≤ columns }
+{
+    let mut text = with_seats(alloc, "least", &ranges.least, columns)?;
+    text.push_str("; most")?;
+    push_cells(&mut text, &ranges.most, columns)?;
     Ok(text)
 }
 

@@ -41,7 +41,7 @@ fn read_votes(votes: &mut Vec<u64>, words: &str) -> Result<(), CaseFault> {
 }
 
 impl Written {
-    /// Takes one line: `rows` or `columns` with their totals, or `votes` with those of the next row.
+    /// Takes one part: `rows` or `columns` with their totals, or `votes` with those of the next row.
     fn take(&mut self, line: &str) -> Result<(), CaseFault> {
         let (word, rest) = line.split_once(' ').unwrap_or((line, ""));
         match word {
@@ -52,6 +52,14 @@ impl Written {
         }
     }
 
+    /// Takes what stands in one line, with commas between.
+    fn take_all(&mut self, line: &str) -> Result<(), CaseFault> {
+        for part in line.split(", ") {
+            self.take(part)?;
+        }
+        Ok(())
+    }
+
     /// The question of a text.
     pub(crate) fn read(alloc: Global, text: &str) -> Result<Written, CaseFault> {
         let mut written = Written {
@@ -60,7 +68,7 @@ impl Written {
             votes: Vec::new(alloc),
         };
         for line in text.lines() {
-            written.take(line)?;
+            written.take_all(line)?;
         }
         Ok(written)
     }

@@ -1,7 +1,7 @@
 use Rattle.std.proofs.Common.{arith}
 use Rattle.std.proofs.lemmas.Grind.{common_steps}
 use Rattle.zh_bench.proofs.VoteLemmas.{EachColumnHasVotes-cells}
-use Rattle.zh_bench.proofs.election.run_election.Goals as goal
+use Rattle.zh_bench.proofs.election.run_made.Goals as goal
 
 pub run_find-requires-clause-votes : goal.run_find-requires-clause-votes
 run_find-requires-clause-votes c =
