@@ -52,9 +52,6 @@ length-filter-le p (x ∷ xs) = elim (p x) as (λ b. length (cond b (x ∷ filte
 ]
 
 -- sizes of targets
-pub length-voters : (t : VoteTotals) (a : Targets t) → length a.voters ≡ length t.canton.groups
-length-voters t a = a.sums.one_each
-
 pub length-upper : (t : VoteTotals) (a : Targets t) → length a.upper ≡ length t.canton.groups
 length-upper t a = a.groups.one_each ∙ a.sums.one_each
 

@@ -1,6 +1,6 @@
 -- How a sweep goes on, by how it goes on a level later.
 use Rattle.std.proofs.Common.{◌≡◌, ℕ, ◌+◌, ◌^◌, ◌<◌, ◌≤◌, List, refl, arith}
-use Rattle.zh_sweeps.specs.Levels.{AreColumnMarks, AreRowMarks, Descends, GoesOut, IsLowColumn, IsLowRow, IsTrail, potential_at}
+use Rattle.zh_sweeps.specs.Levels.{AreColumnMarks, AreRowMarks, Descends, GoesOut, IsLowColumn, IsTrail, potential_at}
 use Rattle.zh_sweeps.specs.Prices.{Priced}
 use Rattle.zh_sweeps.specs.Sweeps.{IsOut, step_at}
 use Rattle.zh_sweeps.specs.declared.bounds.Bounds.{Bounds}
@@ -9,13 +9,8 @@ use Rattle.zh_sweeps.specs.declared.descent.Descent.TheVariants as descents
 use Rattle.zh_sweeps.specs.declared.marks.Mark.{Mark}
 use Rattle.zh_sweeps.specs.declared.trail.Trail.{Trail}
 use Rattle.zh_sweeps.proofs.ChainLemmas.{too_many}
-use Rattle.zh_sweeps.proofs.EncloseLemmas.{out-column, out-later, out-row}
-use Rattle.zh_sweeps.proofs.RoomLemmas.{AreNear60, no_low_column, no_low_row, room-later}
-
-pub goes_out-row : (m : Priced) (bounds : Bounds) (levels : ℕ) (columns : List Mark) → IsLowRow m bounds columns →
-    GoesOut m bounds levels columns
-goes_out-row m bounds levels columns low =
-    record { out = out-row m bounds levels columns low; no_room = no_low_row m bounds levels columns low }
+use Rattle.zh_sweeps.proofs.EncloseLemmas.{out-column, out-later}
+use Rattle.zh_sweeps.proofs.RoomLemmas.{AreNear60, no_low_column, room-later}
 
 pub goes_out-column : (m : Priced) (bounds : Bounds) (levels : ℕ) (columns rows : List Mark) → AreNear60 m → bounds.given ≤ 2 ^ 36 →
     bounds.taken ≤ 2 ^ 36 → levels ≤ 32 → AreRowMarks m bounds columns rows → IsLowColumn m bounds rows columns →

@@ -1,6 +1,6 @@
 -- Potentials that begin above others stay above them, but for so much a level.
-use Rattle.std.proofs.Common.{◌≡◌, ℕ, ◌+◌, ◌*◌, ◌<◌, ◌≤◌, Option, Some, None, List, inl, inr, arith}
-use Rattle.zh_sweeps.specs.Levels.{AreColumnMarks, AreRowMarks, IsColumnMark, IsLowColumn, IsLowRow, IsRowMaker, IsRowMark, mark_at, potential_at}
+use Rattle.std.proofs.Common.{◌≡◌, ℕ, ◌+◌, ◌*◌, ◌<◌, ◌≤◌, Option, Some, None, List, inr, arith}
+use Rattle.zh_sweeps.specs.Levels.{AreColumnMarks, AreRowMarks, IsColumnMark, IsLowColumn, IsRowMaker, IsRowMark, mark_at, potential_at}
 use Rattle.zh_sweeps.specs.Prices.{Priced}
 use Rattle.zh_sweeps.specs.Sweeps.{AreFair, AreOut, IsLow}
 use Rattle.zh_sweeps.specs.declared.bounds.Bounds.{Bounds}
@@ -37,14 +37,6 @@ column-above m bounds rows a b e x y before g mark fair gn start above is =
 
 one_level : (n c : ℕ) → (n + 1) * c ≡ c + n * c
 one_level n c = omega arith
-
--- a row that is too low
-pub out-row : (m : Priced) (bounds : Bounds) (levels : ℕ) (columns : List Mark) → IsLowRow m bounds columns →
-    AreOut m bounds levels (potential_at columns)
-out-row m bounds levels columns low a b e x y fair cap above =
-    let above_row : x low.row ≤ low.mark.potential + (e + a)
-    = row-above m bounds columns a b e x y low.row low.mark fair low.within (cap low.row low.within) above low.is in
-    inl (low.row, low.within, omega (arith, above_row, low.low, one_level levels (a + b)))
 
 pub rows-above : (m : Priced) (bounds : Bounds) (columns rows : List Mark) (a b e : ℕ) (x y : ℕ → ℕ) → AreRowMarks m bounds columns rows →
     AreFair m bounds a b x y → ((d : ℕ) → d < m.cells.rows → x d ≤ bounds.row_cap + e) →

@@ -2,7 +2,7 @@
 use Rattle.std.proofs.Common.{◌≡◌, ℕ, ◌+◌, ◌-◌, ◌*◌, ◌^◌, ◌<◌, ◌≤◌, Option, Some, None, List, All, length, arith}
 use Rattle.std.proofs.Math.Nat.{mul-le-mul_right}
 use Rattle.zh_matrices.specs.Question.{Question, cell}
-use Rattle.zh_sweeps.specs.Levels.{AreColumnMarks, AreRowMarks, HasRoom, IsLowColumn, IsLowRow, IsRowMaker, mark_at, potential_at}
+use Rattle.zh_sweeps.specs.Levels.{AreColumnMarks, AreRowMarks, HasRoom, IsLowColumn, IsRowMaker, mark_at, potential_at}
 use Rattle.zh_sweeps.specs.Prices.{AreLogs, Logs, Priced, priced}
 use Rattle.zh_sweeps.specs.declared.bounds.Bounds.{Bounds}
 use Rattle.zh_sweeps.specs.declared.marks.Mark.{Mark}
@@ -35,10 +35,6 @@ rows-high : (m : Priced) (bounds : Bounds) (levels : ℕ) (columns rows : List M
 rows-high m bounds levels columns rows near small few has R d dm =
     row-high m bounds ((levels + 1) * 2 ^ 38 + 1) columns d (potential_at rows d) (mark_at rows d).maker near dm has.free.row_cap small
     (omega arith) has.each (R.each d dm).maker
-
-pub no_low_row : (m : Priced) (bounds : Bounds) (levels : ℕ) (columns : List Mark) → IsLowRow m bounds columns →
-    HasRoom m bounds levels columns → ⊥
-no_low_row m bounds levels columns low has = omega (arith, low.low, has.free.row_floor)
 
 pub no_low_column : (m : Priced) (bounds : Bounds) (levels : ℕ) (columns rows : List Mark) → AreNear60 m → bounds.given ≤ 2 ^ 36 →
     bounds.taken ≤ 2 ^ 36 →

@@ -90,10 +90,6 @@ source-fell m bounds columns rows lower trail f T positive R L is =
     = (R.each (last_step trail).giver (T.giver (trail.length - 1) within)).given f S.column S.votes in
     omega (arith, given, S.made, giver-fell m bounds columns rows lower trail T positive L)
 
-pub source-column : (m : Priced) (bounds : Bounds) (lower : List Mark) (trail : Trail) (f : ℕ) → IsTrail m bounds lower trail →
-    trail.source ≡ Some f → f < m.cells.columns
-source-column m bounds lower trail f T is = (source-of m bounds lower trail f T is).column
-
 pub source-made : (m : Priced) (bounds : Bounds) (columns rows lower : List Mark) (trail : Trail) (f : ℕ) →
     IsTrail m bounds lower trail → 1 ≤ bounds.column_floor →
     AreRowMarks m bounds columns rows → AreColumnMarks m bounds rows columns lower → trail.source ≡ Some f →

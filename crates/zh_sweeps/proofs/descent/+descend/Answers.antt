@@ -1,6 +1,6 @@
 use Rattle.std.proofs.Common.{◌-◌, arith}
 use Rattle.zh_matrices.specs.Asked.{asked}
-use Rattle.zh_sweeps.specs.Prices.{Priced, priced}
+use Rattle.zh_sweeps.specs.Prices.{Priced}
 use Rattle.zh_sweeps.specs.Taken.{logs, priced_in}
 use Rattle.zh_sweeps.proofs.CircleLemmas.{cycle-of}
 use Rattle.zh_sweeps.proofs.DescentLemmas.{descends-later, goes_out-column}
