@@ -9,13 +9,17 @@ use Rattle.zh_divisors.specs.Sums.{sum_to}
 use Rattle.zh_divisors.proofs.CallerLemmas.{sum_to-zero}
 use Rattle.zh_matrices.specs.Question.{Question, cell}
 use Rattle.zh_possible.specs.Bounds.{CellBounds}
-use Rattle.zh_possible.specs.Ways.{AreSources, AreWays, CanGive, GivesBelow, IsSource, IsWay, RanksAreBelow, RowLacks, row_seats, source_at, way_at}
+use Rattle.zh_possible.specs.Ways.{AreSources, AreWays, CanGive, GivesBelow, IsSource, IsWay, RowLacks, row_seats, source_at, way_at}
 use Rattle.zh_possible.specs.declared.ways.Source.{Source}
 use Rattle.zh_possible.specs.declared.ways.Source.TheVariants.{Giver, Spare}
 use Rattle.zh_possible.specs.declared.ways.Way.{Way}
 use Rattle.zh_matrices.proofs.CallerLemmas.{one_if}
 use Rattle.zh_possible.proofs.OneMoreLemmas.{sum_to-one_more, sum_to-ones}
 use Rattle.zh_matrices.proofs.CallerLemmas.{same_terms}
+
+-- the ranks of all ways are below this one
+abbrev pub RanksAreBelow : Question → List (Option Way) → ℕ → Type 0
+RanksAreBelow q ways rank = (d : ℕ) (way : Way) → d < q.rows → way_at ways d ≡ Some way → way.rank < rank
 
 -- how many of the first n rows have a way
 abbrev pub count : ℕ → List (Option Way) → ℕ

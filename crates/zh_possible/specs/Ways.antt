@@ -122,10 +122,6 @@ pub record IsWay (q : Question) (b : CellBounds) (seats : List ℕ) (ways : List
 abbrev pub AreWays : Question → CellBounds → List ℕ → List (Option Way) → Type 0
 AreWays q b seats ways = (d : ℕ) (way : Way) → d < q.rows → way_at ways d ≡ Some way → IsWay q b seats ways d way
 
--- the ranks of all ways are below this one
-abbrev pub RanksAreBelow : Question → List (Option Way) → ℕ → Type 0
-RanksAreBelow q ways rank = (d : ℕ) (way : Way) → d < q.rows → way_at ways d ≡ Some way → way.rank < rank
-
 -- no row with a way can give up a seat in column g
 abbrev pub HasNoGiver : Question → CellBounds → List ℕ → List (Option Way) → ℕ → Type 0
 HasNoGiver q b seats ways g = (d : ℕ) → d < q.rows → IsSome (way_at ways d) →

@@ -1,7 +1,7 @@
 use Rattle.std.proofs.Common.{◌≡◌, ℕ, ◌<◌, ◌≤◌, IsSome, get_or, length}
 use Rattle.zh_possible.specs.Bounds.{asked_in, bounds_of}
-use Rattle.zh_possible.specs.Ways.{AreSources, AreWays, RanksAreBelow, row_seats, way_at}
-use Rattle.zh_possible.proofs.WayLemmas.{count}
+use Rattle.zh_possible.specs.Ways.{AreSources, AreWays, row_seats, way_at}
+use Rattle.zh_possible.proofs.WayLemmas.{RanksAreBelow, count}
 use Rattle.zh_possible.proofs.ways.reach.Given as goal
 
 abbrev pub invariant-loop-rank : goal.invariant-loop-rank
