@@ -61,7 +61,7 @@ fn take_ranges(bounds: &CellBounds<'_>, seats: &[u32], others: &mut [u32], range
     }
 }
 
-/// The fewest and the most seats of each cell in all matrices that may be drawn at a tie (docs/DEFINITIONS.md).
+/// The fewest and the most seats of each cell in all matrices that may be drawn at a tie.
 ///
 /// The lot decides between matrices that differ exactly in the cells whose two numbers differ. All memory is taken at the
 /// start.
