@@ -73,10 +73,10 @@ folder-bodies:
 	@tests/real_file_bodies.sh $(BODIES)
 
 documents:
-	@tests/documents && tests/translations && scripts/drawing --check
+	@tests/documents && tests/translations
 
 shape:
-	@tests/shape.sh && tests/definitions --check && tests/owed && tests/sentences
+	@tests/shape.sh && tests/definitions --check && tests/owed && tests/sentences && scripts/drawing --check && tests/evidence --check
 
 bench:
 	@bench/run
