@@ -65,7 +65,7 @@ shows_sum() { make -s install PREFIX="$room/there" | grep -qxF -- "$(sha256sum <
 expect "make install" make -s install PREFIX="$room/there"
 expect "these files are there" only bin/zhcount bin/zhcount-desk bin/zhcount-office bin/zhcount-read bin/zhcount-witness \
     share/doc/zhcount/{BRIEF,CHANGELOG,CHECKING,DECISIONS,DEFINITIONS,FAQ,FORMATS,MANUAL,NIGHT,OPERATING,PROVED,README,STATUTE}.md \
-    share/doc/zhcount/{de/BRIEF.md,de/CHECKING.md,de/NIGHT.md,de/night.svg,de/page.png,night.svg,page.png} \
+    share/doc/zhcount/{de/BRIEF.md,de/CHECKING.md,de/NIGHT.md,de/night.svg,de/page.png,night.svg,page.png,stops.svg} \
     share/examples/zhcount/{canton.toml,rehearsal.toml,zhcount-office.service,zurich2006.toml,zurich2006/{forged,held.csv,setup.toml,sheet}} \
     share/man/man1/zhcount{-desk,-office,-read,-witness,}.1 share/zhcount/{card.html,index.html,zhcount_desks.py,zhcount_folder.py,zhcount_held.py,zhcount_now.py,zhcount_office.py,zhcount_rebuild.py,zhcount_replay.py,zhcount_views.py,zhcount_witness.py}
 # says_so TEXT COMMAND..: what the command says within 25 seconds has this text.
