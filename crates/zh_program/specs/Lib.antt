@@ -8,3 +8,4 @@ pub mod Due
 pub mod Sheets
 pub mod Headline
 pub mod Promise
+pub mod Does
