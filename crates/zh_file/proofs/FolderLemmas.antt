@@ -6,9 +6,8 @@ use Rattle.std.specs.declared.io.ErrorKind.{ErrorKind}
 use Rattle.std.specs.declared.io.ErrorKind.TheVariants as kinds
 use Rattle.zh_disk.specs.Disk.{Trail, fresh_trail}
 use Rattle.zh_world.specs.Places.{Places, Standing, IfKnown, IsBare, IsSameOrBare, IsSameOrMade, TouchesOnly, companion_of, found_at}
-use Rattle.zh_world.specs.Causes.{IsCauseAt, cause_of, fault_of_kind}
+use Rattle.zh_world.specs.Causes.{IsCauseAt, cause_of, fault_of_kind, fault_of_found}
 use Rattle.zh_world.specs.Places.Standing.{nothing, file, folder, other}
-use Rattle.zh_file.specs.Faults.{fault_of_found}
 use Rattle.zh_file.specs.Opening.{IsNoFile}
 use Rattle.zh_file.specs.Folder.{Makes, MakesBoth}
 use Rattle.zh_file.specs.Steps.{ClearsCompanion, IsSilent}

@@ -7,7 +7,7 @@ use Rattle.sqlite_disk.specs.declared.Disk.{Ghosts}
 use Rattle.zh_disk.specs.Disk.{disk_length}
 use Rattle.zh_world.specs.Files.{IsAsFound, IsFilling, LeavesNoMore}
 use Rattle.zh_file.specs.Locked.{IsLeftAt, IsLeftOf, IsNotedCall, IsShort, LeavesOnly, Stays}
-use Rattle.zh_file.specs.Past.{items}
+use Rattle.zh_world.specs.Past.{items}
 use Rattle.zh_file.specs.declared.stored.locked.Locked.{Locked}
 
 -- what asks changes nothing that a stop leaves

@@ -9,11 +9,10 @@ use Rattle.std.specs.declared.io.Error.{Error}
 use Rattle.zh_disk.specs.Disk.{Trail, disk_length, fresh_trail}
 use Rattle.zh_disk.specs.History.{History}
 use Rattle.zh_disk.specs.Memory.{IsNewDisk}
-use Rattle.zh_world.specs.Causes.{IsCauseAt, IsLength, cause_of, fault_of_kind}
+use Rattle.zh_world.specs.Causes.{IsCauseAt, IsLength, cause_of, fault_of_kind, fault_of_found}
 use Rattle.zh_world.specs.Files.{BeginsWith}
 use Rattle.zh_world.specs.Places.{IfKnown, IsSameOrMade, Places, Standing, TouchesOnly, bytes_of, found_at}
 use Rattle.zh_world.specs.Places.Standing.{file, nothing, folder, other}
-use Rattle.zh_file.specs.Faults.{fault_of_found}
 use Rattle.zh_file.specs.Folder.{ActsAt, Folders, Makes, SaysWhy}
 use Rattle.zh_file.specs.Held.{IsZeroed}
 use Rattle.zh_file.specs.Opening.{AreSame, HasFailed, IsNoFile, IsOpeningCause, IsNoStart, OpensOrMakesDisk}

@@ -1,6 +1,6 @@
 -- A folder in memory.
 use Rattle.std.proofs.Common.{◌≡◌, ◌∙◌, ◌+◌, ◌<◌, ℕ, List, [], length, Some, Result, Ok, Err, refl, sym, ap, subst, inl, inr, ⊎_elim, arith}
-use Rattle.std.specs.Prelude.{◌≢◌, bytes_eq, slice_index, OnOk, OnErr}
+use Rattle.std.specs.Prelude.{◌≢◌, bytes_eq, slice_index, IfOk, OnOk, OnErr}
 use Rattle.std.proofs.Math.Path.{fun_ext}
 use Rattle.std.proofs.lemmas.Bool.{cases_Bool, cases_lt}
 use Rattle.std.proofs.lemmas.Bool.Decides.{not_from_Decides}
@@ -90,7 +90,7 @@ module _ {R : Type 0} where
   }
 
   pub acts_removed : (path : List ℕ) (old mid new : MemoryFolder R) (done result : Result (Unit {0}) Error) → result ≡ done
-      → mid ≡ record old { calls = mid.calls; placed = mid.placed } → new ≡ record mid { failed = new.failed }
+      → mid ≡ record old { calls = mid.calls; placed = mid.placed } → new ≡ record mid { failed = new.failed; notes = new.notes }
       → OnOk done (PutsAt path nothing old mid) → OnErr done (standing_at mid ≡ standing_at old) → IsCounted done (folders_of mid) (folders_of new)
       → ActsAt (Removes path) result (folders_of old) (folders_of new)
   acts_removed path old mid new done result is before after puts same counted = record {
@@ -104,3 +104,10 @@ module _ {R : Type 0} where
       refused = counted.refused ∙ ap (λ (f : MemoryFolder R). number f.refused) before;
     };
   }
+
+  pub gone_after : (path : List ℕ) (old mid new : MemoryFolder R) (done result : Result (Unit {0}) Error) → result ≡ done
+      → new ≡ record mid { failed = new.failed; notes = new.notes } → OnOk done (PutsAt path nothing old mid) → IfOk result (λ _. standing_at new path ≡ nothing)
+  gone_after path old mid new (Ok done) result is after puts =
+      subst (λ (r : Result (Unit {0}) Error). IfOk r (λ _. standing_at new path ≡ nothing)) (sym is) (ap (λ (f : MemoryFolder R). standing_at f path) after ∙ puts.here)
+  gone_after path old mid new (Err fault) result is after puts =
+      subst (λ (r : Result (Unit {0}) Error). IfOk r (λ _. standing_at new path ≡ nothing)) (sym is) tt

@@ -1,20 +1,36 @@
 -- What is done at paths, and what it comes to.
-use Rattle.std.specs.Prelude.{◌≡◌, ◌≢◌, ◌⊎◌, ◌↔◌, ◌+◌, ℕ, List, [], length, Result, Ok, Err, IfOk, Option, Some, None}
+use Rattle.std.specs.Prelude.{◌≡◌, ◌≢◌, ◌⊎◌, ◌↔◌, ◌+◌, ℕ, List, [], ◌∷◌, length, Result, Ok, Err, IfOk, Option, Some, None}
 use Rattle.std.specs.declared.io.Error.{Error}
 use Rattle.sqlite_std_file.specs.declared.pair.OpenError.{OpenError}
 use Rattle.sqlite_std_file.specs.declared.pair.OpenError.TheVariants as opening
+use Rattle.zh_world.specs.Failures.{FailedCall}
 use Rattle.zh_world.specs.Files.{LeavesNoMore}
 use Rattle.zh_world.specs.Places.{Places, Standing, bytes_of, companion_of, found_at, IsSameOrMade}
 use Rattle.std.specs.IoError.{error_kind}
 use Rattle.zh_world.specs.Causes.{IsCauseAt, cause_of}
 use Rattle.zh_world.specs.Places.Standing.{nothing, file, folder, other}
+use Rattle.zh_world.specs.declared.setback.Setback.{Setback}
 use Rattle.zh_file.specs.declared.folder.Found.{Found}
 use Rattle.zh_file.specs.declared.folder.Found.TheVariants as kinds
 
--- a call that unlocks no file: the bytes of the disks are the same, and a stop may leave no more
-pub record LeavesRest {F : Type 0} (disk_at : F → List ℕ → Option (List ℕ)) (left : F → List ℕ → Type 0) (old new : F) : Type 0 where
+-- A call that unlocks no file, and asks for no text: the bytes of the disks are the same, and a stop may leave no more.
+pub record LeavesRest {F : Type 0} (disk_at : F → List ℕ → Option (List ℕ)) (left : F → List ℕ → Type 0) (texts : F → ℕ)
+    (old new : F) : Type 0 where
   pub disks : disk_at new ≡ disk_at old
   pub leaves : LeavesNoMore (left old) (left new)
+  pub unasked : texts new ≡ texts old
+
+-- the same of one that asks for a text
+pub record AsksForText {F : Type 0} (disk_at : F → List ℕ → Option (List ℕ)) (left : F → List ℕ → Type 0) (texts : F → ℕ)
+    (old new : F) : Type 0 where
+  pub disks : disk_at new ≡ disk_at old
+  pub leaves : LeavesNoMore (left old) (left new)
+  pub counted : texts new ≡ texts old + 1
+
+-- the failed calls after a call at this path, which is noted where it failed
+abbrev pub noted_at : {T E : Type 0} → List ℕ → (E → Setback) → Result T E → List FailedCall → List FailedCall
+noted_at path setback_of (Ok done) before = before
+noted_at path setback_of (Err error) before = record { path = path; setback = setback_of error } ∷ before
 
 -- what stands where in a folder, how many calls of it have failed, and how many locks were refused as another has them
 pub record Folders : Type 0 where

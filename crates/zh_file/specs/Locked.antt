@@ -1,10 +1,16 @@
 -- What the calls of a locked file do, and what a stop may have left of it at any moment since its lock.
-use Rattle.std.specs.Prelude.{◌≡◌, ◌≤◌, ◌⊎◌, ℕ, List, [], ◌∷◌, IsTrue, Result, length}
+use Rattle.std.specs.IoError.{error_kind}
+use Rattle.std.specs.Prelude.{◌≡◌, ◌≤◌, ◌⊎◌, ◌&&◌, ℕ, List, [], ◌∷◌, ◌++◌, Bool, true, false, IsTrue, Result, Ok, Err, length, map, nat_eq}
 use Rattle.std.specs.declared.io.Error.{Error}
+use Rattle.std.specs.declared.io.ErrorKind.{ErrorKind}
 use Rattle.sqlite_disk.specs.Disk.{CountsFault, Follows, Only}
 use Rattle.sqlite_disk.specs.declared.Disk.{Ghosts}
 use Rattle.zh_disk.specs.Disk.{disk_length}
-use Rattle.zh_file.specs.Past.{items}
+use Rattle.zh_world.specs.Failures.{FailedCall, setback_fault}
+use Rattle.zh_world.specs.declared.fault.FileFault.{FileFault}
+use Rattle.zh_world.specs.declared.setback.Setback.{Setback}
+use Rattle.zh_world.specs.declared.setback.Setback.TheVariants as setbacks
+use Rattle.zh_world.specs.Past.{items}
 use Rattle.zh_file.specs.declared.stored.locked.Locked.{Locked}
 
 -- what it was at each moment, the latest first
@@ -33,19 +39,52 @@ LeavesOnly g IsLeft l = (c : List ℕ) → IsLeftOf g l c → IsLeft c
 abbrev pub IsShort : List ℕ → Type 0
 IsShort c = length c ≤ disk_length
 
+-- the kinds of the errors of its calls, after one with this answer
+abbrev pub kinds_after : {T : Type 0} → Result T Error → List ErrorKind → List ErrorKind
+kinds_after (Ok done) before = before
+kinds_after (Err error) before = error_kind error ∷ before
+
 -- One call of a locked file with this answer, which it notes: what a read gives, and what a stop leaves, comes by `step` from what
 -- one before it gave, or left.
 pub record IsNotedCall {D T : Type 0} (g : Ghosts D) (step : List ℕ → List ℕ → Type 0) (result : Result T Error)
     (old new : Locked D) : Type 0 where
   pub noted : items new.before ≡ moments old
+  pub failed : items new.failed ≡ kinds_after result (items old.failed)
   pub kept : IsTrue (g.is_clean new.file) → IsTrue (g.is_clean old.file)
   pub counted : CountsFault result (g.faults old.file) (g.faults new.file)
   pub seen : step (g.seen old.file) (g.seen new.file)
   pub leaves : Follows step (g.may_leave old.file) (g.may_leave new.file)
 
+-- one of these is this
+abbrev pub IsAmong : {A : Type 0} → A → List A → Type 0
+IsAmong a [] = ⊥
+IsAmong a (x ∷ xs) = (x ≡ a) ⊎ IsAmong a xs
+
+-- what is noted of a file that is no disk's, or is one
+abbrev pub unless_fit : Bool → List Setback
+unless_fit true = []
+unless_fit false = setbacks.Unfit ∷ []
+
+-- no answer was wrong, and it has the length of a disk
+abbrev pub is_fit : {D : Type 0} → Ghosts D → D → Bool
+is_fit g d = g.is_clean d && nat_eq (length (g.seen d)) disk_length
+
+-- what its failed calls came to, and that it is no disk's
+abbrev pub setbacks_of : {D : Type 0} → Ghosts D → Locked D → List Setback
+setbacks_of g l = unless_fit (is_fit g l.file) ++ map setbacks.Used (items l.failed)
+
+-- a fault is that of one of these
+abbrev pub IsFaultOf : List Setback → FileFault → Type 0
+IsFaultOf all fault = (setback : Setback) × IsAmong setback all × (fault ≡ setback_fault setback)
+
+-- the failed calls after one of these files was unlocked, whose path this is
+abbrev pub noted_all : List ℕ → List Setback → List FailedCall → List FailedCall
+noted_all path all before = map (λ setback. record { path = path; setback = setback }) all ++ before
+
 -- one that was just locked: no call of it was made, and the device has what a read gives
 pub record IsJustLocked {D : Type 0} (g : Ghosts D) (l : Locked D) : Type 0 where
   pub begun : items l.before ≡ []
+  pub unmet : items l.failed ≡ []
   pub usable : IsTrue (g.is_usable l.file)
   pub synced : Only (g.seen l.file) (g.may_leave l.file)
   pub unfailed : g.faults l.file ≡ 0

@@ -1,6 +1,7 @@
 -- What the steps of an opening leave, for those that follow.
-use Rattle.std.specs.Prelude.{◌≡◌, ◌⊎◌, ◌<◌, ◌≤◌, ◌+◌, ℕ, List, [], Bool, IsTrue, Result, IfOk, IfErr, length}
+use Rattle.std.specs.Prelude.{◌≡◌, ◌≢◌, ◌⊎◌, ◌<◌, ◌≤◌, ◌+◌, ℕ, List, [], Bool, IsTrue, Result, IfOk, IfErr, length}
 use Rattle.zh_disk.specs.Disk.{disk_length}
+use Rattle.zh_world.specs.Failures.{FailedCall, FailsBetween}
 use Rattle.zh_world.specs.Places.{Places, companion_of, found_at}
 use Rattle.zh_world.specs.Places.Standing.{file, nothing}
 use Rattle.zh_file.specs.Folder.{Folders, MakesBoth}
@@ -41,6 +42,17 @@ pub record ClearsCompanion (path : List ℕ) (old new : Places) : Type 0 where
 pub record LeavesCompanion (path : List ℕ) (old new : Folders) : Type 0 where
   pub clears : ClearsCompanion path old.places new.places
   pub goes : GoesAhead old new
+
+-- a call at one of these paths failed in between
+pub record FailsAtEither (path companion : List ℕ) (old new : List FailedCall) : Type 0 where
+  pub call : FailedCall
+  pub at : (call.path ≡ path) ⊎ (call.path ≡ companion)
+  pub failed : FailsBetween call old new
+
+-- No empty file stands at the place of the companion of the disk at this path; or a call failed that was to find or to remove it.
+abbrev pub IsRidOfCompanion : List ℕ → List FailedCall → List FailedCall → Folders → Type 0
+IsRidOfCompanion path old new now =
+    (now.places.stands (companion_of now.places path) ≢ file []) ⊎ FailsAtEither path (companion_of now.places path) old new
 
 -- this cause says nothing of what stands at the path
 abbrev pub IsSilent : FileCause → Type 0

@@ -7,7 +7,7 @@ use Rattle.zh_disk.specs.History.{History}
 use Rattle.zh_file.specs.declared.stored.Stored.{Stored}
 use Rattle.zh_file.specs.Held.{file_trail}
 use Rattle.zh_file.specs.Locked.{IsLeftAt}
-use Rattle.zh_file.specs.Past.{items}
+use Rattle.zh_world.specs.Past.{items}
 
 module _ {D : Type 0} {g : Ghosts D} where
   -- what its file was at each moment before it began to be a disk, the latest first

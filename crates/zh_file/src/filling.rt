@@ -1,10 +1,12 @@
 //! What is asked of a locked file, and done to it, before it is a disk.
 ghost use Rattle.std.specs.Prelude.{◌≡◌, ◌⊎◌, ◌<◌, ℕ, List, [], length, IfErr, IfOk, IsTrue};
+ghost use Rattle.std.specs.IoError.{error_kind};
 ghost use Rattle.sqlite_disk.specs.Disk.{Only};
 ghost use Rattle.zh_disk.specs.Disk.{disk_length};
 ghost use Rattle.zh_world.specs.Files.{IsAsFound, IsFilling, LeavesNoMore};
 ghost use Rattle.zh_file.specs.Held.{IsZeroed};
-ghost use Rattle.zh_file.specs.Locked.{IsLeftOf, LeavesOnly};
+ghost use Rattle.zh_file.specs.Locked.{IsAmong, IsFaultOf, IsLeftOf, LeavesOnly, setbacks_of};
+ghost use Rattle.zh_world.specs.Past.{items};
 ghost use Rattle.zh_file.specs.Steps.{IsSetBack, IsUnfit, IsUnstarted};
 
 use crate::fault::fault_of_found;
@@ -27,8 +29,13 @@ impl<D: File> Locked<D> {
         ensures left { LeavesNoMore (IsLeftOf D.Disk self.old) (IsLeftOf D.Disk self.new) }
         ensures long { IfOk result (λ _. IsTrue (D.is_clean self.new.file) → length (D.seen self.new.file) ≡ disk_length) }
         ensures fault { IfErr result (IsUnstarted (IsUnfit D.is_clean D.faults D.seen self.old.file)) }
+        ensures met { IfErr result (IsFaultOf (setbacks_of D.Disk self.new)) }
     {
-        if self.len().map_err(fault_of_found)? as u64 != DISK_LENGTH {
+        let length = match self.len() {
+            Ok(length) => length,
+            Err(error) => return Err(fault_of_found(error)),
+        };
+        if length as u64 != DISK_LENGTH {
             return Err(FileFault::Device(FileCause::Failed));
         }
         Ok(())
@@ -49,6 +56,7 @@ impl<D: File> Locked<D> {
             → IsZeroed (D.seen self.new.file)) }
         ensures set_back { IfErr result (λ _. IsTrue (D.is_clean self.new.file)
             → IsSetBack D.seen D.is_usable D.faults self.old.file self.new.file) }
+        ensures met { IfErr result (λ error. IsAmong (error_kind error) (items self.new.failed)) }
         ensures left { LeavesOnly D.Disk (IsAsFound (D.seen self.old.file)) self.old
             → LeavesOnly D.Disk (IsFilling (D.seen self.old.file)) self.new }
     {

@@ -1,5 +1,5 @@
 //! Texts and disks in a folder.
-ghost use Rattle.std.specs.Prelude.{◌≡◌, None, Some, MatchResult, option_map};
+ghost use Rattle.std.specs.Prelude.{◌≡◌, ◌+◌, None, Some, MatchResult, option_map};
 ghost use Rattle.zh_file.specs.Folder.{bytes_known};
 ghost use Rattle.zh_world.specs.Count.{number};
 
@@ -12,7 +12,8 @@ use zh_world::{CallCount, FileFault, Files};
 #[derive(Drop)]
 pub struct FolderFiles<F: Folder + Drop> {
     folder: F,
-    made: CallCount,
+    // how many disks were asked for
+    disks: CallCount,
     // how the last call failed
     fault: Option<FileFault>,
 }
@@ -21,12 +22,12 @@ impl<F: Folder + Drop> FolderFiles<F> {
     /// Those of this folder.
     pub fn new(folder: F) -> FolderFiles<F>
         ensures folder { result.folder ≡ folder }
-        ensures unmade { number result.made ≡ 0 }
+        ensures unmade { number result.disks ≡ 0 }
         ensures unfailed { result.fault ≡ None }
     {
         FolderFiles {
             folder,
-            made: CallCount::new(),
+            disks: CallCount::new(),
             fault: None,
         }
     }
@@ -64,24 +65,26 @@ impl<F: Folder + Drop> Files for FolderFiles<F> {
 
     ghost left = { λ files. F.left files.folder };
 
-    ghost calls = { λ files. number files.made };
+    // Texts are counted where they are asked for.
+    ghost calls = { λ files. number files.disks + F.texts files.folder };
 
     ghost fault = { λ files. files.fault };
 
+    ghost failed = { λ files. F.failed files.folder };
+
     fn text(&mut self, path: &str) -> Result<F::Text, FileFault> {
-        self.made.add();
         let opened = self.folder.text(path).map_err(FileFault::from);
         noted(&mut self.fault, opened)
     }
 
     fn disk(&mut self, right: F::Right, path: &str) -> Result<Stored<F::File>, FileFault> {
-        self.made.add();
+        self.disks.add();
         let opened = open(&mut self.folder, right, path);
         noted(&mut self.fault, opened)
     }
 
     fn disk_or_make(&mut self, right: F::Right, path: &str) -> Result<Stored<F::File>, FileFault> {
-        self.made.add();
+        self.disks.add();
         let opened = open_or_make(&mut self.folder, right, path);
         noted(&mut self.fault, opened)
     }

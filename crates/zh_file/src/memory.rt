@@ -8,21 +8,23 @@ ghost use Rattle.zh_world.specs.Causes.{IsCauseAt, cause_of};
 ghost use Rattle.zh_world.specs.Places.{IfKnown, IsSameOrMade, companion_of, found_at};
 ghost use Rattle.zh_world.specs.Places.Standing.{nothing, file as filed};
 ghost use Rattle.zh_file.specs.Folder.{ActsAt, IsCounted, IsCountedLock, IsEmptyFile, IsKind, Locks, LooksAt, Makes, MakesBoth};
-ghost use Rattle.zh_file.specs.Folder.{Removes, SaysWhy, Unlocks, bytes_known};
-ghost use Rattle.zh_file.specs.Locked.{IsLeftOf, IsLeftOfOne};
-ghost use Rattle.zh_file.specs.Past.{items};
+ghost use Rattle.zh_file.specs.Faults.{asked_with, locked_with};
+ghost use Rattle.zh_file.specs.Folder.{Removes, SaysWhy, Unlocks, bytes_known, noted_at};
+ghost use Rattle.zh_file.specs.Locked.{IsLeftOf, IsLeftOfOne, noted_all, setbacks_of};
+ghost use Rattle.zh_file.specs.Notes.{failed_among, unlocked_among};
+ghost use Rattle.zh_world.specs.Count.{number};
+ghost use Rattle.zh_world.specs.Past.{items};
 ghost use Rattle.zh_file.specs.MemoryFolder.{PutsAt, Spends, disk_in, folders_of, standing_at, stood_as, placed_at};
 
 use crate::folder::{Folder, Found};
-use crate::past::Past;
+use crate::notes::{Note, note_call, note_lock, note_unlocked};
 use crate::stored::Locked;
 use sqlite_disk::{Disk as File, Files, Fuse, Memory};
 use sqlite_std_file::OpenError;
 use std::alloc::{AllocError, Global};
 use std::io::{self, Cursor, ErrorKind, Read};
 use std::marker::PhantomData;
-use std::snapshot::Snapshot;
-use zh_world::CallCount;
+use zh_world::{CallCount, Past};
 
 /// What stands at a path.
 #[derive(Drop)]
@@ -54,8 +56,10 @@ pub struct MemoryFolder<R> {
     // how many calls failed, and how many locks were refused
     failed: CallCount,
     refused: CallCount,
-    // the files that were unlocked, as they were then
-    unlocked: Past<Locked<Fuse<Memory>>>,
+    // the calls that failed, and the files that were unlocked
+    notes: Past<Note<Fuse<Memory>>>,
+    // how often a text was asked for
+    asked: CallCount,
     // what the right to a disk is
     right: PhantomData<R>,
 }
@@ -84,7 +88,8 @@ impl<R> MemoryFolder<R> {
             is_busy: false,
             failed: CallCount::new(),
             refused: CallCount::new(),
-            unlocked: Past::new(),
+            notes: Past::new(),
+            asked: CallCount::new(),
             right: PhantomData,
         }
     }
@@ -127,12 +132,16 @@ impl<R> MemoryFolder<R> {
         }
     }
 
-    /// Notes whether a call that is no lock failed.
-    fn note<T>(&mut self, done: io::Result<T>) -> io::Result<T>
+    /// Notes whether a call at this path that is no lock failed.
+    fn note<T>(&mut self, path: &str, done: io::Result<T>) -> io::Result<T>
         ensures result { result ≡ done }
-        ensures rest { self.new ≡ record self.old { failed = self.new.failed } }
+        ensures rest { self.new ≡ record self.old { failed = self.new.failed; notes = self.new.notes } }
         ensures counted { IsCounted done (folders_of self.old) (folders_of self.new) }
+        ensures noted { failed_among ⟦<Fuse<Memory> as File>⟧ (items self.new.notes)
+            ≡ noted_at path.now asked_with done (failed_among ⟦<Fuse<Memory> as File>⟧ (items self.old.notes)) }
+        ensures unlocked { unlocked_among (items self.new.notes) ≡ unlocked_among (items self.old.notes) }
     {
+        note_call(&mut self.notes, path, &done);
         if done.is_err() {
             self.failed.add();
         }
@@ -285,12 +294,17 @@ impl<R> MemoryFolder<R> {
         }
     }
 
-    /// Notes whether a lock failed, or was refused.
-    fn note_lock<T>(&mut self, done: Result<T, OpenError>) -> Result<T, OpenError>
+    /// Notes whether a lock at this path failed, or was refused.
+    fn note_lock<T>(&mut self, path: &str, done: Result<T, OpenError>) -> Result<T, OpenError>
         ensures result { result ≡ done }
-        ensures rest { self.new ≡ record self.old { failed = self.new.failed; refused = self.new.refused } }
+        ensures rest { self.new
+            ≡ record self.old { failed = self.new.failed; refused = self.new.refused; notes = self.new.notes } }
         ensures counted { IsCountedLock done (folders_of self.old) (folders_of self.new) }
+        ensures noted { failed_among ⟦<Fuse<Memory> as File>⟧ (items self.new.notes)
+            ≡ noted_at path.now locked_with done (failed_among ⟦<Fuse<Memory> as File>⟧ (items self.old.notes)) }
+        ensures unlocked { unlocked_among (items self.new.notes) ≡ unlocked_among (items self.old.notes) }
     {
+        note_lock(&mut self.notes, path, &done);
         match &done {
             Ok(_) => {}
             Err(OpenError::Busy) => self.refused.add(),
@@ -321,28 +335,33 @@ impl<R: Drop> Folder for MemoryFolder<R> {
 
     ghost known = { λ folder. Some (folders_of folder) };
 
-    ghost left = { λ folder. IsLeftOfOne ⟦<Fuse<Memory> as File>⟧ (items folder.unlocked) };
+    ghost left = { λ folder. IsLeftOfOne ⟦<Fuse<Memory> as File>⟧ (unlocked_among (items folder.notes)) };
 
     ghost disk_at = { disk_in };
 
+    ghost failed = { λ folder. failed_among ⟦<Fuse<Memory> as File>⟧ (items folder.notes) };
+
+    ghost texts = { λ folder. number folder.asked };
+
     fn kind(&mut self, path: &str) -> io::Result<Found> {
         let found = self.kind_at(path);
-        self.note(found)
+        self.note(path, found)
     }
 
     fn companion(&mut self, path: &str) -> io::Result<String> {
         let name = self.companion_at(path);
-        self.note(name)
+        self.note(path, name)
     }
 
     fn text(&mut self, path: &str) -> io::Result<Cursor<Vec<u8>>> {
+        self.asked.add();
         let text = self.text_at(path);
-        self.note(text)
+        self.note(path, text)
     }
 
     fn make(&mut self, path: &str) -> io::Result<()> {
         let made = self.make_at(path);
-        self.note(made)
+        self.note(path, made)
     }
 
     fn lock(
@@ -351,7 +370,7 @@ impl<R: Drop> Folder for MemoryFolder<R> {
         path: &str,
     ) -> Result<(Locked<Fuse<Memory>>, Fuse<Memory>), OpenError> {
         let locked = self.lock_at(path);
-        match self.note_lock(locked) {
+        match self.note_lock(path, locked) {
             Ok(files) => Ok((Locked::new(files.db), files.log)),
             Err(error) => Err(error),
         }
@@ -359,14 +378,18 @@ impl<R: Drop> Folder for MemoryFolder<R> {
 
     fn remove(&mut self, path: &str, _locked: &Fuse<Memory>) -> io::Result<()> {
         let removed = self.remove_at(path);
-        self.note(removed)
+        self.note(path, removed)
     }
 
-    fn unlock(&mut self, locked: Locked<Fuse<Memory>>)
-        ensures { Unlocks disk_in (λ folder. Some (folders_of folder))
-            (λ folder. IsLeftOfOne ⟦<Fuse<Memory> as File>⟧ (items folder.unlocked)) (IsLeftOf ⟦<Fuse<Memory> as File>⟧ locked)
-            self.old self.new }
+    fn unlock(&mut self, path: &str, locked: Locked<Fuse<Memory>>)
+        ensures unlocks { Unlocks disk_in (λ folder. Some (folders_of folder))
+            (λ folder. IsLeftOfOne ⟦<Fuse<Memory> as File>⟧ (unlocked_among (items folder.notes)))
+            (IsLeftOf ⟦<Fuse<Memory> as File>⟧ locked) self.old self.new }
+        ensures texts { number self.new.asked ≡ number self.old.asked }
+        ensures noted { failed_among ⟦<Fuse<Memory> as File>⟧ (items self.new.notes)
+            ≡ noted_all path.now (setbacks_of ⟦<Fuse<Memory> as File>⟧ locked)
+            (failed_among ⟦<Fuse<Memory> as File>⟧ (items self.old.notes)) }
     {
-        self.unlocked.push(Snapshot::of(&locked));
+        note_unlocked(&mut self.notes, path, locked);
     }
 }

@@ -1,13 +1,14 @@
 //! A disk over the file at a path of a folder.
-ghost use Rattle.std.specs.Prelude.{◌≡◌, ◌⊎◌, ℕ, List, length, false, IfErr, IfOk, IfSome, IsTrue};
+ghost use Rattle.std.specs.Prelude.{◌≡◌, ◌↔◌, ◌⊎◌, ℕ, List, length, false, IfErr, IfOk, IfSome, IsTrue};
 ghost use Rattle.sqlite_disk.specs.Disk.{Only};
 ghost use Rattle.zh_disk.specs.Disk.{disk_length, fresh_trail};
+ghost use Rattle.zh_world.specs.Failures.{ForgetsNone, Meets};
 ghost use Rattle.zh_world.specs.Files.{BeginsWith, IsAsFound, IsFilling, LeavesOf};
 ghost use Rattle.zh_world.specs.Places.{IfKnown, companion_of};
 ghost use Rattle.zh_file.specs.Folder.{LeavesRest};
 ghost use Rattle.zh_file.specs.Locked.{IsJustLocked, IsLeftOf};
 ghost use Rattle.zh_file.specs.Opening.{HasFailed, OpensDisk, OpensOrMakesDisk};
-ghost use Rattle.zh_file.specs.Steps.{IsUnfit, IsUnstarted, LeavesCompanion, Measures, TakesLock};
+ghost use Rattle.zh_file.specs.Steps.{IsRidOfCompanion, IsUnfit, IsUnstarted, LeavesCompanion, Measures, TakesLock};
 ghost use Rattle.zh_file.specs.Stored.{IsLeftOpening, stored_history, is_over, IsWhole};
 
 use crate::fault::{fault_of_found, fault_of_opening};
@@ -24,10 +25,14 @@ pub fn open<F: Folder>(
     path: &str,
 ) -> Result<Stored<F::File>, FileFault>
     ensures disks { F.disk_at folder.new ≡ F.disk_at folder.old }
+    ensures texts { F.texts folder.new ≡ F.texts folder.old }
+    ensures meets { Meets path.now result (F.failed folder.old) (F.failed folder.new) }
     ensures begins { IfOk result (λ d. IfSome (F.disk_at folder.old path.now) (λ bytes. (stored_history d).trail ≡ fresh_trail bytes)) }
     ensures whole { IfOk result IsWhole }
     ensures opening { IfOk result (λ d. (c : List ℕ) → IsLeftOpening d c → IfSome (F.disk_at folder.old path.now) (λ bytes. c ≡ bytes)) }
     ensures leaves { LeavesOf IsAsFound (F.disk_at folder.old path.now) (F.left folder.old) (F.left folder.new) }
+    ensures cleared { IfOk result (λ _. IfSome (F.known folder.new)
+        (IsRidOfCompanion path.now (F.failed folder.old) (F.failed folder.new))) }
     ensures opens { IfKnown (OpensDisk (HasFailed F.File.is_clean F.File.faults) path.now
         (λ d. (stored_history d).trail.now.bytes) result) (F.known folder.old) (F.known folder.new) }
 {
@@ -37,7 +42,7 @@ pub fn open<F: Folder>(
         return Err(FileFault::Size(length));
     }
     let locked = lock(folder, right, path)?;
-    hand_over(folder, locked)
+    hand_over(folder, path, locked)
 }
 
 /// Opens the file at this path as [`open`] does. Where there is none it makes one of zeros, for its
@@ -50,6 +55,8 @@ pub fn open_or_make<F: Folder>(
     path: &str,
 ) -> Result<Stored<F::File>, FileFault>
     ensures disks { F.disk_at folder.new ≡ F.disk_at folder.old }
+    ensures texts { F.texts folder.new ≡ F.texts folder.old }
+    ensures meets { Meets path.now result (F.failed folder.old) (F.failed folder.new) }
     ensures begins { IfOk result (λ d. IsTrue (stored_history d).honest
         → IfSome (F.disk_at folder.old path.now) (λ bytes. BeginsWith bytes (stored_history d).trail)) }
     ensures whole { IfOk result IsWhole }
@@ -57,6 +64,8 @@ pub fn open_or_make<F: Folder>(
         → IfSome (F.disk_at folder.old path.now) (λ bytes. IsFilling bytes c)) }
     ensures leaves { LeavesOf IsFilling (F.disk_at folder.old path.now) (F.left folder.old) (F.left folder.new) }
     ensures long { IfOk result (λ d. IsTrue (stored_history d).honest → length (stored_history d).trail.now.bytes ≡ disk_length) }
+    ensures cleared { IfOk result (λ _. IfSome (F.known folder.new)
+        (IsRidOfCompanion path.now (F.failed folder.old) (F.failed folder.new))) }
     ensures opens { IfKnown (OpensOrMakesDisk (HasFailed F.File.is_clean F.File.faults) path.now (λ d. stored_history d) result)
         (F.known folder.old) (F.known folder.new) }
 {
@@ -67,9 +76,9 @@ pub fn open_or_make<F: Folder>(
     }
     let mut locked = lock(folder, right, path)?;
     match locked.fill() {
-        Ok(()) => hand_over(folder, locked),
+        Ok(()) => hand_over(folder, path, locked),
         Err(error) => {
-            folder.unlock(locked);
+            folder.unlock(path, locked);
             Err(fault_of_found(error))
         }
     }
@@ -77,10 +86,12 @@ pub fn open_or_make<F: Folder>(
 
 /// The length of the regular file at this path, or where a link there leads.
 fn length_at<F: Folder>(folder: &mut F, path: &str) -> Result<u64, FileFault>
-    ensures rest { LeavesRest F.disk_at F.left folder.old folder.new }
+    ensures rest { LeavesRest F.disk_at F.left F.texts folder.old folder.new }
+    ensures meets { Meets path.now result (F.failed folder.old) (F.failed folder.new) }
     ensures measures { IfKnown (Measures path.now result) (F.known folder.old) (F.known folder.new) }
 {
-    match folder.kind(path)? {
+    let found = folder.kind(path)?;
+    match found {
         Found::File(length) => Ok(length),
         Found::Folder => Err(FileFault::Device(FileCause::Folder)),
         Found::Other => Err(FileFault::Device(FileCause::Special)),
@@ -93,14 +104,27 @@ fn lock<F: Folder>(
     right: F::Right,
     path: &str,
 ) -> Result<Locked<F::File>, FileFault>
-    ensures rest { LeavesRest F.disk_at F.left folder.old folder.new }
+    ensures rest { LeavesRest F.disk_at F.left F.texts folder.old folder.new }
     ensures fresh { IfOk result (IsJustLocked F.File.Disk) }
     ensures begins { IfOk result (λ locked. IfSome (F.disk_at folder.old path.now) (λ bytes. F.File.seen locked.file ≡ bytes)) }
+    ensures meets { Meets path.now result (F.failed folder.old) (F.failed folder.new) }
+    ensures cleared { IfOk result (λ _. IfSome (F.known folder.new)
+        (IsRidOfCompanion path.now (F.failed folder.old) (F.failed folder.new))) }
     ensures locks { IfKnown (TakesLock path.now (λ locked. F.File.seen locked.file) result) (F.known folder.old) (F.known folder.new) }
 {
-    let (locked, companion) = folder.lock(right, path).map_err(fault_of_opening)?;
+    let (locked, companion) = match folder.lock(right, path) {
+        Ok(both) => both,
+        Err(error) => return Err(fault_of_opening(error)),
+    };
     let _left_there = clear_companion(folder, path, &companion);
     Ok(locked)
+}
+
+/// Whether it is a file without a byte.
+fn is_empty(found: Found) -> bool
+    ensures { IsTrue result ↔ (found ≡ Found.File 0) }
+{
+    matches!(found, Found::File(0))
 }
 
 /// Removes the companion, which the library makes beside the disk, if it is empty. Only the holder of the lock does so: where a
@@ -108,12 +132,16 @@ fn lock<F: Folder>(
 fn clear_companion<F: Folder>(folder: &mut F, path: &str, locked: &F::Companion) -> io::Result<()>
     requires { IfSome (F.known folder.old)
         (λ now. now.places.leads (companion_of now.places path.now) ≡ companion_of now.places path.now) }
-    ensures rest { LeavesRest F.disk_at F.left folder.old folder.new }
+    ensures rest { LeavesRest F.disk_at F.left F.texts folder.old folder.new }
+    ensures goes { ForgetsNone (F.failed folder.old) (F.failed folder.new) }
+    ensures cleared { IfSome (F.known folder.new) (IsRidOfCompanion path.now (F.failed folder.old) (F.failed folder.new)) }
     ensures clears { IfKnown (LeavesCompanion path.now) (F.known folder.old) (F.known folder.new) }
 {
     let companion = folder.companion(path)?;
-    if matches!(folder.kind(&companion)?, Found::File(0)) {
-        folder.remove(&companion, locked)?;
+    let name = companion.as_str();
+    let found = folder.kind(name)?;
+    if is_empty(found) {
+        return folder.remove(name, locked);
     }
     Ok(())
 }
@@ -121,6 +149,7 @@ fn clear_companion<F: Folder>(folder: &mut F, path: &str, locked: &F::Companion)
 /// The disk that a file holds which was locked, if it has the length of one. If not, it is unlocked.
 fn hand_over<F: Folder>(
     folder: &mut F,
+    path: &str,
     mut locked: Locked<F::File>,
 ) -> Result<Stored<F::File>, FileFault>
     requires usable { IsTrue (F.File.is_usable locked.file) }
@@ -131,13 +160,15 @@ fn hand_over<F: Folder>(
     ensures whole { IfOk result (λ d. is_over d ≡ false) }
     ensures fault { IfErr result (IsUnstarted (IsUnfit F.File.is_clean F.File.faults F.File.seen locked.file)) }
     ensures same { (F.disk_at folder.new ≡ F.disk_at folder.old) × (F.known folder.new ≡ F.known folder.old) }
+    ensures texts { F.texts folder.new ≡ F.texts folder.old }
+    ensures meets { Meets path.now result (F.failed folder.old) (F.failed folder.new) }
     ensures opening { IfOk result (λ d. (c : List ℕ) → IsLeftOpening d c → IsLeftOf F.File.Disk locked c) }
     ensures leaves { (c : List ℕ) → F.left folder.new c → IsLeftOf F.File.Disk locked c ⊎ F.left folder.old c }
 {
     match locked.measure() {
         Ok(()) => Ok(locked.start()),
         Err(fault) => {
-            folder.unlock(locked);
+            folder.unlock(path, locked);
             Err(fault)
         }
     }

@@ -9,13 +9,13 @@ ghost use Rattle.zh_disk.specs.Disk.{IsSettled, Reads, Writes, Syncs};
 ghost use Rattle.zh_disk.specs.History.{Call, Counts};
 ghost use Rattle.zh_file.specs.Ranges.{pairs};
 
-use crate::past::Past;
 use crate::ranges::Ranges;
 pub use locked::Locked;
 use sqlite_disk::Disk as File;
 use std::io;
 use std::snapshot::Snapshot;
 use zh_disk::{DISK_LENGTH, Disk, DiskFault};
+use zh_world::Past;
 
 /// A file, and the ranges that were written since its last sync, which only clauses read.
 #[derive(Drop)]

@@ -1,9 +1,11 @@
 //! The space that a new disk takes.
 ghost use Rattle.std.specs.Prelude.{◌≡◌, ◌<◌, ℕ, length, slice_index, IfErr, IfOk, IsTrue};
+ghost use Rattle.std.specs.IoError.{error_kind};
 ghost use Rattle.sqlite_disk.specs.Disk.{Only};
 ghost use Rattle.zh_disk.specs.Disk.{disk_length};
 ghost use Rattle.zh_file.specs.Held.{IsZeroed};
-ghost use Rattle.zh_file.specs.Locked.{IsShort, LeavesOnly};
+ghost use Rattle.zh_file.specs.Locked.{IsAmong, IsShort, LeavesOnly};
+ghost use Rattle.zh_world.specs.Past.{items};
 ghost use Rattle.zh_file.specs.declared.zeros.TheConstants.{BLOCK};
 
 use crate::stored::Locked;
@@ -36,6 +38,7 @@ fn write_blocks<D: File>(locked: &mut Locked<D>, zeros: &[u8]) -> io::Result<()>
     ensures failed { IfErr result (λ _. D.faults locked.old.file ≡ 0 → 0 < D.faults locked.new.file) }
     ensures zeroed { IfOk result (λ _. IsZeroed (D.seen locked.new.file)) }
     ensures short { LeavesOnly D.Disk IsShort locked.old → LeavesOnly D.Disk IsShort locked.new }
+    ensures met { IfErr result (λ error. IsAmong (error_kind error) (items locked.new.failed)) }
 {
     for block in 0..BLOCKS {
         locked.write_at(block * BLOCK, zeros)?;
@@ -54,6 +57,7 @@ pub(crate) fn take_space<D: File>(locked: &mut Locked<D>) -> io::Result<()>
     ensures synced { IfOk result (λ _. Only (D.seen locked.new.file) (D.may_leave locked.new.file)) }
     ensures zeroed { IfOk result (λ _. IsZeroed (D.seen locked.new.file)) }
     ensures short { LeavesOnly D.Disk IsShort locked.old → LeavesOnly D.Disk IsShort locked.new }
+    ensures met { IfErr result (λ error. IsAmong (error_kind error) (items locked.new.failed)) }
 {
     locked.set_len(DISK_LENGTH as usize)?;
     write_blocks(locked, &block_of_zeros())?;

@@ -41,6 +41,19 @@ abbrev pub fault_of_kind : ErrorKind → FileFault
 fault_of_kind kinds.OutOfMemory = faults.Memory
 fault_of_kind kind = faults.Device (cause_of kind)
 
+-- That of an error of a disk's file, which was found at its path: it says nothing of what stands there. What is missing, or is a
+-- folder, is not the file.
+abbrev pub fault_of_found : ErrorKind → FileFault
+fault_of_found kinds.OutOfMemory = faults.Memory
+fault_of_found kinds.NotFound = faults.Device causes.Failed
+fault_of_found kinds.IsADirectory = faults.Device causes.Failed
+fault_of_found kind = faults.Device (cause_of kind)
+
+-- That of an error of its locking: a file with a second name is not supported, nor a companion that is none.
+abbrev pub fault_of_locking : ErrorKind → FileFault
+fault_of_locking kinds.Unsupported = faults.Device causes.SecondName
+fault_of_locking kind = fault_of_found kind
+
 -- what a cause says of what stands at the path: that nothing does, or what; the others say nothing of it
 abbrev pub IsCauseAt : Standing → FileCause → Type 0
 IsCauseAt standing causes.Missing = standing ≡ nothing

@@ -1,8 +1,10 @@
 -- What is known of files in memory.
 use Rattle.std.specs.Option.{option_or}
-use Rattle.std.specs.Prelude.{ℕ, List, [], Option, Some, None, unwrap_or}
+use Rattle.std.specs.Prelude.{ℕ, List, [], Option, Some, None, map, unwrap_or}
 use Rattle.zh_world.specs.Count.{number}
+use Rattle.zh_world.specs.Failures.{FailedCall, failed_call}
 use Rattle.zh_world.specs.Memory.{bytes_at}
+use Rattle.zh_world.specs.Past.{items}
 use Rattle.zh_world.specs.Places.{Places, Standing}
 use Rattle.zh_world.specs.Places.Standing.{nothing, file}
 use Rattle.zh_world.specs.declared.fault.FileFault.{FileFault}
@@ -40,3 +42,7 @@ last_fault files = files.fault
 -- of no disk anything is left: it is copied where it is opened
 abbrev pub left_of : {R : Type 0} → MemoryFiles R → List ℕ → Type 0
 left_of files c = ⊥
+
+-- the calls that failed
+abbrev pub failed_calls : {R : Type 0} → MemoryFiles R → List FailedCall
+failed_calls files = map failed_call (items files.failed)

@@ -1,6 +1,7 @@
 //! The files that the program is given by name.
 ghost use Rattle.std.specs.Prelude.{◌≡◌, ℕ, List, Option, IfOk};
 ghost use Rattle.zh_world.specs.Causes.{EndsAt};
+ghost use Rattle.zh_world.specs.Failures.{FailedCall, Meets};
 ghost use Rattle.zh_world.specs.Files.{Begins, BeginsOrIsMade, IsAsFound, IsCallOfFiles, IsFilling, IsReadOfFiles, LeavesNoMore, LeavesOf};
 ghost use Rattle.zh_world.specs.Places.{IfKnown, Places, TouchesOnly};
 
@@ -38,11 +39,15 @@ pub trait Files {
     /// The fault of the last call, if it failed.
     ghost fault: { Self → Option FileFault };
 
+    /// The calls of the system that failed, the latest first.
+    ghost failed: { Self → List FailedCall };
+
     /// The text at this path, from its first byte.
     fn text(&mut self, path: &str) -> Result<Self::Text, FileFault>
         ensures call { IsReadOfFiles text_at disk_at places calls self.old self.new }
         ensures leaves { LeavesNoMore (left self.old) (left self.new) }
         ensures ends { EndsAt (places self.old) path.now (fault self.new) result }
+        ensures meets { Meets path.now result (failed self.old) (failed self.new) }
         ensures bytes { IfOk result (λ text. Self.Text.remaining text ≡ text_at self.old path.now) };
 
     /// The disk at this path.
@@ -51,6 +56,7 @@ pub trait Files {
         ensures touches { IfKnown (TouchesOnly path.now) (places self.old) (places self.new) }
         ensures leaves { LeavesOf IsAsFound (disk_at self.old path.now) (left self.old) (left self.new) }
         ensures ends { EndsAt (places self.old) path.now (fault self.new) result }
+        ensures meets { Meets path.now result (failed self.old) (failed self.new) }
         ensures begins { IfOk result (λ disk. Begins (disk_at self.old path.now) (Self.Disk.history disk)) };
 
     /// The disk at this path. Where there is none, it is made, of zeros.
@@ -59,5 +65,6 @@ pub trait Files {
         ensures touches { IfKnown (TouchesOnly path.now) (places self.old) (places self.new) }
         ensures leaves { LeavesOf IsFilling (disk_at self.old path.now) (left self.old) (left self.new) }
         ensures ends { EndsAt (places self.old) path.now (fault self.new) result }
+        ensures meets { Meets path.now result (failed self.old) (failed self.new) }
         ensures begins { IfOk result (λ disk. BeginsOrIsMade (disk_at self.old path.now) (Self.Disk.history disk)) };
 }

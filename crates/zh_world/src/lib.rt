@@ -7,6 +7,8 @@ mod count;
 mod fault;
 mod files;
 mod memory;
+mod past;
+mod setback;
 mod text;
 mod world;
 
@@ -14,5 +16,7 @@ pub use count::CallCount;
 pub use fault::{FileCause, FileFault};
 pub use files::Files;
 pub use memory::{MemoryFiles, Named};
+pub use past::Past;
+pub use setback::{Failure, Setback, noted_path};
 pub use text::MemoryText;
 pub use world::{Ended, Remark, World};

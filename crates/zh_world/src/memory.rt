@@ -1,18 +1,23 @@
 //! Files in memory.
-ghost use Rattle.std.specs.Prelude.{◌≡◌, ◌+◌, ◌-◌, ◌^◌, false, Some, Ok, length, IfOk, IfErr, MatchOption, MatchResult, option_map};
+ghost use Rattle.std.specs.Prelude.{◌≡◌, ◌+◌, ◌-◌, ◌^◌, false, Some, Ok, length};
+ghost use Rattle.std.specs.Prelude.{IfOk, IfErr, MatchOption, MatchResult, option_map};
 ghost use Rattle.zh_disk.specs.Disk.{disk_length, fresh_trail};
 ghost use Rattle.zh_disk.specs.Failing.{IsFailing, calls_left, failing_history, inside};
 ghost use Rattle.zh_disk.specs.Memory.{IsNewDisk, memory_history, memory_trail};
 ghost use Rattle.zh_world.specs.Count.{number};
+ghost use Rattle.zh_world.specs.Failures.{Meets};
 ghost use Rattle.zh_world.specs.Files.{Begins, BeginsOrIsMade, IsAsFound, IsCallOfFiles, IsFilling, IsReadOfFiles, LeavesOf};
 ghost use Rattle.zh_world.specs.Memory.{bytes_at, cause_beside, IsDiskFault, IsImageFault, IsMakingFault, IsTextFault};
 
 use crate::count::CallCount;
 use crate::fault::{FileCause, FileFault};
 use crate::files::Files;
+use crate::past::Past;
+use crate::setback::{Failure, Setback};
 use crate::text::MemoryText;
 use std::alloc::{AllocError, Global};
 use std::marker::PhantomData;
+use std::snapshot::Snapshot;
 use zh_disk::{DISK_LENGTH, FailingDisk, MemoryDisk};
 
 /// Bytes, and the path that they stand at.
@@ -59,12 +64,14 @@ pub struct MemoryFiles<'a, R> {
     made: CallCount,
     // how the last call failed
     fault: Option<FileFault>,
+    // the calls that failed
+    failed: Past<Failure>,
     // what the right to a disk is
     right: PhantomData<R>,
 }
 
 impl<'a, R> MemoryFiles<'a, R> {
-    ghost use Rattle.zh_world.specs.MemoryFiles.{disk_at};
+    ghost use Rattle.zh_world.specs.MemoryFiles.{disk_at, failed_calls};
 
     /// These texts and disks. So many calls pass that none of a test fails.
     pub fn new(alloc: Global, texts: &'a [Named<'a>], disks: &'a [Named<'a>]) -> MemoryFiles<'a, R>
@@ -83,6 +90,7 @@ impl<'a, R> MemoryFiles<'a, R> {
             disk_calls: u64::MAX,
             made: CallCount::new(),
             fault: None,
+            failed: Past::new(),
             right: PhantomData,
         }
     }
@@ -192,10 +200,11 @@ impl<'a, R> MemoryFiles<'a, R> {
         }
     }
 
-    /// Notes how a call ended.
-    fn noted<T>(&mut self, opened: Result<T, FileFault>) -> Result<T, FileFault>
+    /// Notes how a call at this path ended.
+    fn noted<T>(&mut self, path: &str, opened: Result<T, FileFault>) -> Result<T, FileFault>
         ensures same { result ≡ opened }
-        ensures rest { self.new ≡ record self.old { fault = self.new.fault } }
+        ensures rest { self.new ≡ record self.old { fault = self.new.fault; failed = self.new.failed } }
+        ensures meets { Meets path.now result (failed_calls self.old) (failed_calls self.new) }
         ensures noted { MatchResult result (λ _. self.new.fault ≡ None) (λ fault. self.new.fault ≡ Some fault) }
     {
         match opened {
@@ -205,6 +214,9 @@ impl<'a, R> MemoryFiles<'a, R> {
             }
             Err(fault) => {
                 self.fault = Some(fault);
+                let setback = Setback::of(fault);
+                let failed = Failure::at(path, setback);
+                self.failed.push(Snapshot::of(&failed));
                 Err(fault)
             }
         }
@@ -219,7 +231,7 @@ impl<'a, R: Drop> Files for MemoryFiles<'a, R> {
     type Right = R;
 
     ghost use Rattle.zh_world.specs.Causes.{EndsAt};
-    ghost use Rattle.zh_world.specs.MemoryFiles.{text_at, disk_at, calls_made, last_fault, left_of, places};
+    ghost use Rattle.zh_world.specs.MemoryFiles.{text_at, disk_at, calls_made, failed_calls, last_fault, left_of, places};
     ghost use Rattle.zh_world.specs.Places.{IfKnown, TouchesOnly};
 
     ghost text_at = { text_at };
@@ -234,16 +246,19 @@ impl<'a, R: Drop> Files for MemoryFiles<'a, R> {
 
     ghost fault = { last_fault };
 
+    ghost failed = { failed_calls };
+
     fn text(&mut self, path: &str) -> Result<MemoryText<'a>, FileFault>
         ensures call { IsReadOfFiles text_at disk_at places calls_made self.old self.new }
         ensures ends { EndsAt (places self.old) path.now (last_fault self.new) result }
+        ensures meets { Meets path.now result (failed_calls self.old) (failed_calls self.new) }
         ensures bytes { IfOk result (λ text. Some text.bytes.now ≡ bytes_at self.old.texts.now path.now) }
         ensures reads { IfOk result (λ text. text.reads ≡ self.old.reads) }
         ensures fails { IfErr result (IsTextFault self.old.calls
             (record { found = bytes_at self.old.texts.now path.now; beside = bytes_at self.old.disks.now path.now })) }
     {
         let opened = self.found_text(path);
-        self.noted(opened)
+        self.noted(path, opened)
     }
 
     fn disk(&mut self, _right: R, path: &str) -> Result<FailingDisk<MemoryDisk>, FileFault>
@@ -251,13 +266,14 @@ impl<'a, R: Drop> Files for MemoryFiles<'a, R> {
         ensures touches { IfKnown (TouchesOnly path.now) (places self.old) (places self.new) }
         ensures leaves { LeavesOf IsAsFound (disk_at self.old path.now) (left_of self.old) (left_of self.new) }
         ensures ends { EndsAt (places self.old) path.now (last_fault self.new) result }
+        ensures meets { Meets path.now result (failed_calls self.old) (failed_calls self.new) }
         ensures begins { IfOk result (λ disk. Begins (disk_at self.old path.now) (failing_history memory_history disk)) }
         ensures left { IfOk result (λ disk. calls_left disk ≡ Some self.old.disk_calls) }
         ensures fails { IfErr result (IsDiskFault self.old.calls
             (record { found = bytes_at self.old.disks.now path.now; beside = bytes_at self.old.texts.now path.now })) }
     {
         let opened = self.found_disk(path);
-        self.noted(opened)
+        self.noted(path, opened)
     }
 
     fn disk_or_make(&mut self, _right: R, path: &str) -> Result<FailingDisk<MemoryDisk>, FileFault>
@@ -265,12 +281,13 @@ impl<'a, R: Drop> Files for MemoryFiles<'a, R> {
         ensures touches { IfKnown (TouchesOnly path.now) (places self.old) (places self.new) }
         ensures leaves { LeavesOf IsFilling (disk_at self.old path.now) (left_of self.old) (left_of self.new) }
         ensures ends { EndsAt (places self.old) path.now (last_fault self.new) result }
+        ensures meets { Meets path.now result (failed_calls self.old) (failed_calls self.new) }
         ensures begins { IfOk result (λ disk. BeginsOrIsMade (disk_at self.old path.now) (failing_history memory_history disk)) }
         ensures left { IfOk result (λ disk. calls_left disk ≡ Some self.old.disk_calls) }
         ensures fails { IfErr result (IsMakingFault self.old.calls
             (record { found = bytes_at self.old.disks.now path.now; beside = bytes_at self.old.texts.now path.now })) }
     {
         let opened = self.found_or_made(path);
-        self.noted(opened)
+        self.noted(path, opened)
     }
 }

@@ -1,22 +1,34 @@
 //! The file of a disk, from its lock on until it is a disk.
 ghost use Rattle.std.specs.Prelude.{◌≡◌, ◌<◌, ◌∷◌, [], length, false, is_ok, IfOk, IsTrue, OnOk};
+ghost use Rattle.zh_file.specs.Locked.{kinds_after};
 ghost use Rattle.sqlite_disk.specs.Disk.{Cut, Holds, Only, Torn};
 ghost use Rattle.zh_disk.specs.Disk.{disk_length, fresh_trail};
-ghost use Rattle.zh_file.specs.Past.{items};
+ghost use Rattle.zh_world.specs.Past.{items};
 
 use super::{HeldFile, Stored};
-use crate::past::Past;
 use crate::ranges::Ranges;
 use sqlite_disk::Disk as File;
-use std::io;
+use std::io::{self, ErrorKind};
 use std::snapshot::Snapshot;
+use zh_world::Past;
 
-/// A file that is locked. It notes what it was before each of its calls, which only clauses read. Nothing else reaches it: code
-/// over any folder can neither drop one nor take its file out.
+/// A file that is locked. It notes what it was before each of its calls, and which of them failed, which only clauses read. Nothing
+/// else reaches it: code over any folder can neither drop one nor take its file out.
 #[derive(Drop)]
 pub struct Locked<D: File> {
     file: D,
     before: Past<D>,
+    // the kinds of the errors of its calls
+    failed: Past<ErrorKind>,
+}
+
+/// Notes a call of a file, where it failed.
+fn note<T>(failed: &mut Past<ErrorKind>, done: &io::Result<T>)
+    ensures { items failed.new ≡ kinds_after done.now (items failed.old) }
+{
+    if let Err(error) = done {
+        failed.push(Snapshot::of(&error.kind()));
+    }
 }
 
 impl<D: File> Locked<D> {
@@ -27,10 +39,12 @@ impl<D: File> Locked<D> {
     pub fn new(file: D) -> Locked<D>
         ensures file { result.file ≡ file }
         ensures begun { items result.before ≡ [] }
+        ensures unmet { items result.failed ≡ [] }
     {
         Locked {
             file,
             before: Past::new(),
+            failed: Past::new(),
         }
     }
 
@@ -49,7 +63,9 @@ impl<D: File> Locked<D> {
         ensures usable { IsTrue (D.is_usable self.new.file) }
     {
         self.before.push(Snapshot::of(&self.file));
-        self.file.len()
+        let done = self.file.len();
+        note(&mut self.failed, &done);
+        done
     }
 
     /// Gives it this length.
@@ -60,7 +76,9 @@ impl<D: File> Locked<D> {
         ensures usable { IsTrue (D.is_usable self.new.file) }
     {
         self.before.push(Snapshot::of(&self.file));
-        self.file.set_len(n)
+        let done = self.file.set_len(n);
+        note(&mut self.failed, &done);
+        done
     }
 
     /// Writes these bytes at this place.
@@ -71,7 +89,9 @@ impl<D: File> Locked<D> {
         ensures usable { IsTrue (D.is_usable self.new.file) }
     {
         self.before.push(Snapshot::of(&self.file));
-        self.file.write_at(at, bytes)
+        let done = self.file.write_at(at, bytes);
+        note(&mut self.failed, &done);
+        done
     }
 
     /// Syncs it.
@@ -82,7 +102,9 @@ impl<D: File> Locked<D> {
         ensures usable { D.is_usable self.new.file ≡ is_ok result }
     {
         self.before.push(Snapshot::of(&self.file));
-        self.file.sync()
+        let done = self.file.sync();
+        note(&mut self.failed, &done);
+        done
     }
 
     /// The disk that it holds, as it was synced.
@@ -99,6 +121,7 @@ impl<D: File> Locked<D> {
         let Locked {
             file,
             before: mut opening,
+            failed: _,
         } = self;
         opening.push(Snapshot::of(&file));
         Stored {

@@ -8,6 +8,9 @@ use Rattle.zh_disk.specs.Disk.{disk_length}
 use Rattle.zh_file.specs.Stored.{stored_history}
 use Rattle.zh_file.proofs.FolderLemmas.{ok_bytes}
 use Rattle.zh_file.proofs.OpeningLemmas.{file_locked, file_unlocked, known_started, known_unlocked}
+use Rattle.zh_world.proofs.CallerLemmas.{goes_both, meets_after, meets_as}
+use Rattle.zh_file.proofs.CompanionLemmas.{ok_cleared}
+use Rattle.zh_file.proofs.NoteLemmas.{length_meets}
 use Rattle.zh_file.proofs.opening.open.Goals as goal
 
 pub returns-in_err-locked-clause-opens : goal.returns-in_err-locked-clause-opens
@@ -62,3 +65,31 @@ returns-then-length-ne-DISK_LENGTH-clause-leaves g c = λ left here. inl (c.leng
 
 pub returns-in_err-locked-clause-leaves : goal.returns-in_err-locked-clause-leaves
 returns-in_err-locked-clause-leaves g c = λ left here. inl (c.length_at.ensures.rest.leaves left (c.lock.ensures.rest.leaves left here))
+
+pub returns-in_err-length-clause-meets : goal.returns-in_err-length-clause-meets
+returns-in_err-length-clause-meets g c =
+    let is : c.from_residual.result ≡ Err c.in_err-length.field-0.0 = search rules in
+    rw is (meets_as c.args.path.now c.in_err-length.field-0.0 _ _ c.in_err-length.ensures.meets)
+
+pub returns-then-length-ne-DISK_LENGTH-clause-meets : goal.returns-then-length-ne-DISK_LENGTH-clause-meets
+returns-then-length-ne-DISK_LENGTH-clause-meets g c = length_meets c.args.path.now _ _ c.in_ok-length.length c.length_at.ensures.meets.goes
+
+pub returns-in_err-locked-clause-meets : goal.returns-in_err-locked-clause-meets
+returns-in_err-locked-clause-meets g c =
+    let is : c.from_residual-in_err-locked.result ≡ Err c.in_err-locked.field-0.0 = search rules in
+    let at = g.F.Folder.failed in
+    rw is (meets_after c.args.path.now (Err c.in_err-locked.field-0.0) (at c.args.folder.now) (at c.length_at.new.folder) (at c.lock.new.folder) c.length_at.ensures.meets.goes
+    (meets_as c.args.path.now c.in_err-locked.field-0.0 _ _ c.in_err-locked.ensures.meets))
+
+pub returns-clause-meets : goal.returns-clause-meets
+returns-clause-meets g c =
+    let at = g.F.Folder.failed in
+    meets_after c.args.path.now c.hand_over.result (at c.args.folder.now) (at c.lock.new.folder) (at c.hand_over.new.folder)
+    (goes_both (at c.args.folder.now) (at c.length_at.new.folder) (at c.lock.new.folder) c.length_at.ensures.meets.goes c.lock.ensures.meets.goes) c.hand_over.ensures.meets
+
+pub returns-clause-cleared : goal.returns-clause-cleared
+returns-clause-cleared g c =
+    let at = g.F.Folder.failed in
+    ok_cleared c.args.path.now (at c.args.folder.now) (at c.length_at.new.folder) (at c.lock.new.folder) (at c.hand_over.new.folder)
+    (g.F.Folder.known c.lock.new.folder) (g.F.Folder.known c.hand_over.new.folder) c.hand_over.result c.hand_over.ensures.same.1
+    c.length_at.ensures.meets.goes c.hand_over.ensures.meets.goes c.in_ok-locked.ensures.cleared

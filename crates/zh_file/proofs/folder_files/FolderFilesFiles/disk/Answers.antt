@@ -1,3 +1,4 @@
+use Rattle.std.proofs.Common.{arith}
 use Rattle.zh_file.specs.Opening.{HasFailed, OpensDisk}
 use Rattle.zh_file.specs.Stored.{stored_history}
 use Rattle.zh_file.proofs.TextLemmas.{same_texts}
@@ -9,5 +10,5 @@ returns-clause-call g c = record {
       (OpensDisk (HasFailed g.F.File.Disk.is_clean g.F.File.Disk.faults) c.args.path.now (λ d. (stored_history {g = g.F.File.Disk} d).trail.now.bytes) c.open-opened.result)
       (λ x y opens. opens.touches) (g.F.Folder.known c.args.self.now.folder) (g.F.Folder.known c.open-opened.new.folder) c.open-opened.ensures.opens;
   disks = c.open-opened.ensures.disks;
-  counted = c.add.ensures;
+  counted = omega (arith, c.add.ensures, c.open-opened.ensures.texts);
 }

@@ -1,3 +1,4 @@
+use Rattle.std.proofs.Common.{arith}
 use Rattle.zh_file.specs.Opening.{HasFailed, OpensOrMakesDisk}
 use Rattle.zh_file.specs.Stored.{stored_history}
 use Rattle.zh_file.proofs.TextLemmas.{same_texts}
@@ -10,5 +11,5 @@ returns-clause-call g c = record {
       c.open_or_make-opened.result)
       (λ x y opens. opens.touches) (g.F.Folder.known c.args.self.now.folder) (g.F.Folder.known c.open_or_make-opened.new.folder) c.open_or_make-opened.ensures.opens;
   disks = c.open_or_make-opened.ensures.disks;
-  counted = c.add.ensures;
+  counted = omega (arith, c.add.ensures, c.open_or_make-opened.ensures.texts);
 }

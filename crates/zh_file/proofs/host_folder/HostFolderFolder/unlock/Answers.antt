@@ -1,9 +1,9 @@
 use Rattle.std.proofs.Common.{refl}
 use Rattle.zh_file.proofs.host_folder.HostFolderFolder.unlock.Goals as goal
 
-pub returns : goal.returns
-returns g c = record {
+pub returns-clause-unlocks : goal.returns-clause-unlocks
+returns-clause-unlocks g c = record {
   disks = refl;
   same = refl;
-  leaves = λ left. rw (c.push.ensures, c.of.ensures) ((λ h. h), (λ h. h));
+  leaves = λ left. rw c.note_unlocked.ensures.unlocked ((λ h. h), (λ h. h));
 }

@@ -1,7 +1,7 @@
 use Rattle.std.proofs.Common.{◌∷◌, inl, refl, arith, ap, ◌∙◌}
 use Rattle.std.proofs.lemmas.Grind.{common_steps}
 use Rattle.std.specs.Prelude.{map}
-use Rattle.zh_file.specs.Past.{items}
+use Rattle.zh_world.specs.Past.{items}
 use Rattle.zh_file.specs.Held.{moment}
 use Rattle.zh_file.proofs.CallLemmas.{writes}
 use Rattle.zh_file.proofs.FailureLemmas.{file_counts, refused_call}

@@ -1,13 +1,14 @@
 use Rattle.std.proofs.Common.{◌∷◌, ◌∙◌, ap}
-use Rattle.zh_file.specs.Past.{items}
+use Rattle.zh_world.specs.Past.{items}
 use Rattle.zh_file.proofs.LockedLemmas.{follows_stays}
 use Rattle.zh_file.proofs.stored.locked.Locked.len.Goals as goal
 
 pub returns-clause-call : goal.returns-clause-call
 returns-clause-call g c = record {
   noted = c.push.ensures ∙ ap (λ d. d ∷ items c.args.self.now.before) c.of.ensures;
-  kept = c.len.ensures.clean;
-  counted = c.len.ensures.faults;
-  seen = c.len.ensures.seen;
-  leaves = follows_stays _ _ c.len.ensures.crash;
+  failed = c.note.ensures;
+  kept = c.len-done.ensures.clean;
+  counted = c.len-done.ensures.faults;
+  seen = c.len-done.ensures.seen;
+  leaves = follows_stays _ _ c.len-done.ensures.crash;
 }

@@ -1,12 +1,13 @@
 use Rattle.std.proofs.Common.{◌∷◌, ◌∙◌, ap}
-use Rattle.zh_file.specs.Past.{items}
+use Rattle.zh_world.specs.Past.{items}
 use Rattle.zh_file.proofs.stored.locked.Locked.set_len.Goals as goal
 
 pub returns-clause-call : goal.returns-clause-call
 returns-clause-call g c = record {
   noted = c.push.ensures ∙ ap (λ d. d ∷ items c.args.self.now.before) c.of.ensures;
-  kept = c.set_len.ensures.clean;
-  counted = c.set_len.ensures.faults;
-  seen = c.set_len.ensures.others;
-  leaves = c.set_len.ensures.crash;
+  failed = c.note.ensures;
+  kept = c.set_len-done.ensures.clean;
+  counted = c.set_len-done.ensures.faults;
+  seen = c.set_len-done.ensures.others;
+  leaves = c.set_len-done.ensures.crash;
 }
