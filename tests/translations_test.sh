@@ -76,6 +76,7 @@ differ "another word in backticks" 1 'word in backticks not in docs/NIGHT.md:13:
 differ "a link to another page" 1 "link only in docs/NIGHT.md:1: docs/OTHER.md#words" 's/OTHER.md#words/MORE.md#words/'
 differ "a link to another heading of a page in one language" 1 "link not in docs/NIGHT.md:1: docs/OTHER.md#sums" 's/OTHER.md#words/OTHER.md#sums/'
 differ "another number" 1 "number not in docs/NIGHT.md:1: 1407" 's/1406/1407/'
+differ "another spelling" 1 "docs/de/NIGHT.md:1: ß: # Der Spaß" 's/Abend/Spaß/'
 differ "a number as it is written in German" 0 "0 wrong" "s/1406/1'406/"
 mv "$folder/seite.md" "$folder/docs/de/ABEND.md"
 touch "$folder/seite.md"
