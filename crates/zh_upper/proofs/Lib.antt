@@ -1,4 +1,6 @@
 pub mod CallerLemmas
+mod ClaimLemmas
+mod HalfLemmas
 mod ParticipantLemmas
 mod RefusalLemmas
 mod SpreadLemmas

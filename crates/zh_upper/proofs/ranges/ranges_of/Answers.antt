@@ -1,0 +1,62 @@
+use Rattle.std.proofs.Common.{arith}
+use Rattle.std.proofs.lemmas.Grind.{get_or_default_zero}
+use Rattle.zh_upper.proofs.ClaimLemmas.{at_divisor, few_halves, marked}
+use Rattle.zh_upper.proofs.HalfLemmas.{are_ranges, down_small, up_small}
+use Rattle.zh_upper.proofs.ranges.ranges_of.Goals as goal
+
+pub offset_bounds-sums-first_marked : goal.offset_bounds-sums-first_marked
+offset_bounds-sums-first_marked c =
+    let is = marked c.args.sums.now c.in_ok-weights.weights c.args.house c.in_ok-claims.claims.items c.deref.result.now c.first_marked.result
+    c.in_ok-weights.ensures c.deref.ensures.value c.in_ok-claims.ensures c.requires.tied c.requires.positive c.first_marked.ensures in
+    omega (arith, is.within, c.requires.at_most_32)
+
+pub bounds-sums-first_marked : goal.bounds-sums-first_marked
+bounds-sums-first_marked c =
+    (marked c.args.sums.now c.in_ok-weights.weights c.args.house c.in_ok-claims.claims.items c.deref.result.now c.first_marked.result
+    c.in_ok-weights.ensures c.deref.ensures.value c.in_ok-claims.ensures c.requires.tied c.requires.positive c.first_marked.ensures).within
+
+pub first_above-divisor-requires-clause-some : goal.first_above-divisor-requires-clause-some
+first_above-divisor-requires-clause-some c =
+    (marked c.args.sums.now c.in_ok-weights.weights c.args.house c.in_ok-claims.claims.items c.deref.result.now c.first_marked.result
+    c.in_ok-weights.ensures c.deref.ensures.value c.in_ok-claims.ensures c.requires.tied c.requires.positive c.first_marked.ensures).half.tie.some
+
+pub each_down-requires-clause-few : goal.each_down-requires-clause-few
+each_down-requires-clause-few c =
+    let is = marked c.args.sums.now c.in_ok-weights.weights c.args.house c.in_ok-claims.claims.items c.deref.result.now c.first_marked.result
+    c.in_ok-weights.ensures c.deref.ensures.value c.in_ok-claims.ensures c.requires.tied c.requires.positive c.first_marked.ensures in
+    few_halves c.args.sums.now c.args.house c.first_marked.result _ _ is c.requires.each_small c.requires.at_most_400
+    c.first_above-divisor.ensures.weight c.first_above-divisor.ensures.first
+
+pub each_up-requires-clause-few : goal.each_up-requires-clause-few
+each_up-requires-clause-few c =
+    let is = marked c.args.sums.now c.in_ok-weights.weights c.args.house c.in_ok-claims.claims.items c.deref.result.now c.first_marked.result
+    c.in_ok-weights.ensures c.deref.ensures.value c.in_ok-claims.ensures c.requires.tied c.requires.positive c.first_marked.ensures in
+    few_halves c.args.sums.now c.args.house c.first_marked.result _ _ is c.requires.each_small c.requires.at_most_400
+    c.first_above-divisor.ensures.weight c.first_above-divisor.ensures.first
+
+pub each_down-requires-clause-fit : goal.each_down-requires-clause-fit
+each_down-requires-clause-fit c = λ k d kw.
+    let is = marked c.args.sums.now c.in_ok-weights.weights c.args.house c.in_ok-claims.claims.items c.deref.result.now c.first_marked.result
+    c.in_ok-weights.ensures c.deref.ensures.value c.in_ok-claims.ensures c.requires.tied c.requires.positive c.first_marked.ensures in
+    let t = at_divisor c.args.sums.now c.args.house c.first_marked.result c.first_above-divisor.result.weight c.first_above-divisor.result.odd is
+    c.first_above-divisor.ensures.weight c.first_above-divisor.ensures.first in
+    let small = down_small c.args.sums.now c.args.house c.first_above-divisor.result.weight c.first_above-divisor.result.odd t k kw in
+    rw (get_or_default_zero c.args.sums.now k d kw) (omega (arith, small, c.requires.at_most_400))
+
+pub each_up-requires-clause-fit : goal.each_up-requires-clause-fit
+each_up-requires-clause-fit c = λ k d kw.
+    let is = marked c.args.sums.now c.in_ok-weights.weights c.args.house c.in_ok-claims.claims.items c.deref.result.now c.first_marked.result
+    c.in_ok-weights.ensures c.deref.ensures.value c.in_ok-claims.ensures c.requires.tied c.requires.positive c.first_marked.ensures in
+    let t = at_divisor c.args.sums.now c.args.house c.first_marked.result c.first_above-divisor.result.weight c.first_above-divisor.result.odd is
+    c.first_above-divisor.ensures.weight c.first_above-divisor.ensures.first in
+    let small = up_small c.args.sums.now c.args.house c.first_above-divisor.result.weight c.first_above-divisor.result.odd t k kw in
+    rw (get_or_default_zero c.args.sums.now k d kw) (omega (arith, small, c.requires.at_most_400))
+
+pub returns : goal.returns
+returns c =
+    let is = marked c.args.sums.now c.in_ok-weights.weights c.args.house c.in_ok-claims.claims.items c.deref.result.now c.first_marked.result
+    c.in_ok-weights.ensures c.deref.ensures.value c.in_ok-claims.ensures c.requires.tied c.requires.positive c.first_marked.ensures in
+    let t = at_divisor c.args.sums.now c.args.house c.first_marked.result c.first_above-divisor.result.weight c.first_above-divisor.result.odd is
+    c.first_above-divisor.ensures.weight c.first_above-divisor.ensures.first in
+    are_ranges c.args.sums.now c.args.house c.first_above-divisor.result.weight c.first_above-divisor.result.odd
+    c.in_ok-each_down.field-0.items c.in_ok-each_up.field-0.items t c.in_ok-each_down.ensures c.in_ok-each_up.ensures
