@@ -6,14 +6,10 @@ use Rattle.zh_matrices.specs.Question.{cell}
 use Rattle.zh_sheet.specs.ListSeats.{SeatsOfLists}
 use Rattle.zh_sheet.specs.declared.reason.ExhaustedReason.{ExhaustedReason}
 use Rattle.zh_sheet.specs.declared.reason.ExhaustedReason.TheVariants.{Beyond, Impossible, Missed, NearlyTied}
-use Rattle.zh_sheet.specs.declared.refusal.SheetRefusal.TheVariants as sheets
 use Rattle.zh_commands.specs.Replies.{answer}
 use Rattle.zh_commands.specs.declared.replies.Reply.TheVariants as replies
 use Rattle.zh_commands.specs.declared.replies.Refusal.{Refusal}
-use Rattle.zh_commands.specs.declared.replies.Refusal.TheVariants as refusals
 use Rattle.zh_record_text.specs.Each.{each_to}
-use Rattle.zh_seats.specs.declared.outcome.NoSeats.{NoSeats}
-use Rattle.zh_seats.specs.declared.outcome.NoSeats.TheVariants.{Refused, Exhausted, Wrong}
 
 -- the line of a refusal
 abbrev pub refusal_line : Refusal → List ℕ
@@ -45,8 +41,3 @@ reason_text canton (Impossible marked) =
 reason_text canton (NearlyTied d g) = codes "nearly tied" ++ 32 ∷ decimal d ++ 32 ∷ decimal g
 reason_text canton (Beyond x) = codes "beyond" ++ only_seats_text x
 reason_text canton (Missed x) = codes "missed" ++ only_seats_text x
-
-abbrev pub refusal_text : Canton → NoSeats → List ℕ
-refusal_text canton (Refused refusal) = refusal_line refusal
-refusal_text canton (Exhausted reason) = refusal_line (refusals.Sheet sheets.Exhausted) ++ reason_text canton reason ++ 10 ∷ []
-refusal_text canton Wrong = codes "zhcount: sheet wrong\n"

@@ -4,6 +4,7 @@
 
 mod cells;
 mod lists;
+mod lots;
 mod mark;
 mod numbers;
 mod outcome;

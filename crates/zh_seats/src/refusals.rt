@@ -2,9 +2,11 @@
 
 ghost use Rattle.std.specs.Prelude.{◌≡◌, ◌≤◌, ◌++◌, ◌∷◌, [], IfOk, OnOk, codes, decimal, length};
 ghost use Rattle.zh_record_text.specs.Each.{each_to};
-ghost use Rattle.zh_seats.specs.Refusals.{number_if_among, only_seats_text, reason_text, refusal_line, refusal_text};
+ghost use Rattle.zh_seats.specs.Reported.{refusal_text};
+ghost use Rattle.zh_seats.specs.Refusals.{number_if_among, only_seats_text, reason_text, refusal_line};
 ghost use Rattle.zh_seats.specs.Refusals.{seats_line, seats_line_of};
 
+use crate::lots::push_lot;
 use crate::outcome::NoSeats;
 use std::alloc::{AllocError, Global};
 use zh_commands::{Refusal, Reply, write_answer};
@@ -24,7 +26,7 @@ fn push_refusal(out: &mut Vec<u8>, refusal: Refusal) -> Result<(), AllocError>
 }
 
 /// Puts a space and a number at the end.
-fn push_spaced(out: &mut Vec<u8>, number: u32) -> Result<(), AllocError>
+pub(crate) fn push_spaced(out: &mut Vec<u8>, number: u32) -> Result<(), AllocError>
     ensures { OnOk result (out.new.items ≡ out.old.items ++ (32 ∷ decimal number)) }
 {
     out.push(b' ')?;
@@ -81,7 +83,12 @@ fn push_line(out: &mut Vec<u8>, constituency: u32, group: u32, seats: u32) -> Re
 }
 
 /// Puts the line of a list at the end, if it has seats.
-fn push_list(out: &mut Vec<u8>, constituency: u32, group: u32, seats: u32) -> Result<(), AllocError>
+pub(crate) fn push_list(
+    out: &mut Vec<u8>,
+    constituency: u32,
+    group: u32,
+    seats: u32,
+) -> Result<(), AllocError>
     ensures { OnOk result (out.new.items ≡ out.old.items ++ seats_line constituency group seats) }
 {
     if seats > 0 {
@@ -139,7 +146,8 @@ fn push_reason(out: &mut Vec<u8>, setup: &Setup, reason: &ExhaustedReason) -> Re
     }
 }
 
-/// What is reported of why there are no seats: the refusal in a line; and of an exhausted search its reason in another.
+/// What is reported of why there are no seats: the refusal in a line; of an exhausted search its reason in another; and of
+/// tied seats what the lot decides.
 pub fn refusal_text(alloc: Global, setup: &Setup, why: &NoSeats) -> Result<Vec<u8>, AllocError>
     ensures { IfOk result (λ text. text.items ≡ refusal_text setup.now why.now) }
 {
@@ -149,6 +157,11 @@ pub fn refusal_text(alloc: Global, setup: &Setup, why: &NoSeats) -> Result<Vec<u
         NoSeats::Exhausted(reason) => {
             push_refusal(&mut out, Refusal::Sheet(SheetRefusal::Exhausted))?;
             push_reason(&mut out, setup, reason)?;
+            out.push(b'\n')?;
+        }
+        NoSeats::Tied(refusal, lot) => {
+            push_refusal(&mut out, Refusal::Sheet(*refusal))?;
+            push_lot(&mut out, setup, lot)?;
             out.push(b'\n')?;
         }
         NoSeats::Wrong => out.extend_from_slice(b"zhcount: sheet wrong\n")?,

@@ -1,7 +1,9 @@
 pub mod Distribution
 pub mod Given
 pub mod Inside
+pub mod ListRanges
 pub mod ListSeats
+pub mod Lots
 pub mod Made
 pub mod Names
 pub mod Readings

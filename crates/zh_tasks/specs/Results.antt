@@ -3,7 +3,9 @@ use Rattle.std.specs.Prelude.{ℕ, Bool, true, false, Result, Ok, Err, None, Lis
 use Rattle.zh_districts.specs.Canton.{Canton}
 use Rattle.zh_returns.specs.Tally.{Tally}
 use Rattle.zh_totals.specs.Totals.{VoteTotals}
+use Rattle.zh_sheet.specs.Lots.{IsForTheLot, IsLotOf}
 use Rattle.zh_sheet.specs.Reasons.{IsReason}
+use Rattle.zh_sheet.specs.declared.refusal.SheetRefusal.{SheetRefusal}
 use Rattle.zh_sheet.specs.declared.refusal.SheetRefusal.TheVariants as sheets
 use Rattle.zh_commands.specs.declared.replies.Reply.TheVariants as replies
 use Rattle.zh_commands.specs.declared.replies.Refusal.TheVariants as refusals
@@ -14,12 +16,13 @@ use Rattle.zh_check.specs.Verdicts.{IsRight}
 use Rattle.zh_check.specs.declared.checked.RightSheet.{RightSheet}
 use Rattle.zh_seats.specs.declared.outcome.MarkedSheet.{MarkedSheet}
 use Rattle.zh_seats.specs.declared.outcome.NoSeats.{NoSeats}
-use Rattle.zh_seats.specs.declared.outcome.NoSeats.TheVariants.{Refused, Exhausted, Wrong}
+use Rattle.zh_seats.specs.declared.outcome.NoSeats.TheVariants.{Refused, Exhausted, Tied, Wrong}
 
 -- why there are no seats, and what there is instead, as the line of a sheet is answered
 abbrev pub refusal_answer : NoSeats → Answer
 refusal_answer (Refused refusal) = answers.Reply (replies.Refused refusal)
 refusal_answer (Exhausted reason) = answers.Reply (replies.Refused (refusals.Sheet sheets.Exhausted))
+refusal_answer (Tied refusal lot) = answers.Reply (replies.Refused (refusals.Sheet refusal))
 refusal_answer Wrong = answers.Reply replies.Nothing
 
 abbrev pub answer_of : Result MarkedSheet NoSeats → Answer
@@ -31,10 +34,16 @@ abbrev pub MayAnswerAs : Tally → Bool → Answer → Type 0
 MayAnswerAs tally false answer = MayGive tally false answer
 MayAnswerAs tally true answer = MayAnswerFinal tally answer
 
--- an exhausted search has a reason, and it is this one
+-- a refusal that says all: neither of an exhausted search nor of tied seats
+abbrev pub SaysAll : SheetRefusal → Type 0
+SaysAll sheets.Exhausted = ⊥
+SaysAll refusal = ¬ IsForTheLot refusal
+
+-- an exhausted search has a reason, and tied seats what the lot decides, and it is this one
 abbrev pub IsReasonFor : VoteTotals → NoSeats → Type 0
 IsReasonFor totals (Exhausted reason) = IsReason totals reason
-IsReasonFor totals (Refused (refusals.Sheet sheets.Exhausted)) = ⊥
+IsReasonFor totals (Tied refusal lot) = IsLotOf totals refusal lot
+IsReasonFor totals (Refused (refusals.Sheet refusal)) = SaysAll refusal
 IsReasonFor totals why = Unit {0}
 
 -- the bytes are a right sheet of this set-up in no way; or memory was refused

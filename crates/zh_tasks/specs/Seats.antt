@@ -9,7 +9,7 @@ use Rattle.zh_seats.specs.Lists.{seats_text}
 use Rattle.zh_seats.specs.declared.mark.Source.TheVariants as sources
 use Rattle.zh_seats.specs.Table.{table_text}
 use Rattle.zh_tasks.specs.Results.{IsReasonFor, MayAnswerAs, answer_of}
-use Rattle.zh_seats.specs.Refusals.{refusal_text}
+use Rattle.zh_seats.specs.Reported.{refusal_text}
 use Rattle.zh_seats.specs.declared.outcome.MarkedSheet.{MarkedSheet}
 use Rattle.zh_seats.specs.declared.outcome.NoSeats.{NoSeats}
 use Rattle.zh_tasks.specs.declared.shown.Shown.{Shown}

@@ -1,19 +1,35 @@
 //! The seats by a count.
 
-ghost use Rattle.std.specs.Prelude.{◌≡◌, Bool, IfErr, IfOk};
+ghost use Rattle.std.specs.Prelude.{◌≡◌, ◌≢◌, Bool, IfErr, IfOk};
 ghost use Rattle.zh_answers.specs.Sheets.{MayGive, MayGiveFor};
 ghost use Rattle.zh_totals.specs.Counting.{totals_of};
 ghost use Rattle.zh_sheet.specs.Made.{IsMade};
+ghost use Rattle.zh_sheet.specs.declared.fault.SheetFault.TheVariants.{Refused};
 ghost use Rattle.zh_seats.specs.declared.mark.Source.TheVariants as sources;
 ghost use Rattle.zh_tasks.specs.Results.{IsReasonFor, MayAnswerAs, answer_of, refusal_answer};
 
 use std::alloc::Global;
-use zh_answers::{first_open, sheet_refusal};
+use zh_answers::first_open;
 use zh_commands::Refusal;
 use zh_returns::{Count, Reason};
 use zh_seats::{Mark, MarkedSheet, NoSeats, Source};
-use zh_sheet::{SheetFault, SheetRefusal, explain, make};
+use zh_sheet::{SheetFault, SheetRefusal, explain, explain_tie, make};
 use zh_totals::Totals;
+
+/// Why there is no sheet of these totals, which was refused for this, but not because a search was exhausted: with what the
+/// lot decides, where seats are tied.
+fn why_refused(alloc: Global, totals: &Totals<'_>, refusal: SheetRefusal) -> NoSeats
+    requires made { IsMade totals.now (Err (Refused refusal)) }
+    requires searched { refusal ≢ SheetRefusal.Exhausted }
+    ensures answer { (is_final : Bool) → MayGiveFor totals.now is_final (refusal_answer result) }
+    ensures reason { IsReasonFor totals.now result }
+{
+    match explain_tie(alloc, totals, refusal) {
+        Ok(Some(lot)) => NoSeats::Tied(refusal, lot),
+        Ok(None) => NoSeats::Refused(Refusal::Sheet(refusal)),
+        Err(_) => NoSeats::Refused(Refusal::Memory),
+    }
+}
 
 /// Why there is no sheet of these totals, whose making ended so.
 fn why_none(alloc: Global, totals: &Totals<'_>, fault: SheetFault) -> NoSeats
@@ -22,11 +38,12 @@ fn why_none(alloc: Global, totals: &Totals<'_>, fault: SheetFault) -> NoSeats
     ensures reason { IsReasonFor totals.now result }
 {
     match fault {
+        SheetFault::Memory => NoSeats::Refused(Refusal::Memory),
         SheetFault::Refused(SheetRefusal::Exhausted) => match explain(alloc, totals) {
             Ok(reason) => NoSeats::Exhausted(reason),
             Err(_) => NoSeats::Refused(Refusal::Memory),
         },
-        _ => NoSeats::Refused(sheet_refusal(fault)),
+        SheetFault::Refused(refusal) => why_refused(alloc, totals, refusal),
     }
 }
 
