@@ -2,7 +2,8 @@
 
 ghost use Rattle.std.specs.Prelude.{◌≡◌, ◌<◌, ◌≤◌, ◌++◌, OnOk, false, length, slice_index, slice_index_or};
 ghost use Rattle.zh_record_text.specs.Each.{each_to};
-ghost use Rattle.zh_seats.specs.Lots.{constituency_line, group_line, lines_in, list_line, list_lines, lot_text, range_line, range_of};
+ghost use Rattle.zh_seats.specs.Lots.{lines_in, list_lines, lot_text, range_line, range_of};
+ghost use Rattle.zh_seats.specs.Lots.{tied_constituency_line, tied_group_line, tied_list_line};
 ghost use Rattle.zh_seats.specs.declared.lots.Listed.TheVariants.{Differing};
 
 use crate::refusals::{push_list, push_spaced};
@@ -46,7 +47,7 @@ fn number_in(numbers: &[u32], place: usize) -> u32
 /// Puts the line of a constituency at the end, if it is marked.
 fn push_constituency(out: &mut Vec<u8>, marks: &[bool], constituency: u32) -> Result<(), AllocError>
     requires { 1 ≤ constituency }
-    ensures { OnOk result (out.new.items ≡ out.old.items ++ constituency_line marks.now constituency) }
+    ensures { OnOk result (out.new.items ≡ out.old.items ++ tied_constituency_line marks.now constituency) }
 {
     if is_marked(marks, (constituency - 1) as usize) {
         out.push(b'\n')?;
@@ -59,7 +60,7 @@ fn push_constituency(out: &mut Vec<u8>, marks: &[bool], constituency: u32) -> Re
 /// Puts the lines of the constituencies that are marked at the end.
 fn push_constituencies(out: &mut Vec<u8>, setup: &Setup, marks: &[bool]) -> Result<(), AllocError>
     ensures { OnOk result (out.new.items ≡ out.old.items
-        ++ each_to (length setup.now.constituencies) (constituency_line marks.now)) }
+        ++ each_to (length setup.now.constituencies) (tied_constituency_line marks.now)) }
 {
     for place in 0..setup.constituencies() {
         push_constituency(out, marks, place + 1)?;
@@ -83,7 +84,7 @@ fn push_range(out: &mut Vec<u8>, group: u32, least: u32, most: u32) -> Result<()
 
 /// Puts the lines of the groups whose seats differ at the end.
 fn push_groups(out: &mut Vec<u8>, setup: &Setup, ranges: &SeatRanges) -> Result<(), AllocError>
-    ensures { OnOk result (out.new.items ≡ out.old.items ++ each_to (length setup.now.groups) (group_line ranges.now)) }
+    ensures { OnOk result (out.new.items ≡ out.old.items ++ each_to (length setup.now.groups) (tied_group_line ranges.now)) }
 {
     for place in 0..setup.groups() {
         let least = number_in(&ranges.least, place as usize);
@@ -96,7 +97,7 @@ fn push_groups(out: &mut Vec<u8>, setup: &Setup, ranges: &SeatRanges) -> Result<
 /// Puts the line of a list whose seats differ at the end.
 fn push_differing(out: &mut Vec<u8>, list: ListRange) -> Result<(), AllocError>
     requires { list.least < list.most }
-    ensures { OnOk result (out.new.items ≡ out.old.items ++ list_line Differing list) }
+    ensures { OnOk result (out.new.items ≡ out.old.items ++ tied_list_line Differing list) }
 {
     out.push(b'\n')?;
     push_number(out, list.constituency)?;
@@ -107,7 +108,7 @@ fn push_differing(out: &mut Vec<u8>, list: ListRange) -> Result<(), AllocError>
 
 /// Puts the line of a list at the end, if it has one.
 fn push_listed(out: &mut Vec<u8>, listed: Listed, list: ListRange) -> Result<(), AllocError>
-    ensures { OnOk result (out.new.items ≡ out.old.items ++ list_line listed list) }
+    ensures { OnOk result (out.new.items ≡ out.old.items ++ tied_list_line listed list) }
 {
     match listed {
         Listed::Differing if list.least < list.most => push_differing(out, list),

@@ -1,6 +1,6 @@
 use Rattle.std.proofs.Common.{◌≡◌, ℕ, ◌++◌, ◌∙◌, List, ap, append_assoc, codes, length}
 use Rattle.zh_record_text.specs.Each.{each_to}
-use Rattle.zh_seats.specs.Lots.{constituency_line, group_line, list_lines}
+use Rattle.zh_seats.specs.Lots.{tied_constituency_line, tied_group_line, list_lines}
 use Rattle.zh_seats.specs.declared.lots.Listed.TheVariants.{Differing, Same}
 use Rattle.zh_seats.proofs.TextLemmas.{put_last}
 use Rattle.zh_seats.proofs.lots.push_lot.Goals as goal
@@ -11,7 +11,7 @@ returns-in_ok-extend_from_slice-in-Constituencies c =
     let text : c.extend_from_slice.new.self.items ≡ c.args.out.now.items ++ words = c.in_ok-extend_from_slice-in-Constituencies.ensures.items in
     rw c.in-Constituencies.is
     (put_last c.push_constituencies.result c.args.out.now.items c.extend_from_slice.new.self.items c.push_constituencies.new.out.items words
-    (each_to (length c.args.setup.now.constituencies) (constituency_line c.in-Constituencies.marks.items)) text
+    (each_to (length c.args.setup.now.constituencies) (tied_constituency_line c.in-Constituencies.marks.items)) text
     (rw c.deref.ensures.value at c.push_constituencies.ensures))
 
 pub returns-in_ok-extend_from_slice-in-Groups : goal.returns-in_ok-extend_from_slice-in-Groups
@@ -20,7 +20,7 @@ returns-in_ok-extend_from_slice-in-Groups c =
     let text : c.extend_from_slice-in-Groups.new.self.items ≡ c.args.out.now.items ++ words = c.in_ok-extend_from_slice-in-Groups.ensures.items in
     rw c.in-Groups.is
     (put_last c.push_groups.result c.args.out.now.items c.extend_from_slice-in-Groups.new.self.items c.push_groups.new.out.items words
-    (each_to (length c.args.setup.now.groups) (group_line c.in-Groups.ranges)) text c.push_groups.ensures)
+    (each_to (length c.args.setup.now.groups) (tied_group_line c.in-Groups.ranges)) text c.push_groups.ensures)
 
 pub returns-in_ok-extend_from_slice-in-Lists-2 : goal.returns-in_ok-extend_from_slice-in-Lists-2
 returns-in_ok-extend_from_slice-in-Lists-2 c =
