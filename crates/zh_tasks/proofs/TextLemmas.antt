@@ -1,6 +1,8 @@
 -- Texts that are read one after the other.
 use Rattle.std.proofs.Common.{◌∙◌, ◌+◌, ℕ, List, Ok, Err, arith, refl}
+use Rattle.zh_world.specs.Failures.{ForgetsNone}
 use Rattle.zh_world.specs.Files.{IsReadOfFiles, LeavesNoMore}
+use Rattle.zh_world.proofs.CallerLemmas.{goes_both, goes_itself}
 use Rattle.zh_world.specs.declared.files.Files.{Ghosts as Files}
 use Rattle.zh_tasks.specs.Texts.{ReadsText, TextKind}
 use Rattle.zh_tasks.specs.World.{AreCalls, IsMetAt}
@@ -8,11 +10,11 @@ use Rattle.zh_tasks.specs.declared.fault.TaskFault.{TaskFault}
 
 module _ {F T D R : Type 0} (files : Files F T D R) where
   pub no_calls : (old : F) → AreCalls files 0 old old
-  no_calls old = record { counted = omega arith; texts = refl; disks = refl; stays = refl; leaves = λ c here. here }
+  no_calls old = record { counted = omega arith; texts = refl; disks = refl; stays = refl; leaves = λ c here. here; goes = goes_itself (files.failed old) }
 
   pub one_call : (old new : F) → IsReadOfFiles files.text_at files.disk_at files.places files.calls old new → LeavesNoMore (files.left old) (files.left new)
-      → AreCalls files 1 old new
-  one_call old new one leaves = record { counted = one.counted; texts = one.texts; disks = one.disks; stays = one.stays; leaves = leaves }
+      → ForgetsNone (files.failed old) (files.failed new) → AreCalls files 1 old new
+  one_call old new one leaves goes = record { counted = one.counted; texts = one.texts; disks = one.disks; stays = one.stays; leaves = leaves; goes = goes }
 
   -- calls after calls
   pub calls_after : (n m : ℕ) (old mid new : F) → AreCalls files n old mid → AreCalls files m mid new → AreCalls files (n + m) old new
@@ -22,6 +24,7 @@ module _ {F T D R : Type 0} (files : Files F T D R) where
     disks = other.disks ∙ one.disks;
     stays = other.stays ∙ one.stays;
     leaves = λ c here. one.leaves c (other.leaves c here);
+    goes = goes_both (files.failed old) (files.failed mid) (files.failed new) one.goes other.goes;
   }
 
   module _ {X : Type 0} (kind : TextKind X) (path : List ℕ) (old new : F) (one : AreCalls files 1 old new) where

@@ -4,7 +4,8 @@ use Rattle.std.specs.Prelude.{IfSome}
 use Rattle.zh_world.specs.Files.{IsCallOfFiles, LeavesNoMore, LeavesOf}
 use Rattle.zh_world.specs.Places.{TouchesOnly}
 use Rattle.zh_world.specs.Places.{IfKnown}
-use Rattle.zh_world.proofs.CallerLemmas.{after_stay}
+use Rattle.zh_world.specs.Failures.{ForgetsNone}
+use Rattle.zh_world.proofs.CallerLemmas.{after_stay, goes_itself, met_within}
 use Rattle.zh_world.specs.declared.files.Files.{Ghosts as Files}
 use Rattle.zh_world.specs.declared.fault.FileFault.{FileFault}
 use Rattle.zh_world.specs.declared.fault.FileFault.TheVariants as of_files
@@ -38,8 +39,12 @@ found_early text Met OfDisk of_files.Busy e is met = subst (IsEarly text Met OfD
 
 -- what was met after a call that touches nothing is right about what stood there before it
 pub met_before : {F T D R : Type 0} (files : Files F T D R) (path : List ℕ) (old mid new : F) → files.places mid ≡ files.places old
-    → (fault : FileFault) → IsMetAt files path mid new fault → IsMetAt files path old new fault
-met_before files path old mid new same fault met = (met.0, subst (λ (known : Option Places). IsFaultIn known path fault) same met.1)
+    → ForgetsNone (files.failed old) (files.failed mid) → (fault : FileFault) → IsMetAt files path mid new fault → IsMetAt files path old new fault
+met_before files path old mid new same goes fault met = (
+  met.0,
+  subst (λ (known : Option Places). IsFaultIn known path fault) same met.1,
+  met_within path fault (files.failed old) (files.failed mid) (files.failed new) (files.failed new) goes (goes_itself (files.failed new)) met.2,
+)
 
 -- what a stop may leave stays so with a call before it that leaves no more
 pub leaves_after : {F : Type 0} (at : F → List ℕ → Option (List ℕ)) (left : F → List ℕ → Type 0) (IsLeft : List ℕ → List ℕ → Type 0) (old mid new : F) (path : List ℕ)

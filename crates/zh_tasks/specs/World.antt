@@ -6,6 +6,7 @@ use Rattle.zh_disk.specs.History.{History}
 use Rattle.zh_disk.specs.declared.disk.Disk.{Ghosts as Disks}
 use Rattle.zh_districts.specs.Canton.{Canton, IsCanton}
 use Rattle.zh_setups.specs.SetupText.{reading_of}
+use Rattle.zh_world.specs.Failures.{ForgetsNone, IsMet}
 use Rattle.zh_world.specs.Files as opened
 use Rattle.zh_world.specs.Files.{IsAsFound, IsFilling, LeavesNoMore}
 use Rattle.zh_world.specs.Causes.{IsFaultIn}
@@ -107,10 +108,13 @@ module _ {F T D R : Type 0} where
     pub disks : files.disk_at new ≡ files.disk_at old
     pub stays : files.places new ≡ files.places old
     pub leaves : LeavesNoMore (files.left old) (files.left new)
+    pub goes : ForgetsNone (files.failed old) (files.failed new)
 
-  -- the last call met this fault, which is right about what stood at this path before
+  -- The last call met this fault, which is right about what stood at this path before, and is that of a call of the system at this
+  -- path that failed.
   abbrev pub IsMetAt : Files F T D R → List ℕ → F → F → FileFault → Type 0
   IsMetAt files path old new fault = (files.fault new ≡ Some fault) × IsFaultIn (files.places old) path fault
+      × IsMet path fault (files.failed old) (files.failed new)
 
   -- a text was read, and then the disk at this path opened or asked for
   pub record AsksForDisk (files : Files F T D R) (path : List ℕ) (old new : F) : Type 0 where

@@ -3,6 +3,7 @@
 ghost use Rattle.std.specs.Prelude.{◌≤◌, ◌+◌, IfErr, IfOk, Result, Some};
 ghost use Rattle.zh_districts.specs.Canton.{Canton};
 ghost use Rattle.zh_world.specs.Causes.{EndsAt};
+ghost use Rattle.zh_world.specs.Failures.{Meets};
 ghost use Rattle.zh_world.specs.Files.{IsCallOfFiles, LeavesOf};
 ghost use Rattle.zh_world.specs.Places.{IfKnown, Touches, TouchesOnly};
 ghost use Rattle.zh_tasks.specs.OnDisk.{Began, IsEarly, UsesDisk, UsesFilm};
@@ -62,6 +63,7 @@ fn disk_at<F: Files>(
     ensures call { IsCallOfFiles F.text_at F.disk_at F.calls files.old files.new }
     ensures touches { IfKnown (TouchesOnly path.now) (F.places files.old) (F.places files.new) }
     ensures ends { EndsAt (F.places files.old) path.now (F.fault files.new) result }
+    ensures meets { Meets path.now result (F.failed files.old) (F.failed files.new) }
     ensures leaves { LeavesOf (LeftAt missing) (F.disk_at files.old path.now) (F.left files.old) (F.left files.new) }
     ensures begins { IfOk result (λ disk. BeginsAt missing (F.disk_at files.old path.now) (F.Disk.history disk)) }
 {

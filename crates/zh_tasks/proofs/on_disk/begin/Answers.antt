@@ -31,7 +31,8 @@ returns-in_err-disk-clause-early g c =
     let p = err_from_is_err_and c.from_residual-in_err-disk.result c.from_residual-in_err-disk.ensures.1 in
     rw p.1 (found_early (g.F.Files.text_at c.args.files.now c.args.paths.setup.now) (IsMetAt g.F.Files c.args.paths.setup.now c.args.files.now c.disk_at.new.files)
     (IsMetAt g.F.Files c.args.paths.disk.now c.args.files.now c.disk_at.new.files) c.in_err-disk.field-0.0 p.0 p.2
-    (met_before g.F.Files c.args.paths.disk.now c.args.files.now c.setup_at.new.files c.disk_at.new.files c.setup_at.ensures.call.stays c.in_err-disk.field-0.0 c.in_err-disk.ensures.ends))
+    (met_before g.F.Files c.args.paths.disk.now c.args.files.now c.setup_at.new.files c.disk_at.new.files c.setup_at.ensures.call.stays c.setup_at.ensures.call.goes c.in_err-disk.field-0.0
+    (c.in_err-disk.ensures.ends.0, c.in_err-disk.ensures.ends.1, c.in_err-disk.ensures.meets.fault)))
 
 pub returns-in_err-setup-clause-touches : goal.returns-in_err-setup-clause-touches
 returns-in_err-setup-clause-touches g c = stays_untouched c.args.paths.disk.now (g.F.Files.places c.args.files.now) (g.F.Files.places c.setup_at.new.files) c.setup_at.ensures.call.stays
