@@ -24,6 +24,9 @@ sys.dont_write_bytecode = True
 sys.path.insert(0, str(SCRIPTS))
 from zhcount_desks import records_in
 
+# A shell that starts these tests in the background has INT ignored; an office would be started so, and not hear it.
+signal.signal(signal.SIGINT, signal.default_int_handler)
+
 
 def same(what, wanted, found):
     if wanted != found:
