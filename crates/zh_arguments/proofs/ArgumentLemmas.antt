@@ -19,7 +19,7 @@ use Rattle.zh_arguments.specs.Arguments.{AsksBy, AsksFor, Names, NamesOrVersion,
 use Rattle.zh_arguments.specs.Commands.{IsTaskOf, command_named, misuse_of, zhcount}
 use Rattle.zh_arguments.specs.Table.{path_in}
 use Rattle.zh_arguments.specs.View.{has_flag}
-use Rattle.zh_arguments.specs.declared.misuse.Misuse.{Misuse}
+use Rattle.zh_arguments.specs.declared.arguments.Misuse.{Misuse}
 use Rattle.zh_arguments.specs.declared.commands.CommandName.{CommandName}
 use Rattle.zh_arguments.specs.declared.commands.CommandName.TheVariants as names
 use Rattle.zh_arguments.specs.declared.commands.Query.TheVariants as queries

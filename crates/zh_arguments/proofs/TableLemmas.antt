@@ -9,8 +9,8 @@ use Rattle.std.specs.Prelude.{option_and_then}
 use Rattle.clap.specs.Words.{Row, Text, first_of}
 use Rattle.zh_arguments.specs.Table.{number_in, part_of, path_in, table_in, table_named}
 use Rattle.zh_arguments.proofs.ArgumentLemmas.{equal}
-use Rattle.zh_tables.specs.declared.table.Part.{Part}
-use Rattle.zh_tables.specs.declared.table.Table.{Table}
+use Rattle.zh_tables.specs.declared.tables.Part.{Part}
+use Rattle.zh_tables.specs.declared.tables.Table.{Table}
 
 unless_both : (a b : Bool) (n : ℕ) → (a ≡ true → b ≡ true → ⊥) → ◌≡◌ {A = Option ℕ} None (if a && b then Some n else None)
 unless_both true true n h = absurd (h refl refl)

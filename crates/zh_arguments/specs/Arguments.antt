@@ -11,8 +11,8 @@ use Rattle.clap.specs.declared.error.Error.{Error}
 use Rattle.zh_arguments.specs.declared.arguments.Task.{Task}
 use Rattle.zh_arguments.specs.declared.arguments.Task.TheVariants as tasks
 use Rattle.zh_arguments.specs.declared.commands.CommandName.{CommandName}
-use Rattle.zh_arguments.specs.declared.misuse.Misuse.{Misuse}
-use Rattle.zh_arguments.specs.declared.misuse.Misuse.TheVariants as misuses
+use Rattle.zh_arguments.specs.declared.arguments.Misuse.{Misuse}
+use Rattle.zh_arguments.specs.declared.arguments.Misuse.TheVariants as misuses
 use Rattle.zh_arguments.specs.Commands.{AsksWith, command_named, misuse_of, paths_of, zhcount}
 use Rattle.zh_arguments.specs.View.{has_flag}
 

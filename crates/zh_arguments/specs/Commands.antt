@@ -10,8 +10,8 @@ use Rattle.zh_arguments.specs.declared.check.CheckPaths.{CheckPaths}
 use Rattle.zh_arguments.specs.declared.commands.CommandName.{CommandName}
 use Rattle.zh_arguments.specs.declared.commands.CommandName.TheVariants as names
 use Rattle.zh_arguments.specs.declared.commands.Query.TheVariants as queries
-use Rattle.zh_arguments.specs.declared.misuse.Misuse.{Misuse}
-use Rattle.zh_arguments.specs.declared.misuse.Misuse.TheVariants as misuses
+use Rattle.zh_arguments.specs.declared.arguments.Misuse.{Misuse}
+use Rattle.zh_arguments.specs.declared.arguments.Misuse.TheVariants as misuses
 use Rattle.zh_arguments.specs.declared.seats.Source.TheVariants.{Disk, Sheet}
 use Rattle.zh_arguments.specs.Rules.{argument_rule, bare, command_taking, flag_rule, option_rule}
 use Rattle.zh_arguments.specs.Seats.{layout_in, source_in}

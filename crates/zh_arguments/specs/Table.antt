@@ -4,10 +4,10 @@ use Rattle.std.specs.Prelude.{unwrap_or, option_and_then, option_map}
 use Rattle.std.specs.Str.{bytes_eq}
 use Rattle.std.specs.Str.Parse.{digits_value}
 use Rattle.clap.specs.Words.{Row, Text, first_of}
-use Rattle.zh_tables.specs.declared.table.Part.{Part}
-use Rattle.zh_tables.specs.declared.table.Part.TheVariants.{Whole, Municipality, Constituency}
-use Rattle.zh_tables.specs.declared.table.Table.{Table}
-use Rattle.zh_tables.specs.declared.table.Table.TheVariants.{Constituencies, Municipalities, Groups, Lists, Problems, Returns}
+use Rattle.zh_tables.specs.declared.tables.Part.{Part}
+use Rattle.zh_tables.specs.declared.tables.Part.TheVariants.{Whole, Municipality, Constituency}
+use Rattle.zh_tables.specs.declared.tables.Table.{Table}
+use Rattle.zh_tables.specs.declared.tables.Table.TheVariants.{Constituencies, Municipalities, Groups, Lists, Problems, Returns}
 
 -- the path that was given after `--name`; clap sees to it that there is one
 abbrev pub path_in : Text → List Row → Text

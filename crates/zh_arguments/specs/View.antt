@@ -3,8 +3,8 @@ use Rattle.std.specs.Prelude.{Bool, true, false, List, Option, Some, None, codes
 use Rattle.std.specs.Str.{bytes_eq}
 use Rattle.clap.specs.Words.{Row, Text}
 use Rattle.zh_arguments.specs.Table.{path_in}
-use Rattle.zh_status.specs.declared.view.View.{View}
-use Rattle.zh_status.specs.declared.view.View.TheVariants.{Municipalities, Constituencies, Missing, Implausible}
+use Rattle.zh_tables.specs.declared.view.View.{View}
+use Rattle.zh_tables.specs.declared.view.View.TheVariants.{Municipalities, Constituencies, Missing, Implausible}
 
 -- whether a flag was given, whose value is `true` then
 abbrev pub has_flag : Text → List Row → Bool

@@ -1,5 +1,4 @@
 //! The arguments of the program.
-
 ghost use Rattle.std.specs.Prelude.{◌≡◌, IfOk, MatchResult, Some, codes, if◌then◌else◌, map, option_map};
 ghost use Rattle.std.specs.String.{string_bytes};
 ghost use Rattle.clap.specs.Words.{found_of, kind_of, rows_of};
@@ -10,7 +9,6 @@ ghost use Rattle.zh_arguments.specs.View.{has_flag};
 
 use crate::check::CheckPaths;
 use crate::commands::{Query, command_named, zhcount};
-use crate::misuse::Misuse;
 use crate::seats::Layout;
 use crate::view::has_flag;
 use clap::error::ErrorKind;
@@ -140,4 +138,15 @@ pub fn read_arguments<'a>(alloc: Global, arguments: &'a [String]) -> Result<Task
         Ok(task) => Ok(or_version(task, &matches)),
         Err(misuse) => Err(refusal(alloc, misuse)?),
     }
+}
+
+/// How a command that clap takes was misused.
+#[derive(Clone, Copy)]
+pub(crate) enum Misuse {
+    /// `list` names no table.
+    Table,
+    /// `status` has both of its flags.
+    Flags,
+    /// `seats` names no source, or two, or has the flag of a disk beside a sheet.
+    Source,
 }

@@ -5,17 +5,16 @@ ghost use Rattle.clap.specs.Words.{app_of, found_of, rows_of};
 ghost use Rattle.zh_arguments.specs.Commands.{AsksWith, app_for, command_named, misuse_of, word_of, zhcount};
 ghost use Rattle.zh_arguments.specs.Rules.{IsCommand};
 
-use crate::arguments::{Task, paths_in, setup_in};
+use crate::arguments::{Misuse, Task, paths_in, setup_in};
 use crate::check::{check_command, check_paths_in};
 use crate::load::{load_command, load_in};
-use crate::misuse::Misuse;
 use crate::rules::{bare, with_disk};
 use crate::seats::{Layout, seats_command, seats_in};
 use crate::table::{list_command, table_in};
 use crate::view::{status_command, view_in};
 use clap::{ArgMatches, Command};
 use std::alloc::{AllocError, Global};
-use zh_status::View;
+use zh_tables::View;
 
 /// What is asked of what is held on a disk.
 #[derive(Clone, Copy)]

@@ -5,7 +5,6 @@ mod arguments;
 mod check;
 mod commands;
 mod load;
-mod misuse;
 mod rules;
 mod seats;
 mod table;

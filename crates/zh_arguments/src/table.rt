@@ -10,8 +10,8 @@ ghost use Rattle.zh_arguments.specs.declared.commands.CommandName.TheVariants as
 use crate::rules::{argument, option, with_setup};
 use clap::{ArgMatches, Command};
 use std::alloc::{AllocError, Global};
-use zh_commands::numeral;
 use zh_tables::{Part, Table};
+use zh_text::numeral;
 
 /// The command that takes a table too, and for some a part of the set-up.
 pub(crate) fn list_command<'a>(

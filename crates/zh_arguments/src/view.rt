@@ -10,7 +10,7 @@ ghost use Rattle.zh_arguments.specs.declared.commands.CommandName.TheVariants as
 use crate::rules::{flag, with_disk};
 use clap::{ArgMatches, Command};
 use std::alloc::{AllocError, Global};
-use zh_status::View;
+use zh_tables::View;
 
 /// The command that may have one of three flags.
 pub(crate) fn status_command<'a>(

@@ -1,16 +1,44 @@
 //! Made-up elections.
-ghost use Rattle.std.specs.Prelude.{◌≡◌, ◌*◌, ◌^◌, ◌≤◌, All, IfOk, IfSome, IsTrue, length, vec_len};
+ghost use Rattle.std.specs.Prelude.{◌≤◌, ◌≡◌, ◌*◌, ◌^◌, All, IfOk, IfSome, IsTrue, length, vec_len};
+ghost use Rattle.zh_decided.specs.Ways.{AreBalanced};
+ghost use Rattle.zh_matrices.specs.Asked.{asked};
 ghost use Rattle.zh_matrices.specs.Question.{AreSeatTotals, EachColumnHasVotes, question};
 
-use crate::decision::run_decision;
-use crate::equal::run_equal;
-use crate::numbers::Numbers;
-use crate::shape::Shape;
+use crate::shape::{Shape, Task};
 use crate::tally::Tally;
-use crate::task::Task;
 use std::alloc::{AllocError, Global};
+use zh_decided::{Decision, DecisionRoom, are_balanced, decide};
 use zh_divisors::{ShareFault, Shares, Weights, apportion};
-use zh_lower::{LowerFault, Matrix, find};
+use zh_lower::{LowerFault, Matrix, NoLower, find, find_or_tie, lot};
+use zh_matrices::Question;
+
+#[derive(Drop)]
+pub(crate) struct Numbers {
+    state: u64,
+}
+
+impl Numbers {
+    pub(crate) fn new(start: u64) -> Self {
+        Numbers { state: start }
+    }
+
+    fn next(&mut self) -> u64 {
+        self.state = self
+            .state
+            .wrapping_mul(6_364_136_223_846_793_005)
+            .wrapping_add(1_442_695_040_888_963_407);
+        self.state >> 33
+    }
+
+    /// Votes of many magnitudes.
+    pub(crate) fn votes(&mut self) -> u64
+        ensures some { 1 ≤ result }
+        ensures few { result ≤ 100000 }
+    {
+        let most = 1 + self.next() % 100_000;
+        1 + self.next() % most
+    }
+}
 
 /// The votes of so many cells.
 fn votes_of(alloc: Global, numbers: &mut Numbers, cells: usize) -> Result<Vec<u64>, AllocError>
@@ -148,4 +176,77 @@ pub(crate) fn run_election(
         Task::Lot => run_equal(alloc, shape, tally),
         _ => run_made(alloc, task, shape, numbers, tally),
     }
+}
+
+/// Decides a question, and notes the seats where divisors in millionths give them.
+pub(crate) fn run_decision(
+    alloc: Global,
+    question: &Question<'_>,
+    tally: &mut Tally,
+) -> Result<(), AllocError>
+    requires { AreSeatTotals question.now.rows question.now.row_totals.now }
+{
+    let mut room = DecisionRoom::new(alloc, question.rows, question.columns)?;
+    if !are_balanced(question) {
+        return Ok(());
+    }
+    match decide(question, &mut room) {
+        Decision::Seats => tally.note_decided(&room.findings),
+        _ => tally.note_exhausted(),
+    }
+    Ok(())
+}
+
+/// The votes of each cell.
+const VOTES: u64 = 1000;
+
+/// The seats of a house among so many lines, as even as can be.
+fn even_totals(alloc: Global, lines: usize, house: u32) -> Result<Vec<u32>, AllocError>
+    requires some { 1 ≤ lines }
+    requires few { lines ≤ 32 }
+{
+    let each = house / lines as u32;
+    let with_one_more = (house % lines as u32) as usize;
+    let mut totals = Vec::with_capacity(alloc, lines)?;
+    for line in 0..lines {
+        totals.push(if line < with_one_more { each + 1 } else { each })?;
+    }
+    Ok(totals)
+}
+
+/// Looks for seats, and notes the tie with the seats that the lot decides.
+fn run_lot(
+    alloc: Global,
+    matrix: &Matrix,
+    row_totals: &[u32],
+    column_totals: &[u32],
+    tally: &mut Tally,
+) -> Result<(), AllocError>
+    requires row_totals { AreSeatTotals matrix.now.rows row_totals.now }
+    requires column_totals { AreSeatTotals matrix.now.columns column_totals.now }
+    requires votes { EachColumnHasVotes (question matrix.now row_totals.now column_totals.now) }
+{
+    match find_or_tie(alloc, matrix, row_totals, column_totals) {
+        Err(NoLower::Tied(tie)) => {
+            let question = matrix.question(row_totals, column_totals);
+            let ranges = lot(alloc, &question, &tie)?;
+            tally.note_lot(&ranges.least, &ranges.most);
+            Ok(())
+        }
+        Err(NoLower::Memory) => Err(AllocError),
+        _ => Ok(()),
+    }
+}
+
+/// Makes an election of equal votes, and notes what becomes of it.
+pub(crate) fn run_equal(alloc: Global, shape: &Shape, tally: &mut Tally) -> Result<(), AllocError> {
+    let (rows, columns) = (shape.rows, shape.columns);
+    let votes = vec![in alloc; VOTES; rows * columns]?;
+    let matrix = Matrix::new(alloc, rows, columns, &votes)?;
+    let row_totals = even_totals(alloc, rows, shape.house)?;
+    let column_totals = even_totals(alloc, columns, shape.house)?;
+    if !are_totals(rows, &row_totals) || !are_totals(columns, &column_totals) {
+        return Ok(());
+    }
+    run_lot(alloc, &matrix, &row_totals, &column_totals, tally)
 }

@@ -6,22 +6,16 @@
 //! `bench/search_bench.c` prints the same, of a search and a decision that were written apart from these.
 #![tactic(auto)]
 
-mod decision;
 mod election;
-mod equal;
-mod numbers;
 mod shape;
 mod tally;
-mod task;
 
-use election::run_election;
-use numbers::Numbers;
-use shape::Shape;
+use election::{Numbers, run_election};
+use shape::{Shape, Task};
 use std::alloc::{AllocError, Global};
 use std::process::ExitCode;
 use std::{env, io};
 use tally::Tally;
-use task::Task;
 
 /// Prints what becomes of the elections that its arguments ask for.
 fn main(rt: HostRuntime) -> ExitCode {

@@ -3,8 +3,9 @@
 use crate::fixture::Fixture;
 use crate::turn::{Runner, run_line};
 use std::fs;
-use zh_case_files::{NamedSetup, Progress, names_of_files, setups_of};
-use zh_case_lines::{CaseFault, NumberedLine, lines_of};
+use zh_case_text::{
+    CaseFault, NamedSetup, NumberedLine, Progress, lines_of, names_of_files, setups_of,
+};
 
 /// Runs lines, and counts the turns and the cases.
 fn run_lines<R: Runner>(

@@ -1,17 +1,14 @@
 //! What a case works on: a set-up, a disk, and the office that is open there.
 
-use crate::opening::{open_on, opening_of};
+use crate::reason::reason_of;
 use crate::refusals::Held;
 use crate::serving::{Limits, READS_OF_LINE, ROOM, loaded, serve_within};
 use std::alloc::Global;
-use zh_case_disk::{CaseDisk, disk_of, image_of};
-use zh_case_files::NamedSetup;
-use zh_case_lines::{CaseFault, joined, lines_in};
+use zh_case_text::{CaseDisk, CaseFault, Device, NamedSetup, disk_of, image_of, joined, lines_in};
 use zh_disk::{MemoryDisk, Stop};
 use zh_districts::Setup;
 use zh_film::Film;
-use zh_office::{FormatFault, NotedReader, Office};
-use zh_questions::reason_of;
+use zh_office::{FormatFault, NotedReader, Office, OpenFault};
 
 /// What a case works on.
 #[derive(Drop)]
@@ -215,4 +212,25 @@ impl<'s> Fixture<'s> {
             None => Ok(String::from_str(self.alloc, "closed")?),
         }
     }
+}
+
+/// Opens the office on a disk, and says how it went.
+pub(crate) fn open_on<'s>(
+    alloc: Global,
+    setup: &'s Setup,
+    disk: &mut Device,
+) -> (Option<Office<'s>>, &'static str) {
+    match Office::open(alloc, setup, disk) {
+        Ok(office) => (Some(office), "ok"),
+        Err(OpenFault::Memory) => (None, "memory"),
+        Err(OpenFault::Device) => (None, "device"),
+        Err(OpenFault::Blank) => (None, "blank"),
+        Err(OpenFault::Damaged) => (None, "damaged"),
+        Err(OpenFault::SetupDiffers) => (None, "differs"),
+    }
+}
+
+/// How opening the office on a disk goes.
+pub(crate) fn opening_of(alloc: Global, setup: &Setup, disk: &mut Device) -> &'static str {
+    open_on(alloc, setup, disk).1
 }

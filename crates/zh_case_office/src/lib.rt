@@ -1,10 +1,11 @@
-//! The office of a case, and the turns on it and on files.
+//! The office of a case, its questions, and the turns on both and on files.
 #![tactic(auto)]
 
+mod answer;
 mod cases;
 mod fixture;
-mod opening;
 mod question;
+mod reason;
 mod refusals;
 mod serving;
 mod turn;

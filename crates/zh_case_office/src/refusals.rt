@@ -1,12 +1,10 @@
-//! Turns while memory may be refused. tests/refused_allocations.sh refuses it, one allocation in each run.
+//! Turns while memory may be refused. tests/test_refused.py refuses it, one allocation in each run.
 
 use crate::fixture::Fixture;
 use crate::turn::{act, see};
 use std::alloc::Global;
 use std::fs::File;
-use zh_case_disk::{Device, image_of};
-use zh_case_files::print_line;
-use zh_case_lines::{CaseFault, joined, spelled};
+use zh_case_text::{CaseFault, Device, image_of, joined, print_line, spelled};
 use zh_office::Office;
 use zh_returns::{Count, PAYLOAD_LENGTH};
 

@@ -1,9 +1,9 @@
 //! What an office is sent: a line, or a text that comes byte by byte.
 
 use std::alloc::Global;
-use zh_case_disk::Device;
-use zh_case_files::{SlowInput, SlowOutput};
-use zh_case_lines::{CaseFault, joined, lines_in, push_lines, read_number, spelled};
+use zh_case_text::{
+    CaseFault, Device, SlowInput, SlowOutput, joined, lines_in, push_lines, read_number, spelled,
+};
 use zh_commands::{Reply, write_reply};
 use zh_film::Film;
 use zh_office::Office;

@@ -1,14 +1,15 @@
 //! A turn: what is done, and the answer that is expected.
 
+use crate::answer::Whom;
 use crate::fixture::Fixture;
 use crate::question::{ask, ask_lot};
 use crate::refusals::refuse;
 use crate::serving::read_limits;
 use std::fs;
-use zh_case_disk::CaseDisk;
-use zh_case_files::{act_on_files, save};
-use zh_case_lines::{CaseFault, NumberedLine, joined, read_bytes, read_number, read_stop};
-use zh_questions::Whom;
+use zh_case_text::{
+    CaseDisk, CaseFault, NumberedLine, act_on_files, joined, read_bytes, read_number, read_stop,
+    save,
+};
 
 /// A line of a desk: it begins with a digit, or stands in quotes.
 fn line_in<'t>(text: &'t str) -> Option<&'t str> {

@@ -1,15 +1,12 @@
 //! Runs the cases of the count office that stand in files, and says where an answer is not the one that the file has.
 #![tactic(auto)]
 
-mod memory;
 mod program;
 
-use memory::run_within;
-use program::run_program;
+use program::{run_program, run_within};
 use std::process::ExitCode;
-use zh_case_files::print_fault;
-use zh_case_lines::CaseFault;
 use zh_case_office::{Fixture, Runner, run_files};
+use zh_case_text::{CaseFault, print_fault};
 
 /// Runs the program.
 #[derive(Drop)]

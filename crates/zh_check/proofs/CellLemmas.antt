@@ -9,7 +9,7 @@ use Rattle.zh_divisors.specs.Rounding.{Rounds}
 use Rattle.zh_matrices.proofs.CallerLemmas.{column_of, row_of}
 use Rattle.zh_check.specs.Cells.{DoSeatsFollow, LiesOnHalf, line_of_list}
 use Rattle.zh_check.specs.Reading.{standing, votes_read}
-use Rattle.zh_check.specs.declared.cells.ShownList.{ShownList}
+use Rattle.zh_check.specs.declared.lists.ShownList.{ShownList}
 use Rattle.zh_check.proofs.SizeLemmas.{length-standing, length-votes}
 use Rattle.zh_check.proofs.TableLemmas.{in_square}
 

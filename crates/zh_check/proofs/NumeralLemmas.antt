@@ -10,8 +10,8 @@ use Rattle.std.proofs.lemmas.List.Folds.{list_all-append}
 use Rattle.std.proofs.lemmas.Slice.Eq.{bytes_eq-Decides}
 use Rattle.std.proofs.Math.Nat.{min-eq_left}
 use Rattle.zh_sheet_text.specs.SheetText.{divisor_text}
-use Rattle.zh_sheet_text.specs.declared.part.SheetPart.{SheetPart}
-use Rattle.zh_sheet_text.specs.declared.part.SheetPart.TheVariants.{Kind, TakesPart, GroupVoters, GroupDivisor}
+use Rattle.zh_sheet_text.specs.declared.line.SheetPart.{SheetPart}
+use Rattle.zh_sheet_text.specs.declared.line.SheetPart.TheVariants.{Kind, TakesPart, GroupVoters, GroupDivisor}
 use Rattle.zh_check.specs.Form.{dots_for, filled, fits, is_digit_or, is_divisor, is_number, is_number_from, is_made_of_digits}
 use Rattle.zh_check.specs.Lines.{digits_after, number_of_word}
 use Rattle.zh_check.proofs.WordLemmas.{numeral_is, read-decimal, read-divisor}

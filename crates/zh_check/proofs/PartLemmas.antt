@@ -6,7 +6,7 @@ use Rattle.std.proofs.lemmas.List.Elements.{All-append, All-cons, All-head, All-
 use Rattle.zh_districts.specs.Canton.{Canton}
 use Rattle.zh_sheet_text.specs.Layout.{IsPartOf, SheetLine}
 use Rattle.zh_sheet_text.specs.SheetText.{line_text, joined_parts}
-use Rattle.zh_sheet_text.specs.declared.part.SheetPart.{SheetPart}
+use Rattle.zh_sheet_text.specs.declared.line.SheetPart.{SheetPart}
 use Rattle.zh_sheet_text.proofs.CallerLemmas.{Each, IsLineOf, is_laid_out, is_name_part}
 use Rattle.zh_check.specs.Form.{in_forms, part_form, parts_form}
 use Rattle.zh_check.specs.Lines.{after_if, after_line, after_word, first_line, leading_word, line_if}

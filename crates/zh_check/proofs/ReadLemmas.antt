@@ -2,11 +2,11 @@
 use Rattle.std.proofs.Common.{◌≡◌, ℕ, ◌+◌, ◌<◌, Bool, cond, List, [], ◌∷◌, ◌++◌, drop, get_or, length, map, refl, sym, ap, ◌∙◌, append_assoc, append-nil, subst}
 use Rattle.std.proofs.lemmas.List.{at_drop_more, map-append}
 use Rattle.zh_sheet_text.specs.Layout.{SheetLine}
-use Rattle.zh_sheet_text.specs.declared.part.SheetPart.{SheetPart}
-use Rattle.zh_sheet_text.specs.declared.part.SheetPart.TheVariants.{Desk, Kind, Accepted, ConstituencyDivisor, GroupDivisor, ListVotes, ListSeats}
+use Rattle.zh_sheet_text.specs.declared.line.SheetPart.{SheetPart}
+use Rattle.zh_sheet_text.specs.declared.line.SheetPart.TheVariants.{Desk, Kind, Accepted, ConstituencyDivisor, GroupDivisor, ListVotes, ListSeats}
 use Rattle.zh_check.specs.Lines.{after_if, after_word, leading_word, line_if, number_of_word}
 use Rattle.zh_check.specs.Reading.{AddsWords, is_like, latest, seats_of_word, words_at, words_in}
-use Rattle.zh_check.specs.declared.values.Values.{Values}
+use Rattle.zh_check.specs.declared.recomputed.Values.{Values}
 use Rattle.zh_check.proofs.WordLemmas.{is_final_word}
 
 latest_append : {A : Type 0} (before : A) (xs ys : List A) → latest (latest before xs) ys ≡ latest before (xs ++ ys)

@@ -5,8 +5,8 @@ use Rattle.std.proofs.lemmas.List.Concat.{flat_map-append, flat_map_single}
 use Rattle.std.proofs.lemmas.List.Folds.{flat_map-map}
 use Rattle.zh_districts.specs.Canton.{Canton}
 use Rattle.zh_sheet_text.specs.Layout.{SheetLine, constituency_line, end_line, group_line, head_line, house_line, key_line, list_line, quorum_line, sheet_lines}
-use Rattle.zh_sheet_text.specs.declared.part.Label.TheVariants as labels
-use Rattle.zh_sheet_text.specs.declared.part.SheetPart.TheVariants.{SeatsKey, UpperKey}
+use Rattle.zh_sheet_text.specs.declared.line.Label.TheVariants as labels
+use Rattle.zh_sheet_text.specs.declared.line.SheetPart.TheVariants.{SeatsKey, UpperKey}
 use Rattle.zh_check.proofs.TableLemmas.{table}
 
 -- the numbers of the constituencies, and of the groups

@@ -16,9 +16,9 @@ use Rattle.zh_sheet.specs.Readings.{column_of, list_seats}
 use Rattle.zh_sheet.proofs.CallerLemmas.{seated_are}
 use Rattle.zh_sheet_text.specs.Layout.{SheetLine, sheet_lines}
 use Rattle.zh_sheet_text.specs.SheetText.{divisor_text, part_text, sheet_text}
-use Rattle.zh_sheet_text.specs.declared.part.SheetPart.{SheetPart}
-use Rattle.zh_sheet_text.specs.declared.parts.Head.{Head}
-use Rattle.zh_sheet_text.specs.declared.part.SheetPart.TheVariants.{Desk, Kind, Accepted, ConstituencyDivisor, GroupDivisor, ListVotes, ListSeats}
+use Rattle.zh_sheet_text.specs.declared.line.SheetPart.{SheetPart}
+use Rattle.zh_sheet_text.specs.declared.line.Head.{Head}
+use Rattle.zh_sheet_text.specs.declared.line.SheetPart.TheVariants.{Desk, Kind, Accepted, ConstituencyDivisor, GroupDivisor, ListVotes, ListSeats}
 use Rattle.zh_sheet_text.proofs.CallerLemmas.{all_lines, list_seats_small}
 use Rattle.zh_totals.specs.Totals.{place_in, votes_in}
 use Rattle.zh_totals.proofs.CallerLemmas.{group_most}

@@ -4,8 +4,8 @@ use Rattle.std.proofs.lemmas.List.{length-map}
 use Rattle.std.proofs.lemmas.List.FromFn.{length-map-range_with_len}
 use Rattle.zh_districts.specs.Canton.{Canton, stands}
 use Rattle.zh_sheet_text.specs.Layout.{SheetLine, sheet_lines}
-use Rattle.zh_sheet_text.specs.declared.part.SheetPart.{SheetPart}
-use Rattle.zh_sheet_text.specs.declared.part.SheetPart.TheVariants.{ConstituencyDivisor, GroupDivisor, ListVotes, ListSeats}
+use Rattle.zh_sheet_text.specs.declared.line.SheetPart.{SheetPart}
+use Rattle.zh_sheet_text.specs.declared.line.SheetPart.TheVariants.{ConstituencyDivisor, GroupDivisor, ListVotes, ListSeats}
 use Rattle.zh_check.specs.Lines.{after_if, after_word, leading_word, line_if, number_of_word}
 use Rattle.zh_check.specs.Reading.{group_divisors_read, is_like, row_divisors_read, seats_of_word, seats_read, standing, votes_read, words_at, words_in}
 use Rattle.zh_check.proofs.SectionLemmas.{group_numbers, kinds, only_groups, only_lists, only_rows, row_numbers}

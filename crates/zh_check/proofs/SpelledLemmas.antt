@@ -6,13 +6,13 @@ use Rattle.zh_sheet.specs.Distribution.{Distribution, IsDistribution}
 use Rattle.zh_sheet.specs.Readings.{column_of, list_seats, takes_part}
 use Rattle.zh_sheet_text.specs.Layout.{IsPartOf, label_text}
 use Rattle.zh_sheet_text.specs.SheetText.{divisor_text, part_text}
-use Rattle.zh_sheet_text.specs.declared.parts.Head.{Head}
-use Rattle.zh_sheet_text.specs.declared.part.Label.{Label}
-use Rattle.zh_sheet_text.specs.declared.part.Label.TheVariants as labels
-use Rattle.zh_sheet_text.specs.declared.part.SheetPart.{SheetPart}
-use Rattle.zh_sheet_text.specs.declared.part.SheetPart.TheVariants.{Fixed, Number, Desk, Kind, Accepted, SeatsKey, UpperKey}
-use Rattle.zh_sheet_text.specs.declared.part.SheetPart.TheVariants.{ConstituencySeats, ConstituencyVotes, ConstituencyDivisor, ConstituencyName}
-use Rattle.zh_sheet_text.specs.declared.part.SheetPart.TheVariants.{TakesPart, GroupVoters, GroupSeats, GroupDivisor, GroupName, ListVotes, ListVoters, ListSeats}
+use Rattle.zh_sheet_text.specs.declared.line.Head.{Head}
+use Rattle.zh_sheet_text.specs.declared.line.Label.{Label}
+use Rattle.zh_sheet_text.specs.declared.line.Label.TheVariants as labels
+use Rattle.zh_sheet_text.specs.declared.line.SheetPart.{SheetPart}
+use Rattle.zh_sheet_text.specs.declared.line.SheetPart.TheVariants.{Fixed, Number, Desk, Kind, Accepted, SeatsKey, UpperKey}
+use Rattle.zh_sheet_text.specs.declared.line.SheetPart.TheVariants.{ConstituencySeats, ConstituencyVotes, ConstituencyDivisor, ConstituencyName}
+use Rattle.zh_sheet_text.specs.declared.line.SheetPart.TheVariants.{TakesPart, GroupVoters, GroupSeats, GroupDivisor, GroupName, ListVotes, ListVoters, ListSeats}
 use Rattle.zh_sheet_text.proofs.CallerLemmas.{each_at_most, is_name_part, list_seats_small, seats_small, upper_small}
 use Rattle.zh_totals.specs.Totals.{constituency_votes, votes_in}
 use Rattle.zh_totals.proofs.CallerLemmas.{constituency_most, group_most}

@@ -6,7 +6,7 @@ use Rattle.std.proofs.lemmas.List.Concat.{flat_map-append}
 use Rattle.std.proofs.lemmas.List.FromFn.{get_or-range_with_len, length-range_with_len}
 use Rattle.std.proofs.Math.Nat.{div-add-mod'}
 use Rattle.zh_matrices.proofs.CallerLemmas.{column_of, row_of}
-use Rattle.zh_records.proofs.CallerLemmas.{HasWidth, in_block, length-blocks}
+use Rattle.zh_returns.proofs.CallerLemmas.{HasWidth, in_block, length-blocks}
 use Rattle.zh_sheet.proofs.CallerLemmas.{numbers_more}
 
 abbrev pub table : {A : Type 0} → (ℕ → ℕ → A) → List ℕ → ℕ → List A

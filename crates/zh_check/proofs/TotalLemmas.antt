@@ -4,12 +4,12 @@ use Rattle.std.proofs.lemmas.List.Elements.{All-cons, All-nil}
 use Rattle.zh_districts.specs.Canton.{Canton}
 use Rattle.zh_divisors.specs.Sums.{sum_to}
 use Rattle.zh_sheet_text.specs.Layout.{sheet_lines}
-use Rattle.zh_sheet_text.specs.declared.part.SheetPart.TheVariants.{ListSeats}
+use Rattle.zh_sheet_text.specs.declared.line.SheetPart.TheVariants.{ListSeats}
 use Rattle.zh_check.specs.Lines.{after_lines, first_line}
 use Rattle.zh_check.specs.Reading.{is_like, lines_above, seats_of_word, seats_read, totals_read, words_at}
 use Rattle.zh_check.specs.Totals.{AreConstituencySeats, AreGroupSeats, AreMet, FindsOffAmong, FindsOffTotal, IsOffAmong, IsSaid, IsUnmet, constituency_sum, group_sum, spaced_sum}
 use Rattle.zh_check.specs.declared.checked.OffTotal.{OffTotal}
-use Rattle.zh_check.specs.declared.totals.Unmet.{Unmet}
+use Rattle.zh_check.specs.declared.reasons.Unmet.{Unmet}
 
 -- few seats are read
 few_of : (words : List (List ℕ)) → All (λ s. s ≤ 400) (map seats_of_word words)

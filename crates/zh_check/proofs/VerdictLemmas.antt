@@ -7,7 +7,7 @@ use Rattle.zh_sheet.specs.Distribution.{Distribution}
 use Rattle.zh_sheet.specs.Given.{IsGiven, IsPublished}
 use Rattle.zh_sheet_text.specs.Layout.{sheet_lines}
 use Rattle.zh_totals.specs.Totals.{VoteTotals}
-use Rattle.zh_sheet_text.specs.declared.part.SheetPart.TheVariants.{Accepted}
+use Rattle.zh_sheet_text.specs.declared.line.SheetPart.TheVariants.{Accepted}
 use Rattle.zh_check.specs.Lines.{number_of_word}
 use Rattle.zh_check.specs.Reading.{head_read, is_like, latest, lists_read, totals_read, words_at}
 use Rattle.zh_check.specs.Form.{FindsOffForm, IsFormed, IsOffForm}

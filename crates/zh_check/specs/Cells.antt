@@ -5,7 +5,7 @@ use Rattle.zh_districts.specs.Canton.{Canton}
 use Rattle.zh_divisors.specs.Rounding.{Rounds}
 use Rattle.zh_check.specs.Lines.{after_lines, first_line}
 use Rattle.zh_check.specs.Reading.{group_divisors_read, lines_above, row_divisors_read, seats_read, standing, votes_read}
-use Rattle.zh_check.specs.declared.cells.ShownList.{ShownList}
+use Rattle.zh_check.specs.declared.lists.ShownList.{ShownList}
 use Rattle.zh_check.specs.declared.checked.OffList.{OffList}
 use Rattle.zh_check.specs.declared.checked.ListQuotient.{ListQuotient}
 use Rattle.zh_check.specs.declared.checked.ListQuotient.TheVariants.{NoDivisor, OnHalf, RoundsTo}

@@ -7,11 +7,11 @@ use Rattle.std.specs.Str.{bytes_eq}
 use Rattle.zh_districts.specs.Canton.{Canton}
 use Rattle.zh_sheet_text.specs.Layout.{SheetLine, label_text, mark_before, sheet_lines}
 use Rattle.zh_sheet_text.specs.SheetText.{constituency_name, divisor_text, group_name}
-use Rattle.zh_sheet_text.specs.declared.part.SheetPart.{SheetPart}
-use Rattle.zh_sheet_text.specs.declared.part.SheetPart.TheVariants.{Fixed, Number, Desk, Kind, Accepted, SeatsKey, UpperKey}
-use Rattle.zh_sheet_text.specs.declared.part.SheetPart.TheVariants.{ConstituencySeats, ConstituencyVotes, ConstituencyDivisor}
-use Rattle.zh_sheet_text.specs.declared.part.SheetPart.TheVariants.{ConstituencyName, TakesPart, GroupVoters, GroupSeats, GroupDivisor}
-use Rattle.zh_sheet_text.specs.declared.part.SheetPart.TheVariants.{GroupName, ListVotes, ListVoters, ListSeats}
+use Rattle.zh_sheet_text.specs.declared.line.SheetPart.{SheetPart}
+use Rattle.zh_sheet_text.specs.declared.line.SheetPart.TheVariants.{Fixed, Number, Desk, Kind, Accepted, SeatsKey, UpperKey}
+use Rattle.zh_sheet_text.specs.declared.line.SheetPart.TheVariants.{ConstituencySeats, ConstituencyVotes, ConstituencyDivisor}
+use Rattle.zh_sheet_text.specs.declared.line.SheetPart.TheVariants.{ConstituencyName, TakesPart, GroupVoters, GroupSeats, GroupDivisor}
+use Rattle.zh_sheet_text.specs.declared.line.SheetPart.TheVariants.{GroupName, ListVotes, ListVoters, ListSeats}
 use Rattle.zh_check.specs.Differences.{DiffersAt}
 use Rattle.zh_check.specs.Lines.{after_if, after_word, first_line, leading_word, number_of_word}
 use Rattle.zh_check.specs.declared.checked.WrongLine.{WrongLine}

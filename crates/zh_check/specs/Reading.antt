@@ -9,13 +9,13 @@ use Rattle.zh_matrices.specs.SeatMatrix.{SeatMatrix}
 use Rattle.zh_sheet.specs.Distribution.{seated_groups}
 use Rattle.zh_sheet.specs.Given.{given_lists}
 use Rattle.zh_sheet_text.specs.Layout.{SheetLine, sheet_lines}
-use Rattle.zh_sheet_text.specs.declared.part.SheetPart.{SheetPart}
-use Rattle.zh_sheet_text.specs.declared.part.SheetPart.TheVariants.{Desk, Kind, Accepted, ConstituencyDivisor, GroupDivisor}
-use Rattle.zh_sheet_text.specs.declared.part.SheetPart.TheVariants.{ListVotes, ListSeats}
+use Rattle.zh_sheet_text.specs.declared.line.SheetPart.{SheetPart}
+use Rattle.zh_sheet_text.specs.declared.line.SheetPart.TheVariants.{Desk, Kind, Accepted, ConstituencyDivisor, GroupDivisor}
+use Rattle.zh_sheet_text.specs.declared.line.SheetPart.TheVariants.{ListVotes, ListSeats}
 use Rattle.zh_totals.specs.Totals.{VoteTotals, place_in}
 use Rattle.zh_check.specs.Lines.{after_if, after_word, leading_word, line_if, number_of_word}
-use Rattle.zh_check.specs.declared.values.Head.{Head}
-use Rattle.zh_check.specs.declared.values.Values.{Values}
+use Rattle.zh_check.specs.declared.recomputed.Head.{Head}
+use Rattle.zh_check.specs.declared.recomputed.Values.{Values}
 
 -- the words at those parts of a line that pass a test
 abbrev pub words_in : (SheetPart → Bool) → List SheetPart → List ℕ → List (List ℕ)

@@ -9,13 +9,13 @@ use Rattle.zh_quorum.specs.Quorum.{AreParticipating}
 use Rattle.zh_totals.specs.Totals.{AreTotals, VoteTotals}
 use Rattle.zh_upper.specs.UpperSeats.{AreUpperSeats}
 use Rattle.zh_upper.specs.VoterNumbers.{AreVoterSums}
-use Rattle.zh_upper.specs.declared.refusal.UpperRefusal.{UpperRefusal}
+use Rattle.zh_upper.specs.declared.fault.UpperRefusal.{UpperRefusal}
 use Rattle.zh_sheet.specs.Distribution.{HaveSeats, Targets}
 use Rattle.zh_sheet.specs.Refusals.{IsRefusedAbove}
 use Rattle.zh_check.specs.Lines.{after_lines, first_line}
 use Rattle.zh_check.specs.Reading.{lines_above, seats_read, totals_read}
 use Rattle.zh_check.specs.declared.checked.OffTotal.{OffTotal}
-use Rattle.zh_check.specs.declared.totals.Unmet.{Unmet}
+use Rattle.zh_check.specs.declared.reasons.Unmet.{Unmet}
 
 -- the seats of the lists of a constituency, and of a group, both counted from 0
 abbrev pub constituency_sum : Canton → List ℕ → ℕ → ℕ

@@ -1,5 +1,17 @@
-//! What a check comes to.
+//! The check of a sheet, and what it comes to.
+ghost use Rattle.std.specs.Option.{option_copied};
+ghost use Rattle.std.specs.Prelude.{IfOk};
+ghost use Rattle.zh_check.specs.Verdicts.{IsReasonOf, IsRightExactly};
+
+use crate::form::first_off_form;
+use crate::lines::{first_difference, is_same};
+use crate::others::first_other_votes;
+use crate::reasons::why_none;
+use crate::recomputed::{read, recomputed, text_of};
+use std::alloc::{AllocError, Global};
+use zh_districts::Setup;
 use zh_sheet::Sheet;
+use zh_totals::Totals;
 
 /// A sheet that is right: its distribution, and what its first line says.
 #[derive(Drop)]
@@ -93,4 +105,34 @@ pub enum SheetVerdict<'s> {
     /// constituencies follow from the persons, or none of the groups from the votes; there are too many votes; or a divisor is
     /// beyond its limits, or that of a group without seats.
     NoSheet,
+}
+
+/// Whether these bytes are a sheet of this set-up, and of the votes that are held, if there are any: those of this set-up.
+///
+/// It is right if some divisors within the limits give its seats with no quotient on a half, no list that does not stand has
+/// votes, and every other number follows from them: nothing is searched, and no other seats follow from any divisors.
+pub fn check<'s>(
+    alloc: Global,
+    setup: &'s Setup,
+    text: &[u8],
+    held: Option<&Totals<'_>>,
+) -> Result<SheetVerdict<'s>, AllocError>
+    ensures exactly { IfOk result (IsRightExactly setup.now (option_copied held.entry) text.now) }
+    ensures reason { IfOk result (IsReasonOf setup.now (option_copied held.entry) text.now) }
+{
+    if let Some(wrong) = first_off_form(alloc, setup, text)? {
+        return Ok(SheetVerdict::OffForm(wrong));
+    }
+    let values = read(alloc, setup, text)?;
+    if let Some(other) = first_other_votes(alloc, setup, text, &values.votes, held)? {
+        return Ok(SheetVerdict::OtherVotes(other));
+    }
+    let Some(right) = recomputed(alloc, setup, text, &values)? else {
+        return why_none(alloc, setup, text, values);
+    };
+    let expected = text_of(alloc, &right)?;
+    if !is_same(text, &expected) {
+        return Ok(SheetVerdict::Differs(first_difference(alloc, text, &expected, &expected)?));
+    }
+    Ok(SheetVerdict::Right(right))
 }

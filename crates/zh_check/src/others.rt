@@ -6,7 +6,7 @@ ghost use Rattle.zh_check.specs.Reading.{votes_read};
 
 use crate::checked::OtherVotes;
 use crate::lines::line_after;
-use crate::places::lines_before;
+use crate::lists::lines_before;
 use std::alloc::{AllocError, Global};
 use zh_districts::Setup;
 use zh_totals::Totals;

@@ -1,18 +1,21 @@
 //! Why no sheet follows from what a text shows.
-ghost use Rattle.std.specs.Prelude.{◌≡◌, ◌+◌, IfOk, length};
+ghost use Rattle.std.specs.Prelude.{◌≡◌, ◌+◌, IfOk, length, ◌-◌, ◌*◌, ◌<◌, ◌≤◌, ℕ, All, IfSome, slice_index, option_map};
 ghost use Rattle.zh_check.specs.Reading.{IsRead, lines_above, seats_read};
-ghost use Rattle.zh_check.specs.Totals.{FindsOffAmong, FindsOffTotal, constituency_sum, group_sum};
+ghost use Rattle.zh_check.specs.Totals.{FindsOffAmong, FindsOffTotal, constituency_sum, group_sum, FindsUnmet, IsSaid, spaced_sum};
+ghost use Rattle.zh_check.specs.Totals.{FindsConstituencySeats, FindsGroupSeats};
 ghost use Rattle.zh_check.specs.Verdicts.{IsWhyNone};
+ghost use Rattle.zh_sheet.specs.Distribution.{HaveSeats};
 
-use crate::cells::first_off_list;
 use crate::checked::{OffTotal, SheetVerdict};
-use crate::places::lines_above;
-use crate::targets::{constituency_seats, group_seats};
-use crate::totals::{first_unmet, off_total};
-use crate::values::Values;
+use crate::lines::line_after;
+use crate::lists::{first_off_list, lines_above};
+use crate::recomputed::Values;
 use std::alloc::{AllocError, Global};
-use zh_districts::Setup;
+use zh_districts::{SeatFault, Setup, seats};
+use zh_divisors::Shares;
+use zh_quorum::participating;
 use zh_totals::Totals;
+use zh_upper::{Upper, UpperFault, upper, voters};
 
 /// The first constituency whose lists have other seats together than these.
 fn first_off_constituency(
@@ -98,5 +101,109 @@ pub(crate) fn why_none<'s>(
     match first_off_total(alloc, setup, text, values)? {
         Some(off) => Ok(SheetVerdict::OffTotal(off)),
         None => Ok(SheetVerdict::NoSheet),
+    }
+}
+
+/// A place where the seats of the lists are not the total.
+#[derive(Clone, Copy)]
+pub(crate) struct Unmet {
+    pub place: usize,
+    pub seats: u32,
+}
+
+/// The seats at so many places, from one on, each so far from the one before.
+fn spaced_sum(seats: &[u32], first: usize, terms: usize, step: usize) -> u32
+    requires few { All (λ s. s ≤ 400) seats.now }
+    requires terms { terms ≤ 32 }
+    requires there { (k : ℕ) → k < terms → first + k * step < length seats.now }
+    ensures { result ≡ spaced_sum seats.now first terms step }
+{
+    let mut sum = 0;
+    for term in 0..terms {
+        sum += seats[first + term * step];
+    }
+    sum
+}
+
+/// The first of these totals that the seats of its line of a table do not add up to. The lines begin so far from one another.
+pub(crate) fn first_unmet(
+    seats: &[u32],
+    totals: &[u32],
+    between: usize,
+    terms: usize,
+    step: usize,
+) -> Option<Unmet>
+    requires few { All (λ s. s ≤ 400) seats.now }
+    requires some { 1 ≤ terms }
+    requires terms { terms ≤ 32 }
+    requires there { (line k : ℕ) → line < length totals.now → k < terms → line * between + k * step < length seats.now }
+    ensures { FindsUnmet (λ line. spaced_sum seats.now (line * between) terms step) totals.now result }
+{
+    for (place, total) in totals.iter().enumerate() {
+        let sum = spaced_sum(seats, place * between, terms, step);
+        if sum != *total {
+            return Some(Unmet { place, seats: sum });
+        }
+    }
+    None
+}
+
+/// What is said of a total that is not met.
+pub(crate) fn off_total(
+    alloc: Global,
+    text: &[u8],
+    before: u32,
+    seats: u32,
+    total: u32,
+) -> Result<OffTotal, AllocError>
+    ensures { IfOk result (IsSaid text.now before seats total) }
+{
+    Ok(OffTotal {
+        line: u64::from(before) + 1,
+        found: line_after(alloc, text, before)?,
+        seats,
+        total,
+    })
+}
+
+/// The seats of the constituencies, where some follow from the persons.
+pub(crate) fn constituency_seats(alloc: Global, setup: &Setup) -> Result<Option<Shares>, AllocError>
+    ensures { IfOk result (FindsConstituencySeats setup.now) }
+{
+    match seats(alloc, setup) {
+        Ok(seats) => Ok(Some(seats)),
+        Err(SeatFault::Memory) => Err(AllocError),
+        Err(_) => Ok(None),
+    }
+}
+
+/// The seats of each group.
+fn each_seats(alloc: Global, upper: &Upper, groups: u32) -> Result<Vec<u32>, AllocError>
+    requires { groups ≡ length upper.now.seats }
+    ensures { IfOk result (λ seats. seats.items ≡ upper.now.seats) }
+{
+    let mut seats = Vec::with_capacity(alloc, groups as usize)?;
+    for place in 0..groups {
+        seats.push(upper.seats(place + 1))?;
+    }
+    Ok(seats)
+}
+
+/// The seats of the groups that follow from votes and from the seats of the constituencies, where there are some.
+pub(crate) fn group_seats(
+    alloc: Global,
+    totals: &Totals<'_>,
+    seats: &[u32],
+) -> Result<Option<Vec<u32>>, AllocError>
+    requires { HaveSeats totals.now seats.now }
+    ensures { IfOk result (λ found. FindsGroupSeats totals.now seats.now (option_map (λ upper. upper.items) found)) }
+{
+    let setup = totals.setup();
+    let taking = participating(alloc, totals)?;
+    let voters = voters(alloc, totals, seats)?;
+    match upper(alloc, &voters, &taking, setup.house()) {
+        Ok(upper) => Ok(Some(each_seats(alloc, &upper, setup.groups())?)),
+        Err(UpperFault::Memory) => Err(AllocError),
+        Err(UpperFault::Refused(_)) => Ok(None),
     }
 }

@@ -13,8 +13,8 @@ use Rattle.zh_commands.specs.declared.lines.LineFault.TheVariants as faults
 use Rattle.zh_commands.specs.Words.{first_word, numerals, AreNumerals}
 use Rattle.zh_commands.specs.Forms.{form_of}
 use Rattle.zh_commands.specs.Lines.{spelling, IsRequest, NamesNoDesk, ParsesAs, desk_of}
-use Rattle.zh_desks.specs.Numbers.{IsDesk}
-use Rattle.zh_desks.specs.declared.desk.Desk.{Desk}
+use Rattle.zh_returns.specs.Numbers.{IsDesk}
+use Rattle.zh_returns.specs.declared.batch.Desk.{Desk}
 use Rattle.zh_commands.proofs.SplitLemmas.{IsWord-decimal, first_word-append, split_is}
 use Rattle.zh_commands.proofs.RequestLemmas.{request_injective, request_text}
 

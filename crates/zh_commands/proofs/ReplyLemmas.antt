@@ -5,10 +5,10 @@ use Rattle.std.proofs.lemmas.Fmt.{decimal_is_IsNumeral, decimal_injective}
 use Rattle.std.proofs.lemmas.List.{append_cancel_right}
 use Rattle.std.proofs.lemmas.Slice.Eq.{bytes_eq-Decides}
 use Rattle.std.proofs.lemmas.Str.Parse.{digit_at}
-use Rattle.zh_returns.specs.declared.verdict.Reason.TheVariants as reasons
-use Rattle.zh_desks.specs.declared.fault.RowFault.TheVariants as row_faults
+use Rattle.zh_returns.specs.declared.judgement.Reason.TheVariants as reasons
+use Rattle.zh_returns.specs.declared.row.RowFault.TheVariants as row_faults
 use Rattle.zh_sheet.specs.Refusals.{IsSheetRefusal, refusal_name}
-use Rattle.zh_sheet.specs.declared.refusal.SheetRefusal.{SheetRefusal}
+use Rattle.zh_sheet.specs.declared.fault.SheetRefusal.{SheetRefusal}
 use Rattle.zh_sheet.proofs.CallerLemmas.{read_back, refusal_named}
 use Rattle.zh_commands.specs.declared.replies.Reply.{Reply}
 use Rattle.zh_commands.specs.declared.replies.Reply.TheVariants.{Held}

@@ -3,7 +3,7 @@ use Rattle.std.proofs.Common.{◌≡◌, ◌≢◌, ℕ, true, List, [], ◌∷�
 use Rattle.std.specs.Option.{MatchOption}
 use Rattle.std.specs.Str.{bytes_eq, IsUtf8}
 use Rattle.std.proofs.lemmas.Fmt.{decimal_injective}
-use Rattle.zh_records.specs.declared.row.Row.{Row}
+use Rattle.zh_returns.specs.declared.row.Row.{Row}
 use Rattle.zh_commands.specs.declared.lines.Request.{Request}
 use Rattle.zh_commands.specs.declared.lines.Request.TheVariants.{Command, Batch, Query}
 use Rattle.zh_commands.specs.declared.lines.DeskCommand.TheVariants as commands

@@ -1,7 +1,7 @@
 -- The command that a line gives by itself.
-use Rattle.zh_records.specs.declared.command.Command.{Command}
-use Rattle.zh_records.specs.declared.command.Command.TheVariants as commands
-use Rattle.zh_desks.specs.declared.desk.Desk.{Desk}
+use Rattle.zh_returns.specs.declared.command.Command.{Command}
+use Rattle.zh_returns.specs.declared.command.Command.TheVariants as commands
+use Rattle.zh_returns.specs.declared.batch.Desk.{Desk}
 use Rattle.zh_commands.specs.declared.lines.DeskCommand.{DeskCommand}
 use Rattle.zh_commands.specs.declared.lines.DeskCommand.TheVariants as desk_commands
 

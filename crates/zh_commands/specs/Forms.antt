@@ -1,6 +1,6 @@
 -- How each request is said after the desk of its line.
 use Rattle.std.specs.Prelude.{ℕ, List, [], ◌∷◌, codes, Option, Some, None}
-use Rattle.zh_records.specs.declared.row.Row.{Row}
+use Rattle.zh_returns.specs.declared.row.Row.{Row}
 use Rattle.zh_commands.specs.declared.lines.Request.{Request}
 use Rattle.zh_commands.specs.declared.lines.Request.TheVariants.{Command, Commit, Batch, Query}
 use Rattle.zh_commands.specs.declared.lines.DeskCommand.TheVariants as commands

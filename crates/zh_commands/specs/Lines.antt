@@ -1,10 +1,10 @@
 -- The lines of the desks as bytes. A numeral is `decimal n`, with n below 2 ^ 32; 32 is the space.
 use Rattle.std.specs.Prelude.{◌≡◌, ◌≢◌, ◌==◌, ◌&&◌, ◌-◌, ◌^◌, ◌<◌, ◌≤◌, ℕ, List, [], ◌∷◌, ◌++◌, length, decimal}
 use Rattle.std.specs.Prelude.{nat_le, if◌then◌else◌, IfSome, Result, Ok, Err}
-use Rattle.zh_desks.specs.Numbers.{IsDesk}
+use Rattle.zh_returns.specs.Numbers.{IsDesk}
 use Rattle.zh_commands.specs.Forms.{form_of, row_numbers}
 use Rattle.zh_commands.specs.Words.{first_word, numerals, AreNumerals}
-use Rattle.zh_records.specs.declared.row.Row.{Row}
+use Rattle.zh_returns.specs.declared.row.Row.{Row}
 use Rattle.zh_commands.specs.declared.lines.Request.{Request}
 use Rattle.zh_commands.specs.declared.lines.Line.{Line}
 use Rattle.zh_commands.specs.declared.lines.LineFault.{LineFault}

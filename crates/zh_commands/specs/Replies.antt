@@ -1,8 +1,8 @@
 -- The replies to the desks as bytes: 32 is the space, 10 the end of a line.
 use Rattle.std.specs.Prelude.{ℕ, ◌^◌, ◌<◌, List, [], ◌∷◌, ◌++◌, codes, decimal}
-use Rattle.zh_returns.specs.declared.verdict.Reason.{Reason}
-use Rattle.zh_returns.specs.declared.verdict.Reason.TheVariants as reasons
-use Rattle.zh_desks.specs.declared.fault.RowFault.TheVariants as row_faults
+use Rattle.zh_returns.specs.declared.judgement.Reason.{Reason}
+use Rattle.zh_returns.specs.declared.judgement.Reason.TheVariants as reasons
+use Rattle.zh_returns.specs.declared.row.RowFault.TheVariants as row_faults
 use Rattle.zh_sheet.specs.Refusals.{IsSheetRefusal, refusal_name}
 use Rattle.zh_commands.specs.declared.replies.Reply.{Reply}
 use Rattle.zh_commands.specs.declared.replies.Reply.TheVariants.{Stored, Same, Held, Dropped, Nothing}

@@ -1,11 +1,11 @@
+//! The lines that are received.
 ghost use Rattle.std.specs.Prelude.{◌≡◌};
-ghost use Rattle.zh_records.specs.Spelling.{HasNumbers};
+ghost use Rattle.zh_returns.specs.Spelling.{HasNumbers};
 ghost use Rattle.zh_commands.specs.Commands.{desk_command};
 ghost use Rattle.zh_commands.specs.Lines.{IsRequest};
 
 use thiserror::Error;
-use zh_desks::Desk;
-use zh_records::{Command, Row};
+use zh_returns::{Command, Desk, Row};
 
 /// What one line asks of the office.
 #[derive(Clone, Copy)]

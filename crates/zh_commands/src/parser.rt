@@ -1,13 +1,14 @@
-ghost use Rattle.std.specs.Prelude.{◌≡◌, ◌≢◌, ◌^◌, ◌<◌, ℕ, [], ◌∷◌, ◌++◌, MatchOption};
-ghost use Rattle.zh_commands.specs.Words.{numerals};
+//! Lines that are read.
+ghost use Rattle.std.specs.Prelude.{◌≡◌, ◌≢◌, ◌^◌, ◌<◌, ℕ, [], ◌∷◌, ◌++◌, MatchOption, ◌==◌, List, length, position, decimal, IfSome};
+ghost use Rattle.std.specs.Prelude.{IsSomeAnd};
 ghost use Rattle.zh_commands.specs.Forms.{form_of};
 ghost use Rattle.zh_commands.specs.Lines.{IsRow, IsRequest, ParsesAs, desk_of, row_text};
+ghost use Rattle.zh_commands.specs.Words.{numerals, first_word, AreNumerals};
 
 use crate::lines::{BatchStep, DeskCommand, DeskQuery, Line, LineFault, Request};
-use crate::words::{after_space, numbers, numeral, split_word};
 use std::str;
-use zh_desks::Desk;
-use zh_records::Row;
+use zh_returns::{Desk, Row};
+use zh_text::numeral;
 
 // The bytes that a line has at most.
 const LONGEST: usize = 120;
@@ -162,4 +163,58 @@ pub fn desk_of(bytes: &[u8]) -> u8
         [digit @ b'1'..=b'8', b' ', ..] => *digit - b'0',
         _ => 0,
     }
+}
+
+// The place of the first space.
+fn first_space(bytes: &[u8]) -> Option<usize>
+    ensures { result ≡ position (λ byte. byte == 32) bytes.now }
+{
+    bytes.iter().position(|byte| *byte == b' ')
+}
+
+// The bytes before the first space, and the others.
+pub(crate) fn split_word(bytes: &[u8]) -> (&[u8], &[u8])
+    ensures word { result.0.now ≡ first_word bytes.now }
+    ensures whole { bytes.now ≡ result.0.now ++ result.1.now }
+{
+    bytes.split_at(first_space(bytes).unwrap_or(bytes.len()))
+}
+
+// What stands after a space at the front.
+pub(crate) fn after_space(text: &[u8]) -> Option<&[u8]>
+    ensures { MatchOption result ((rest : List ℕ) → text.now ≢ 32 ∷ rest)
+        (λ rest. text.now ≡ 32 ∷ rest.now) }
+{
+    match text {
+        [b' ', rest @ ..] => Some(rest),
+        _ => None,
+    }
+}
+
+// The number whose numeral stands after one space at the front, and the bytes after it.
+fn next_number(text: &[u8]) -> Option<(u32, &[u8])>
+    ensures found { IfSome result (λ next.
+        (next.0 < 2 ^ 32) × (text.now ≡ 32 ∷ decimal next.0 ++ next.1.now)) }
+    ensures only { (n : ℕ) (ns : List ℕ) → n < 2 ^ 32 → text.now ≡ numerals (n ∷ ns)
+        → IsSomeAnd result (λ next. next.1.now ≡ numerals ns) }
+{
+    let (word, rest) = split_word(after_space(text)?);
+    let number = numeral(word)?;
+    Some((number, rest))
+}
+
+// The numbers of the numerals, each of which stands after one space.
+pub(crate) fn numbers<const N: usize>(text: &[u8]) -> Option<[u32; N]>
+    ensures { MatchOption result
+        ((ns : List ℕ) → length ns ≡ N → AreNumerals ns → text.now ≢ numerals ns)
+        (λ ns. (length ns ≡ N) × AreNumerals ns × (text.now ≡ numerals ns)) }
+{
+    let mut numbers = [0; N];
+    let mut rest = text;
+    for number in &mut numbers {
+        let (value, left) = next_number(rest)?;
+        *number = value;
+        rest = left;
+    }
+    if rest.is_empty() { Some(numbers) } else { None }
 }

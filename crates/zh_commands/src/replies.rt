@@ -1,6 +1,12 @@
-use zh_desks::RowFault;
-use zh_returns::Reason;
-use zh_sheet::SheetRefusal;
+//! Replies, and how they are spelled.
+ghost use Rattle.std.specs.Prelude.{◌≡◌, ◌≤◌, [], ◌∷◌, ◌++◌, length, take};
+ghost use Rattle.zh_commands.specs.Replies.{name, reason_name, answer, reply_text};
+ghost use Rattle.zh_sheet.specs.Names.{ArePartsOf};
+
+use arrayvec::ArrayVec;
+use zh_returns::{Reason, RowFault};
+use zh_sheet::{Name, SheetRefusal};
+use zh_text::{push, push_numbered, push_numeral};
 
 /// The reply to a line of a desk.
 #[derive(Clone, Copy, Debug, PartialEq, Eq)]
@@ -52,4 +58,138 @@ pub enum Refusal {
     Csv,
     /// There is no sheet.
     Sheet(SheetRefusal),
+}
+
+// The bytes of a reply.
+type ReplyText = ArrayVec<u8, 64>;
+
+/// Writes a reply at the front of `out`, as `docs/FORMATS.md`, "Replies", has it, and gives the number of its bytes.
+///
+/// The bytes after it are left to the call. It takes no memory.
+pub fn write_reply(desk: u8, reply: &Reply, out: &mut [u8; 64]) -> usize
+    ensures text { take result out.new ≡ reply_text desk reply.now }
+    ensures short { result ≤ 64 }
+{
+    let mut text = ReplyText::new();
+    push_numeral(&mut text, u64::from(desk));
+    push(&mut text, " ");
+    push_line(&mut text, reply);
+    copy_to(&text, out)
+}
+
+/// Writes the same without the desk: what the reply says, and the end of the line.
+pub fn write_answer(reply: &Reply, out: &mut [u8; 64]) -> usize
+    ensures text { take result out.new ≡ answer reply.now ++ 10 ∷ [] }
+    ensures short { result ≤ 64 }
+{
+    let mut text = ReplyText::new();
+    push_line(&mut text, reply);
+    copy_to(&text, out)
+}
+
+// Copies a text to the front of `out`, and gives its length.
+fn copy_to(text: &ReplyText, out: &mut [u8; 64]) -> usize
+    ensures text { take result out.new ≡ text.now.items }
+    ensures short { result ≤ 64 }
+{
+    let length = text.len();
+    out[..length].copy_from_slice(text);
+    length
+}
+
+// What the reply says after the desk, and the end of the line.
+fn push_line(text: &mut ReplyText, reply: &Reply)
+    requires { length text.old.items ≤ 4 }
+    ensures { text.new.items ≡ text.old.items ++ answer reply.now ++ 10 ∷ [] }
+{
+    push_answer(text, reply);
+    push(text, "\n");
+}
+
+// What the reply says after the desk.
+fn push_answer(text: &mut ReplyText, reply: &Reply)
+    requires { length text.old.items ≤ 4 }
+    ensures answer { text.new.items ≡ text.old.items ++ answer reply.now }
+    ensures short { length text.new.items ≤ 63 }
+{
+    match reply {
+        Reply::Stored(accepted) => {
+            push(text, "stored ");
+            push_numeral(text, *accepted);
+        }
+        Reply::Same => push(text, "same"),
+        Reply::Held(rows) => push_numbered(text, "held ", *rows),
+        Reply::Dropped(rows) => push_numbered(text, "dropped ", *rows),
+        Reply::Nothing => push(text, "none"),
+        Reply::Shows(number, votes) => {
+            push_numbered(text, "shows ", *number);
+            push_numbered(text, " ", *votes);
+        }
+        Reply::ShowsWithdrawn(number) => {
+            push_numbered(text, "shows ", *number);
+            push(text, " withdrawn");
+        }
+        Reply::LastDesk(desk) => push_numbered(text, "last ", u32::from(*desk)),
+        Reply::Refused(refusal) => {
+            push(text, "refused ");
+            push_name(text, refusal);
+        }
+    }
+}
+
+// The name of the refusal.
+fn push_name(text: &mut ReplyText, refusal: &Refusal)
+    requires { length text.old.items ≤ 12 }
+    ensures name { text.new.items ≡ text.old.items ++ name refusal.now }
+    ensures short { length text.new.items ≤ 63 }
+{
+    match name_of(refusal) {
+        Name::Words(words) => push(text, words),
+        Name::Number(words, number) => {
+            push(text, words);
+            push_numbered(text, " ", number);
+        }
+        Name::Pair(words, one, other) => {
+            push(text, words);
+            push_numbered(text, " ", one);
+            push_numbered(text, " ", other);
+        }
+    }
+}
+
+// The name of the refusal in its parts.
+fn name_of(refusal: &Refusal) -> Name
+    ensures { ArePartsOf (name refusal.now) result }
+{
+    match refusal {
+        Refusal::Syntax => Name::Words("syntax"),
+        Refusal::Desk => Name::Words("desk"),
+        Refusal::Judged(reason) => name_of_reason(reason),
+        Refusal::Row(RowFault::Twice) => Name::Words("twice"),
+        Refusal::Row(RowFault::BatchFull) => Name::Words("batchfull"),
+        Refusal::NoBatch => Name::Words("nobatch"),
+        Refusal::Memory => Name::Words("memory"),
+        Refusal::Device => Name::Words("device"),
+        Refusal::ReopenDisk => Name::Words("reopen-disk"),
+        Refusal::Spent => Name::Words("spent"),
+        Refusal::BatchOpen => Name::Words("batchopen"),
+        Refusal::Csv => Name::Words("csv"),
+        Refusal::Sheet(refusal) => refusal.name(),
+    }
+}
+
+// The name of a judgement's reason, likewise.
+fn name_of_reason(reason: &Reason) -> Name
+    ensures { ArePartsOf (reason_name reason.now) result }
+{
+    match reason {
+        Reason::Municipality => Name::Words("municipality"),
+        Reason::List => Name::Words("list"),
+        Reason::Votes => Name::Words("votes"),
+        Reason::Closed => Name::Words("closed"),
+        Reason::Stale => Name::Words("stale"),
+        Reason::Gap => Name::Words("gap"),
+        Reason::Conflict => Name::Words("conflict"),
+        Reason::NotClosed(number) => Name::Number("notclosed", *number),
+    }
 }

@@ -7,7 +7,7 @@ use Rattle.csv.specs.declared.parser.State.{State}
 use Rattle.csv.specs.declared.parser.State.TheVariants as states
 use Rattle.zh_csv.specs.Front.{front, front_of, most_bytes, most_read}
 use Rattle.zh_csv.specs.Records.{Record, AreAll, AreFirst, record_size}
-use Rattle.zh_csv.specs.declared.point.Point.TheVariants as points
+use Rattle.zh_csv.specs.declared.front_reader.Point.TheVariants as points
 use Rattle.zh_csv.proofs.FrontLemmas.{strip_front}
 use Rattle.zh_csv.proofs.StepLemmas.{read_next, front_between, Stands}
 use Rattle.zh_csv.proofs.NextLemmas.{IsFront, next_between}

@@ -7,8 +7,8 @@ use Rattle.std.proofs.lemmas.Bool.Decides.{nat_tests}
 use Rattle.std.proofs.lemmas.List.{take-take, take_more}
 use Rattle.csv.specs.Reading.{is_bom, strip_bom}
 use Rattle.zh_csv.specs.Front.{point_after, front, left_at}
-use Rattle.zh_csv.specs.declared.point.Point.{Point}
-use Rattle.zh_csv.specs.declared.point.Point.TheVariants as points
+use Rattle.zh_csv.specs.declared.front_reader.Point.{Point}
+use Rattle.zh_csv.specs.declared.front_reader.Point.TheVariants as points
 
 -- where no byte more is read
 pub front_none : (most : ℕ) (point : Point) (left : ℕ) (text : List ℕ) → left ≡ 0 → front most point left text ≡ []

@@ -9,3 +9,11 @@ mod OneReadingLemmas
 mod ReadingLemmas
 mod RecordsLemmas
 mod StepLemmas
+mod ExportRowsLemmas
+mod ExportSumsLemmas
+mod FewRowsLemmas
+mod HeldFieldLemmas
+mod HoldingLemmas
+mod RunningLemmas
+mod SumLemmas
+mod TakenLemmas

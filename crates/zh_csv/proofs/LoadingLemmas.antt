@@ -3,15 +3,15 @@ use Rattle.std.proofs.Common.{◌≡◌, ◌≤◌, ◌<◌, ℕ, nat_le, true, 
 use Rattle.std.proofs.lemmas.Bool.Decides.{nat_tests}
 use Rattle.std.proofs.lemmas.List.Elements.{All-push}
 use Rattle.zh_districts.specs.Canton.{Canton}
-use Rattle.zh_records.specs.declared.row.Row.{Row}
-use Rattle.zh_records.specs.Rows.{IsSpeakableRow, row_key, has_key}
-use Rattle.zh_desks.specs.RowFaults.{unfit, fault_in}
-use Rattle.zh_desks.proofs.CallerLemmas.{rows_more, taken_by}
+use Rattle.zh_returns.specs.declared.row.Row.{Row}
+use Rattle.zh_returns.specs.Rows.{IsSpeakableRow, row_key, has_key}
+use Rattle.zh_returns.specs.RowFaults.{unfit, fault_in}
+use Rattle.zh_returns.proofs.CallerLemmas.{batch_more, taken_by}
 use Rattle.zh_csv.specs.Front.{front_of}
 use Rattle.zh_csv.specs.Records.{names, may_be_row}
 use Rattle.zh_csv.specs.Reading.{IsOfText, StopsAt}
 use Rattle.zh_csv.specs.Load.{fields, fault_after, loading, AreLoaded, IsReadable, Loads}
-use Rattle.zh_csv.specs.declared.fault.LoadFault.{LoadFault}
+use Rattle.zh_csv.specs.declared.batch_reader.LoadFault.{LoadFault}
 use Rattle.zh_csv.proofs.FieldLemmas.{numeral_short, one_numeral}
 use Rattle.zh_csv.proofs.ReadingLemmas.{IsKind, four_short, refused_by_front, rows_of_front}
 use Rattle.zh_csv.proofs.OneReadingLemmas.{among_all, long, one_reading, own_key}
@@ -81,6 +81,6 @@ pub loaded_more : (canton : Canton) (rows : List Row) (row : Row) → AreLoaded 
 loaded_more canton rows row are fit none speakable =
     let (own, room) = taken_by rows row none in
     record {
-      are_rows = rows_more rows row are.are_rows (grind (arith, nat_tests)) own speakable;
+      are_rows = batch_more rows row are.are_rows (grind (arith, nat_tests)) own speakable;
       fit = All-push (λ (r : Row). unfit canton r ≡ None) rows row are.fit fit;
     }

@@ -7,8 +7,8 @@ use Rattle.csv.specs.declared.parser.State.{State}
 use Rattle.csv.specs.declared.parser.State.TheVariants as states
 use Rattle.zh_csv.specs.Front.{point_after, front, left_at}
 use Rattle.zh_csv.specs.Records.{Record, record_size}
-use Rattle.zh_csv.specs.declared.point.Point.{Point}
-use Rattle.zh_csv.specs.declared.point.Point.TheVariants as points
+use Rattle.zh_csv.specs.declared.front_reader.Point.{Point}
+use Rattle.zh_csv.specs.declared.front_reader.Point.TheVariants as points
 use Rattle.zh_csv.proofs.StepLemmas.{state_after, action_at, record_after, part_after, read_next, front_between, Stands, marks, Counts, size_push, steps}
 use Rattle.zh_csv.proofs.StepLemmas.{inside_ends, goes_on, StepsTo}
 

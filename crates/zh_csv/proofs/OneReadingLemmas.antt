@@ -6,12 +6,12 @@ use Rattle.std.specs.Ordering.{eq_by_cmp}
 use Rattle.std.proofs.Math.Seq.{get_or-append_seam, take-append_seam}
 use Rattle.std.proofs.lemmas.Bool.{cases_order}
 use Rattle.std.proofs.lemmas.List.{append-nil, length-map, map-append}
-use Rattle.zh_records.specs.Keys.{key_cmp}
-use Rattle.zh_records.proofs.CallerLemmas.{fresh_from_distinct}
+use Rattle.zh_returns.specs.Keys.{key_cmp}
+use Rattle.zh_returns.proofs.CallerLemmas.{fresh_from_distinct}
 use Rattle.zh_csv.specs.Records.{Record, AreAll, AreFirst, names, may_be_row}
 use Rattle.zh_csv.specs.Reading.{RowKind, HasNoNames, IsOfText, IsUnheld, IsUnread, Refuses, StopsAt}
-use Rattle.zh_csv.specs.declared.fault.LoadFault.{LoadFault}
-use Rattle.zh_csv.specs.declared.fault.LoadFault.TheVariants as faults
+use Rattle.zh_csv.specs.declared.batch_reader.LoadFault.{LoadFault}
+use Rattle.zh_csv.specs.declared.batch_reader.LoadFault.TheVariants as faults
 use Rattle.zh_csv.proofs.RecordsLemmas.{first_more, all_first, all_once, none_after}
 use Rattle.zh_csv.proofs.ReadingLemmas.{IsKind}
 

@@ -8,8 +8,8 @@ use Rattle.csv.specs.declared.reader.Reader.{Reader}
 use Rattle.zh_csv.specs.Front.{front_of, most_bytes}
 use Rattle.zh_csv.specs.Records.{Record, AreAll, AreFirst, HasRead, names, may_be_row, record_size}
 use Rattle.zh_csv.specs.Reading.{RowKind, HasNoNames, IsUnheld, IsUnread, Refuses, StopsAt, ReadsRows}
-use Rattle.zh_csv.specs.declared.fault.LoadFault.{LoadFault}
-use Rattle.zh_csv.specs.declared.fault.LoadFault.TheVariants as faults
+use Rattle.zh_csv.specs.declared.batch_reader.LoadFault.{LoadFault}
+use Rattle.zh_csv.specs.declared.batch_reader.LoadFault.TheVariants as faults
 use Rattle.zh_csv.proofs.CutLemmas.{EndsInPart, all_of_front, first_of_front}
 use Rattle.zh_csv.proofs.RecordsLemmas.{begin_all}
 

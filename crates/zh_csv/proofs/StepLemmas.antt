@@ -11,8 +11,8 @@ use Rattle.csv.specs.declared.parser.State.{State}
 use Rattle.csv.specs.declared.parser.State.TheVariants as states
 use Rattle.zh_csv.specs.Front.{point_after, at_field, front, in_field, left_at}
 use Rattle.zh_csv.specs.Records.{Record, record_size}
-use Rattle.zh_csv.specs.declared.point.Point.{Point}
-use Rattle.zh_csv.specs.declared.point.Point.TheVariants as points
+use Rattle.zh_csv.specs.declared.front_reader.Point.{Point}
+use Rattle.zh_csv.specs.declared.front_reader.Point.TheVariants as points
 
 -- what the machine makes of a byte: its state, what it does, and the fields and the part of a field that it has
 abbrev pub state_after : State → ℕ → State

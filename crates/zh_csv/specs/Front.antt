@@ -2,8 +2,8 @@
 -- record, 34 is the quotation mark, 44 the comma; 239, 187 and 191 are the byte order mark.
 use Rattle.std.specs.Prelude.{ℕ, zero, suc, ◌==◌, ◌||◌, ◌*◌, if◌then◌else◌}
 use Rattle.std.specs.Prelude.{List, [], ◌∷◌}
-use Rattle.zh_csv.specs.declared.point.Point.{Point}
-use Rattle.zh_csv.specs.declared.point.Point.TheVariants.{Start, FirstOfMark, SecondOfMark, Between, Field, Plain, Quoted, Closed}
+use Rattle.zh_csv.specs.declared.front_reader.Point.{Point}
+use Rattle.zh_csv.specs.declared.front_reader.Point.TheVariants.{Start, FirstOfMark, SecondOfMark, Between, Field, Plain, Quoted, Closed}
 
 -- The most bytes of a record: those of its fields, and for each one more, the comma or the end behind it. One that is accepted
 -- has 44 at most, four numerals of ten digits; the names have 31.

@@ -5,3 +5,7 @@ pub mod Reading
 pub mod Load
 pub mod Export
 pub mod Noted
+pub mod Rows
+pub mod Held
+pub mod Running
+pub mod Faults

@@ -2,15 +2,15 @@
 use Rattle.std.specs.Prelude.{◌≡◌, ℕ, ◌<◌, ◌≤◌, ◌^◌, List, [], ◌∷◌, map, All}
 use Rattle.std.specs.Prelude.{IfOk, true, Bool, Option, Some, None, Result, Ok, Err, decimal}
 use Rattle.zh_districts.specs.Canton.{Canton}
-use Rattle.zh_records.specs.declared.row.Row.{Row}
-use Rattle.zh_records.specs.Rows.{AreRows}
-use Rattle.zh_returns.specs.declared.verdict.Reason.{Reason}
-use Rattle.zh_desks.specs.RowFaults.{unfit, fault_in}
-use Rattle.zh_desks.specs.declared.fault.RowFault.{RowFault}
+use Rattle.zh_returns.specs.declared.row.Row.{Row}
+use Rattle.zh_returns.specs.Rows.{AreRows}
+use Rattle.zh_returns.specs.declared.judgement.Reason.{Reason}
+use Rattle.zh_returns.specs.RowFaults.{unfit, fault_in}
+use Rattle.zh_returns.specs.declared.row.RowFault.{RowFault}
 use Rattle.zh_csv.specs.Records.{Record, AreAll, names}
 use Rattle.zh_csv.specs.Reading.{RowKind, Refuses}
-use Rattle.zh_csv.specs.declared.fault.LoadFault.{LoadFault}
-use Rattle.zh_csv.specs.declared.fault.LoadFault.TheVariants as faults
+use Rattle.zh_csv.specs.declared.batch_reader.LoadFault.{LoadFault}
+use Rattle.zh_csv.specs.declared.batch_reader.LoadFault.TheVariants as faults
 
 -- the record of a row: its numerals
 abbrev pub fields : Row → Record

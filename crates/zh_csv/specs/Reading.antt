@@ -2,8 +2,8 @@
 -- refused.
 use Rattle.std.specs.Prelude.{◌≡◌, ◌≢◌, ◌⊎◌, ℕ, List, [], ◌∷◌, ◌++◌, length, map, true, false, Option, Some, Result, Ok, Err}
 use Rattle.zh_csv.specs.Records.{Record, AreAll, AreFirst, names, may_be_row}
-use Rattle.zh_csv.specs.declared.fault.LoadFault.{LoadFault}
-use Rattle.zh_csv.specs.declared.fault.LoadFault.TheVariants as faults
+use Rattle.zh_csv.specs.declared.batch_reader.LoadFault.{LoadFault}
+use Rattle.zh_csv.specs.declared.batch_reader.LoadFault.TheVariants as faults
 
 -- A kind of row: the record of one, which rows are read, which can be held together, and why a row cannot follow others, memory
 -- aside.

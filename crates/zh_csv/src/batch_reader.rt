@@ -1,20 +1,18 @@
 //! A batch read from a text.
-
 ghost use Rattle.std.specs.Prelude.{◌≡◌, ◌≢◌, List, ◌++◌, ◌∷◌, [], ℕ, Some, None, IfOk, IfErr, IsErrOf, OnOk, OnErr, true};
-ghost use Rattle.zh_csv.specs.declared.fault.LoadFault.{LoadFault};
 ghost use Rattle.zh_csv.specs.Load.{fault_after, Loads, AreLoaded, IsReadable};
 ghost use Rattle.zh_csv.specs.Noted.{has_failed, inner_reader};
+ghost use Rattle.zh_csv.specs.declared.batch_reader.LoadFault.{LoadFault};
+ghost use Rattle.zh_csv.specs.declared.batch_reader.LoadFault.TheVariants.{Memory};
 
-use crate::fault::LoadFault;
-use crate::fields::row_of;
 use crate::noted_reader::NotedReader;
+use crate::records::{ReadFault, row_of};
 use crate::row_reader::{Takes, read_rows};
 use csv::ByteRecord;
-use std::alloc::Global;
+use std::alloc::{AllocError, Global};
 use std::io::Read;
-use zh_desks::{Batch, unfit};
 use zh_districts::Setup;
-use zh_records::Row;
+use zh_returns::{Batch, Reason, Row, RowFault, unfit};
 
 /// Puts a row after those of a batch. Where it cannot follow them, or memory is refused, the batch is as before.
 pub fn hold(setup: &Setup, batch: &mut Batch, row: Row) -> Result<(), LoadFault>
@@ -73,4 +71,43 @@ pub fn read_batch<R: Read>(
     };
     read_rows(alloc, text, &mut loading)?;
     Ok(loading.rows)
+}
+
+/// Why a text gives no batch: of the first record that cannot be taken, the first reason that applies.
+#[derive(Clone, Copy, Debug, PartialEq, Eq)]
+pub enum LoadFault {
+    /// The first record is missing or does not name the columns, or a record does not have four fields or is too long.
+    Csv,
+    /// A field is no numeral, or a replacement number is 0.
+    Syntax,
+    /// No batch may have this row.
+    Judged(Reason),
+    /// The rows before it leave no room for this row.
+    Row(RowFault),
+    /// Memory ran out.
+    Memory,
+    /// The reader failed.
+    Read,
+}
+
+impl From<AllocError> for LoadFault {
+    ghost from_gives = { λ _ fault. fault ≡ Memory };
+
+    fn from(_error: AllocError) -> LoadFault {
+        LoadFault::Memory
+    }
+}
+
+impl From<ReadFault> for LoadFault {
+    ghost use Rattle.zh_csv.specs.declared.batch_reader.LoadFault.TheVariants as faults;
+    ghost use Rattle.zh_csv.specs.declared.records.ReadFault.TheVariants as reading;
+
+    ghost from_gives = { λ error fault. (error ≡ reading.Memory → fault ≡ faults.Memory) × (error ≡ reading.Read → fault ≡ faults.Read) };
+
+    fn from(error: ReadFault) -> LoadFault {
+        match error {
+            ReadFault::Memory => LoadFault::Memory,
+            ReadFault::Read => LoadFault::Read,
+        }
+    }
 }

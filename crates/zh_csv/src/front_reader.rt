@@ -1,13 +1,11 @@
 //! A reader of the front of a text.
-
-ghost use Rattle.std.specs.Prelude.{◌≡◌, ◌≤◌, ◌<◌, ◌-◌, ◌++◌, ℕ, List, length, option_map, take};
 ghost use Rattle.std.specs.Io.{ReadsAtMost};
 ghost use Rattle.std.specs.Io.KnownBytes.{ReadConsumes};
+ghost use Rattle.std.specs.Prelude.{◌≡◌, ◌≤◌, ◌<◌, ◌-◌, ◌++◌, ℕ, List, length, option_map, take};
 ghost use Rattle.zh_csv.specs.Front.{point_after, front, front_of, left_at, most_read};
 ghost use Rattle.zh_csv.specs.Fronts.{front_left};
 
-use crate::fields::MOST_BYTES;
-use crate::point::Point;
+use crate::records::MOST_BYTES;
 use std::io::{Read, Result};
 
 /// The most bytes of a text that are read of a record: each field may stand in quotation marks, and each byte in them be one,
@@ -85,5 +83,45 @@ impl<R: Read> Read for FrontReader<R> {
         }
         let count = self.inner.read(buf)?;
         Ok(self.limit.pass(&buf[..count]))
+    }
+}
+
+/// Where a text of records stands.
+#[derive(Clone, Copy, Debug, PartialEq, Eq)]
+pub(crate) enum Point {
+    /// At its start, where a byte order mark may stand.
+    Start,
+    /// After the first byte of a byte order mark.
+    FirstOfMark,
+    /// After the first two.
+    SecondOfMark,
+    /// Before a record, or after the last.
+    Between,
+    /// Before a field that is not the first of its record.
+    Field,
+    /// In a field, and in no quotation marks.
+    Plain,
+    /// In quotation marks.
+    Quoted,
+    /// After a quotation mark in quotation marks: it closes them, or is the first of two.
+    Closed,
+}
+
+impl Point {
+    /// The point after a byte.
+    pub(crate) fn after(self, byte: u8) -> Point
+        ensures { result ≡ point_after self byte }
+    {
+        match (self, byte) {
+            (Point::Quoted, b'"') => Point::Closed,
+            (Point::Quoted, _) => Point::Quoted,
+            (Point::Start | Point::Between | Point::Field | Point::Closed, b'"') => Point::Quoted,
+            (Point::Start, 0xEF) => Point::FirstOfMark,
+            (Point::FirstOfMark, 0xBB) => Point::SecondOfMark,
+            (Point::SecondOfMark, 0xBF) => Point::Between,
+            (_, b',') => Point::Field,
+            (_, b'\r' | b'\n') => Point::Between,
+            _ => Point::Plain,
+        }
     }
 }

@@ -1,15 +1,16 @@
-//! A reader that notes whether a read failed.
+//! A reader that notes whether a read failed, and is over then.
 
 ghost use Rattle.std.specs.Prelude.{◌≡◌, ◌↔◌, ◌⊎◌, true, false, IsErr};
 ghost use Rattle.std.specs.Io.{ReadsAtMost};
 ghost use Rattle.std.specs.Io.KnownBytes.{ReadConsumes};
 ghost use Rattle.zh_csv.specs.Noted.{has_failed, inner_reader};
 
-use std::io::{Read, Result};
+use std::io::{ErrorKind, Read, Result};
 
 /// A reader that notes whether a read failed.
 ///
-/// The note is set by a read that fails, and by nothing else; it is never cleared.
+/// The note is set by a read that fails, and by nothing else; it is never cleared. Once it is set nothing more is asked of
+/// the reader below, and each read fails.
 #[derive(Drop)]
 pub struct NotedReader<R> {
     inner: R,
@@ -42,8 +43,12 @@ impl<R: Read> Read for NotedReader<R> {
     fn read(&mut self, buf: &mut [u8]) -> Result<usize>
         ensures bound { ReadsAtMost result buf.new }
         ensures bytes { ReadConsumes (R.remaining (inner_reader self.old)) (R.remaining (inner_reader self.new)) result buf.new }
+        ensures over { has_failed self.old ≡ true → IsErr result × (self.new ≡ self.old) }
         ensures noted { (has_failed self.new ≡ true) ↔ ((has_failed self.old ≡ true) ⊎ IsErr result) }
     {
+        if self.has_failed {
+            return Err(ErrorKind::Other.into());
+        }
         let result = self.inner.read(buf);
         self.has_failed |= result.is_err();
         result

@@ -7,12 +7,11 @@ ghost use Rattle.zh_csv.specs.Front.{front_of};
 ghost use Rattle.zh_csv.specs.Noted.{has_failed, inner_reader};
 ghost use Rattle.zh_csv.specs.Reading.{IsUnheld, IsUnread, ReadsRows};
 ghost use Rattle.zh_csv.specs.Records.{HasRead, names};
-ghost use Rattle.zh_csv.specs.declared.fault.LoadFault.{LoadFault};
+ghost use Rattle.zh_csv.specs.declared.batch_reader.LoadFault.{LoadFault};
 
-use crate::fault::LoadFault;
-use crate::fields::is_names;
+use crate::batch_reader::LoadFault;
 use crate::noted_reader::NotedReader;
-use crate::records::{next_record, reader_of};
+use crate::records::{is_names, next_record, reader_of};
 use csv::{ByteRecord, Reader};
 use std::alloc::Global;
 use std::io::Read;

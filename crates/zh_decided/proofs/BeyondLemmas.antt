@@ -2,19 +2,22 @@
 use Rattle.std.proofs.Common.{◌≡◌, ℕ, ◌+◌, ◌-◌, ◌*◌, ◌^◌, ◌<◌, ◌≤◌, List, slice_index, inl, inr, ap, subst, arith}
 use Rattle.std.proofs.lemmas.Bool.{cases_lt}
 use Rattle.std.proofs.Math.Nat.{mul-le-mul_right}
-use Rattle.zh_logarithms.specs.Logarithms.{IsLog, log_unit}
-use Rattle.zh_logarithms.proofs.CallerLemmas.{HasFactor, apart_by_factor, factor, factor_faster, log_of, log_of-is, of_power, power-is}
+use Rattle.zh_decided.specs.Logarithms.{IsLog, log_unit}
+use Rattle.zh_decided.proofs.RoundingLemmas.{HasFactor, factor, factor_faster}
+use Rattle.zh_decided.proofs.LogLemmas.{apart_by_factor, log_of, log_of-is, of_power}
+use Rattle.zh_decided.proofs.PowerLemmas.{power-is}
 use Rattle.zh_matrices.specs.Divisors.{Divisors, millionths}
 use Rattle.zh_matrices.specs.Fitting.{FitsVotes}
 use Rattle.zh_matrices.specs.Question.{AreSeatTotals, Question, cell}
 use Rattle.zh_matrices.specs.SeatMatrix.{IsStrict}
 use Rattle.zh_matrices.proofs.CallerLemmas.{only_seats, weakened}
-use Rattle.zh_sweeps.specs.Prices.{AreLogs, Logs, priced}
-use Rattle.zh_sweeps.specs.Sweeps.{AreFair, AreOut, IsCycle, IsLow, StandsFree, of_column, of_row}
-use Rattle.zh_sweeps.specs.declared.bounds.Bounds.{Bounds}
-use Rattle.zh_sweeps.specs.declared.cycle.Cycle.{Cycle}
-use Rattle.zh_sweeps.specs.declared.sweeps.Potentials.{Potentials}
-use Rattle.zh_sweeps.proofs.CallerLemmas.{cell-fitting, no_cycle, same-slacks}
+use Rattle.zh_decided.specs.Prices.{AreLogs, Logs, priced}
+use Rattle.zh_decided.specs.Sweeps.{AreFair, AreOut, IsCycle, IsLow, StandsFree, of_column, of_row}
+use Rattle.zh_decided.specs.declared.sweep_bounds.Bounds.{Bounds}
+use Rattle.zh_decided.specs.declared.cycles.Cycle.{Cycle}
+use Rattle.zh_decided.specs.declared.sweeps.Potentials.{Potentials}
+use Rattle.zh_decided.proofs.CycleTurnLemmas.{cell-fitting}
+use Rattle.zh_decided.proofs.CircleLemmas.{no_cycle, same-slacks}
 use Rattle.zh_decided.specs.Boxes.{IsBox, NoneInRange}
 use Rattle.zh_decided.specs.Tables.{AreLogTables}
 use Rattle.zh_decided.proofs.CellLemmas.{cheap, dear}

@@ -2,16 +2,16 @@
 use Rattle.std.proofs.Common.{◌≡◌, ℕ, suc, ◌+◌, ◌-◌, ◌*◌, ◌^◌, ◌<◌, ◌≤◌, List, slice_index, ap, ◌∙◌, arith}
 use Rattle.std.proofs.lemmas.List.Elements.{All-from_get_or}
 use Rattle.std.proofs.Math.Nat.{one-le-pow, pow-le-pow_right, pow-suc}
-use Rattle.zh_logarithms.specs.Logarithms.{log_unit, power}
-use Rattle.zh_logarithms.proofs.CallerLemmas.{reaches}
+use Rattle.zh_decided.specs.Logarithms.{log_unit, power}
+use Rattle.zh_decided.proofs.LogLemmas.{reaches}
 use Rattle.zh_matrices.specs.Divisors.{AreWithin, AreWithinLimits, millionths}
 use Rattle.zh_matrices.specs.Fitting.{FitsVotes}
 use Rattle.zh_matrices.specs.Question.{AreSeatTotals, Question}
 use Rattle.zh_matrices.specs.SeatMatrix.{IsStrict}
-use Rattle.zh_sweeps.specs.Prices.{AreLogs, Logs, priced}
-use Rattle.zh_sweeps.specs.Sweeps.{IsStill, of_column, of_row}
-use Rattle.zh_sweeps.specs.declared.bounds.Bounds.{Bounds}
-use Rattle.zh_sweeps.specs.declared.sweeps.Potentials.{Potentials}
+use Rattle.zh_decided.specs.Prices.{AreLogs, Logs, priced}
+use Rattle.zh_decided.specs.Sweeps.{IsStill, of_column, of_row}
+use Rattle.zh_decided.specs.declared.sweep_bounds.Bounds.{Bounds}
+use Rattle.zh_decided.specs.declared.sweeps.Potentials.{Potentials}
 use Rattle.zh_decided.specs.Boxes.{HaveLogs, IsBox}
 use Rattle.zh_decided.specs.Tables.{AreLogTables}
 use Rattle.zh_decided.proofs.ScaledLemmas.{AreScaled, strict}

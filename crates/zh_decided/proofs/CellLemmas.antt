@@ -1,7 +1,8 @@
 -- From logarithms to one cell: votes v, an odd number o of halves, the square S of the scale, and divisors R and C.
 use Rattle.std.proofs.Common.{◌≡◌, ℕ, ◌+◌, ◌*◌, ◌<◌, ◌≤◌, arith}
-use Rattle.zh_logarithms.specs.Logarithms.{IsLog}
-use Rattle.zh_logarithms.proofs.CallerLemmas.{HasFactor, less_by_logs, logs_in_order, nearly_less_by_logs, of_product}
+use Rattle.zh_decided.specs.Logarithms.{IsLog}
+use Rattle.zh_decided.proofs.RoundingLemmas.{HasFactor}
+use Rattle.zh_decided.proofs.LogLemmas.{less_by_logs, logs_in_order, nearly_less_by_logs, of_product}
 
 pub votes-log : (v S V w : ℕ) → IsLog 0 2 (2 * v) V → IsLog 0 2 S w → IsLog 0 4 (2 * (v * S)) (V + w)
 votes-log v S V w L K = let shape : 2 * v * S ≡ 2 * (v * S) = omega arith in rw shape at (of_product 0 2 0 2 (2 * v) S V w L K)

@@ -3,21 +3,22 @@ use Rattle.std.proofs.Common.{◌≡◌, ℕ, ◌+◌, ◌-◌, ◌*◌, ◌/◌
 use Rattle.std.proofs.lemmas.Bool.{cases_lt, cases_order}
 use Rattle.std.proofs.lemmas.List.{ext_get_or}
 use Rattle.std.proofs.Math.Nat.{div-add-mod', le_antisymm, pow-le-pow_right}
-use Rattle.zh_logarithms.specs.Logarithms.{log_unit}
-use Rattle.zh_logarithms.proofs.CallerLemmas.{only-antilogarithm, only-logarithm}
+use Rattle.zh_decided.specs.Logarithms.{log_unit}
+use Rattle.zh_decided.proofs.SquaringLemmas.{only-antilogarithm, only-logarithm}
 use Rattle.zh_matrices.specs.Divisors.{Divisors, millionths}
 use Rattle.zh_matrices.specs.Fitting.{FitsVotes}
 use Rattle.zh_matrices.specs.Question.{AreSeatTotals, Question, cell}
 use Rattle.zh_matrices.specs.SeatMatrix.{IsStrict}
 use Rattle.zh_matrices.proofs.CallerLemmas.{column_of, only_seats, row_of, weakened}
-use Rattle.zh_possible.proofs.CallerLemmas.{fits-weak}
-use Rattle.zh_sweeps.specs.Prices.{AreLogs, Logs, Priced, priced}
-use Rattle.zh_sweeps.specs.Sweeps.{AreCapped, AreOut, IsCycle, IsLow, IsStill, of_column, of_row}
-use Rattle.zh_sweeps.specs.Turns.{IsCheapest}
-use Rattle.zh_sweeps.specs.declared.bounds.Bounds.{Bounds}
-use Rattle.zh_sweeps.specs.declared.cycle.Cycle.{Cycle}
-use Rattle.zh_sweeps.specs.declared.sweeps.Potentials.{Potentials}
-use Rattle.zh_sweeps.proofs.CallerLemmas.{cycle-more, no_cycle, only-cheapest, same-slacks}
+use Rattle.zh_decided.proofs.ImpossibleLemmas.{fits-weak}
+use Rattle.zh_decided.specs.Prices.{AreLogs, Logs, Priced, priced}
+use Rattle.zh_decided.specs.Sweeps.{AreCapped, AreOut, IsCycle, IsLow, IsStill, of_column, of_row}
+use Rattle.zh_decided.specs.Turns.{IsCheapest}
+use Rattle.zh_decided.specs.declared.sweep_bounds.Bounds.{Bounds}
+use Rattle.zh_decided.specs.declared.cycles.Cycle.{Cycle}
+use Rattle.zh_decided.specs.declared.sweeps.Potentials.{Potentials}
+use Rattle.zh_decided.proofs.CircleLemmas.{cycle-more, no_cycle, same-slacks}
+use Rattle.zh_decided.proofs.CheapestLemmas.{only-cheapest}
 use Rattle.zh_decided.specs.Boxes.{AreInBox, AreInFirstBox, GiveWithin, HaveLogs, IsBox, NoneGiven, StandsInBox}
 use Rattle.zh_decided.specs.Tables.{AreLogTables, AreOddLogs, AreVoteLogs}
 

@@ -1,6 +1,35 @@
+pub mod CallerLemmas
+mod ApproximationLemmas
+mod LogLemmas
+mod PowerLemmas
+mod RoundingLemmas
+mod SquaringLemmas
+mod FloatLemmas
+mod ChainLemmas
+mod CheapestLemmas
+mod CircleLemmas
+mod DescentLemmas
+mod EncloseLemmas
+mod MarkLemmas
+mod PassLemmas
+mod RoomLemmas
+mod StillLemmas
+mod TightLemmas
+mod TrailLemmas
+mod CycleTurnLemmas
+mod CutLemmas
+mod DifferLemmas
+mod ImpossibleLemmas
+mod OneMoreLemmas
+mod PathLemmas
+mod RaiseLemmas
+mod StepLemmas
+mod PathTurnLemmas
+mod VoteBoundLemmas
+mod WayLemmas
+mod WithinLemmas
 mod BeyondLemmas
 mod BoxLemmas
-pub mod CallerLemmas
 mod CellLemmas
 mod FirstBoxLemmas
 mod NearLemmas

@@ -3,17 +3,17 @@ use Rattle.std.proofs.Common.{◌≡◌, ℕ, ◌+◌, ◌-◌, ◌*◌, ◌^◌
 use Rattle.std.proofs.lemmas.Bool.{cases_lt}
 use Rattle.std.proofs.Math.Nat.{le_of_lt, mul-pos}
 use Rattle.zh_divisors.specs.Rounding.{Rounds}
-use Rattle.zh_logarithms.specs.Logarithms.{IsLog}
-use Rattle.zh_logarithms.proofs.CallerLemmas.{positive_by_log}
+use Rattle.zh_decided.specs.Logarithms.{IsLog}
+use Rattle.zh_decided.proofs.LogLemmas.{positive_by_log}
 use Rattle.zh_matrices.specs.Divisors.{Divisors}
 use Rattle.zh_matrices.specs.Fitting.{FitsVotes}
 use Rattle.zh_matrices.specs.NearlyTied.{IsNear, NearlyRounds}
 use Rattle.zh_matrices.specs.Question.{AreSeatTotals, Question, cell}
 use Rattle.zh_matrices.specs.SeatMatrix.{IsStrict}
-use Rattle.zh_sweeps.specs.Prices.{AreLogs, Logs, priced}
-use Rattle.zh_sweeps.specs.Sweeps.{AreFair}
-use Rattle.zh_sweeps.specs.declared.bounds.Bounds.{Bounds}
-use Rattle.zh_sweeps.proofs.CallerLemmas.{cell-fitting}
+use Rattle.zh_decided.specs.Prices.{AreLogs, Logs, priced}
+use Rattle.zh_decided.specs.Sweeps.{AreFair}
+use Rattle.zh_decided.specs.declared.sweep_bounds.Bounds.{Bounds}
+use Rattle.zh_decided.proofs.CycleTurnLemmas.{cell-fitting}
 use Rattle.zh_decided.specs.Tables.{AreLogTables}
 use Rattle.zh_decided.proofs.CellLemmas.{above-lower, below-upper, nearly-above-lower, nearly-below-upper}
 use Rattle.zh_decided.proofs.TableLemmas.{near-factor, price-is}

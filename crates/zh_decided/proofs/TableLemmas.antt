@@ -2,10 +2,11 @@
 use Rattle.std.proofs.Common.{◌≡◌, ℕ, ◌+◌, ◌-◌, ◌*◌, ◌^◌, ◌<◌, ◌≤◌, List, length, get_or, slice_index, arith}
 use Rattle.std.proofs.lemmas.List.Elements.{All-from_get_or}
 use Rattle.std.proofs.lemmas.Nat.{mul-add-lt}
-use Rattle.zh_logarithms.specs.Logarithms.{IsLog}
-use Rattle.zh_logarithms.proofs.CallerLemmas.{HasFactor, apart_by_factor, factor}
+use Rattle.zh_decided.specs.Logarithms.{IsLog}
+use Rattle.zh_decided.proofs.RoundingLemmas.{HasFactor, factor}
+use Rattle.zh_decided.proofs.LogLemmas.{apart_by_factor}
 use Rattle.zh_matrices.specs.Question.{Question, cell}
-use Rattle.zh_sweeps.specs.Prices.{AreLogs, Logs, seat_price}
+use Rattle.zh_decided.specs.Prices.{AreLogs, Logs, seat_price}
 use Rattle.zh_decided.specs.Tables.{AreOddLogs, AreLogTables, AreVoteLogs}
 
 -- the logarithm of 131073 / 131072

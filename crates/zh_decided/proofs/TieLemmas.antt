@@ -2,21 +2,21 @@
 use Rattle.std.proofs.Common.{◌≡◌, ℕ, zero, suc, ◌+◌, ◌-◌, ◌*◌, ◌^◌, ◌<◌, ◌≤◌, List, get_or, slice_index, inl, inr, arith}
 use Rattle.std.proofs.lemmas.Bool.{cases_lt}
 use Rattle.zh_divisors.specs.Sums.{sum_to}
-use Rattle.zh_floating.specs.Floats.{floating}
-use Rattle.zh_floating.specs.declared.divisors.FloatingDivisors.{FloatingDivisors}
-use Rattle.zh_floating.proofs.CallerLemmas.{of_scale, value_at}
-use Rattle.zh_logarithms.specs.Logarithms.{log_unit}
-use Rattle.zh_logarithms.proofs.CallerLemmas.{power_positive}
+use Rattle.zh_decided.specs.Floats.{floating}
+use Rattle.zh_decided.specs.declared.floating.FloatingDivisors.{FloatingDivisors}
+use Rattle.zh_decided.proofs.FloatLemmas.{of_scale, value_at}
+use Rattle.zh_decided.specs.Logarithms.{log_unit}
+use Rattle.zh_decided.proofs.PowerLemmas.{power_positive}
 use Rattle.zh_matrices.specs.Fitting.{FitsVotes}
 use Rattle.zh_matrices.specs.NearlyTied.{IsNear}
 use Rattle.zh_matrices.specs.Question.{AreSeatTotals, Question, cell}
-use Rattle.zh_sweeps.specs.Gaps.{IsGap}
-use Rattle.zh_sweeps.specs.Prices.{AreLogs, Logs, priced}
-use Rattle.zh_sweeps.specs.Sweeps.{StandsFree, of_column, of_row}
-use Rattle.zh_sweeps.specs.Turns.{KeepsNearlyFair, MakesAnother}
-use Rattle.zh_sweeps.specs.declared.gaps.Gap.{Gap}
-use Rattle.zh_sweeps.specs.declared.sweeps.Potentials.{Potentials}
-use Rattle.zh_sweeps.proofs.CallerLemmas.{cell-fitting}
+use Rattle.zh_decided.specs.Gaps.{IsGap}
+use Rattle.zh_decided.specs.Prices.{AreLogs, Logs, priced}
+use Rattle.zh_decided.specs.Sweeps.{StandsFree, of_column, of_row}
+use Rattle.zh_decided.specs.Turns.{KeepsNearlyFair, MakesAnother}
+use Rattle.zh_decided.specs.declared.sweeps.Gap.{Gap}
+use Rattle.zh_decided.specs.declared.sweeps.Potentials.{Potentials}
+use Rattle.zh_decided.proofs.CycleTurnLemmas.{cell-fitting}
 use Rattle.zh_decided.specs.Floated.{AreColumnFloats, AreRowFloats, Fit}
 use Rattle.zh_decided.specs.Tables.{AreLogTables}
 use Rattle.zh_decided.proofs.ScaledLemmas.{AreScaled, near}

@@ -1,13 +1,13 @@
 -- Sweeps within the limits of a sheet.
 use Rattle.std.specs.Prelude.{◌≡◌, ℕ, ◌+◌, ◌-◌, ◌*◌, ◌^◌, ◌<◌, ◌≤◌, List, length, slice_index}
-use Rattle.zh_logarithms.specs.Logarithms.{HasLogarithm, IsAntilogarithm, IsLog, log_unit}
+use Rattle.zh_decided.specs.Logarithms.{HasLogarithm, IsAntilogarithm, IsLog, log_unit}
 use Rattle.zh_matrices.specs.Divisors.{AreWithinLimits, millionths}
 use Rattle.zh_matrices.specs.Question.{Question}
 use Rattle.zh_matrices.specs.SeatMatrix.{IsStrict}
-use Rattle.zh_sweeps.specs.Prices.{Logs, priced}
-use Rattle.zh_sweeps.specs.Sweeps.{IsStill, of_column, of_row}
-use Rattle.zh_sweeps.specs.declared.bounds.Bounds.{Bounds}
-use Rattle.zh_sweeps.specs.declared.sweeps.Potentials.{Potentials}
+use Rattle.zh_decided.specs.Prices.{Logs, priced}
+use Rattle.zh_decided.specs.Sweeps.{IsStill, of_column, of_row}
+use Rattle.zh_decided.specs.declared.sweep_bounds.Bounds.{Bounds}
+use Rattle.zh_decided.specs.declared.sweeps.Potentials.{Potentials}
 use Rattle.zh_decided.specs.Tables.{AreLogTables}
 
 -- bounds for divisors from 2^bits millionths to the limits, with what rounding such numbers costs for a slack

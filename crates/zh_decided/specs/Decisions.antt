@@ -1,13 +1,13 @@
 -- What is decided of a question, and on what it rests.
 use Rattle.std.specs.Prelude.{ℕ, List, Option, Some, None}
-use Rattle.zh_floating.specs.Floats.{floating}
-use Rattle.zh_floating.specs.declared.divisors.FloatingDivisors.{FloatingDivisors}
+use Rattle.zh_decided.specs.Floats.{floating}
+use Rattle.zh_decided.specs.declared.floating.FloatingDivisors.{FloatingDivisors}
 use Rattle.zh_matrices.specs.Divisors.{Divisors}
 use Rattle.zh_matrices.specs.Fitting.{FitsVotes}
 use Rattle.zh_matrices.specs.NearlyTied.{AreNearlyTied}
 use Rattle.zh_matrices.specs.Question.{Question}
 use Rattle.zh_matrices.specs.SeatMatrix.{IsStrict}
-use Rattle.zh_possible.specs.Impossible.{HasTooFewSeats}
+use Rattle.zh_decided.specs.Impossible.{HasTooFewSeats}
 use Rattle.zh_decided.specs.Boxes.{GiveWithin, NoneGiven, NoneInRange}
 use Rattle.zh_decided.specs.declared.decision.Decision.{Decision}
 use Rattle.zh_decided.specs.declared.decision.Decision.TheVariants.{Beyond, Impossible, NearlyTied, Seats}

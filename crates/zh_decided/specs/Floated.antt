@@ -1,9 +1,9 @@
 -- Floating divisors that have potentials for their logarithms.
 use Rattle.std.specs.Prelude.{ℕ, ◌+◌, ◌-◌, ◌*◌, ◌^◌, ◌<◌, ◌≤◌, List, slice_index}
-use Rattle.zh_floating.specs.Floats.{float_at, value_of}
-use Rattle.zh_floating.specs.declared.floating.Floating.{Floating}
-use Rattle.zh_logarithms.specs.Logarithms.{IsLog, log_unit}
-use Rattle.zh_sweeps.specs.declared.sweeps.Potentials.{Potentials}
+use Rattle.zh_decided.specs.Floats.{float_at, value_of}
+use Rattle.zh_decided.specs.declared.floating.Floating.{Floating}
+use Rattle.zh_decided.specs.Logarithms.{IsLog, log_unit}
+use Rattle.zh_decided.specs.declared.sweeps.Potentials.{Potentials}
 
 pub record AreRowFloats (n : ℕ) (potentials : List ℕ) (divisors : List Floating) : Type 0 where
   pub logs : (d : ℕ) → d < n → IsLog 1 2 (value_of (float_at divisors d)) (31 * log_unit + (2 ^ 60 + 2 ^ 45 - slice_index potentials d))

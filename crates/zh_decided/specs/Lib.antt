@@ -1,3 +1,15 @@
+pub mod Logarithms
+pub mod Floats
+pub mod Sizes
+pub mod Gaps
+pub mod Levels
+pub mod Prices
+pub mod Sweeps
+pub mod Taken
+pub mod Turns
+pub mod Bounds
+pub mod Impossible
+pub mod Ways
 pub mod Boxes
 pub mod Decisions
 pub mod Differences

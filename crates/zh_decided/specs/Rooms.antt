@@ -1,7 +1,7 @@
 -- The room that a decision takes, and what it is about.
 use Rattle.std.specs.Prelude.{◌≡◌, ℕ, ◌*◌, List, length}
-use Rattle.zh_decided.specs.declared.room.DecisionRoom.{DecisionRoom}
-use Rattle.zh_decided.specs.declared.room.Findings as declared
+use Rattle.zh_decided.specs.declared.decision.DecisionRoom.{DecisionRoom}
+use Rattle.zh_decided.specs.declared.decision.Findings as declared
 
 -- the sizes of room for what it is about
 pub record IsFindingsRoom (rows columns : ℕ) (room : declared.Findings) : Type 0 where

@@ -1,8 +1,8 @@
 -- Tables of logarithms.
 use Rattle.std.specs.Prelude.{◌≡◌, ℕ, ◌+◌, ◌*◌, ◌^◌, ◌<◌, ◌≤◌, List, length, slice_index}
-use Rattle.zh_logarithms.specs.Logarithms.{HasLogarithm, IsLog}
+use Rattle.zh_decided.specs.Logarithms.{HasLogarithm, IsLog}
 use Rattle.zh_matrices.specs.Question.{Question, cell}
-use Rattle.zh_sweeps.specs.Prices.{Logs}
+use Rattle.zh_decided.specs.Prices.{Logs}
 
 -- of twice the votes of each of so many cells
 pub record AreVoteLogs (votes logarithms : List ℕ) : Type 0 where

@@ -3,19 +3,21 @@ ghost use Rattle.std.specs.Prelude.{◌≡◌, ℕ, ◌+◌, ◌-◌, ◌*◌, �
 ghost use Rattle.std.specs.Bool.{OnFalse, OnTrue};
 ghost use Rattle.zh_decided.specs.Boxes.{AreInBox, AreInFirstBox, GiveWithin, HaveLogs, IsBox, NoneInRange, StandsInBox};
 ghost use Rattle.zh_decided.specs.Tables.{AreLogTables};
-ghost use Rattle.zh_logarithms.specs.Logarithms.{log_unit, power};
+ghost use Rattle.zh_decided.specs.Logarithms.{log_unit, power};
 ghost use Rattle.zh_matrices.specs.Asked.{asked};
 ghost use Rattle.zh_matrices.specs.Divisors.{AreWithinLimits, millionths};
 ghost use Rattle.zh_matrices.specs.Fitting.{FitsVotes};
 ghost use Rattle.zh_matrices.specs.Question.{AreSeatTotals};
 ghost use Rattle.zh_matrices.specs.SeatMatrix.{IsStrict};
-ghost use Rattle.zh_sweeps.specs.Sweeps.{StandsFree};
-ghost use Rattle.zh_sweeps.specs.Taken.{logs, priced_in};
-ghost use Rattle.zh_sweeps.specs.declared.sweeps.Potentials.{Potentials};
+ghost use Rattle.zh_decided.specs.Sweeps.{StandsFree};
+ghost use Rattle.zh_decided.specs.Taken.{logs, priced_in};
+ghost use Rattle.zh_decided.specs.declared.sweeps.Potentials.{Potentials};
 
-use zh_logarithms::{antilogarithm, logarithm};
+use crate::logarithms::{antilogarithm, logarithm};
+use crate::prices::PricedSeats;
+use crate::sweep_bounds::Bounds;
+use crate::sweeps::{Swept, sweep};
 use zh_matrices::{LINES, MOST_OF_COLUMN, MOST_OF_ROW};
-use zh_sweeps::{Bounds, PricedSeats, Swept, sweep};
 
 /// What potentials of rows are below.
 const BASE: u64 = 1 << 60;

@@ -2,16 +2,26 @@
 //! seats, a near tie, or seats that are beyond the divisors of a sheet. One of them is found for every question within the limits.
 #![tactic(auto)]
 
-pub use decision::Decision;
-pub use decisions::decide;
-pub use laws::near_tie;
-pub use room::{DecisionRoom, Findings};
-
 mod boxes;
+mod cells;
+mod completion;
+mod cycles;
 mod decision;
-mod decisions;
 mod differences;
-mod floats;
+mod floating;
+mod impossible;
 mod laws;
-mod room;
-mod tables;
+mod levels;
+mod logarithms;
+mod prices;
+mod sweep_bounds;
+mod sweeps;
+mod ways;
+mod within;
+
+pub use cells::CellBounds;
+pub use decision::{Decision, DecisionRoom, Findings, decide};
+pub use differences::differ_at;
+pub use impossible::{MarkedRows, place_all};
+pub use laws::{impossible_totals, near_tie};
+pub use within::{are_balanced, fill_within};

@@ -2,7 +2,7 @@
 use Rattle.std.specs.Prelude.{◌≡◌, ◌≢◌, ℕ, Option, Some, Result, IsErr}
 use Rattle.zh_disk.specs.declared.disk.DiskFault.{DiskFault}
 use Rattle.zh_disk.specs.declared.disk.Disk.{Ghosts}
-use Rattle.zh_disk.specs.declared.once.OnceDisk.{OnceDisk}
+use Rattle.zh_disk.specs.declared.failing.OnceDisk.{OnceDisk}
 use Rattle.zh_disk.specs.History.{History, failures_after}
 use Rattle.zh_disk.specs.Failing.{inside, calls_left, failures_met, failing_history, one_fewer, IsOneCall}
 

@@ -5,8 +5,8 @@ use Rattle.std.proofs.lemmas.Grind.{common_steps}
 use Rattle.std.proofs.lemmas.Option.{gets, slice_get_past}
 use Rattle.zh_districts.specs.Canton.{Canton, has_municipality, stands, constituency_of}
 use Rattle.zh_districts.specs.Misplaced.{misplaced}
-use Rattle.zh_districts.specs.declared.misplaced.Misplaced.{Misplaced}
-use Rattle.zh_districts.specs.declared.misplaced.Misplaced.TheVariants as reasons
+use Rattle.zh_districts.specs.declared.setup.Misplaced.{Misplaced}
+use Rattle.zh_districts.specs.declared.setup.Misplaced.TheVariants as reasons
 
 -- a municipality of the set-up has a number from 1
 pub municipality_within : (canton : Canton) (municipality : ℕ) → has_municipality canton municipality ≡ true → (1 ≤ municipality) × (municipality ≤ length canton.municipalities)

@@ -12,8 +12,8 @@ use Rattle.zh_districts.specs.Seats.{persons}
 use Rattle.zh_districts.specs.Inside.{canton_of}
 use Rattle.zh_districts.specs.Parts.{group, constituency}
 use Rattle.zh_districts.specs.declared.setup.Setup.TheInside.{Inside}
-use Rattle.zh_districts.specs.declared.parts.Group.{Group}
-use Rattle.zh_districts.specs.declared.parts.Constituency.{Constituency}
+use Rattle.zh_districts.specs.declared.setup.Group.{Group}
+use Rattle.zh_districts.specs.declared.setup.Constituency.{Constituency}
 
 -- what holds of each image holds of the image of the element at place k
 pub image_at : {X Y : Type 0} (P : Y → Type 0) (f : X → Y) (xs : List X) (k : ℕ) (x : X) → All P (map f xs) → k < length xs → x ≡ get_or xs k x → P (f x)

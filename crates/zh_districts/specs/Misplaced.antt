@@ -1,8 +1,8 @@
 -- Why a list does not stand in a municipality.
 use Rattle.std.specs.Prelude.{ℕ, not, if◌then◌else◌, Option, Some, None}
 use Rattle.zh_districts.specs.Canton.{Canton, has_municipality, stands, constituency_of}
-use Rattle.zh_districts.specs.declared.misplaced.Misplaced.{Misplaced}
-use Rattle.zh_districts.specs.declared.misplaced.Misplaced.TheVariants as reasons
+use Rattle.zh_districts.specs.declared.setup.Misplaced.{Misplaced}
+use Rattle.zh_districts.specs.declared.setup.Misplaced.TheVariants as reasons
 
 -- there is no such municipality, or else the list does not stand in its constituency
 abbrev pub misplaced : Canton → ℕ → ℕ → Option Misplaced

@@ -1,10 +1,10 @@
 -- What the parts of a set-up stand for.
 use Rattle.std.specs.Prelude.{ℕ, Option, List, map, string_bytes}
 use Rattle.zh_districts.specs.Canton as canton
-use Rattle.zh_districts.specs.declared.parts.Constituency.{Constituency}
-use Rattle.zh_districts.specs.declared.parts.Municipality.{Municipality}
-use Rattle.zh_districts.specs.declared.parts.Group.{Group}
-use Rattle.zh_districts.specs.declared.parts.Draft.{Draft}
+use Rattle.zh_districts.specs.declared.setup.Constituency.{Constituency}
+use Rattle.zh_districts.specs.declared.setup.Municipality.{Municipality}
+use Rattle.zh_districts.specs.declared.setup.Group.{Group}
+use Rattle.zh_districts.specs.declared.setup.Draft.{Draft}
 
 -- a constituency, without where it lies in memory
 abbrev pub constituency : Constituency → canton.Constituency

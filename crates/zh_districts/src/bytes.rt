@@ -7,7 +7,7 @@ ghost use Rattle.zh_districts.specs.Parts.{constituency, municipality, group};
 ghost use Rattle.zh_districts.specs.Spelling.{name_spelling, mask_of, constituency_spelling};
 ghost use Rattle.zh_districts.specs.Spelling.{municipality_spelling, group_spelling, quorum_spelling};
 
-use crate::parts::{Constituency, Group, Municipality};
+use crate::setup::{Constituency, Group, Municipality};
 use std::alloc::AllocError;
 
 fn put_name(out: &mut Vec<u8>, name: &str) -> Result<(), AllocError>

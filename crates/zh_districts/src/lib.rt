@@ -2,16 +2,10 @@
 #![tactic(auto)]
 
 mod bytes;
-mod claims;
 mod laws;
-mod misplaced;
-mod parts;
 mod setup;
 mod shares;
 
-pub use claims::{tied, unseated};
 pub use laws::equal_bytes;
-pub use misplaced::Misplaced;
-pub use parts::{Constituency, Draft, Group, Municipality};
-pub use setup::{Setup, setup_bytes};
-pub use shares::{SeatFault, seats};
+pub use setup::{Constituency, Draft, Group, Misplaced, Municipality, Setup, setup_bytes};
+pub use shares::{SeatFault, seats, tied, unseated};

@@ -1,16 +1,54 @@
 //! The set-up of an election.
-
 ghost use Rattle.std.specs.Prelude.{◌≡◌, ◌≤◌, ◌-◌, true, length, slice_get, option_map, map, IfOk, IfNone};
-ghost use Rattle.zh_districts.specs.Seats.{persons};
 ghost use Rattle.zh_districts.specs.Canton.{IsCanton, has_municipality, persons_of, constituency_of, stands};
 ghost use Rattle.zh_districts.specs.Misplaced.{misplaced};
+ghost use Rattle.zh_districts.specs.Seats.{persons};
 ghost use Rattle.zh_districts.specs.Spelling.{setup_spelling};
 
 use crate::bytes::{put_constituencies, put_groups, put_municipalities, put_quorum};
-use crate::misplaced::Misplaced;
-use crate::parts::{Constituency, Draft, Group, Municipality};
 use std::alloc::{AllocError, Global};
 use std::marker::Model;
+
+/// Why a list does not stand in a municipality.
+#[derive(Clone, Copy)]
+pub enum Misplaced {
+    /// The set-up has no such municipality.
+    Municipality,
+    /// The list does not stand in the constituency of the municipality.
+    List,
+}
+
+/// A constituency and how many persons live there, 1 to 10,000,000.
+#[derive(Drop)]
+pub struct Constituency {
+    pub name: String,
+    pub persons: u32,
+}
+
+/// A municipality and the number of its constituency, from 1.
+#[derive(Drop)]
+pub struct Municipality {
+    pub name: String,
+    pub constituency: u32,
+}
+
+/// A group, and for each constituency in order whether it stands there.
+#[derive(Drop)]
+pub struct Group {
+    pub name: String,
+    pub stands: Vec<bool>,
+}
+
+/// The parts of a set-up, of which it is not known that they make one.
+#[derive(Drop)]
+pub struct Draft {
+    pub house: u32,
+    pub constituencies: Vec<Constituency>,
+    pub municipalities: Vec<Municipality>,
+    pub groups: Vec<Group>,
+    /// In per mille of the votes of the whole canton, 1 to 49.
+    pub canton_quorum: Option<u32>,
+}
 
 /// The house, the constituencies with their municipalities, the groups, and a canton-wide quorum, if there is one.
 /// Constituencies, municipalities and groups are numbered from 1, each in the order of the set-up text. There are 1 to 32

@@ -1,7 +1,7 @@
-//! The seats of the constituencies.
-
-ghost use Rattle.std.specs.Prelude.{◌≡◌, ◌≤◌, ◌<◌, ℕ, List, MatchOption, IfOk, IsErrOf, length, slice_index};
+//! The seats of the constituencies: between which they are tied, and which get none.
+ghost use Rattle.std.specs.Prelude.{◌≡◌, ◌≤◌, ◌<◌, ℕ, List, MatchOption, IfOk, IsErrOf, length, slice_index, ◌==◌, false, map, replicate};
 ghost use Rattle.zh_districts.specs.Canton.{IsCanton};
+ghost use Rattle.zh_districts.specs.Claims.{IsTiedIn, IsUnseated, Tell};
 ghost use Rattle.zh_districts.specs.Seats.{persons, AreSeats, IsFirstWithout};
 ghost use Rattle.zh_divisors.specs.Fit.{IsTied};
 ghost use Rattle.zh_divisors.specs.Shares.{Apportions, HasDivisor, RoundsEach};
@@ -9,7 +9,7 @@ ghost use Rattle.zh_divisors.specs.Shares.{Apportions, HasDivisor, RoundsEach};
 use crate::setup::Setup;
 use std::alloc::{AllocError, Global};
 use thiserror::Error;
-use zh_divisors::{ShareFault, Shares, Weights, apportion};
+use zh_divisors::{ShareFault, Shares, Weights, apportion, same_claims};
 
 /// Why the constituencies get no seats.
 #[derive(Clone, Copy, Debug, PartialEq, Eq, Error)]
@@ -85,5 +85,39 @@ pub fn seats(alloc: Global, setup: &Setup) -> Result<Shares, SeatFault>
     match first_without(shares.seats()) {
         Some(constituency) => Err(SeatFault::NoSeat(constituency)),
         None => Ok(shares),
+    }
+}
+
+/// For each constituency whether a seat is worth as much to it as to another.
+pub fn tied(alloc: Global, setup: &Setup) -> Result<Vec<bool>, AllocError>
+    ensures { IfOk result (λ marks. Tell (IsTiedIn setup.now) (length setup.now.constituencies) marks.items) }
+{
+    let persons = setup.each_persons(alloc)?;
+    let weights = Weights::new(alloc, &persons)?;
+    same_claims(alloc, &weights, setup.house())
+}
+
+/// For each of these whether it is no seat.
+fn nothing(alloc: Global, seats: &[u32]) -> Result<Vec<bool>, AllocError>
+    ensures { IfOk result (λ marks. marks.items ≡ map (λ n. n == 0) seats.now) }
+{
+    seats.iter().map(|count| *count == 0).collect(alloc)
+}
+
+/// So many that are not marked.
+fn unmarked(alloc: Global, count: usize) -> Result<Vec<bool>, AllocError>
+    ensures { IfOk result (λ marks. marks.items ≡ replicate count false) }
+{
+    vec![in alloc; false; count]
+}
+
+/// For each constituency whether its persons give it no seat: none where the seats are tied.
+pub fn unseated(alloc: Global, setup: &Setup) -> Result<Vec<bool>, AllocError>
+    ensures { IfOk result (λ marks. Tell (IsUnseated setup.now) (length setup.now.constituencies) marks.items) }
+{
+    match proportion(alloc, setup) {
+        Ok(shares) => nothing(alloc, shares.seats()),
+        Err(ShareFault::Tied) => unmarked(alloc, setup.constituencies() as usize),
+        Err(ShareFault::Memory) => Err(AllocError),
     }
 }

@@ -3,8 +3,8 @@ use Rattle.std.specs.Prelude.{◌≡◌, ℕ, ◌+◌, ◌*◌, ◌<◌, List, l
 use Rattle.zh_divisors.specs.Fit.{IsStrictFit, IsTied}
 use Rattle.zh_divisors.specs.Rounding.{Rounds}
 use Rattle.zh_divisors.specs.Worth.{IsLeastLast, IsMostNext}
-use Rattle.zh_divisors.specs.declared.fault.ShareFault.{ShareFault}
-use Rattle.zh_divisors.specs.declared.fault.ShareFault.TheVariants.{Tied}
+use Rattle.zh_divisors.specs.declared.shares.ShareFault.{ShareFault}
+use Rattle.zh_divisors.specs.declared.shares.ShareFault.TheVariants.{Tied}
 
 -- one number of seats for each weight, and the divisor num / den
 pub record Apportionment : Type 0 where

@@ -8,21 +8,14 @@
 //! them a divisor that suits its total, while those that cross it stay.
 #![tactic(auto)]
 
-pub use claims::same_claims;
-pub use fault::ShareFault;
+pub use apportionment::{apportion, same_claims};
 pub use laws::{line_rule, one_fit};
 pub use lines::line;
-pub use shares::Shares;
-pub use single::apportion;
+pub use shares::{ShareFault, Shares};
 pub use weights::Weights;
 
-mod claims;
-mod fault;
+mod apportionment;
 mod laws;
-mod line_seats;
 mod lines;
-mod seats;
 mod shares;
-mod single;
 mod weights;
-mod worth;

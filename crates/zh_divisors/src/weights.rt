@@ -1,3 +1,4 @@
+//! The weights among which seats are shared out.
 ghost use Rattle.std.specs.Prelude.{◌≡◌, ◌^◌, ◌≤◌, All, IfOk, length};
 
 use std::alloc::{AllocError, Global};

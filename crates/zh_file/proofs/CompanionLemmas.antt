@@ -2,12 +2,11 @@
 use Rattle.std.proofs.Common.{◌≡◌, ◌∙◌, ◌∷◌, ◌≤◌, ℕ, List, [], length, Option, Some, None, Result, Ok, Err, IfOk, refl, sym, ap, subst, inl, inr, ⊎_elim, arith}
 use Rattle.std.specs.Prelude.{◌≢◌, ◌⊎◌, ◌++◌, IfErr, IfSome, codes}
 use Rattle.std.specs.declared.io.Error.{Error}
-use Rattle.zh_world.specs.Failures.{FailedCall, ForgetsNone, FailsBetween}
-use Rattle.zh_world.specs.Places.{IfKnown, Places, Standing, companion_of, found_at}
-use Rattle.zh_world.specs.Places.Standing.{nothing, file, folder, other}
-use Rattle.zh_world.proofs.CallerLemmas.{failed_within, goes_itself, just_failed}
-use Rattle.zh_file.specs.Faults.{asked_with}
-use Rattle.zh_world.specs.declared.setback.Setback.{Setback}
+use Rattle.zh_file.specs.Failures.{FailedCall, ForgetsNone, FailsBetween, asked_with}
+use Rattle.zh_file.specs.Places.{IfKnown, Places, Standing, companion_of, found_at}
+use Rattle.zh_file.specs.Places.Standing.{nothing, file, folder, other}
+use Rattle.zh_file.proofs.PlaceLemmas.{failed_within, goes_itself, just_failed}
+use Rattle.zh_file.specs.declared.notes.Setback.{Setback}
 use Rattle.zh_file.specs.Folder.{ActsAt, Folders, IsKind, LooksAt, Removes, failed_after, noted_at}
 use Rattle.zh_file.specs.Steps.{GoesAhead, FailsAtEither, IsRidOfCompanion, LeavesCompanion}
 use Rattle.zh_file.specs.declared.folder.Found.{Found}

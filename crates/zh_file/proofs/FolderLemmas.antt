@@ -5,16 +5,16 @@ use Rattle.std.proofs.lemmas.List.{length-append}
 use Rattle.std.specs.declared.io.ErrorKind.{ErrorKind}
 use Rattle.std.specs.declared.io.ErrorKind.TheVariants as kinds
 use Rattle.zh_disk.specs.Disk.{Trail, fresh_trail}
-use Rattle.zh_world.specs.Places.{Places, Standing, IfKnown, IsBare, IsSameOrBare, IsSameOrMade, TouchesOnly, companion_of, found_at}
-use Rattle.zh_world.specs.Causes.{IsCauseAt, cause_of, fault_of_kind, fault_of_found}
-use Rattle.zh_world.specs.Places.Standing.{nothing, file, folder, other}
+use Rattle.zh_file.specs.Places.{Places, Standing, IfKnown, IsBare, IsSameOrBare, IsSameOrMade, TouchesOnly, companion_of, found_at}
+use Rattle.zh_file.specs.Causes.{IsCauseAt, cause_of, fault_of_kind, fault_of_found}
+use Rattle.zh_file.specs.Places.Standing.{nothing, file, folder, other}
 use Rattle.zh_file.specs.Opening.{IsNoFile}
 use Rattle.zh_file.specs.Folder.{Makes, MakesBoth}
 use Rattle.zh_file.specs.Steps.{ClearsCompanion, IsSilent}
-use Rattle.zh_world.specs.declared.fault.FileCause.{FileCause}
-use Rattle.zh_world.specs.declared.fault.FileCause.TheVariants as causes
-use Rattle.zh_world.specs.declared.fault.FileFault.{FileFault}
-use Rattle.zh_world.specs.declared.fault.FileFault.TheVariants as faults
+use Rattle.zh_file.specs.declared.fault.FileCause.{FileCause}
+use Rattle.zh_file.specs.declared.fault.FileCause.TheVariants as causes
+use Rattle.zh_file.specs.declared.fault.FileFault.{FileFault}
+use Rattle.zh_file.specs.declared.fault.FileFault.TheVariants as faults
 
 module _ {A : Type 0} where
   pub map_known : (P R : A → A → Type 0) (old new : Option A) → ((x y : A) → P x y → R x y) → IfKnown P old new → IfKnown R old new

@@ -5,9 +5,9 @@ use Rattle.std.specs.declared.io.Error.{Error}
 use Rattle.sqlite_disk.specs.Disk.{Cut, Follows, Only, Torn}
 use Rattle.sqlite_disk.specs.declared.Disk.{Ghosts}
 use Rattle.zh_disk.specs.Disk.{disk_length}
-use Rattle.zh_world.specs.Files.{IsAsFound, IsFilling, LeavesNoMore}
+use Rattle.zh_file.specs.Files.{IsAsFound, IsFilling, LeavesNoMore}
 use Rattle.zh_file.specs.Locked.{IsLeftAt, IsLeftOf, IsNotedCall, IsShort, LeavesOnly, Stays}
-use Rattle.zh_world.specs.Past.{items}
+use Rattle.zh_film.specs.Past.{items}
 use Rattle.zh_file.specs.declared.stored.locked.Locked.{Locked}
 
 -- what asks changes nothing that a stop leaves

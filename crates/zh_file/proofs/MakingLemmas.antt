@@ -9,16 +9,16 @@ use Rattle.std.specs.declared.io.Error.{Error}
 use Rattle.zh_disk.specs.Disk.{Trail, disk_length, fresh_trail}
 use Rattle.zh_disk.specs.History.{History}
 use Rattle.zh_disk.specs.Memory.{IsNewDisk}
-use Rattle.zh_world.specs.Causes.{IsCauseAt, IsLength, cause_of, fault_of_kind, fault_of_found}
-use Rattle.zh_world.specs.Files.{BeginsWith}
-use Rattle.zh_world.specs.Places.{IfKnown, IsSameOrMade, Places, Standing, TouchesOnly, bytes_of, found_at}
-use Rattle.zh_world.specs.Places.Standing.{file, nothing, folder, other}
+use Rattle.zh_file.specs.Causes.{IsCauseAt, IsLength, cause_of, fault_of_kind, fault_of_found}
+use Rattle.zh_file.specs.Files.{BeginsWith}
+use Rattle.zh_file.specs.Places.{IfKnown, IsSameOrMade, Places, Standing, TouchesOnly, bytes_of, found_at}
+use Rattle.zh_file.specs.Places.Standing.{file, nothing, folder, other}
 use Rattle.zh_file.specs.Folder.{ActsAt, Folders, Makes, SaysWhy}
-use Rattle.zh_file.specs.Held.{IsZeroed}
+use Rattle.zh_file.specs.Stored.{IsZeroed}
 use Rattle.zh_file.specs.Opening.{AreSame, HasFailed, IsNoFile, IsOpeningCause, IsNoStart, OpensOrMakesDisk}
 use Rattle.zh_file.specs.Steps.{IsUnfit, IsUnmeasured, IsUnstarted, Measures, TakesLock}
-use Rattle.zh_world.specs.declared.fault.FileFault.{FileFault}
-use Rattle.zh_world.specs.declared.fault.FileFault.TheVariants as faults
+use Rattle.zh_file.specs.declared.fault.FileFault.{FileFault}
+use Rattle.zh_file.specs.declared.fault.FileFault.TheVariants as faults
 use Rattle.zh_file.proofs.FolderLemmas.{cause_before, lock_touches, made_touches, no_file_before, of_found, of_kind, same_found, same_touches, silent_at, touches_both, chain, chain_three}
 use Rattle.zh_file.proofs.OpeningLemmas.{bytes_length, start_cause, unlocked_cause}
 

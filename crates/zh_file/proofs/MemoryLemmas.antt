@@ -8,12 +8,12 @@ use Rattle.std.proofs.lemmas.List.{ext_get_or}
 use Rattle.std.proofs.lemmas.Slice.Eq.{bytes_eq-Decides}
 use Rattle.std.specs.declared.io.Error.{Error}
 use Rattle.sqlite_disk.specs.Disk.{Holds, Torn}
-use Rattle.zh_world.specs.Count.{number}
-use Rattle.zh_world.specs.Places.{IsSameOrMade, Standing, bytes_of, companion_of}
-use Rattle.zh_world.specs.Places.Standing.{nothing, file}
+use Rattle.zh_film.specs.Past.{number}
+use Rattle.zh_file.specs.Places.{IsSameOrMade, Standing, bytes_of, companion_of}
+use Rattle.zh_file.specs.Places.Standing.{nothing, file}
 use Rattle.zh_file.specs.Folder.{ActsAt, IsCounted, MakesBoth, Removes, failed_after}
 use Rattle.zh_file.specs.MemoryFolder.{PutsAt, disk_in, folders_of, standing_at}
-use Rattle.zh_file.specs.declared.memory.MemoryFolder.{MemoryFolder}
+use Rattle.zh_file.specs.declared.memory_folder.MemoryFolder.{MemoryFolder}
 
 -- bytes that were written into an empty file
 pub written_whole : (bytes old new : List ℕ) → old ≡ [] → Torn 0 (length bytes) old new → (0 < length bytes → Holds new 0 bytes) → new ≡ bytes

@@ -2,14 +2,14 @@
 use Rattle.std.proofs.Common.{◌≡◌, ◌∙◌, ◌≤◌, ◌+◌, ℕ, List, length, Bool, IsTrue, Option, Result, Ok, Err, IfOk, IfErr, refl, sym, ap, subst, inl, inr, ⊎_elim, arith}
 use Rattle.std.specs.Prelude.{◌≢◌}
 use Rattle.zh_disk.specs.Disk.{disk_length}
-use Rattle.zh_world.specs.Places.{IfKnown, Places, Standing, TouchesOnly, found_at}
-use Rattle.zh_world.specs.Causes.{IsCauseAt, IsLength}
-use Rattle.zh_world.specs.Places.Standing.{nothing, file, folder, other}
+use Rattle.zh_file.specs.Places.{IfKnown, Places, Standing, TouchesOnly, found_at}
+use Rattle.zh_file.specs.Causes.{IsCauseAt, IsLength}
+use Rattle.zh_file.specs.Places.Standing.{nothing, file, folder, other}
 use Rattle.zh_file.specs.Folder.{Folders}
 use Rattle.zh_file.specs.Opening.{AreSame, HasFailed, IsNoFile, IsOpeningCause, IsNoDisk, OpensDisk}
 use Rattle.zh_file.specs.Steps.{IsUnfit, IsUnlocked, IsUnmeasured, IsUnstarted, Measures, TakesLock}
-use Rattle.zh_world.specs.declared.fault.FileFault.{FileFault}
-use Rattle.zh_world.specs.declared.fault.FileFault.TheVariants as faults
+use Rattle.zh_file.specs.declared.fault.FileFault.{FileFault}
+use Rattle.zh_file.specs.declared.fault.FileFault.TheVariants as faults
 use Rattle.zh_file.proofs.FolderLemmas.{lock_touches, map_known, same_found, same_touches, silent_at, touches_both, chain}
 
 abbrev pub IsRight : {D : Type 0} → (D → Bool) → (D → List ℕ) → D → D → Type 0

@@ -5,7 +5,7 @@ use Rattle.std.proofs.lemmas.Bool.{cases_Bool}
 use Rattle.std.proofs.lemmas.Bool.Decides.{not_from_Decides}
 use Rattle.std.proofs.lemmas.Slice.Eq.{bytes_eq-Decides}
 use Rattle.std.specs.Prelude.{bytes_eq}
-use Rattle.zh_world.specs.Places.{IfKnown, IsBare, IsSameOrBare, IsSameOrMade, Places, Standing, TouchesOnly, bytes_of, companion_of, found_at}
+use Rattle.zh_file.specs.Places.{IfKnown, IsBare, IsSameOrBare, IsSameOrMade, Places, Standing, TouchesOnly, bytes_of, companion_of, found_at}
 use Rattle.zh_file.specs.Folder.{Folders, bytes_known}
 
 made_bytes : (old new : Standing) → IsSameOrMade old new → bytes_of new ≡ bytes_of old

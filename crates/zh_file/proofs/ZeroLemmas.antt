@@ -5,7 +5,7 @@ use Rattle.std.proofs.lemmas.Bool.{cases_lt}
 use Rattle.std.proofs.lemmas.List.{get_or-replicate, get_or_past, length-replicate}
 use Rattle.sqlite_disk.specs.Disk.{Holds, Torn}
 use Rattle.zh_disk.specs.Disk.{disk_length}
-use Rattle.zh_file.specs.Held.{IsZeroed}
+use Rattle.zh_file.specs.Stored.{IsZeroed}
 
 -- as long as a disk, with zeros up to here
 pub record IsZeroedTo (n : ℕ) (bytes : List ℕ) : Type 0 where

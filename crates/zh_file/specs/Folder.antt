@@ -3,13 +3,13 @@ use Rattle.std.specs.Prelude.{◌≡◌, ◌≢◌, ◌⊎◌, ◌↔◌, ◌+�
 use Rattle.std.specs.declared.io.Error.{Error}
 use Rattle.sqlite_std_file.specs.declared.pair.OpenError.{OpenError}
 use Rattle.sqlite_std_file.specs.declared.pair.OpenError.TheVariants as opening
-use Rattle.zh_world.specs.Failures.{FailedCall}
-use Rattle.zh_world.specs.Files.{LeavesNoMore}
-use Rattle.zh_world.specs.Places.{Places, Standing, bytes_of, companion_of, found_at, IsSameOrMade}
+use Rattle.zh_file.specs.Failures.{FailedCall}
+use Rattle.zh_file.specs.Files.{LeavesNoMore}
+use Rattle.zh_file.specs.Places.{Places, Standing, bytes_of, companion_of, found_at, IsSameOrMade}
 use Rattle.std.specs.IoError.{error_kind}
-use Rattle.zh_world.specs.Causes.{IsCauseAt, cause_of}
-use Rattle.zh_world.specs.Places.Standing.{nothing, file, folder, other}
-use Rattle.zh_world.specs.declared.setback.Setback.{Setback}
+use Rattle.zh_file.specs.Causes.{IsCauseAt, cause_of}
+use Rattle.zh_file.specs.Places.Standing.{nothing, file, folder, other}
+use Rattle.zh_file.specs.declared.notes.Setback.{Setback}
 use Rattle.zh_file.specs.declared.folder.Found.{Found}
 use Rattle.zh_file.specs.declared.folder.Found.TheVariants as kinds
 

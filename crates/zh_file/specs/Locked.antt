@@ -6,11 +6,11 @@ use Rattle.std.specs.declared.io.ErrorKind.{ErrorKind}
 use Rattle.sqlite_disk.specs.Disk.{CountsFault, Follows, Only}
 use Rattle.sqlite_disk.specs.declared.Disk.{Ghosts}
 use Rattle.zh_disk.specs.Disk.{disk_length}
-use Rattle.zh_world.specs.Failures.{FailedCall, setback_fault}
-use Rattle.zh_world.specs.declared.fault.FileFault.{FileFault}
-use Rattle.zh_world.specs.declared.setback.Setback.{Setback}
-use Rattle.zh_world.specs.declared.setback.Setback.TheVariants as setbacks
-use Rattle.zh_world.specs.Past.{items}
+use Rattle.zh_file.specs.Failures.{FailedCall, setback_fault}
+use Rattle.zh_file.specs.declared.fault.FileFault.{FileFault}
+use Rattle.zh_file.specs.declared.notes.Setback.{Setback}
+use Rattle.zh_file.specs.declared.notes.Setback.TheVariants as setbacks
+use Rattle.zh_film.specs.Past.{items}
 use Rattle.zh_file.specs.declared.stored.locked.Locked.{Locked}
 
 -- what it was at each moment, the latest first

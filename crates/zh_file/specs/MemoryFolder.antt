@@ -4,14 +4,14 @@ use Rattle.std.specs.Str.{bytes_eq}
 use Rattle.std.specs.IoError.{error_kind}
 use Rattle.std.specs.declared.io.Error.{Error}
 use Rattle.std.specs.declared.io.ErrorKind.TheVariants.{OutOfMemory}
-use Rattle.zh_world.specs.Count.{number}
-use Rattle.zh_world.specs.Places.{Standing, bytes_of}
-use Rattle.zh_world.specs.Places.Standing.{nothing, file, other}
+use Rattle.zh_film.specs.Past.{number}
+use Rattle.zh_file.specs.Places.{Standing, bytes_of}
+use Rattle.zh_file.specs.Places.Standing.{nothing, file, other}
 use Rattle.zh_file.specs.Folder.{Folders}
-use Rattle.zh_file.specs.declared.memory.Stood.{Stood}
-use Rattle.zh_file.specs.declared.memory.Stood.TheVariants as stood
-use Rattle.zh_file.specs.declared.memory.Placed.{Placed}
-use Rattle.zh_file.specs.declared.memory.MemoryFolder.{MemoryFolder}
+use Rattle.zh_file.specs.declared.memory_folder.Stood.{Stood}
+use Rattle.zh_file.specs.declared.memory_folder.Stood.TheVariants as stood
+use Rattle.zh_file.specs.declared.memory_folder.Placed.{Placed}
+use Rattle.zh_file.specs.declared.memory_folder.MemoryFolder.{MemoryFolder}
 
 abbrev pub stood_as : Stood → Standing
 stood_as (stood.File bytes) = file bytes.items

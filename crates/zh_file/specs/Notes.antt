@@ -1,8 +1,8 @@
 -- What is noted of a folder: the calls that failed, and the files that were unlocked.
 use Rattle.std.specs.Prelude.{List, [], ◌∷◌, ◌++◌}
 use Rattle.sqlite_disk.specs.declared.Disk.{Ghosts}
-use Rattle.zh_world.specs.Failures.{FailedCall, failed_call}
-use Rattle.zh_world.specs.Past.{items}
+use Rattle.zh_file.specs.Failures.{FailedCall, failed_call}
+use Rattle.zh_film.specs.Past.{items}
 use Rattle.zh_file.specs.Locked.{noted_all, setbacks_of}
 use Rattle.zh_file.specs.declared.notes.Note.{Note}
 use Rattle.zh_file.specs.declared.notes.Note.TheVariants.{Failed, Unlocked}

@@ -2,13 +2,13 @@
 use Rattle.std.specs.Prelude.{◌≡◌, ◌≢◌, ◌⊎◌, ◌<◌, ◌+◌, ℕ, Bool, IsTrue, List, Result, IfOk, IfErr}
 use Rattle.zh_disk.specs.Disk.{disk_length}
 use Rattle.zh_disk.specs.History.{History}
-use Rattle.zh_world.specs.Causes.{IsCauseAt, IsLength}
-use Rattle.zh_world.specs.Files.{BeginsWith}
-use Rattle.zh_world.specs.Places.{Places, Standing, bytes_of, found_at, TouchesOnly}
-use Rattle.zh_world.specs.Places.Standing.{file, folder, other}
+use Rattle.zh_file.specs.Causes.{IsCauseAt, IsLength}
+use Rattle.zh_file.specs.Files.{BeginsWith}
+use Rattle.zh_file.specs.Places.{Places, Standing, bytes_of, found_at, TouchesOnly}
+use Rattle.zh_file.specs.Places.Standing.{file, folder, other}
 use Rattle.zh_file.specs.Folder.{Folders}
-use Rattle.zh_world.specs.declared.fault.FileFault.{FileFault}
-use Rattle.zh_world.specs.declared.fault.FileFault.TheVariants as faults
+use Rattle.zh_file.specs.declared.fault.FileFault.{FileFault}
+use Rattle.zh_file.specs.declared.fault.FileFault.TheVariants as faults
 
 -- everything stands where it stood
 pub record AreSame (old new : Places) : Type 0 where

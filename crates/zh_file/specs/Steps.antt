@@ -1,16 +1,16 @@
 -- What the steps of an opening leave, for those that follow.
 use Rattle.std.specs.Prelude.{◌≡◌, ◌≢◌, ◌⊎◌, ◌<◌, ◌≤◌, ◌+◌, ℕ, List, [], Bool, IsTrue, Result, IfOk, IfErr, length}
 use Rattle.zh_disk.specs.Disk.{disk_length}
-use Rattle.zh_world.specs.Failures.{FailedCall, FailsBetween}
-use Rattle.zh_world.specs.Places.{Places, companion_of, found_at}
-use Rattle.zh_world.specs.Places.Standing.{file, nothing}
+use Rattle.zh_file.specs.Failures.{FailedCall, FailsBetween}
+use Rattle.zh_file.specs.Places.{Places, companion_of, found_at}
+use Rattle.zh_file.specs.Places.Standing.{file, nothing}
 use Rattle.zh_file.specs.Folder.{Folders, MakesBoth}
 use Rattle.zh_file.specs.Opening.{IsNoFile}
-use Rattle.zh_world.specs.Causes.{IsCauseAt, IsLength}
-use Rattle.zh_world.specs.declared.fault.FileCause.{FileCause}
-use Rattle.zh_world.specs.declared.fault.FileCause.TheVariants as causes
-use Rattle.zh_world.specs.declared.fault.FileFault.{FileFault}
-use Rattle.zh_world.specs.declared.fault.FileFault.TheVariants as faults
+use Rattle.zh_file.specs.Causes.{IsCauseAt, IsLength}
+use Rattle.zh_file.specs.declared.fault.FileCause.{FileCause}
+use Rattle.zh_file.specs.declared.fault.FileCause.TheVariants as causes
+use Rattle.zh_file.specs.declared.fault.FileFault.{FileFault}
+use Rattle.zh_file.specs.declared.fault.FileFault.TheVariants as faults
 
 -- no lock was refused, and no failure is forgotten
 pub record GoesAhead (old new : Folders) : Type 0 where

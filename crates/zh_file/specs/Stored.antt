@@ -1,13 +1,28 @@
 -- What a stored disk holds and has held.
-use Rattle.std.specs.Prelude.{◌≡◌, ◌+◌, ◌⊎◌, Bool, true, false, ℕ, IsTrue, List, Result, IsErr, OnOk, OnErr}
+use Rattle.std.specs.Prelude.{◌≡◌, ◌+◌, ◌⊎◌, Bool, true, false, ℕ, IsTrue, List, Result, IsErr, OnOk, OnErr, length, map, slice_index}
 use Rattle.sqlite_disk.specs.Disk.{MoreFaults}
 use Rattle.sqlite_disk.specs.declared.Disk.{Ghosts}
 use Rattle.zh_disk.specs.declared.disk.DiskFault.{DiskFault}
 use Rattle.zh_disk.specs.History.{History}
+use Rattle.zh_disk.specs.Disk.{Moment, Trail, disk_length}
+use Rattle.zh_film.specs.Past.{items}
+use Rattle.zh_film.specs.declared.past.Past.{Past}
 use Rattle.zh_file.specs.declared.stored.Stored.{Stored}
-use Rattle.zh_file.specs.Held.{file_trail}
 use Rattle.zh_file.specs.Locked.{IsLeftAt}
-use Rattle.zh_world.specs.Past.{items}
+use Rattle.zh_file.specs.declared.stored.HeldFile.{HeldFile}
+
+-- what a read gives, and the ranges that were written since the last sync
+abbrev pub moment : {D : Type 0} → (D → List ℕ) → HeldFile D → Moment
+moment seen h = record { bytes = seen h.file; pending = items h.written }
+
+-- now and before
+abbrev pub file_trail : {D : Type 0} → (D → List ℕ) → HeldFile D → Past (HeldFile D) → Trail
+file_trail seen h before = record { now = moment seen h; past = map (moment seen) (items before) }
+
+-- the bytes of a new disk: zeros
+pub record IsZeroed (bytes : List ℕ) : Type 0 where
+  pub size : length bytes ≡ disk_length
+  pub zero : (k : ℕ) → slice_index bytes k ≡ 0
 
 module _ {D : Type 0} {g : Ghosts D} where
   -- what its file was at each moment before it began to be a disk, the latest first

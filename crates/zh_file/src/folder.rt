@@ -1,9 +1,8 @@
 //! What is done at paths: each is one call.
 ghost use Rattle.std.specs.Prelude.{◌≡◌, ℕ, List, Option, IfOk, IfSome, string_bytes};
-ghost use Rattle.zh_world.specs.Failures.{FailedCall};
-ghost use Rattle.zh_world.specs.Places.{IfKnown, companion_of, found_at};
-ghost use Rattle.zh_world.specs.Places.Standing.{nothing};
-ghost use Rattle.zh_file.specs.Faults.{asked_with, locked_with};
+ghost use Rattle.zh_file.specs.Failures.{FailedCall, asked_with, locked_with};
+ghost use Rattle.zh_file.specs.Places.{IfKnown, companion_of, found_at};
+ghost use Rattle.zh_file.specs.Places.Standing.{nothing};
 ghost use Rattle.zh_file.specs.Folder.{AsksForText, LooksAt, ActsAt, Folders, IsEmptyFile, IsKind, LeavesRest, Locks, Makes, Removes};
 ghost use Rattle.zh_file.specs.Folder.{SaysWhy, Unlocks, bytes_known, noted_at};
 ghost use Rattle.zh_file.specs.Locked.{IsJustLocked, IsLeftOf, noted_all, setbacks_of};

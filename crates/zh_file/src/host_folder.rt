@@ -1,22 +1,24 @@
 //! The folders of the operating system.
-ghost use Rattle.std.specs.Prelude.{◌≡◌, Some, None};
+ghost use Rattle.std.specs.Prelude.{◌≡◌, Some, None, false};
+ghost use Rattle.sqlite_disk.specs.Events.{replay};
+ghost use Rattle.sqlite_disk.specs.Modelled.{calls_of, is_log};
+ghost use Rattle.zh_film.specs.Past.{items, number};
 ghost use Rattle.zh_file.specs.Folder.{Unlocks};
 ghost use Rattle.zh_file.specs.Locked.{IsLeftOf, IsLeftOfOne, noted_all, setbacks_of};
 ghost use Rattle.zh_file.specs.Notes.{failed_among, unlocked_among};
-ghost use Rattle.zh_world.specs.Count.{number};
-ghost use Rattle.zh_world.specs.Past.{items};
+ghost use Rattle.zh_file.specs.Stored.{stored_file, stored_history};
 
 use crate::FileOf;
 use crate::folder::{Folder, Found};
 use crate::notes::{Note, note_call, note_lock, note_unlocked};
-use crate::stored::Locked;
-use sqlite_disk::Disk;
-use sqlite_std_file::{OpenError, Start};
+use crate::stored::{Locked, Stored};
+use sqlite_disk::{Calls, Disk};
+use sqlite_std_file::{Host, OpenError, Start};
 use std::fs::{self, File, OpenOptions};
 use std::io::{self, ErrorKind};
 use std::marker::PhantomData;
 use std::os::unix::fs::OpenOptionsExt;
-use zh_world::{CallCount, Past};
+use zh_film::Past;
 
 /// The folders of the operating system. That each method does what [`Folder`] says is believed: the clauses are proved for
 /// every folder, and of this one no content is known.
@@ -28,7 +30,7 @@ pub struct HostFolder<'a, S: Start> {
     // the calls that failed, and the files that were unlocked, which only clauses read
     notes: Past<Note<FileOf<S>>>,
     // how often a text was asked for
-    asked: CallCount,
+    asked: Past<()>,
     content: PhantomData<S>,
 }
 
@@ -38,7 +40,7 @@ impl<'a, S: Start> HostFolder<'a, S> {
         HostFolder {
             rt,
             notes: Past::new(),
-            asked: CallCount::new(),
+            asked: Past::new(),
             content: PhantomData,
         }
     }
@@ -152,4 +154,12 @@ impl<S: Start> Folder for HostFolder<'_, S> {
     {
         note_unlocked(&mut self.notes, path, locked);
     }
+}
+
+/// It is honest exactly as long as the calls of its file, with their answers, are those of a file that held what `S` says.
+pub fn honest_as_replayed<S: Start>(disk: &Stored<FileOf<S>>)
+    ensures { is_log (stored_file disk.now) ≡ false → (stored_history disk.now).honest
+        ≡ (replay S.Start.db (⟦<Host as Calls>⟧.history (calls_of (stored_file disk.now)))).is_honest }
+{
+    let _ = disk;
 }

@@ -2,21 +2,20 @@
 ghost use Rattle.std.specs.Prelude.{◌≡◌, ◌↔◌, ◌⊎◌, ℕ, List, length, false, IfErr, IfOk, IfSome, IsTrue};
 ghost use Rattle.sqlite_disk.specs.Disk.{Only};
 ghost use Rattle.zh_disk.specs.Disk.{disk_length, fresh_trail};
-ghost use Rattle.zh_world.specs.Failures.{ForgetsNone, Meets};
-ghost use Rattle.zh_world.specs.Files.{BeginsWith, IsAsFound, IsFilling, LeavesOf};
-ghost use Rattle.zh_world.specs.Places.{IfKnown, companion_of};
+ghost use Rattle.zh_file.specs.Failures.{ForgetsNone, Meets};
+ghost use Rattle.zh_file.specs.Files.{BeginsWith, IsAsFound, IsFilling, LeavesOf};
+ghost use Rattle.zh_file.specs.Places.{IfKnown, companion_of};
 ghost use Rattle.zh_file.specs.Folder.{LeavesRest};
 ghost use Rattle.zh_file.specs.Locked.{IsJustLocked, IsLeftOf};
 ghost use Rattle.zh_file.specs.Opening.{HasFailed, OpensDisk, OpensOrMakesDisk};
 ghost use Rattle.zh_file.specs.Steps.{IsRidOfCompanion, IsUnfit, IsUnstarted, LeavesCompanion, Measures, TakesLock};
 ghost use Rattle.zh_file.specs.Stored.{IsLeftOpening, stored_history, is_over, IsWhole};
 
-use crate::fault::{fault_of_found, fault_of_opening};
+use crate::fault::{FileCause, FileFault, fault_of_found, fault_of_opening};
 use crate::folder::{Folder, Found};
 use crate::stored::{Locked, Stored};
 use std::io;
 use zh_disk::DISK_LENGTH;
-use zh_world::{FileCause, FileFault};
 
 /// Opens the file at this path, which has [`DISK_LENGTH`] bytes, for this program alone.
 pub fn open<F: Folder>(

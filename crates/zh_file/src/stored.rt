@@ -1,27 +1,25 @@
 //! A disk over a file, as the trait of files has it.
 mod locked;
 
-ghost use Rattle.std.specs.Prelude.{◌≡◌, ◌≤◌, ◌+◌, ◌||◌, ℕ, List, length, slice_index, true, false, is_ok, is_err};
-ghost use Rattle.std.specs.Prelude.{IsTrue, IsErr};
+ghost use Rattle.std.specs.Prelude.{◌≡◌, ◌≤◌, ◌+◌, ◌||◌, ℕ, List, length, slice_index, true, false, is_ok, is_err, IsTrue, IsErr};
 ghost use Rattle.std.proofs.Common.{sym, ◌∙◌};
 ghost use Rattle.zh_disk.specs.declared.disk.TheConstants.{DISK_LENGTH};
 ghost use Rattle.zh_disk.specs.Disk.{IsSettled, Reads, Writes, Syncs};
 ghost use Rattle.zh_disk.specs.History.{Call, Counts};
-ghost use Rattle.zh_file.specs.Ranges.{pairs};
+ghost use Rattle.zh_film.specs.Past.{items};
 
-use crate::ranges::Ranges;
 pub use locked::Locked;
 use sqlite_disk::Disk as File;
 use std::io;
 use std::snapshot::Snapshot;
 use zh_disk::{DISK_LENGTH, Disk, DiskFault};
-use zh_world::Past;
+use zh_film::Past;
 
 /// A file, and the ranges that were written since its last sync, which only clauses read.
 #[derive(Drop)]
 pub(crate) struct HeldFile<D: File> {
     pub(crate) file: D,
-    pub(crate) written: Ranges,
+    pub(crate) written: Past<(u64, usize)>,
 }
 
 /// A disk over a file. Once a write or a sync has failed each call fails, and nothing more is asked of
@@ -43,7 +41,7 @@ pub struct Stored<D: File> {
     // a stop may leave nothing else than the images of the moment
     ghost sizes: { IsTrue (D.is_clean held.file) → (c : List ℕ) → D.may_leave held.file c → length c ≡ DISK_LENGTH },
     ghost same: { IsTrue (D.is_clean held.file) → (c : List ℕ) → D.may_leave held.file c → (k : ℕ)
-        → IsSettled (pairs held.written) k → slice_index c k ≡ slice_index (D.seen held.file) k },
+        → IsSettled (items held.written) k → slice_index c k ≡ slice_index (D.seen held.file) k },
     ghost unrefused: { is_over ≡ false → refusals ≡ 0 },
 }
 
@@ -99,7 +97,7 @@ impl<D: File> Disk for Stored<D> {
         }
         self.before.push(Snapshot::of(&self.held));
         let done = self.held.file.write_at(at as usize, from);
-        self.held.written.push(at, from.len());
+        self.held.written.push(Snapshot::of(&(at, from.len())));
         self.is_over = done.is_err();
         reported(done)
     }
@@ -116,7 +114,7 @@ impl<D: File> Disk for Stored<D> {
         let done = self.held.file.sync();
         if done.is_ok() {
             self.before.push(before);
-            self.held.written = Ranges::new();
+            self.held.written = Past::new();
         } else {
             self.is_over = true;
         }

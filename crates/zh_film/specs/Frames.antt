@@ -4,10 +4,11 @@ use Rattle.std.specs.declared.io.traits.Read.{Ghosts as Readers}
 use Rattle.std.specs.declared.io.traits.Write.{Ghosts as Writers}
 use Rattle.zh_disk.specs.Disk.{Trail}
 use Rattle.zh_disk.specs.declared.disk.Disk.{Ghosts as Disks}
-use Rattle.zh_film.specs.Scenes.{Scene, scenes}
+use Rattle.zh_film.specs.Scenes.{scenes}
 use Rattle.zh_film.specs.declared.kind.FrameKind.{FrameKind}
 use Rattle.zh_film.specs.declared.kind.FrameKind.TheVariants.{Asks, Between, Ended, Failed}
 use Rattle.zh_film.specs.declared.film.Film.{Film}
+use Rattle.zh_film.specs.declared.film.Scene.{Scene}
 
 -- at one time: what the input has left, what is written, if that is known, and the disk
 pub record Frame : Type 0 where
@@ -24,9 +25,9 @@ module _ {R W D : Type 0} where
   abbrev pub frame_of : Readers R → Writers W → Disks D → Scene R W D → Frame
   frame_of readers writers disks s = record {
     kind = s.kind;
-    left = readers.remaining s.reader;
-    written = writers.contents s.writer;
-    disk = (disks.history s.disk).trail;
+    left = readers.remaining s.reader.value;
+    written = writers.contents s.writer.value;
+    disk = (disks.history s.disk.value).trail;
   }
 
   -- the latest first

@@ -1,28 +1,30 @@
 -- What a film shows.
-use Rattle.std.specs.Prelude.{List, map}
-use Rattle.zh_film.specs.Reel.{shots_on}
+use Rattle.std.specs.Prelude.{ℕ, ◌==◌, if◌then◌else◌, List, Result, Ok, Err}
+use Rattle.zh_film.specs.Past.{items}
 use Rattle.zh_film.specs.declared.kind.FrameKind.{FrameKind}
+use Rattle.zh_film.specs.declared.kind.FrameKind.TheVariants.{Between, Ended, Failed}
 use Rattle.zh_film.specs.declared.film.Film.{Film}
-use Rattle.zh_film.specs.declared.film.Shot.{Shot}
+use Rattle.zh_film.specs.declared.film.Scene.{Scene}
 
--- a reader, a writer and a disk at one time
-pub record Scene (R W D : Type 0) : Type 0 where
-  pub kind : FrameKind
-  pub reader : R
-  pub writer : W
-  pub disk : D
+-- what is noted after a read: that it failed, or that it gave no byte, which is the end, or neither
+abbrev pub kind_after : {E : Type 0} → Result ℕ E → FrameKind
+kind_after (Ok count) = if count == 0 then Ended else Between
+kind_after (Err fault) = Failed
 
 module _ {R W D : Type 0} where
+  -- a reader, a writer and a disk at one time
   abbrev pub scene : FrameKind → R → W → D → Scene R W D
-  scene kind reader writer disk = record { kind = kind; reader = reader; writer = writer; disk = disk }
-
-  abbrev pub scene_of : Shot R W D → Scene R W D
-  scene_of shot = scene shot.kind shot.reader.value shot.writer.value shot.disk.value
+  scene kind reader writer disk = record {
+    kind = kind;
+    reader = record { marker = record {}; value = reader };
+    writer = record { marker = record {}; value = writer };
+    disk = record { marker = record {}; value = disk };
+  }
 
   -- the latest first
   abbrev pub scenes : Film R W D → List (Scene R W D)
-  scenes film = map scene_of (shots_on film.shots)
+  scenes film = items film.scenes
 
   -- what the reads that it made gave, the latest first
   abbrev pub answers_noted : Film R W D → List FrameKind
-  answers_noted film = shots_on film.answers
+  answers_noted film = items film.answers

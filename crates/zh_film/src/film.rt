@@ -1,24 +1,47 @@
-//! A film.
+//! A film: what a reader, a writer and a disk were, time after time.
 ghost use Rattle.std.specs.Prelude.{◌≡◌, ◌∷◌, []};
 ghost use Rattle.std.specs.Io.{ReadsAtMost};
 ghost use Rattle.std.specs.Io.KnownBytes.{ReadConsumes};
-ghost use Rattle.zh_film.specs.Answer.{kind_after};
-ghost use Rattle.zh_film.specs.Scenes.{answers_noted, scene, scenes};
+ghost use Rattle.zh_film.specs.Past.{items};
+ghost use Rattle.zh_film.specs.Scenes.{answers_noted, kind_after, scene, scenes};
 
-use crate::answer::{ask, kind_after};
 use crate::kind::FrameKind;
-use crate::reel::Reel;
+use crate::past::Past;
 use std::io;
 use std::io::Read;
 use std::snapshot::Snapshot;
 
+/// What is noted after a read that gave this.
+fn kind_after(given: &io::Result<usize>) -> FrameKind
+    ensures { result ≡ kind_after given.now }
+{
+    match given {
+        Ok(0) => FrameKind::Ended,
+        Ok(_) => FrameKind::Between,
+        Err(_) => FrameKind::Failed,
+    }
+}
+
+/// Reads once, and notes what that gave. That it is once, and that it gives what the reader gave, has to be believed: no
+/// clause of a reader speaks of it.
+fn ask<R: Read>(reader: &mut R, into: &mut [u8], answers: &mut Past<FrameKind>) -> io::Result<usize>
+    ensures bound { ReadsAtMost result into.new }
+    ensures bytes { ReadConsumes (R.remaining reader.old) (R.remaining reader.new) result into.new }
+    ensures noted { items answers.new ≡ kind_after result ∷ items answers.old }
+{
+    let given = reader.read(into);
+    let kind = kind_after(&given);
+    answers.push(Snapshot::of(&kind));
+    given
+}
+
 /// What a reader, a writer and a disk were at one time.
 #[derive(Drop)]
-pub(crate) struct Shot<R, W, D> {
-    pub(crate) kind: FrameKind,
-    pub(crate) reader: Snapshot<R>,
-    pub(crate) writer: Snapshot<W>,
-    pub(crate) disk: Snapshot<D>,
+struct Scene<R, W, D> {
+    kind: FrameKind,
+    reader: Snapshot<R>,
+    writer: Snapshot<W>,
+    disk: Snapshot<D>,
 }
 
 /// What a reader, a writer and a disk were, time after time.
@@ -27,8 +50,8 @@ pub(crate) struct Shot<R, W, D> {
 /// and shows none that was not.
 #[derive(Drop)]
 pub struct Film<R, W, D> {
-    shots: Reel<Shot<R, W, D>>,
-    answers: Reel<FrameKind>,
+    scenes: Past<Scene<R, W, D>>,
+    answers: Past<FrameKind>,
 }
 
 impl<R, W, D> Film<R, W, D> {
@@ -37,8 +60,8 @@ impl<R, W, D> Film<R, W, D> {
         ensures { scenes result ≡ [] }
     {
         Film {
-            shots: Reel::new(),
-            answers: Reel::new(),
+            scenes: Past::new(),
+            answers: Past::new(),
         }
     }
 
@@ -54,13 +77,13 @@ impl<R, W, D> Film<R, W, D> {
         ensures noted { scenes self.new ≡ scene kind reader.now writer.now disk.now ∷ scenes self.old }
         ensures unasked { answers_noted self.new ≡ answers_noted self.old }
     {
-        let shot = Shot {
+        let scene = Scene {
             kind,
             reader: Snapshot::of(reader),
             writer: Snapshot::of(writer),
             disk: Snapshot::of(disk),
         };
-        self.shots.push(Snapshot::of(&shot));
+        self.scenes.push(Snapshot::of(&scene));
     }
 
     /// Reads once, and notes what the three are before the read and after it. A read that gives no byte is noted as the end.

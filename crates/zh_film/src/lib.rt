@@ -1,10 +1,10 @@
-//! A film of a conversation, which only clauses read: what a reader, a writer and a disk were, time after time.
+//! What only clauses read: a list of what was, and a film of a conversation.
 #![tactic(auto)]
 
-mod answer;
 mod film;
 mod kind;
-mod reel;
+mod past;
 
 pub use film::Film;
 pub use kind::FrameKind;
+pub use past::Past;

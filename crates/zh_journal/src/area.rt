@@ -1,21 +1,20 @@
-//! An area of records.
-ghost use Rattle.std.specs.Prelude.{◌≡◌, ◌+◌, ◌↔◌, ◌<◌, ◌≤◌, ℕ, length, slice_index};
-ghost use Rattle.std.specs.Prelude.{IfOk, OnOk, OnErr, IsErrOf, is_err};
+//! An area of records: a write-ahead log, in which each record counts from the moment that its gate is open.
+ghost use Rattle.std.specs.Prelude.{◌≡◌, ◌+◌, ◌↔◌, ◌<◌, ◌≤◌, ℕ, length, slice_index, IfOk, OnOk, OnErr, IsErrOf, is_err, List, IfSome};
+ghost use Rattle.std.specs.Prelude.{IfNone};
 ghost use Rattle.zh_disk.specs.Disk.{Asks};
 ghost use Rattle.zh_disk.specs.History.{Call};
 ghost use Rattle.zh_disk.specs.declared.disk.TheConstants.{DISK_LENGTH};
 ghost use Rattle.zh_journal.specs.Calls.{FindsArea, GivesPayload, Appends, Clears};
 ghost use Rattle.zh_journal.specs.Faults.{area_append_fails, area_open_fails};
-ghost use Rattle.zh_journal.specs.Pages.{pages_of};
+ghost use Rattle.zh_journal.specs.Pages.{pages_of, ReadsRecords};
 ghost use Rattle.zh_journal.specs.Place.{pages_left, grown};
+ghost use Rattle.zh_journal.specs.declared.page.TheConstants.{AREA_LENGTH, AREA_PAGES};
 
-use crate::extent::extent_of;
 use crate::fault::{AppendFault, AreaFault, OpenFault};
 use crate::gate::open_gate;
-use crate::page::{AREA_LENGTH, AREA_PAGES, LONGEST_PAYLOAD, PAGE_LENGTH, pages_of};
+use crate::page::{AREA_LENGTH, AREA_PAGES, Head, LONGEST_PAYLOAD, PAGE_LENGTH, head_at, pages_of};
 use crate::reader::Reader;
-use crate::record_reader::{find_page, read_record};
-use crate::record_writer::stage;
+use crate::record::{find_page, read_record, stage};
 use std::marker::Model;
 use zh_disk::Disk;
 
@@ -152,4 +151,35 @@ impl Area {
             count: 0,
         })
     }
+}
+
+/// The page at which the records end, and their number.
+#[derive(Clone, Copy)]
+pub(crate) struct Extent {
+    pub(crate) end: u32,
+    pub(crate) count: u32,
+}
+
+/// How far the records of these pages go, or nothing where a page is damaged.
+pub(crate) fn extent_of(pages: &[u8]) -> Option<Extent>
+    requires { length pages.now ≡ AREA_LENGTH }
+
+    ensures found { IfSome result (λ extent. (rs : List (List ℕ))
+        × ReadsRecords 0 pages.now rs extent.end × (length rs ≡ extent.count)) }
+    ensures within { IfSome result (λ extent. (extent.end ≤ AREA_PAGES) × (extent.count ≤ extent.end)) }
+    ensures damaged { IfNone result ((rs : List (List ℕ)) (j : ℕ) → ReadsRecords 0 pages.now rs j → ⊥) }
+{
+    let mut end = 0;
+    let mut count = 0;
+    while end < AREA_PAGES {
+        match head_at(pages, PAGE_LENGTH as usize * end as usize, AREA_PAGES - end) {
+            Head::Closed => break,
+            Head::Damaged => return None,
+            Head::Record(len) => {
+                end += pages_of(len);
+                count += 1;
+            }
+        }
+    }
+    Some(Extent { end, count })
 }

@@ -5,14 +5,11 @@
 #![tactic(auto)]
 
 mod area;
-mod extent;
 mod fault;
 mod gate;
-mod head;
 mod page;
 mod reader;
-mod record_reader;
-mod record_writer;
+mod record;
 
 pub use area::Area;
 pub use fault::{AppendFault, AreaFault, OpenFault};

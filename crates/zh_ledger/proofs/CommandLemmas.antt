@@ -8,7 +8,7 @@ use Rattle.zh_disk.proofs.CallerLemmas.{leaves_none}
 use Rattle.zh_districts.specs.Canton.{Canton}
 use Rattle.zh_returns.specs.Step.{after}
 use Rattle.zh_returns.specs.Tally.{Tally, empty}
-use Rattle.zh_records.specs.declared.command.Command.{Command}
+use Rattle.zh_returns.specs.declared.command.Command.{Command}
 use Rattle.zh_ledger.specs.Ledger.{Ledger}
 use Rattle.zh_ledger.specs.Stands.{HoldsLedger}
 use Rattle.zh_ledger.specs.Images.{HasSome, ComesToHave}

@@ -3,9 +3,9 @@ use Rattle.std.proofs.Common.{◌≡◌, ℕ, zero, suc, ◌+◌, ◌≤◌, Lis
 use Rattle.zh_returns.specs.Judgement.{judge}
 use Rattle.zh_returns.specs.Step.{step, after, changed, on_verdict}
 use Rattle.zh_returns.specs.Tally.{Tally}
-use Rattle.zh_records.specs.declared.command.Command.{Command}
-use Rattle.zh_returns.specs.declared.verdict.Verdict.{Verdict}
-use Rattle.zh_returns.specs.declared.verdict.Verdict.TheVariants as verdicts
+use Rattle.zh_returns.specs.declared.command.Command.{Command}
+use Rattle.zh_returns.specs.declared.judgement.Verdict.{Verdict}
+use Rattle.zh_returns.specs.declared.judgement.Verdict.TheVariants as verdicts
 use Rattle.zh_ledger.specs.Ledger.{Ledger, Becomes, MayResultWhere, MayFollow}
 use Rattle.zh_ledger.specs.Submissions.{OnDisk, Log, nothing, followed_by, logged, Submits}
 use Rattle.zh_ledger.specs.declared.outcome.Outcome.{Outcome}

@@ -8,14 +8,14 @@ use Rattle.zh_disk.specs.Disk.{Trail, Moves, Leaves}
 use Rattle.zh_disk.proofs.CallerLemmas.{leaves_weaken}
 use Rattle.zh_journal.specs.Pages.{pages_of}
 use Rattle.zh_returns.specs.Judgement.{judge}
-use Rattle.zh_records.specs.Spelling.{command_spelling, IsSpeakable}
+use Rattle.zh_returns.specs.Spelling.{command_spelling, IsSpeakable}
 use Rattle.zh_returns.specs.Step.{step, after, changed, on_verdict}
 use Rattle.zh_returns.specs.Tally.{Tally}
-use Rattle.zh_records.specs.declared.command.Command.{Command}
-use Rattle.zh_records.specs.declared.format.Format.{Format}
-use Rattle.zh_records.specs.declared.format.Format.TheVariants.{Two}
-use Rattle.zh_returns.specs.declared.verdict.Verdict.{Verdict}
-use Rattle.zh_returns.specs.declared.verdict.Verdict.TheVariants.{Accept}
+use Rattle.zh_returns.specs.declared.command.Command.{Command}
+use Rattle.zh_returns.specs.declared.command.Format.{Format}
+use Rattle.zh_returns.specs.declared.command.Format.TheVariants.{Two}
+use Rattle.zh_returns.specs.declared.judgement.Verdict.{Verdict}
+use Rattle.zh_returns.specs.declared.judgement.Verdict.TheVariants.{Accept}
 use Rattle.zh_snapshot.specs.Image.{Content, IsClean, with_record}
 use Rattle.zh_snapshot.specs.Calls.{StoreAppends}
 use Rattle.zh_snapshot.specs.Store.{State, StoreAdds, StoreAddsOrNot, longer}

@@ -4,8 +4,8 @@ use Rattle.zh_disk.specs.declared.disk.DiskFault.{DiskFault}
 use Rattle.zh_disk.specs.Disk.{Moment, Trail, IsImage, AllMove, Leaves, Lands, settled}
 use Rattle.zh_disk.proofs.CallerLemmas.{image_now, leaves_none, leaves_join, leaves_weaken}
 use Rattle.zh_districts.specs.Canton.{Canton}
-use Rattle.zh_records.specs.declared.format.Format.{Format}
-use Rattle.zh_records.specs.declared.format.Format.TheVariants.{One, Two}
+use Rattle.zh_returns.specs.declared.command.Format.{Format}
+use Rattle.zh_returns.specs.declared.command.Format.TheVariants.{One, Two}
 use Rattle.zh_returns.specs.Limits.{IsTally}
 use Rattle.zh_returns.specs.Payload.{payload_spelling}
 use Rattle.zh_returns.specs.Tally.{Tally}

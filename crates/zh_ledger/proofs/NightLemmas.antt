@@ -4,7 +4,7 @@ use Rattle.std.specs.Prelude.{IfSome, IsTrue}
 use Rattle.zh_disk.specs.Disk.{Moment}
 use Rattle.zh_districts.specs.Canton.{Canton}
 use Rattle.zh_returns.specs.Tally.{empty}
-use Rattle.zh_records.specs.declared.command.Command.{Command}
+use Rattle.zh_returns.specs.declared.command.Command.{Command}
 use Rattle.zh_ledger.specs.Ledger.{Ledger}
 use Rattle.zh_ledger.specs.Images.{HasSome}
 use Rattle.zh_ledger.specs.Opening.{IsCause}

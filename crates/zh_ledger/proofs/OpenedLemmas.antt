@@ -10,8 +10,8 @@ use Rattle.zh_journal.specs.Pages.{Frames}
 use Rattle.zh_journal.specs.Place.{Rest}
 use Rattle.zh_disk.proofs.CallerLemmas.{not_err, synced_image}
 use Rattle.zh_returns.specs.Limits.{IsTally}
-use Rattle.zh_records.specs.declared.format.Format.{Format}
-use Rattle.zh_records.specs.declared.format.Format.TheVariants.{Two}
+use Rattle.zh_returns.specs.declared.command.Format.{Format}
+use Rattle.zh_returns.specs.declared.command.Format.TheVariants.{Two}
 use Rattle.zh_returns.specs.Payload.{payload_spelling, format_byte, IsPayload}
 use Rattle.zh_returns.specs.Tally.{Tally, empty}
 use Rattle.zh_snapshot.specs.Calls.{ComparesSetup}
@@ -24,8 +24,8 @@ use Rattle.zh_snapshot.specs.declared.fault.FormatFault.{FormatFault}
 use Rattle.zh_snapshot.proofs.CallerLemmas.{before, framed_once}
 use Rattle.zh_ledger.specs.Opened.{IsNew, IsDamaged, AwaitsReplay, IsWrong}
 use Rattle.zh_ledger.specs.Opening.{MakesNew, ReadsCount}
-use Rattle.zh_ledger.specs.declared.fault.OpenFault.{OpenFault}
-use Rattle.zh_ledger.specs.declared.fault.OpenFault.TheVariants as faults
+use Rattle.zh_ledger.specs.declared.opening.OpenFault.{OpenFault}
+use Rattle.zh_ledger.specs.declared.opening.OpenFault.TheVariants as faults
 use Rattle.zh_ledger.specs.Stands.{StandsFor, Replays}
 use Rattle.zh_ledger.proofs.ReplayLemmas.{replays_none}
 

@@ -7,7 +7,7 @@ use Rattle.zh_disk.proofs.CallerLemmas.{leaves_none}
 use Rattle.zh_districts.specs.Canton.{Canton}
 use Rattle.zh_districts.specs.Spelling.{setup_spelling}
 use Rattle.zh_journal.specs.Place.{Rest}
-use Rattle.zh_records.specs.declared.format.Format.{Format}
+use Rattle.zh_returns.specs.declared.command.Format.{Format}
 use Rattle.zh_returns.specs.Tally.{Tally}
 use Rattle.zh_snapshot.specs.Calls.{FindsStore, OpensStore}
 use Rattle.zh_snapshot.specs.Faults.{store_open_fails}
@@ -20,8 +20,8 @@ use Rattle.zh_ledger.specs.Kept.{ledger_in}
 use Rattle.zh_ledger.specs.Ledger.{Ledger}
 use Rattle.zh_ledger.specs.Opened.{AwaitsReplay, Differs, IsDamaged, IsReady, IsWrong, HoldsLedgerFramed}
 use Rattle.zh_ledger.specs.Opening.{IsAtRest, IsCause, MayLeave, MigratesFrom, Opening, Opens, ReadsCount}
-use Rattle.zh_ledger.specs.declared.fault.OpenFault.{OpenFault}
-use Rattle.zh_ledger.specs.declared.fault.OpenFault.TheVariants as faults
+use Rattle.zh_ledger.specs.declared.opening.OpenFault.{OpenFault}
+use Rattle.zh_ledger.specs.declared.opening.OpenFault.TheVariants as faults
 use Rattle.zh_ledger.proofs.MigrationLemmas.{reads_alone, reads_then}
 use Rattle.zh_ledger.proofs.OpenedLemmas.{damaged_all, damaged_one, left_there}
 

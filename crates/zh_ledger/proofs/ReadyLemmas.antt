@@ -2,13 +2,13 @@
 use Rattle.std.proofs.Common.{◌≡◌, inl, ⊎_elim, ℕ, true, refl, sym, ◌∙◌, subst, Ok, Err}
 use Rattle.zh_disk.specs.Disk.{Trail, Moves, Leaves}
 use Rattle.zh_disk.proofs.CallerLemmas.{leaves_join, leaves_none, leaves_weaken}
-use Rattle.zh_records.specs.declared.command.Command.{Command}
-use Rattle.zh_records.specs.declared.format.Format.TheVariants.{Two}
-use Rattle.zh_records.specs.Spelling.{IsSpeakable}
+use Rattle.zh_returns.specs.declared.command.Command.{Command}
+use Rattle.zh_returns.specs.declared.command.Format.TheVariants.{Two}
+use Rattle.zh_returns.specs.Spelling.{IsSpeakable}
 use Rattle.zh_snapshot.specs.declared.fault.SwitchFault.{SwitchFault}
 use Rattle.zh_ledger.specs.declared.outcome.Outcome.{Outcome}
 use Rattle.zh_ledger.specs.declared.outcome.Outcome.TheVariants.{Device}
-use Rattle.zh_ledger.specs.Ledger.{Ledger, StoredOrDevice, IsFaulted, Becomes, has_room, ready}
+use Rattle.zh_ledger.specs.Ledger.{Ledger, StoredOrDevice, Breaks, Becomes, has_room, ready}
 use Rattle.zh_ledger.specs.Stands.{HoldsLedger}
 use Rattle.zh_ledger.specs.Images.{KeepsOrSteps, Keeps, Stores, LeavesBy, KeepsCommand, MakesRoom}
 use Rattle.zh_ledger.proofs.OutsideLemmas.{outside_then, outside_untouched}
@@ -28,8 +28,8 @@ pub becomes_ready : (s : Ledger) (c : Command) (accepted : ℕ) (outcome : Outco
 becomes_ready s c accepted outcome new speakable results by = ⊎_elim
     (λ is. subst (λ (o : Outcome). Becomes s c o new) (sym is) (subst (λ (o : Outcome). Becomes (ready s c) c o new) is by ∙ stored_ready s c speakable))
     (λ is.
-    let faulted : IsFaulted (ready s c) new = subst (λ (o : Outcome). Becomes (ready s c) c o new) is by in
-    subst (λ (o : Outcome). Becomes s c o new) (sym is) (record { tally = faulted.tally; broken = faulted.broken })) results
+    let broken : Breaks (ready s c) new = subst (λ (o : Outcome). Becomes (ready s c) c o new) is by in
+    subst (λ (o : Outcome). Becomes s c o new) (sym is) (record { tally = broken.tally; broken = broken.broken })) results
 
 -- while it is made ready the command is not kept
 pub not_made_ready : (s : Ledger) (c : Command) (e : SwitchFault) (t u : Trail) → MakesRoom s c (Err e) t u → KeepsCommand s c Device t u

@@ -7,7 +7,7 @@ use Rattle.zh_districts.specs.Canton.{Canton}
 use Rattle.zh_districts.specs.Spelling.{setup_spelling}
 use Rattle.zh_returns.specs.Step.{after}
 use Rattle.zh_returns.specs.Tally.{Tally, empty}
-use Rattle.zh_records.specs.declared.command.Command.{Command}
+use Rattle.zh_returns.specs.declared.command.Command.{Command}
 use Rattle.zh_snapshot.specs.Image.{Content}
 use Rattle.zh_snapshot.specs.Store.{Fits}
 use Rattle.zh_snapshot.proofs.CallerLemmas.{framed_alike}
@@ -17,8 +17,8 @@ use Rattle.zh_ledger.specs.Images.{HasSome}
 use Rattle.zh_ledger.specs.Opening.{MayLeave, Migrates, IsCause, Opens}
 use Rattle.zh_ledger.specs.Submissions.{nothing}
 use Rattle.zh_ledger.specs.Night.{Keeper, Stretch, after_stop, StopsWithin, Finds}
-use Rattle.zh_ledger.specs.declared.fault.OpenFault.{OpenFault}
-use Rattle.zh_ledger.specs.declared.fault.OpenFault.TheVariants as faults
+use Rattle.zh_ledger.specs.declared.opening.OpenFault.{OpenFault}
+use Rattle.zh_ledger.specs.declared.opening.OpenFault.TheVariants as faults
 use Rattle.zh_ledger.proofs.MigrationLemmas.{Alters, leaves_altered, migrated_holds, read_now}
 use Rattle.zh_ledger.proofs.OpenedLemmas.{one_image}
 use Rattle.zh_ledger.proofs.StandsLemmas.{one_count, after_canton, after-append, holds_kept}

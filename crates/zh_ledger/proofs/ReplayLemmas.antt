@@ -7,13 +7,13 @@ use Rattle.std.proofs.lemmas.List.Elements.{All-cons, All-nil, All-head, All-tai
 use Rattle.zh_journal.specs.Pages.{Frames}
 use Rattle.zh_journal.proofs.CallerLemmas.{frames_room}
 use Rattle.zh_returns.specs.Judgement.{judge}
-use Rattle.zh_records.specs.Spelling.{command_spelling, IsSpeakable}
+use Rattle.zh_returns.specs.Spelling.{command_spelling, IsSpeakable}
 use Rattle.zh_returns.specs.Step.{step, after}
 use Rattle.zh_returns.specs.Tally.{Tally}
-use Rattle.zh_records.specs.declared.command.Command.{Command}
-use Rattle.zh_records.specs.declared.format.Format.{Format}
-use Rattle.zh_returns.specs.declared.verdict.Verdict.TheVariants.{Accept}
-use Rattle.zh_records.proofs.CallerLemmas.{command_once}
+use Rattle.zh_returns.specs.declared.command.Command.{Command}
+use Rattle.zh_returns.specs.declared.command.Format.{Format}
+use Rattle.zh_returns.specs.declared.judgement.Verdict.TheVariants.{Accept}
+use Rattle.zh_returns.proofs.CallerLemmas.{command_once}
 use Rattle.zh_ledger.specs.Stands.{Replays, AreAccepted}
 
 pub replays_none : {format : Format} (tally : Tally) → Replays format tally [] tally

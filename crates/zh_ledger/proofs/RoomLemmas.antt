@@ -4,10 +4,10 @@ use Rattle.std.specs.Prelude.{if◌then◌else◌}
 use Rattle.std.proofs.lemmas.Bool.{le-leb}
 use Rattle.zh_journal.specs.Pages.{pages_of}
 use Rattle.zh_returns.specs.Step.{step}
-use Rattle.zh_records.specs.declared.command.Command.{Command}
-use Rattle.zh_records.specs.declared.format.Format.TheVariants.{Two}
-use Rattle.zh_records.specs.Spelling.{command_spelling, IsSpeakable}
-use Rattle.zh_records.proofs.CallerLemmas.{short}
+use Rattle.zh_returns.specs.declared.command.Command.{Command}
+use Rattle.zh_returns.specs.declared.command.Format.TheVariants.{Two}
+use Rattle.zh_returns.specs.Spelling.{command_spelling, IsSpeakable}
+use Rattle.zh_returns.proofs.CallerLemmas.{short}
 use Rattle.zh_snapshot.specs.Store.{longer, switched}
 use Rattle.zh_ledger.specs.Ledger.{Ledger, pages_for, has_room, ready, stored}
 

@@ -3,15 +3,14 @@ use Rattle.std.proofs.Common.{◌≡◌, ℕ, List, [], ◌∷◌, ◌++◌, map
 use Rattle.std.specs.Prelude.{All}
 use Rattle.std.proofs.lemmas.List.Elements.{All-head, All-tail}
 use Rattle.zh_returns.specs.Judgement.{judge}
-use Rattle.zh_records.specs.Spelling.{command_spelling, IsSpeakable}
+use Rattle.zh_returns.specs.Spelling.{command_spelling, IsSpeakable}
 use Rattle.zh_returns.specs.Step.{step, after, changed, on_verdict}
 use Rattle.zh_returns.specs.Tally.{Tally}
-use Rattle.zh_records.specs.declared.command.Command.{Command}
-use Rattle.zh_records.specs.declared.format.Format.{Format}
-use Rattle.zh_returns.specs.declared.verdict.Verdict.{Verdict}
-use Rattle.zh_returns.specs.declared.verdict.Verdict.TheVariants as verdicts
-use Rattle.zh_returns.proofs.CallerLemmas.{tally_once, one_format}
-use Rattle.zh_records.proofs.CallerLemmas.{command_once}
+use Rattle.zh_returns.specs.declared.command.Command.{Command}
+use Rattle.zh_returns.specs.declared.command.Format.{Format}
+use Rattle.zh_returns.specs.declared.judgement.Verdict.{Verdict}
+use Rattle.zh_returns.specs.declared.judgement.Verdict.TheVariants as verdicts
+use Rattle.zh_returns.proofs.CallerLemmas.{tally_once, one_format, command_once}
 use Rattle.zh_snapshot.specs.Image.{Content, IsFramed}
 use Rattle.zh_snapshot.proofs.CallerLemmas.{framed_alike}
 use Rattle.zh_ledger.specs.Ledger.{Ledger}

@@ -7,7 +7,7 @@ use Rattle.zh_disk.proofs.CallerLemmas.{synced_image, leaves_now}
 use Rattle.zh_districts.specs.Canton.{Canton}
 use Rattle.zh_returns.specs.Step.{after}
 use Rattle.zh_returns.specs.Tally.{Tally, empty}
-use Rattle.zh_records.specs.declared.command.Command.{Command}
+use Rattle.zh_returns.specs.declared.command.Command.{Command}
 use Rattle.zh_ledger.specs.Ledger.{Ledger, Becomes}
 use Rattle.zh_ledger.specs.Stands.{Holds, HoldsLedger}
 use Rattle.zh_ledger.specs.Images.{LeavesBy, HasSome}

@@ -6,7 +6,7 @@ use Rattle.zh_disk.specs.History.{History}
 use Rattle.zh_disk.proofs.CallerLemmas.{no_call, leaves_none, leaves_now, leaves_join, leaves_weaken}
 use Rattle.zh_returns.specs.Step.{after}
 use Rattle.zh_returns.specs.Tally.{Tally}
-use Rattle.zh_records.specs.declared.command.Command.{Command}
+use Rattle.zh_returns.specs.declared.command.Command.{Command}
 use Rattle.zh_ledger.specs.declared.outcome.Outcome.{Outcome}
 use Rattle.zh_ledger.specs.declared.outcome.Outcome.TheVariants.{Stored, Device, Broken}
 use Rattle.zh_ledger.specs.Faults.{may_write}

@@ -7,9 +7,9 @@ use Rattle.zh_returns.specs.Limits.{IsTally}
 use Rattle.zh_returns.specs.Payload.{payload_spelling}
 use Rattle.zh_returns.specs.Tally.{Tally}
 use Rattle.zh_returns.proofs.CallerLemmas.{said_in_two}
-use Rattle.zh_records.specs.declared.command.Command.{Command}
-use Rattle.zh_records.specs.declared.format.Format.{Format}
-use Rattle.zh_records.specs.declared.format.Format.TheVariants.{Two}
+use Rattle.zh_returns.specs.declared.command.Command.{Command}
+use Rattle.zh_returns.specs.declared.command.Format.{Format}
+use Rattle.zh_returns.specs.declared.command.Format.TheVariants.{Two}
 use Rattle.zh_snapshot.specs.Image.{Content, with_snapshot}
 use Rattle.zh_snapshot.specs.Calls.{StoreSwitch}
 use Rattle.zh_snapshot.specs.Layout.{other}

@@ -1,8 +1,8 @@
 -- The code of a ledger, by which a proof tells ledgers apart.
 use Rattle.std.specs.Prelude.{◌≡◌, Bool, true, false, refl}
 use Rattle.std.specs.Coded.{Coded, code_by, coded×, coded_bool}
-use Rattle.zh_records.specs.declared.format.Format.{Format}
-use Rattle.zh_records.specs.declared.format.Format.TheVariants.{One, Two}
+use Rattle.zh_returns.specs.declared.command.Format.{Format}
+use Rattle.zh_returns.specs.declared.command.Format.TheVariants.{One, Two}
 use Rattle.zh_returns.specs.Code.{tally_code}
 use Rattle.zh_returns.specs.Tally.{Tally}
 use Rattle.zh_snapshot.specs.Store as store

@@ -2,8 +2,8 @@
 use Rattle.std.specs.Prelude.{Bool, true, false, Result, Ok, Err}
 use Rattle.zh_snapshot.specs.declared.fault.OpenFault as store
 use Rattle.zh_snapshot.specs.declared.fault.OpenFault.TheVariants as of_store
-use Rattle.zh_ledger.specs.declared.fault.OpenFault.{OpenFault}
-use Rattle.zh_ledger.specs.declared.fault.OpenFault.TheVariants as faults
+use Rattle.zh_ledger.specs.declared.opening.OpenFault.{OpenFault}
+use Rattle.zh_ledger.specs.declared.opening.OpenFault.TheVariants as faults
 use Rattle.zh_ledger.specs.declared.outcome.Outcome.{Outcome}
 use Rattle.zh_ledger.specs.declared.outcome.Outcome.TheVariants.{Stored, Same, Refused, Spent, Device, Broken}
 

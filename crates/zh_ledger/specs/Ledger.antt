@@ -1,15 +1,14 @@
 -- The count on a disk, and what becomes of a command that is submitted.
-use Rattle.std.specs.Prelude.{◌≡◌, ◌⊎◌, ℕ, ◌+◌, ◌-◌, ◌^◌, ◌==◌, ◌&&◌, ◌||◌, not, nat_le, if◌then◌else◌}
-use Rattle.std.specs.Prelude.{Bool, true, false, length}
+use Rattle.std.specs.Prelude.{◌≡◌, ◌⊎◌, ℕ, ◌+◌, ◌-◌, ◌^◌, ◌==◌, ◌&&◌, ◌||◌, not, nat_le, if◌then◌else◌, Bool, true, false, length}
 use Rattle.zh_returns.specs.Tally.{Tally}
 use Rattle.zh_returns.specs.Judgement.{judge}
-use Rattle.zh_records.specs.Spelling.{command_spelling}
+use Rattle.zh_returns.specs.Spelling.{command_spelling}
 use Rattle.zh_returns.specs.Step.{step}
-use Rattle.zh_records.specs.declared.command.Command.{Command}
-use Rattle.zh_records.specs.declared.format.Format.{Format}
-use Rattle.zh_records.specs.declared.format.Format.TheVariants.{One, Two}
-use Rattle.zh_returns.specs.declared.verdict.Verdict.{Verdict}
-use Rattle.zh_returns.specs.declared.verdict.Verdict.TheVariants as verdicts
+use Rattle.zh_returns.specs.declared.command.Command.{Command}
+use Rattle.zh_returns.specs.declared.command.Format.{Format}
+use Rattle.zh_returns.specs.declared.command.Format.TheVariants.{One, Two}
+use Rattle.zh_returns.specs.declared.judgement.Verdict.{Verdict}
+use Rattle.zh_returns.specs.declared.judgement.Verdict.TheVariants as verdicts
 use Rattle.zh_journal.specs.Pages.{pages_of}
 use Rattle.zh_journal.specs.Place.{pages_left}
 use Rattle.zh_snapshot.specs.Store as store
@@ -87,12 +86,12 @@ stored ledger command = record {
 }
 
 -- after a fault of the device: the count is as it was, and the store must be opened again
-pub record IsFaulted (old new : Ledger) : Type 0 where
+pub record Breaks (old new : Ledger) : Type 0 where
   pub tally : new.tally ≡ old.tally
   pub broken : new.store.broken ≡ true
 
 -- what the ledger becomes by a command with this outcome
 abbrev pub Becomes : Ledger → Command → Outcome → Ledger → Type 0
 Becomes old command (Stored accepted) new = new ≡ stored old command
-Becomes old command Device new = IsFaulted old new
+Becomes old command Device new = Breaks old new
 Becomes old command outcome new = new ≡ old

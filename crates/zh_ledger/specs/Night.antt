@@ -5,7 +5,7 @@ use Rattle.zh_disk.specs.Disk.{Moment, Trail, IsImage, settled}
 use Rattle.zh_districts.specs.Canton.{Canton}
 use Rattle.zh_returns.specs.Tally.{empty}
 use Rattle.zh_returns.specs.Step.{after}
-use Rattle.zh_records.specs.declared.command.Command.{Command}
+use Rattle.zh_returns.specs.declared.command.Command.{Command}
 use Rattle.zh_ledger.specs.Ledger.{Ledger}
 use Rattle.zh_ledger.specs.Stands.{HoldsLedger}
 use Rattle.zh_ledger.specs.Images.{HasSome}
@@ -13,8 +13,8 @@ use Rattle.zh_ledger.specs.Opened.{IsNew}
 use Rattle.zh_ledger.specs.Opening.{Opens}
 use Rattle.zh_ledger.specs.Submissions.{OnDisk, Submission, Log, nothing, followed_by}
 use Rattle.zh_ledger.specs.declared.outcome.Outcome.{Outcome}
-use Rattle.zh_ledger.specs.declared.fault.OpenFault.{OpenFault}
-use Rattle.zh_ledger.specs.declared.fault.OpenFault.TheVariants as faults
+use Rattle.zh_ledger.specs.declared.opening.OpenFault.{OpenFault}
+use Rattle.zh_ledger.specs.declared.opening.OpenFault.TheVariants as faults
 
 -- Who keeps a count on a disk, a ledger or an office: what it holds, with the ledger in it, and what it holds when it was
 -- just opened; what it is given and what it answers, what that does, and what it adds to the log.

@@ -6,8 +6,8 @@ use Rattle.zh_disk.specs.History.{History, Call}
 use Rattle.zh_districts.specs.Canton.{Canton}
 use Rattle.zh_districts.specs.Spelling.{setup_spelling}
 use Rattle.zh_journal.specs.Place.{Rest}
-use Rattle.zh_records.specs.declared.format.Format.{Format}
-use Rattle.zh_records.specs.declared.format.Format.TheVariants.{One, Two}
+use Rattle.zh_returns.specs.declared.command.Format.{Format}
+use Rattle.zh_returns.specs.declared.command.Format.TheVariants.{One, Two}
 use Rattle.zh_returns.specs.Payload.{payload_spelling}
 use Rattle.zh_returns.specs.Limits.{IsTally}
 use Rattle.zh_returns.specs.Tally.{Tally, empty}
@@ -23,8 +23,8 @@ use Rattle.zh_ledger.specs.Kept.{ledger_in}
 use Rattle.zh_ledger.specs.Ledger.{Ledger}
 use Rattle.zh_ledger.specs.Opened.{IsNew, IsReady, HoldsLedgerFramed, IsOpened, Differs, IsDamaged, AwaitsReplay, IsWrong}
 use Rattle.zh_ledger.specs.Stands.{HoldsFramed, StandsFor}
-use Rattle.zh_ledger.specs.declared.fault.OpenFault.{OpenFault}
-use Rattle.zh_ledger.specs.declared.fault.OpenFault.TheVariants as faults
+use Rattle.zh_ledger.specs.declared.opening.OpenFault.{OpenFault}
+use Rattle.zh_ledger.specs.declared.opening.OpenFault.TheVariants as faults
 
 -- a clean image with the count of this content as its snapshot in format Two, one generation later
 abbrev pub IsMigrated : Content → Tally → List ℕ → Type 0

@@ -6,10 +6,10 @@ use Rattle.zh_returns.specs.Limits.{IsTally}
 use Rattle.zh_returns.specs.Judgement.{judge}
 use Rattle.zh_returns.specs.Step.{step, after}
 use Rattle.zh_returns.specs.Payload.{IsPayload}
-use Rattle.zh_records.specs.Spelling.{command_spelling, IsSpeakable}
-use Rattle.zh_records.specs.declared.command.Command.{Command}
-use Rattle.zh_records.specs.declared.format.Format.{Format}
-use Rattle.zh_returns.specs.declared.verdict.Verdict.TheVariants.{Accept}
+use Rattle.zh_returns.specs.Spelling.{command_spelling, IsSpeakable}
+use Rattle.zh_returns.specs.declared.command.Command.{Command}
+use Rattle.zh_returns.specs.declared.command.Format.{Format}
+use Rattle.zh_returns.specs.declared.judgement.Verdict.TheVariants.{Accept}
 use Rattle.zh_snapshot.specs.Image.{Content, IsClean, IsFramed}
 use Rattle.zh_snapshot.specs.Store.{Fits}
 use Rattle.zh_ledger.specs.Ledger.{Ledger}

@@ -2,8 +2,8 @@
 
 ghost use Rattle.std.specs.Prelude.{◌≡◌, ℕ, List, IsTrue};
 ghost use Rattle.zh_returns.specs.Tally.{Tally};
-ghost use Rattle.zh_records.specs.declared.command.Command.{Command};
-ghost use Rattle.zh_records.specs.declared.format.Format.{Format};
+ghost use Rattle.zh_returns.specs.declared.command.Command.{Command};
+ghost use Rattle.zh_returns.specs.declared.command.Format.{Format};
 ghost use Rattle.zh_snapshot.specs.Image.{Content, IsFramed};
 ghost use Rattle.zh_ledger.specs.Ledger.{Ledger};
 ghost use Rattle.zh_ledger.specs.Night.{Law, by_commands};

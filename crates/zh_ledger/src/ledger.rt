@@ -2,12 +2,11 @@
 
 ghost use Rattle.std.specs.Prelude.{◌≡◌, false};
 ghost use Rattle.zh_totals.specs.Counting.{totals_of};
-ghost use Rattle.zh_records.specs.Spelling.{HasNumbers};
+ghost use Rattle.zh_returns.specs.Spelling.{HasNumbers};
 ghost use Rattle.zh_ledger.specs.Faults.{may_write};
 ghost use Rattle.zh_ledger.specs.Submissions.{Submission, on_disk};
 
-use crate::keep::keep;
-use crate::outcome::Outcome;
+use crate::outcome::{Outcome, keep};
 use std::marker::Model;
 use zh_disk::Disk;
 use zh_returns::{Command, Count, Format, Verdict};

@@ -4,17 +4,13 @@
 //! after a prefix, in order, of the accepted commands that includes every acknowledged one.
 #![tactic(auto)]
 
-mod fault;
-mod keep;
 mod laws;
 mod ledger;
 mod opening;
 mod outcome;
-mod replay;
-mod switch;
 
-pub use fault::OpenFault;
 pub use laws::{nights, one_count, submissions};
 pub use ledger::Ledger;
+pub use opening::OpenFault;
 pub use outcome::Outcome;
 pub use zh_snapshot::FormatFault;

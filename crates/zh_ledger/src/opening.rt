@@ -1,26 +1,86 @@
 //! Formatting a disk, and opening the ledger that stands there.
 
-ghost use Rattle.std.specs.Prelude.{◌≡◌, ◌≢◌, ◌≤◌, ◌-◌, ◌^◌, false, length, IfOk, OnOk, IsErrOf, is_err};
+ghost use Rattle.std.specs.Prelude.{◌≡◌, ◌≢◌, ◌≤◌, ◌-◌, ◌^◌, false, length, IfOk, OnOk, IsErrOf, is_err, ◌<◌, ℕ, ◌∷◌, true, List, []};
 ghost use Rattle.zh_disk.specs.Disk.{Asks};
 ghost use Rattle.zh_disk.specs.History.{Call};
 ghost use Rattle.zh_districts.specs.Spelling.{setup_spelling};
-ghost use Rattle.zh_returns.specs.Tally.{empty};
+ghost use Rattle.zh_returns.specs.Tally.{empty, Tally};
 ghost use Rattle.zh_snapshot.specs.Faults.{store_format_fails};
 ghost use Rattle.zh_ledger.specs.Faults.{open_fails};
 ghost use Rattle.zh_ledger.specs.Kept.{ledger_in};
 ghost use Rattle.zh_ledger.specs.Opening.{MakesNew, MigratesFrom, Opening, ReadsCount};
+ghost use Rattle.zh_journal.specs.Pages.{Frames};
+ghost use Rattle.zh_journal.specs.declared.page.TheConstants.{LONGEST_PAYLOAD};
+ghost use Rattle.zh_returns.specs.Judgement.{judge};
+ghost use Rattle.zh_returns.specs.Spelling.{IsSpeakable, command_spelling};
+ghost use Rattle.zh_ledger.specs.Stands.{Replays};
 
-use crate::fault::OpenFault;
 use crate::ledger::Ledger;
-use crate::replay::replay;
-use crate::switch::switch;
+use crate::outcome::switch;
 use std::alloc::{AllocError, Global};
-use zh_disk::Disk;
+use thiserror::Error;
+use zh_disk::{Disk, DiskFault};
 use zh_districts::{Setup, setup_bytes};
 use zh_journal::Reader;
-use zh_returns::{Count, Format, PAYLOAD_LENGTH, payload_format};
+use zh_returns::{Command, Count, Format, PAYLOAD_LENGTH, Verdict, decode_command, payload_format};
 use zh_snapshot::{FormatFault, Store, StoreFault, SwitchFault};
 use zh_totals::RunningCount;
+
+/// Why the ledger on a disk is not opened.
+#[derive(Clone, Copy, Debug, PartialEq, Eq, Error)]
+pub enum OpenFault {
+    #[error("memory")]
+    Memory,
+    #[error("disk device")]
+    Device,
+    /// The disk gate is closed: nothing was formatted there.
+    #[error("disk blank")]
+    Blank,
+    /// What stands on the disk breaks a rule of the format.
+    #[error("disk damaged")]
+    Damaged,
+    /// The disk was formatted for another set-up.
+    #[error("disk differs")]
+    SetupDiffers,
+}
+
+impl From<AllocError> for OpenFault {
+    ghost use Rattle.std.specs.Prelude.{◌≡◌};
+    ghost use Rattle.zh_ledger.specs.declared.opening.OpenFault.TheVariants as faults;
+
+    ghost from_gives = { λ _ e. e ≡ faults.Memory };
+
+    fn from(_: AllocError) -> Self {
+        OpenFault::Memory
+    }
+}
+
+impl From<DiskFault> for OpenFault {
+    ghost use Rattle.std.specs.Prelude.{◌≡◌};
+    ghost use Rattle.zh_ledger.specs.declared.opening.OpenFault.TheVariants as faults;
+
+    ghost from_gives = { λ _ e. e ≡ faults.Device };
+
+    fn from(_: DiskFault) -> Self {
+        OpenFault::Device
+    }
+}
+
+impl From<zh_snapshot::OpenFault> for OpenFault {
+    ghost use Rattle.std.specs.Prelude.{◌≡◌};
+    ghost use Rattle.zh_ledger.specs.Faults.{fault_of_store};
+
+    ghost from_gives = { λ fault e. e ≡ fault_of_store fault };
+
+    fn from(fault: zh_snapshot::OpenFault) -> Self {
+        match fault {
+            zh_snapshot::OpenFault::Device => OpenFault::Device,
+            zh_snapshot::OpenFault::Blank => OpenFault::Blank,
+            zh_snapshot::OpenFault::Damaged => OpenFault::Damaged,
+            zh_snapshot::OpenFault::Memory => OpenFault::Memory,
+        }
+    }
+}
 
 /// Room for a snapshot or a record.
 fn buffer(alloc: Global) -> Result<Vec<u8>, AllocError>
@@ -136,4 +196,49 @@ fn migrate<D: Disk>(
             Err(SwitchFault::Broken) => unreachable!(),
         },
     }
+}
+
+/// Applies the commands of the records of a format that a reader has left to the count, in order, and reports whether
+/// each is accepted.
+fn replay(
+    reader: &mut Reader,
+    format: Format,
+    buffer: &mut [u8],
+    count: &mut RunningCount<'_>,
+) -> bool
+    requires { LONGEST_PAYLOAD ≤ length buffer.old }
+
+    ensures replayed { result ≡ true → (records : List (List ℕ))
+        → Frames 0 reader.old.pages reader.old.page records reader.old.end → Replays format count.old records count.new }
+    ensures refused { result ≡ false → (records : List (List ℕ))
+        → Frames 0 reader.old.pages reader.old.page records reader.old.end
+        → (tally : Tally) → Replays format count.old records tally → ⊥ }
+    ensures canton { count.new.canton ≡ count.old.canton }
+{
+    while let Some(payload) = reader.next(buffer) {
+        if !replay_record(payload, format, count) {
+            return false;
+        }
+    }
+    true
+}
+
+/// Applies the command of a record to the count, if the record has one that is accepted, and reports whether it has.
+fn replay_record(payload: &[u8], format: Format, count: &mut RunningCount<'_>) -> bool
+    ensures replayed { result ≡ true → Replays format count.old (payload.now ∷ []) count.new }
+    ensures refused { result ≡ false → (command : Command) → IsSpeakable format command
+        → command_spelling format command ≡ payload.now → judge count.old command ≡ Verdict.Accept
+        → count.old.accepted < 2 ^ 64 - 1 → ⊥ }
+    ensures unchanged { result ≡ false → count.new ≡ count.old }
+    ensures canton { count.new.canton ≡ count.old.canton }
+{
+    let Some(command) = decode_command(payload, format) else {
+        return false;
+    };
+    let now = count.count();
+    if now.judge(&command) != Verdict::Accept || now.accepted() == u64::MAX {
+        return false;
+    }
+    count.apply(&command);
+    true
 }

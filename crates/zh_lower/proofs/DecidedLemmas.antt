@@ -6,9 +6,8 @@ use Rattle.zh_matrices.specs.Divisors.{Divisors, millionths}
 use Rattle.zh_matrices.specs.Question.{AreSeatTotals, Question, cell}
 use Rattle.zh_matrices.specs.SeatMatrix.{IsStrict}
 use Rattle.zh_matrices.proofs.CallerLemmas.{total-swap, weakened}
-use Rattle.zh_possible.specs.Ways.{AreBalanced}
-use Rattle.zh_possible.proofs.CallerLemmas.{fits-weak}
-use Rattle.zh_sweeps.proofs.CallerLemmas.{few-fitting}
+use Rattle.zh_decided.specs.Ways.{AreBalanced}
+use Rattle.zh_decided.proofs.CallerLemmas.{fits-weak, few-fitting}
 
 -- seats that follow from any divisors are few
 pub few-strict : (q : Question) (x : Divisors) (seats : List ℕ) → AreSeatTotals q.rows q.row_totals → IsStrict q x seats →

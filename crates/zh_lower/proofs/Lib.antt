@@ -1,4 +1,12 @@
 pub mod CallerLemmas
+mod BoundLemmas
+mod FilledLemmas
+mod LineLemmas
+mod PlaceLemmas
+mod QuotientLemmas
+mod ReachedLemmas
+mod StateLemmas
+mod TieLemmas
 mod DecidedLemmas
 mod ExtremeLemmas
 mod LotLemmas

@@ -7,10 +7,10 @@ use Rattle.zh_matrices.specs.Divisors.{millionths}
 use Rattle.zh_matrices.specs.Lots.{AreRanges, IsDrawnAt}
 use Rattle.zh_matrices.specs.Question.{Question, cell}
 use Rattle.zh_matrices.proofs.CallerLemmas.{column_of, one_set, place-div, place-mod, row_of}
-use Rattle.zh_possible.specs.Bounds.{CellBounds, IsAnotherAt, IsFixedAt, IsWithin}
-use Rattle.zh_search.specs.Rooms.{divisors_of}
-use Rattle.zh_search.specs.SeatBounds.{seat_bounds}
-use Rattle.zh_search.proofs.CallerLemmas.{most-near, weak-within, within-weak}
+use Rattle.zh_decided.specs.Bounds.{CellBounds, IsAnotherAt, IsFixedAt, IsWithin}
+use Rattle.zh_lower.specs.SearchRooms.{divisors_of}
+use Rattle.zh_lower.specs.SeatBounds.{seat_bounds}
+use Rattle.zh_lower.proofs.BoundLemmas.{most-near, weak-within, within-weak}
 use Rattle.zh_lower.specs.Ties.{EncloseDraws, HasRangeAt, IsLowerTie}
 use Rattle.zh_lower.specs.declared.tie.Tie.{Tie}
 

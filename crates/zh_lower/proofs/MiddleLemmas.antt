@@ -6,8 +6,8 @@ use Rattle.std.specs.List.{range_with_len}
 use Rattle.zh_matrices.specs.Divisors.{AreWithin, Divisors, millionths}
 use Rattle.zh_matrices.specs.Question.{Question}
 use Rattle.zh_lower.specs.Second.{middled, scaled_down, with_columns_middled, with_rows_middled}
-use Rattle.zh_search.specs.States.{middle_column, middle_row}
-use Rattle.zh_search.proofs.CallerLemmas.{AreWithin-filled}
+use Rattle.zh_lower.specs.States.{middle_column, middle_row}
+use Rattle.zh_lower.proofs.FilledLemmas.{AreWithin-filled}
 
 pub middled-zero : (q : Question) (x : Divisors) → middled q 0 x ≡ x
 unfolding middled

@@ -3,22 +3,22 @@ use Rattle.std.proofs.Common.{◌≡◌, ℕ, ◌-◌, ◌<◌, ◌≤◌, List,
 use Rattle.std.proofs.lemmas.Bool.{cases_lt}
 use Rattle.std.specs.Prelude.{IsErrOf}
 use Rattle.zh_matrices.specs.Divisors.{AreWithinLimits, Divisors, millionths}
-use Rattle.zh_search.specs.Outcomes.{ComesToTie, IsProper}
-use Rattle.zh_search.specs.Rooms.{divisors_of}
+use Rattle.zh_lower.specs.Outcomes.{ComesToTie, IsProper}
+use Rattle.zh_lower.specs.SearchRooms.{divisors_of}
 use Rattle.zh_divisors.proofs.CallerLemmas.{term-le-sum_to}
 use Rattle.zh_matrices.specs.Question.{AreSeatTotals, IsFirstWithoutVotes, Question, cell, row_votes}
 use Rattle.zh_matrices.specs.SeatMatrix.{IsStrict, IsWeak, SeatMatrix}
 use Rattle.zh_lower.specs.Seating.{LowerOutcome, NoneFound}
 use Rattle.zh_lower.specs.Shown.{IsShown}
-use Rattle.zh_lower.specs.declared.fault.LowerFault.{LowerFault}
+use Rattle.zh_lower.specs.declared.lower.LowerFault.{LowerFault}
 use Rattle.zh_lower.specs.Ties.{HandsOver, IsLowerTie}
-use Rattle.zh_lower.specs.declared.fault.LowerFault.TheVariants as faults
+use Rattle.zh_lower.specs.declared.lower.LowerFault.TheVariants as faults
 use Rattle.zh_lower.specs.declared.tie.NoLower.{NoLower}
 use Rattle.zh_lower.specs.declared.tie.NoLower.TheVariants.{Exhausted, NoVotes, Tied}
 use Rattle.zh_lower.specs.declared.tie.Tie.{Tie}
 use Rattle.zh_matrices.proofs.CallerLemmas.{no_seats, only_seats, positive_place}
-use Rattle.zh_possible.proofs.CallerLemmas.{fits-weak}
-use Rattle.zh_search.proofs.CallerLemmas.{same-tie, tie-is-end}
+use Rattle.zh_decided.proofs.CallerLemmas.{fits-weak}
+use Rattle.zh_lower.proofs.TieLemmas.{same-tie, tie-is-end}
 
 tied_is : (result : Result SeatMatrix NoLower) (one other : Tie) → result ≡ Err (Tied one) → IsErrOf result (Tied other) → one ≡ other
 tied_is result one other is same = cc

@@ -3,7 +3,7 @@ use Rattle.std.proofs.Common.{◌≡◌, ℕ, ◌/◌, ◌^◌, Bool, true, fals
 use Rattle.std.proofs.lemmas.Bool.{false≢true}
 use Rattle.std.specs.Bool.{OnFalse, OnTrue}
 use Rattle.zh_matrices.specs.Divisors.{AreWithin, Divisors, millionths}
-use Rattle.zh_search.specs.Outcomes.{HasNone}
+use Rattle.zh_lower.specs.Outcomes.{HasNone}
 use Rattle.zh_matrices.specs.Question.{Question}
 use Rattle.zh_lower.specs.Extremes.{ComeTo, Enclose, Give}
 use Rattle.zh_lower.specs.Second.{HaveNoSecond, IsMiddle, IsSecond, IsSecondFor, IsSecondWithin, middle_from, scaled_down}

@@ -1,7 +1,7 @@
 -- Of the divisors that are shown, one pair alone gives seats.
 use Rattle.std.proofs.Common.{◌≡◌, ℕ, ◌/◌, ◌^◌, List, inl, inr, sym, ap, subst, ◌∙◌, arith}
 use Rattle.zh_matrices.specs.Divisors.{Divisors, millionths}
-use Rattle.zh_search.specs.Outcomes.{IsReached, NoneBefore}
+use Rattle.zh_lower.specs.Outcomes.{IsReached, NoneBefore}
 use Rattle.zh_matrices.specs.Question.{Question}
 use Rattle.zh_lower.specs.Second.{IsMiddle, IsSecond, IsSecondWithin}
 use Rattle.zh_lower.specs.Shown.{IsSecondOrThird, IsMadeReadable, IsShown, IsThird}
@@ -10,7 +10,7 @@ use Rattle.zh_decided.proofs.CallerLemmas.{only-columns, only-rows}
 use Rattle.zh_matrices.specs.SeatMatrix.{IsStrict, SeatMatrix}
 use Rattle.zh_lower.proofs.ExtremeLemmas.{same_greatest}
 use Rattle.zh_matrices.proofs.CallerLemmas.{only_seats, weakened}
-use Rattle.zh_search.proofs.CallerLemmas.{only_matrix}
+use Rattle.zh_lower.proofs.ReachedLemmas.{only_matrix}
 
 same_middle : (q : Question) (scale : ℕ) (columns : List ℕ) (x y : Divisors) → IsMiddle q scale columns x → IsMiddle q scale columns y → y ≡ x
 same_middle q scale columns x y (inl (one, strict)) (inl (other, also)) = other ∙ sym one

@@ -5,7 +5,7 @@ use Rattle.zh_decided.specs.Rooms.{Findings}
 use Rattle.zh_decided.specs.declared.decision.Decision.{Decision}
 use Rattle.zh_decided.specs.declared.decision.Decision.TheVariants.{Beyond, Impossible, NearlyTied, Seats}
 use Rattle.zh_matrices.specs.Question.{Question}
-use Rattle.zh_possible.specs.Ways.{AreBalanced}
+use Rattle.zh_decided.specs.Ways.{AreBalanced}
 use Rattle.zh_lower.specs.Second.{HaveNoSecond}
 
 -- none of the matrices has a middle that is shown; seats that divisors in millionths give are never left out

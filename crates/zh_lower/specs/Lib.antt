@@ -1,3 +1,9 @@
+pub mod Outcomes
+pub mod Places
+pub mod Quotients
+pub mod SearchRooms
+pub mod SeatBounds
+pub mod States
 pub mod Decided
 pub mod Extremes
 pub mod Rooms

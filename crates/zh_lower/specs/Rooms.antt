@@ -2,7 +2,7 @@
 use Rattle.std.specs.Prelude.{◌≡◌, length}
 use Rattle.zh_matrices.specs.Divisors.{Divisors, millionths}
 use Rattle.zh_matrices.specs.Question.{Question}
-use Rattle.zh_lower.specs.declared.room.DivisorRoom.{DivisorRoom}
+use Rattle.zh_lower.specs.declared.divisors.DivisorRoom.{DivisorRoom}
 
 -- its sizes
 pub record IsDivisorRoom (q : Question) (room : DivisorRoom) : Type 0 where

@@ -1,14 +1,14 @@
 -- What a lower apportionment gives: seats with the divisors that are shown, or why there are none.
 use Rattle.std.specs.Prelude.{◌≡◌, ℕ, ◌⊎◌, Result, IfOk, IfErr, IsErrOf}
 use Rattle.zh_matrices.specs.Divisors.{AreWithinLimits, millionths}
-use Rattle.zh_search.specs.Outcomes.{ComesToTie, NoneBefore}
+use Rattle.zh_lower.specs.Outcomes.{ComesToTie, NoneBefore}
 use Rattle.zh_matrices.specs.Question.{IsFirstWithoutVotes, Question}
 use Rattle.zh_matrices.specs.SeatMatrix.{IsStrict, SeatMatrix}
 use Rattle.zh_decided.specs.Boxes.{NoneGiven}
 use Rattle.zh_lower.specs.Decided.{IsInVain}
 use Rattle.zh_lower.specs.Shown.{IsShown}
-use Rattle.zh_lower.specs.declared.fault.LowerFault.{LowerFault}
-use Rattle.zh_lower.specs.declared.fault.LowerFault.TheVariants.{Exhausted, Memory, NoVotes, Tied}
+use Rattle.zh_lower.specs.declared.lower.LowerFault.{LowerFault}
+use Rattle.zh_lower.specs.declared.lower.LowerFault.TheVariants.{Exhausted, Memory, NoVotes, Tied}
 
 -- seats that follow strictly from the divisors that are shown, which are in millionths and within the limits
 pub record IsSeating (q : Question) (lower : SeatMatrix) : Type 0 where

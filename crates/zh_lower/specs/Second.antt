@@ -4,8 +4,8 @@ use Rattle.std.specs.List.{range_with_len}
 use Rattle.zh_matrices.specs.Divisors.{Divisors, millionths}
 use Rattle.zh_matrices.specs.Question.{Question}
 use Rattle.zh_matrices.specs.SeatMatrix.{IsStrict}
-use Rattle.zh_search.specs.Outcomes.{HasNone}
-use Rattle.zh_search.specs.States.{middle_column, middle_row}
+use Rattle.zh_lower.specs.Outcomes.{HasNone}
+use Rattle.zh_lower.specs.States.{middle_column, middle_row}
 use Rattle.zh_lower.specs.Extremes.{ComeTo, Give}
 
 -- some rows and these columns give some seats

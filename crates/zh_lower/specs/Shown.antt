@@ -4,7 +4,7 @@ use Rattle.zh_decided.specs.Boxes.{GiveWithin}
 use Rattle.zh_matrices.specs.Divisors.{Divisors, millionths}
 use Rattle.zh_matrices.specs.Question.{Question}
 use Rattle.zh_matrices.specs.SeatMatrix.{IsStrict}
-use Rattle.zh_search.specs.Outcomes.{IsReached, NoneBefore}
+use Rattle.zh_lower.specs.Outcomes.{IsReached, NoneBefore}
 use Rattle.zh_lower.specs.Second.{IsMiddle, IsSecond}
 
 -- x is the middle from these columns, scaled down so that 1000000 comes to 1 if that gives seats; or where it does not give these

@@ -4,12 +4,12 @@ use Rattle.zh_matrices.specs.Divisors.{AreWithinLimits}
 use Rattle.zh_matrices.specs.Lots.{HasRange, MayBeDrawn}
 use Rattle.zh_matrices.specs.Question.{Question}
 use Rattle.zh_matrices.specs.SeatMatrix.{IsWeak, SeatMatrix}
-use Rattle.zh_possible.specs.Bounds.{CellBounds, IsWithin}
-use Rattle.zh_search.specs.Outcomes.{IsProper, IsReached, IsTiedAt}
-use Rattle.zh_search.specs.Rooms.{divisors_of}
+use Rattle.zh_decided.specs.Bounds.{CellBounds, IsWithin}
+use Rattle.zh_lower.specs.Outcomes.{IsProper, IsReached, IsTiedAt}
+use Rattle.zh_lower.specs.SearchRooms.{divisors_of}
 use Rattle.zh_lower.specs.Seating.{LowerOutcome}
-use Rattle.zh_lower.specs.declared.fault.LowerFault.{LowerFault}
-use Rattle.zh_lower.specs.declared.fault.LowerFault.TheVariants as faults
+use Rattle.zh_lower.specs.declared.lower.LowerFault.{LowerFault}
+use Rattle.zh_lower.specs.declared.lower.LowerFault.TheVariants as faults
 use Rattle.zh_lower.specs.declared.tie.NoLower.{NoLower}
 use Rattle.zh_lower.specs.declared.tie.NoLower.TheVariants.{Exhausted, Memory, NoVotes, Tied}
 use Rattle.zh_lower.specs.declared.tie.Tie.{Tie}

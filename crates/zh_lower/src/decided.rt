@@ -5,18 +5,16 @@ ghost use Rattle.zh_decided.specs.Boxes.{GiveWithin, NoneGiven};
 ghost use Rattle.zh_decided.specs.Rooms.{IsDecisionRoom};
 ghost use Rattle.zh_matrices.specs.Asked.{asked};
 ghost use Rattle.zh_matrices.specs.Divisors.{AreWithinLimits};
-ghost use Rattle.zh_search.specs.Outcomes.{IsProper};
+ghost use Rattle.zh_lower.specs.Outcomes.{IsProper};
 ghost use Rattle.zh_lower.specs.Decided.{IsInVain};
 ghost use Rattle.zh_lower.specs.Rooms.{IsDivisorRoom, divisors_in};
 ghost use Rattle.zh_lower.specs.Second.{HaveNoSecond, IsSecondFor};
 ghost use Rattle.zh_lower.specs.Shown.{IsSecondOrThird, IsThird};
 ghost use Rattle.zh_matrices.specs.SeatMatrix.{IsStrict};
 
-use crate::divisors::{find_divisors, gives_from};
-use crate::room::DivisorRoom;
-use zh_decided::{Decision, DecisionRoom, Findings, decide};
+use crate::divisors::{DivisorRoom, find_divisors, gives_from};
+use zh_decided::{Decision, DecisionRoom, Findings, are_balanced, decide};
 use zh_matrices::{Proposal, Question};
-use zh_possible::are_balanced;
 
 /// What the columns are scaled down by, so that the most that one may have comes to 1.
 const SCALE: u64 = 1_000_000;

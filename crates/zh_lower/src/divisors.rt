@@ -1,17 +1,73 @@
 //! Divisors for seats that are found elsewhere: in the middle of those that give them.
 ghost use Rattle.std.specs.Bool.{OnFalse, OnTrue};
 ghost use Rattle.std.specs.Prelude.{◌≡◌, ℕ, ◌*◌, ◌/◌, ◌^◌, ◌≤◌, ◌↔◌, IsTrue, List, length};
+ghost use Rattle.zh_lower.specs.Outcomes.{IsProper};
+ghost use Rattle.zh_lower.specs.Rooms.{IsDivisorRoom, divisors_in};
+ghost use Rattle.zh_lower.specs.Second.{HaveNoSecond, IsMiddle, IsSecondFor, IsSecondWithin, middle_from, scaled_down};
 ghost use Rattle.zh_matrices.specs.Asked.{asked};
 ghost use Rattle.zh_matrices.specs.Divisors.{AreWithin, AreWithinLimits, Divisors, millionths};
-ghost use Rattle.zh_search.specs.Outcomes.{IsProper};
-ghost use Rattle.zh_lower.specs.Rooms.{IsDivisorRoom, divisors_in};
-ghost use Rattle.zh_lower.specs.Second.{HaveNoSecond, IsMiddle, IsSecondFor, IsSecondWithin, middle_from};
 ghost use Rattle.zh_matrices.specs.SeatMatrix.{IsStrict};
 
+use crate::alternating_scaling::{SearchRoom, SearchState};
 use crate::extremes::settle;
-use crate::middle::{middle, scale_down};
-use crate::room::DivisorRoom;
-use zh_matrices::{Proposal, Rounding, follows};
+use crate::half_step::{middle_columns, middle_rows};
+use std::alloc::{AllocError, Global};
+use zh_decided::DecisionRoom;
+use zh_matrices::{Proposal, Question, Rounding, follows};
+
+/// Divisors in millionths, and what a search for them works on.
+#[derive(Drop)]
+pub(crate) struct DivisorRoom {
+    pub of_rows: Vec<u64>,
+    pub of_columns: Vec<u64>,
+    /// The greatest columns that give some seats.
+    pub greatest: Vec<u64>,
+}
+
+impl DivisorRoom {
+    ghost use Rattle.std.specs.Prelude.{IfOk};
+    ghost use Rattle.zh_matrices.specs.Asked.{asked};
+    ghost use Rattle.zh_lower.specs.Rooms.{IsDivisorRoom};
+
+    /// Room for the divisors of a question.
+    pub fn new(alloc: Global, question: &Question<'_>) -> Result<DivisorRoom, AllocError>
+        ensures { IfOk result (IsDivisorRoom (asked question.now)) }
+    {
+        Ok(DivisorRoom {
+            of_rows: vec![in alloc; 0; question.rows]?,
+            of_columns: vec![in alloc; 0; question.columns]?,
+            greatest: vec![in alloc; 0; question.columns]?,
+        })
+    }
+}
+
+/// A state of the search, with what a search, the decision and the divisors after it work on. The memory of all is taken
+/// before the first begins.
+#[derive(Drop)]
+pub(crate) struct Tables {
+    pub state: SearchState,
+    pub room: SearchRoom,
+    pub decision: DecisionRoom,
+    pub divisors: DivisorRoom,
+}
+
+impl Tables {
+    ghost use Rattle.std.specs.Prelude.{IfOk};
+    ghost use Rattle.zh_matrices.specs.Asked.{asked};
+    ghost use Rattle.zh_lower.specs.Tables.{AreStarted};
+
+    /// The tables of a search that has not begun.
+    pub fn new(alloc: Global, question: &Question<'_>) -> Result<Tables, AllocError>
+        ensures { IfOk result (AreStarted (asked question.now)) }
+    {
+        Ok(Tables {
+            state: SearchState::new(alloc, question)?,
+            room: SearchRoom::new(alloc, question)?,
+            decision: DecisionRoom::new(alloc, question.rows, question.columns)?,
+            divisors: DivisorRoom::new(alloc, question)?,
+        })
+    }
+}
 
 const NARROW: u64 = 1_000_000_000;
 
@@ -89,4 +145,31 @@ pub(crate) fn find_divisors(proposal: &Proposal<'_>, room: &mut DivisorRoom) -> 
     ensures room { IsDivisorRoom (asked proposal.now.question.now) room.new }
 {
     find_within(proposal, NARROW, room) || find_within(proposal, WIDE, room)
+}
+
+const TIMES: u32 = 16;
+
+/// Takes each row, and then each column, to the middle of its range, 16 times.
+pub(crate) fn middle(question: &Question<'_>, of_rows: &mut [u64], of_columns: &mut [u64])
+    requires proper { IsProper (asked question.now) }
+    requires rows { length of_rows.old ≡ question.now.rows }
+    requires columns { AreWithin question.now.columns (10 ^ 12) of_columns.old }
+    ensures middle { millionths of_rows.new of_columns.new ≡ middle_from (asked question.now) of_columns.old }
+    ensures limits { AreWithinLimits (asked question.now) of_rows.new of_columns.new }
+{
+    for _time in 0..TIMES {
+        middle_rows(question, of_columns, of_rows);
+        middle_columns(question, of_rows, of_columns);
+    }
+}
+
+/// Columns at a smaller scale, none below 1.
+pub(crate) fn scale_down(of_columns: &[u64], scale: u64, into: &mut [u64])
+    requires scale { 1 ≤ scale }
+    requires room { length into.old ≡ length of_columns.now }
+    ensures { into.new ≡ scaled_down scale of_columns.now }
+{
+    for column in 0..of_columns.len() {
+        into[column] = (of_columns[column] / scale).max(1);
+    }
 }

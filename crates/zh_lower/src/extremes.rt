@@ -1,4 +1,4 @@
-//! The least rows and the greatest columns among the divisors that give some seats.
+//! The least rows and the greatest columns among the divisors that give some seats, in rounds over all cells, as Bellman-Ford has them.
 //!
 //! Rows stand at the least whole numbers, columns at the greatest, and move only as far as a cell makes them. So no
 //! row rises above, and no column falls below, what any divisors within the limits have that give these seats.

@@ -5,24 +5,23 @@
 //! their totals. Where some divisors do so without a half, no others lead to other seats.
 #![tactic(auto)]
 
-pub use fault::LowerFault;
-pub use laws::one_answer;
-pub use lower::Lower;
-pub use outcome::{find, find_or_tie};
-pub use ranges::{Ranges, lot};
-pub use tie::{NoLower, Tie};
-pub use zh_matrices::{Matrix, is_strict};
-
+mod alternating_scaling;
 mod decided;
 mod divisors;
+mod end_test;
 mod extremes;
-mod fault;
+mod half_step;
 mod laws;
 mod lower;
-mod middle;
 mod outcome;
-mod ranges;
-mod room;
-mod tables;
+mod quotient;
 mod tie;
-mod votes;
+
+pub use alternating_scaling::{SearchRoom, SearchState, search};
+pub use end_test::Ending;
+pub use half_step::{middle_columns, middle_rows};
+pub use laws::{one_answer, seats_within_bounds};
+pub use lower::{Lower, LowerFault};
+pub use outcome::{find, find_or_tie};
+pub use tie::{NoLower, Ranges, Tie, bound_cells, lot};
+pub use zh_matrices::{Matrix, is_strict};

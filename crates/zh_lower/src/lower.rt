@@ -1,8 +1,10 @@
-//! The seats that were found, with their divisors.
+//! The seats that were found, with their divisors, or why none were.
 ghost use Rattle.std.specs.Prelude.{◌≡◌, ◌-◌, ◌*◌, ◌≤◌, length, slice_index};
+ghost use Rattle.zh_lower.specs.declared.lower.LowerFault.TheVariants.{Memory};
 ghost use Rattle.zh_matrices.specs.Divisors.{millionths};
 ghost use Rattle.zh_matrices.specs.SeatMatrix.{seats_of};
 
+use std::alloc::AllocError;
 use std::marker::Model;
 
 /// The seats of each group, a column, in each constituency, a row, and the divisors that give them. Rows and
@@ -67,5 +69,27 @@ impl Lower {
         ensures { result ≡ slice_index self.now.divisors.of_columns (column - 1) }
     {
         self.column_divisors[(column - 1) as usize]
+    }
+}
+
+/// Why a lower apportionment gives no seats. Rows and columns are counted from 1.
+#[derive(Clone, Copy, Debug, PartialEq, Eq)]
+pub enum LowerFault {
+    /// Memory ran out.
+    Memory,
+    /// This row, the first such, has no vote.
+    NoVotes(u32),
+    /// Two different matrices follow from the same divisors, and this row and column have the first
+    /// quotient on a half.
+    Tied(u32, u32),
+    /// The search came to its end.
+    Exhausted,
+}
+
+impl From<AllocError> for LowerFault {
+    ghost from_gives = { λ _ fault. fault ≡ Memory };
+
+    fn from(_error: AllocError) -> LowerFault {
+        LowerFault::Memory
     }
 }

@@ -1,24 +1,24 @@
-//! The lower apportionment as a whole.
-ghost use Rattle.std.specs.Prelude.{◌≡◌, ℕ, ◌*◌, IfOk, IsErrOf, List, length};
-ghost use Rattle.zh_matrices.specs.Asked.{asked};
-ghost use Rattle.zh_matrices.specs.Divisors.{Divisors};
-ghost use Rattle.zh_search.specs.Outcomes.{IsProper, NoneBefore};
-ghost use Rattle.zh_search.specs.Rooms.{divisors_of};
-ghost use Rattle.zh_matrices.specs.Question.{AreSeatTotals, EachColumnHasVotes, IsFirstWithoutVotes, question};
-ghost use Rattle.zh_matrices.specs.SeatMatrix.{IsStrict, IsWeak};
+//! The lower apportionment as a whole, which is a biproportional one: by the search, and by the decision where that has none.
+ghost use Rattle.std.specs.Prelude.{◌≡◌, ℕ, ◌*◌, IfOk, IsErrOf, List, length, ◌<◌, ◌↔◌, IfNone, IfSome, IsTrue};
+ghost use Rattle.zh_lower.specs.Outcomes.{IsProper, NoneBefore};
+ghost use Rattle.zh_lower.specs.SearchRooms.{divisors_of};
 ghost use Rattle.zh_lower.specs.Seating.{LowerOutcome};
 ghost use Rattle.zh_lower.specs.Tables.{AreStarted, AreTables};
 ghost use Rattle.zh_lower.specs.Ties.{HandsOver};
+ghost use Rattle.zh_matrices.specs.Asked.{asked};
+ghost use Rattle.zh_matrices.specs.Divisors.{Divisors};
+ghost use Rattle.zh_matrices.specs.Question.{AreSeatTotals, EachColumnHasVotes, IsFirstWithoutVotes, question, EachRowHasVotes, HasVotes};
+ghost use Rattle.zh_matrices.specs.Question.{row_votes};
+ghost use Rattle.zh_matrices.specs.SeatMatrix.{IsStrict, IsWeak};
 
+use crate::alternating_scaling::search;
 use crate::decided::seats_by_decision;
-use crate::fault::LowerFault;
-use crate::lower::Lower;
-use crate::tables::Tables;
+use crate::divisors::Tables;
+use crate::end_test::Ending;
+use crate::lower::{Lower, LowerFault};
 use crate::tie::{NoLower, Tie};
-use crate::votes::first_without_votes;
 use std::alloc::Global;
 use zh_matrices::{Matrix, Question};
-use zh_search::{Ending, search};
 
 /// The seats and divisors that the search found.
 fn found_on(tables: Tables) -> Lower
@@ -137,4 +137,31 @@ pub fn find(
         ¬ IsStrict (question matrix.now row_totals.now column_totals.now) divisors seats }
 {
     Ok(find_or_tie(alloc, matrix, row_totals, column_totals)?)
+}
+
+/// Whether a row has a vote.
+#[tactic(auto, using(crate::proofs::StepLemmas::sum_steps))]
+fn row_has_votes(question: &Question<'_>, row: usize) -> bool
+    requires { row < question.now.rows }
+    ensures { IsTrue result ↔ HasVotes question.now.columns (row_votes (asked question.now) row) }
+{
+    for column in 0..question.columns {
+        if question.votes[row * question.columns + column] > 0 {
+            return true;
+        }
+    }
+    false
+}
+
+/// The first row without a vote, counted from 1.
+pub(crate) fn first_without_votes(question: &Question<'_>) -> Option<u32>
+    ensures first { IfSome result (IsFirstWithoutVotes (asked question.now)) }
+    ensures none { IfNone result (EachRowHasVotes (asked question.now)) }
+{
+    for row in 0..question.rows {
+        if !row_has_votes(question, row) {
+            return Some(row as u32 + 1);
+        }
+    }
+    None
 }

@@ -1,4 +1,4 @@
-//! Whether a quotient rounds to a number of seats, tested by cross products below 2^127.
+//! Standard rounding: whether a quotient rounds to a number of seats, tested by cross products below 2^127.
 ghost use Rattle.std.specs.Prelude.{◌≡◌, ◌+◌, ◌*◌, ◌^◌, ◌≤◌, ◌↔◌, IsTrue};
 ghost use Rattle.zh_divisors.specs.Rounding.{Rounds};
 ghost use Rattle.zh_matrices.specs.NearlyTied.{NearlyRounds};

@@ -4,12 +4,12 @@ use Rattle.std.proofs.lemmas.List.{append-nil, take_all}
 use Rattle.std.specs.Io.KnownBytes.{Appends, Consumes}
 use Rattle.zh_ledger.specs.Submissions.{nothing, followed_by}
 use Rattle.zh_office.specs.Runs.{Turn, text_after}
-use Rattle.zh_answers.specs.declared.answer.Answer.{Answer}
+use Rattle.zh_office.specs.declared.answer.Answer.{Answer}
 use Rattle.zh_office.specs.Text.{HasNoEnd, unfinished, truncated, ended_lines, last_line}
 use Rattle.zh_office.specs.Filmed.{FilmsAll, FilmsFront, FilmsSteps, FilmsFrontSteps, TakesBlock, WritesAnswer}
 use Rattle.zh_office.specs.Order.{Step}
 use Rattle.zh_office.specs.Served.{Session, AnswersAll, step_of, steps_in}
-use Rattle.zh_commands.specs.declared.output.WriteFault.{WriteFault}
+use Rattle.zh_text.specs.declared.output.WriteFault.{WriteFault}
 use Rattle.zh_office.proofs.TextLemmas.{ended_none, ended_first, unfinished_all, unfinished_first, HasNoEnd-append}
 use Rattle.zh_office.proofs.FilmLemmas.{FilmsSteps-append, FilmsSteps-none, FilmsFrontSteps-after}
 use Rattle.zh_office.proofs.RunLemmas.{Runs-append, Runs-none, Runs-one}

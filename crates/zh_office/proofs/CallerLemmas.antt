@@ -1,5 +1,8 @@
 -- What the crates above may use.
-pub use Rattle.zh_office.proofs.LoggedLemmas.{acts_submitted, turn_submitted, turn_honest, run_is_logged, run_honest}
 pub use Rattle.zh_office.proofs.ContinuesLemmas.{risen_since}
-pub use Rattle.zh_office.proofs.RunLemmas.{followed_by-assoc, nothing-followed_by}
 pub use Rattle.zh_office.proofs.FilmLemmas.{answered, broken, film_ends, starts}
+pub use Rattle.zh_office.proofs.LoggedLemmas.{acts_submitted, run_honest, run_is_logged, turn_honest, turn_submitted}
+pub use Rattle.zh_office.proofs.NoneJudgedLemmas.{nothing_judged}
+pub use Rattle.zh_office.proofs.RunLemmas.{followed_by-assoc, nothing-followed_by}
+pub use Rattle.zh_office.proofs.SheetLemmas.{answered_instead, refused_made}
+pub use Rattle.zh_office.proofs.WithoutCommandLemmas.{HoldsWithoutCommand, is_plain, without_command}

@@ -1,6 +1,6 @@
 -- The answers of an office whose device does not fail, and which has numbers left: none is disturbed.
 use Rattle.std.proofs.Common.{◌≡◌, Bool, true, false, refl, sym, ap, ◌∙◌, List, Result, Ok, Err}
-use Rattle.zh_records.specs.declared.row.Row.{Row}
+use Rattle.zh_returns.specs.declared.row.Row.{Row}
 use Rattle.zh_returns.specs.Tally.{Tally}
 use Rattle.zh_sheet.specs.Distribution.{Distribution}
 use Rattle.zh_sheet.specs.declared.fault.SheetFault.{SheetFault}
@@ -11,18 +11,18 @@ use Rattle.zh_commands.specs.declared.lines.LineFault.TheVariants as line_faults
 use Rattle.zh_commands.specs.declared.replies.Reply.{Reply}
 use Rattle.zh_commands.specs.declared.replies.Reply.TheVariants.{Refused}
 use Rattle.zh_commands.specs.declared.replies.Refusal.TheVariants as refusals
-use Rattle.zh_csv.specs.declared.fault.LoadFault.{LoadFault}
-use Rattle.zh_csv.specs.declared.fault.LoadFault.TheVariants as load_faults
-use Rattle.zh_desks.specs.Batches.{Held}
-use Rattle.zh_desks.specs.declared.desk.Desk.{Desk}
+use Rattle.zh_csv.specs.declared.batch_reader.LoadFault.{LoadFault}
+use Rattle.zh_csv.specs.declared.batch_reader.LoadFault.TheVariants as load_faults
+use Rattle.zh_office.specs.DeskBatches.{Held}
+use Rattle.zh_returns.specs.declared.batch.Desk.{Desk}
 use Rattle.zh_ledger.specs.Faults.{fails}
 use Rattle.zh_ledger.specs.declared.outcome.Outcome.{Outcome}
 use Rattle.zh_ledger.specs.declared.outcome.Outcome.TheVariants as outcomes
-use Rattle.zh_answers.proofs.CallerLemmas.{is_plain, HoldsWithoutCommand, without_command}
-use Rattle.zh_answers.specs.Sheets.{answer_with, MayGive}
-use Rattle.zh_answers.specs.declared.answer.Answer.{Answer}
-use Rattle.zh_answers.specs.declared.answer.Answer.TheVariants as answers
-use Rattle.zh_answers.specs.Requests.{MayAnswerWhere, reply_to}
+use Rattle.zh_office.proofs.WithoutCommandLemmas.{is_plain, HoldsWithoutCommand, without_command}
+use Rattle.zh_office.specs.Sheets.{answer_with, MayGive}
+use Rattle.zh_office.specs.declared.answer.Answer.{Answer}
+use Rattle.zh_office.specs.declared.answer.Answer.TheVariants as answers
+use Rattle.zh_office.specs.Requests.{MayAnswerWhere, reply_to}
 use Rattle.zh_office.specs.Load.{load_refusal, load_reply}
 use Rattle.zh_office.specs.Office.{Office, MayAnswer}
 use Rattle.zh_office.specs.Undisturbed.{is_disturbed, is_memory, IsUndisturbed}

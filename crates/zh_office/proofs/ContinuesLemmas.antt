@@ -1,7 +1,7 @@
 -- What lines and texts leave of the history of a disk.
 use Rattle.std.proofs.Common.{◌≡◌, ◌<◌, ◌≤◌, ◌-◌, ◌^◌, ◌∙◌, ⊎_elim, inl, inr, ℕ, Bool, true, false, List, [], ◌∷◌, IsTrue, refl, sym, ap, subst, arith}
 use Rattle.zh_disk.specs.History.{HasRisen}
-use Rattle.zh_records.specs.declared.command.Command.{Command}
+use Rattle.zh_returns.specs.declared.command.Command.{Command}
 use Rattle.zh_ledger.specs.Ledger.{Ledger, has_room, stored}
 use Rattle.zh_ledger.specs.Submissions.{Log, OnDisk, Submission, Submits}
 use Rattle.zh_ledger.specs.declared.outcome.Outcome.{Outcome}

@@ -1,4 +1,7 @@
 pub mod CallerLemmas
+mod AnswerLemmas
+mod BrokenLemmas
+mod WithoutCommandLemmas
 mod BlockLemmas
 mod CalmAnswerLemmas
 mod ContinuesLemmas
@@ -12,6 +15,16 @@ mod FilmReadLemmas
 mod StepLemmas
 mod ReadCountLemmas
 mod RunLemmas
+mod SheetLemmas
 mod SteadyLemmas
 mod TextLemmas
 mod UndisturbedLemmas
+mod AnsweredLemmas
+mod AnyLemmas
+mod NoneJudgedLemmas
+mod FindingLemmas
+mod FrontLemmas
+mod JudgedLemmas
+mod LoadedLemmas
+mod RowLemmas
+mod WholeLemmas

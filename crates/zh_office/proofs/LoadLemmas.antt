@@ -1,18 +1,17 @@
 -- What the loading of a text leaves.
 use Rattle.std.proofs.Common.{◌≡◌, ◌≤◌, ◌∙◌, ℕ, Bool, true, false, List, [], ◌∷◌, length, Option, Result, Ok, Err, refl, sym, subst, arith}
-use Rattle.zh_records.specs.declared.command.Command.TheVariants as commands
-use Rattle.zh_records.specs.declared.row.Row.{Row}
+use Rattle.zh_returns.specs.declared.command.Command.TheVariants as commands
+use Rattle.zh_returns.specs.declared.row.Row.{Row}
 use Rattle.zh_commands.specs.declared.replies.Reply.{Reply}
 use Rattle.zh_commands.specs.declared.replies.Reply.TheVariants.{Same, Refused}
 use Rattle.zh_commands.specs.declared.replies.Refusal.TheVariants as refusals
 use Rattle.zh_csv.specs.Load.{LoadsFrom}
-use Rattle.zh_csv.specs.declared.fault.LoadFault.{LoadFault}
-use Rattle.zh_csv.specs.declared.fault.LoadFault.TheVariants as faults
+use Rattle.zh_csv.specs.declared.batch_reader.LoadFault.{LoadFault}
+use Rattle.zh_csv.specs.declared.batch_reader.LoadFault.TheVariants as faults
 use Rattle.zh_ledger.specs.Submissions.{OnDisk, Log, nothing}
-use Rattle.zh_answers.specs.Requests.{ReportsOutcome}
-use Rattle.zh_answers.specs.declared.answer.Answer.{Answer}
-use Rattle.zh_answers.specs.declared.answer.Answer.TheVariants as answers
-use Rattle.zh_answers.specs.Requests.{Acts}
+use Rattle.zh_office.specs.Requests.{ReportsOutcome, Acts}
+use Rattle.zh_office.specs.declared.answer.Answer.{Answer}
+use Rattle.zh_office.specs.declared.answer.Answer.TheVariants as answers
 use Rattle.zh_office.specs.Load.{LoadTurn, command_loaded, load_reply, load_refusal}
 use Rattle.zh_office.specs.Office.{Office}
 use Rattle.zh_office.specs.Runs.{its_ledger}

@@ -1,12 +1,12 @@
 -- What lines and texts do to the ledger: each submits one command, or none.
 use Rattle.std.proofs.Common.{ℕ, List, [], ◌∷◌, ◌++◌, sym, ap, ◌∙◌, subst, arith, IsTrue, Option, Some, None}
-use Rattle.zh_records.specs.declared.command.Command.{Command}
+use Rattle.zh_returns.specs.declared.command.Command.{Command}
 use Rattle.zh_ledger.specs.Ledger.{Ledger}
 use Rattle.zh_ledger.specs.Submissions.{OnDisk, Log, followed_by, Submits, IsLogged}
 use Rattle.zh_ledger.specs.declared.outcome.Outcome.{Outcome}
 use Rattle.zh_ledger.proofs.CallerLemmas.{SubmitsOneOrNone, one_submitted, submits_honest, submits_logged}
-use Rattle.zh_answers.specs.Requests.{Acts}
-use Rattle.zh_answers.specs.declared.answer.Answer.{Answer}
+use Rattle.zh_office.specs.Requests.{Acts}
+use Rattle.zh_office.specs.declared.answer.Answer.{Answer}
 use Rattle.zh_office.specs.Office.{Office, MayAnswer, command_read}
 use Rattle.zh_office.specs.Runs.{Runs, Turn, its_ledger}
 use Rattle.zh_office.proofs.RunLemmas.{followed_by-assoc, nothing-followed_by}

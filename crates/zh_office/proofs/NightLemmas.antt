@@ -2,7 +2,7 @@
 use Rattle.std.proofs.Common.{◌≡◌, sym, subst}
 use Rattle.zh_ledger.specs.Submissions.{Log}
 use Rattle.zh_ledger.proofs.CallerLemmas.{SubmitsOneOrNone, Serves, night_law}
-use Rattle.zh_answers.specs.declared.answer.Answer.TheVariants as answers
+use Rattle.zh_office.specs.declared.answer.Answer.TheVariants as answers
 use Rattle.zh_office.specs.Load.{command_loaded, load_reply}
 use Rattle.zh_office.specs.Night.{office, OfficeLaw}
 use Rattle.zh_office.specs.Night.Handed.{line, text}

@@ -4,12 +4,12 @@ use Rattle.std.proofs.lemmas.List.{get_or-set_other}
 use Rattle.zh_commands.proofs.CallerLemmas.{desk_of-read}
 use Rattle.zh_commands.specs.Lines.{ParsesAs, desk_of}
 use Rattle.zh_commands.specs.declared.lines.Line.{Line}
-use Rattle.zh_desks.specs.Batches.{Held, rows_of, with_batch}
-use Rattle.zh_desks.specs.declared.desk.Desk.{Desk}
-use Rattle.zh_records.specs.declared.row.Row.{Row}
-use Rattle.zh_answers.specs.Answers.{batch_after, held_after}
-use Rattle.zh_answers.specs.declared.answer.Answer.{Answer}
-use Rattle.zh_answers.specs.declared.answer.Answer.TheVariants as answers
+use Rattle.zh_office.specs.DeskBatches.{Held, rows_of, with_batch}
+use Rattle.zh_returns.specs.declared.batch.Desk.{Desk}
+use Rattle.zh_returns.specs.declared.row.Row.{Row}
+use Rattle.zh_office.specs.Answers.{batch_after, held_after}
+use Rattle.zh_office.specs.declared.answer.Answer.{Answer}
+use Rattle.zh_office.specs.declared.answer.Answer.TheVariants as answers
 
 -- a batch at the desk of a line leaves the batch of each other desk
 others_held : (bytes : List ℕ) (line : Line) (old new : Held) (batch : Option (List Row)) → ParsesAs bytes (Ok line) → new ≡ with_batch old line.desk batch

@@ -2,14 +2,14 @@
 use Rattle.std.proofs.Common.{◌≡◌, ◌≤◌, ◌<◌, ◌+◌, ◌-◌, ◌^◌, ◌==◌, ◌&&◌, ◌||◌, ℕ, Bool, true, false, refl, sym, ap, ◌∙◌, subst, ⊎_elim, arith, Option, Some, None}
 use Rattle.std.specs.Prelude.{not}
 use Rattle.std.proofs.lemmas.Bool.{ne_eqb}
-use Rattle.zh_records.specs.declared.command.Command.{Command}
-use Rattle.zh_records.specs.declared.format.Format.{Format}
-use Rattle.zh_records.specs.declared.format.Format.TheVariants.{Two}
+use Rattle.zh_returns.specs.declared.command.Command.{Command}
+use Rattle.zh_returns.specs.declared.command.Format.{Format}
+use Rattle.zh_returns.specs.declared.command.Format.TheVariants.{Two}
 use Rattle.zh_returns.specs.Tally.{Tally}
 use Rattle.zh_returns.specs.Judgement.{judge}
 use Rattle.zh_returns.specs.Step.{step, changed, on_verdict}
-use Rattle.zh_returns.specs.declared.verdict.Verdict.{Verdict}
-use Rattle.zh_returns.specs.declared.verdict.Verdict.TheVariants as verdicts
+use Rattle.zh_returns.specs.declared.judgement.Verdict.{Verdict}
+use Rattle.zh_returns.specs.declared.judgement.Verdict.TheVariants as verdicts
 use Rattle.zh_disk.specs.History.{HasRisen}
 use Rattle.zh_ledger.specs.Ledger.{Ledger, Becomes, MayFollow, MayResultWhere, MayStoreWhere, has_room, is_one, is_spent, lacks_room, stored}
 use Rattle.zh_ledger.specs.Faults.{fails}
@@ -17,8 +17,8 @@ use Rattle.zh_ledger.specs.Submissions.{OnDisk, Submission, Log}
 use Rattle.zh_ledger.specs.declared.outcome.Outcome.{Outcome}
 use Rattle.zh_ledger.specs.declared.outcome.Outcome.TheVariants as outcomes
 use Rattle.zh_ledger.proofs.CallerLemmas.{ready_already, ready_switched}
-use Rattle.zh_answers.specs.declared.answer.Answer.{Answer}
-use Rattle.zh_answers.specs.Requests.{Acts}
+use Rattle.zh_office.specs.declared.answer.Answer.{Answer}
+use Rattle.zh_office.specs.Requests.{Acts}
 
 -- a count of failures that stays below its end has not risen
 pub not_risen : (a b : ℕ) → b ≡ a → b < 2 ^ 64 - 1 → HasRisen a b → ⊥

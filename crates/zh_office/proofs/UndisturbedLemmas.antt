@@ -1,14 +1,14 @@
 -- The lines, runs and texts of an office whose device does not fail, and which has numbers left.
 use Rattle.std.proofs.Common.{◌≡◌, ◌≤◌, ◌<◌, ◌-◌, ◌^◌, ℕ, Bool, true, false, sym, ap, ◌∙◌, List, [], ◌∷◌, Option, Some, None}
-use Rattle.zh_records.specs.declared.command.Command.{Command}
-use Rattle.zh_records.specs.declared.format.Format.TheVariants.{Two}
+use Rattle.zh_returns.specs.declared.command.Command.{Command}
+use Rattle.zh_returns.specs.declared.command.Format.TheVariants.{Two}
 use Rattle.zh_commands.specs.declared.replies.Reply.{Reply}
 use Rattle.zh_disk.specs.History.{HasRisen}
 use Rattle.zh_ledger.specs.Ledger.{Ledger}
 use Rattle.zh_ledger.specs.Submissions.{OnDisk, Log}
-use Rattle.zh_answers.specs.declared.answer.Answer.{Answer}
-use Rattle.zh_answers.specs.declared.answer.Answer.TheVariants as answers
-use Rattle.zh_answers.specs.Requests.{Acts}
+use Rattle.zh_office.specs.declared.answer.Answer.{Answer}
+use Rattle.zh_office.specs.declared.answer.Answer.TheVariants as answers
+use Rattle.zh_office.specs.Requests.{Acts}
 use Rattle.zh_office.specs.Load.{LoadTurn, command_loaded}
 use Rattle.zh_office.specs.Office.{Office, MayAnswer, command_read}
 use Rattle.zh_office.specs.Runs.{Runs, Turn, its_ledger}

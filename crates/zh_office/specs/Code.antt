@@ -1,8 +1,8 @@
 -- The code of what an office holds, by which a proof tells offices apart.
 use Rattle.std.specs.Prelude.{refl}
 use Rattle.std.specs.Coded.{Coded, code_by, coded×, coded_list, coded_option}
-use Rattle.zh_records.specs.contracts.row.Row as row
-use Rattle.zh_desks.specs.Batches as desks
+use Rattle.zh_returns.specs.contracts.row.Row as row
+use Rattle.zh_office.specs.DeskBatches.{Held}
 use Rattle.zh_ledger.specs.Code.{ledger_code}
 use Rattle.zh_ledger.specs.Ledger.{Ledger}
 use Rattle.zh_office.specs.Office.{Office}
@@ -10,5 +10,5 @@ use Rattle.zh_office.specs.Office.{Office}
 -- an office is stored as its fields, in a pair
 abbrev pub office_code : Coded Office
 office_code =
-    code_by (Ledger × desks.Held) (coded× ledger_code (coded_list (coded_option (coded_list row.the_row.coded))))
+    code_by (Ledger × Held) (coded× ledger_code (coded_list (coded_option (coded_list row.the_row.coded))))
     (λ o. (o.ledger, o.held)) (λ p. record { ledger = p.0; held = p.1 }) (λ _. refl)

@@ -1,11 +1,11 @@
 -- What answering lines does to a film that is in order.
 use Rattle.std.specs.Prelude.{◌≡◌, ◌≢◌, ◌↔◌, ◌<◌, ℕ, List, [], ◌∷◌, ◌++◌, length, take, Option, Result, OnOk, OnErr}
 use Rattle.std.specs.Io.KnownBytes.{Appends}
-use Rattle.zh_commands.specs.declared.output.WriteFault.{WriteFault}
+use Rattle.zh_text.specs.declared.output.WriteFault.{WriteFault}
 use Rattle.zh_film.specs.Frames.{EndsOnce, Frame, HasEnded, InOrder, NoneFailed, reads_in}
 use Rattle.zh_film.specs.declared.kind.FrameKind.{FrameKind}
 use Rattle.zh_film.specs.declared.kind.FrameKind.TheVariants.{Asks}
-use Rattle.zh_answers.specs.declared.answer.Answer.{Answer}
+use Rattle.zh_office.specs.declared.answer.Answer.{Answer}
 use Rattle.zh_office.specs.Order.{Step, ComesAfter, IsInOrder, disk_after, texts}
 use Rattle.zh_office.specs.Runs.{Turn, text_after}
 use Rattle.zh_office.specs.Served.{Session, AnswersAll, BreaksOff, frame_at, step_of, steps_broken, steps_in}

@@ -1,3 +1,7 @@
+pub mod DeskBatches
+pub mod Answers
+pub mod Sheets
+pub mod Requests
 pub mod Text
 pub mod Office
 pub mod Code
@@ -9,3 +13,8 @@ pub mod Served
 pub mod Filmed
 pub mod Night
 pub mod Undisturbed
+pub mod Rows
+pub mod Findings
+pub mod JudgementText
+pub mod Judged
+pub mod Answered

@@ -1,19 +1,19 @@
 -- What an office answers to a text that is loaded, and what it holds after it.
 use Rattle.std.specs.Prelude.{◌≡◌, ℕ, Bool, true, false, List, Option, Some, None, Result, Ok, Err}
-use Rattle.zh_records.specs.declared.command.Command.{Command}
-use Rattle.zh_records.specs.declared.row.Row.{Row}
+use Rattle.zh_returns.specs.declared.command.Command.{Command}
+use Rattle.zh_returns.specs.declared.row.Row.{Row}
 use Rattle.zh_commands.specs.declared.replies.Reply.{Reply}
 use Rattle.zh_commands.specs.declared.replies.Reply.TheVariants.{Same, Refused}
 use Rattle.zh_commands.specs.declared.replies.Refusal.{Refusal}
 use Rattle.zh_commands.specs.declared.replies.Refusal.TheVariants as refusals
 use Rattle.zh_csv.specs.Load.{LoadsFrom}
-use Rattle.zh_csv.specs.declared.fault.LoadFault.{LoadFault}
-use Rattle.zh_csv.specs.declared.fault.LoadFault.TheVariants as faults
+use Rattle.zh_csv.specs.declared.batch_reader.LoadFault.{LoadFault}
+use Rattle.zh_csv.specs.declared.batch_reader.LoadFault.TheVariants as faults
 use Rattle.zh_ledger.specs.Submissions.{OnDisk, Log}
-use Rattle.zh_answers.specs.Answers.{batch_of}
-use Rattle.zh_answers.specs.Requests.{Acts}
-use Rattle.zh_answers.specs.declared.answer.Answer.{Answer}
-use Rattle.zh_answers.specs.declared.answer.Answer.TheVariants as answers
+use Rattle.zh_office.specs.Answers.{batch_of}
+use Rattle.zh_office.specs.Requests.{Acts}
+use Rattle.zh_office.specs.declared.answer.Answer.{Answer}
+use Rattle.zh_office.specs.declared.answer.Answer.TheVariants as answers
 use Rattle.zh_office.specs.Office.{Office}
 use Rattle.zh_office.specs.Runs.{its_ledger}
 

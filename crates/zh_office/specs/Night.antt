@@ -1,10 +1,10 @@
 -- A night of an office: lines, loaded texts, stops and openings on an honest disk that was formatted for it.
 use Rattle.std.specs.Prelude.{◌≡◌, ℕ, Bool, List, Option}
-use Rattle.zh_desks.specs.Batches.{no_batches}
+use Rattle.zh_office.specs.DeskBatches.{no_batches}
 use Rattle.zh_ledger.specs.Night.{Keeper, Law}
 use Rattle.zh_ledger.specs.Submissions.{OnDisk, Log}
-use Rattle.zh_answers.specs.declared.answer.Answer.{Answer}
-use Rattle.zh_answers.specs.declared.answer.Answer.TheVariants.{Reply, Sheet}
+use Rattle.zh_office.specs.declared.answer.Answer.{Answer}
+use Rattle.zh_office.specs.declared.answer.Answer.TheVariants.{Reply, Sheet}
 use Rattle.zh_office.specs.Office.{Office}
 use Rattle.zh_office.specs.Load.{LoadTurn}
 use Rattle.zh_office.specs.Runs.{Turn}

@@ -1,18 +1,18 @@
 -- What an office answers to a line, and what it holds after it.
 use Rattle.std.specs.Prelude.{◌≡◌, Option, None, Result, Ok, Err}
-use Rattle.zh_records.specs.declared.command.Command.{Command}
-use Rattle.zh_desks.specs.Batches as desks
-use Rattle.zh_desks.specs.Batches.{rows_of}
+use Rattle.zh_returns.specs.declared.command.Command.{Command}
+use Rattle.zh_office.specs.DeskBatches as desks
+use Rattle.zh_office.specs.DeskBatches.{rows_of}
 use Rattle.zh_ledger.specs.Ledger.{Ledger}
 use Rattle.zh_commands.specs.declared.lines.Line.{Line}
 use Rattle.zh_commands.specs.declared.lines.LineFault.{LineFault}
 use Rattle.zh_commands.specs.declared.lines.LineFault.TheVariants as faults
 use Rattle.zh_commands.specs.declared.replies.Reply.TheVariants.{Refused}
 use Rattle.zh_commands.specs.declared.replies.Refusal.TheVariants as refusals
-use Rattle.zh_answers.specs.Answers.{command_of, held_after}
-use Rattle.zh_answers.specs.Requests.{MayAnswerWhere}
-use Rattle.zh_answers.specs.declared.answer.Answer.{Answer}
-use Rattle.zh_answers.specs.declared.answer.Answer.TheVariants as answers
+use Rattle.zh_office.specs.Answers.{command_of, held_after}
+use Rattle.zh_office.specs.Requests.{MayAnswerWhere}
+use Rattle.zh_office.specs.declared.answer.Answer.{Answer}
+use Rattle.zh_office.specs.declared.answer.Answer.TheVariants as answers
 
 -- the count on its disk, and the batches of the desks, which live in memory alone
 pub record Office : Type 0 where

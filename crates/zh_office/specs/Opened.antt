@@ -1,7 +1,7 @@
 -- What opening an office gives.
 use Rattle.std.specs.Prelude.{Result, Ok, Err}
 use Rattle.zh_ledger.specs.Ledger.{Ledger}
-use Rattle.zh_ledger.specs.declared.fault.OpenFault.{OpenFault}
+use Rattle.zh_ledger.specs.declared.opening.OpenFault.{OpenFault}
 use Rattle.zh_office.specs.Office.{Office}
 
 -- the same of its ledger alone

@@ -8,9 +8,9 @@ use Rattle.zh_disk.specs.History.{HasRisen}
 use Rattle.zh_ledger.specs.Ledger.{Ledger}
 use Rattle.zh_ledger.specs.Submissions.{OnDisk, of_ledger, Log, nothing, followed_by}
 use Rattle.zh_sheet_text.specs.SheetText.{sheet_text}
-use Rattle.zh_answers.specs.Requests.{Acts}
-use Rattle.zh_answers.specs.declared.answer.Answer.{Answer}
-use Rattle.zh_answers.specs.declared.answer.Answer.TheVariants as answers
+use Rattle.zh_office.specs.Requests.{Acts}
+use Rattle.zh_office.specs.declared.answer.Answer.{Answer}
+use Rattle.zh_office.specs.declared.answer.Answer.TheVariants as answers
 use Rattle.zh_office.specs.Office.{Office, MayAnswer, command_read, batches_after}
 
 -- the ledger of an office, on the same disk

@@ -1,12 +1,11 @@
 -- What was served of a reader's bytes.
-use Rattle.std.specs.Prelude.{◌≡◌, ◌<◌, ◌≤◌, ◌⊎◌, ◌+◌, ◌-◌, ◌*◌, ◌^◌, ℕ, List, [], ◌∷◌, ◌++◌, take, min, length, IsTrue}
-use Rattle.std.specs.Prelude.{Option, Some}
+use Rattle.std.specs.Prelude.{◌≡◌, ◌<◌, ◌≤◌, ◌⊎◌, ◌+◌, ◌-◌, ◌*◌, ◌^◌, ℕ, List, [], ◌∷◌, ◌++◌, take, min, length, IsTrue, Option, Some}
 use Rattle.std.specs.Io.KnownBytes.{Appends, Consumes, IsAtEnd}
 use Rattle.zh_disk.specs.History.{History}
 use Rattle.zh_film.specs.Frames.{Frame, HasEnded, now_at, reads_in}
 use Rattle.zh_film.specs.declared.kind.FrameKind.TheVariants.{Failed}
 use Rattle.zh_ledger.specs.Submissions.{OnDisk, on_disk, Log, followed_by, IsLogged}
-use Rattle.zh_answers.specs.declared.answer.Answer.{Answer}
+use Rattle.zh_office.specs.declared.answer.Answer.{Answer}
 use Rattle.zh_office.specs.Text.{lines_of, ended_lines}
 use Rattle.zh_office.specs.Office.{Office}
 use Rattle.zh_office.specs.Order.{Step, IsInOrder}

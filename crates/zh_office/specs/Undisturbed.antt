@@ -8,10 +8,10 @@ use Rattle.zh_commands.specs.declared.lines.BatchStep.TheVariants as steps
 use Rattle.zh_commands.specs.declared.lines.DeskQuery.TheVariants as queries
 use Rattle.zh_commands.specs.declared.replies.Reply.TheVariants.{Refused}
 use Rattle.zh_commands.specs.declared.replies.Refusal.TheVariants as refusals
-use Rattle.zh_records.specs.declared.format.Format.TheVariants.{Two}
+use Rattle.zh_returns.specs.declared.command.Format.TheVariants.{Two}
 use Rattle.zh_ledger.specs.Submissions.{OnDisk, Log}
-use Rattle.zh_answers.specs.declared.answer.Answer.{Answer}
-use Rattle.zh_answers.specs.declared.answer.Answer.TheVariants as answers
+use Rattle.zh_office.specs.declared.answer.Answer.{Answer}
+use Rattle.zh_office.specs.declared.answer.Answer.TheVariants as answers
 use Rattle.zh_office.specs.Office.{Office}
 use Rattle.zh_office.specs.Runs.{Runs}
 

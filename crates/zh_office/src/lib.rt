@@ -1,16 +1,22 @@
-//! The count office: it cuts what it reads into lines, and answers each; it loads and exports.
+//! The count office: it cuts what it reads into lines, and answers each; it loads, exports, and says what a loading would
+//! do.
 #![tactic(auto)]
 
-mod export;
+mod answer;
+mod desks;
+mod judgement;
+mod judgement_text;
 mod laws;
-mod load;
 mod office;
-mod opening;
-mod partial_line;
+mod queries;
 mod service;
 
-pub use laws::{law_nights, stretches, undisturbed};
-pub use load::load_refusal;
+pub use answer::Answer;
+pub use judgement::{Forecast, JudgementFault};
+pub use judgement_text::write_judgement;
+pub use laws::{
+    each_is_judged_after_those_before, forecast_is_kept, law_nights, stretches, undisturbed,
+};
 pub use office::Office;
 pub use service::ServeFault;
 pub use zh_csv::NotedReader;

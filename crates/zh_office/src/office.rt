@@ -1,18 +1,40 @@
 //! The office.
 
-ghost use Rattle.std.specs.Prelude.{◌≡◌, ◌≢◌, false};
+ghost use Rattle.std.specs.Prelude.{◌≡◌, ◌≢◌, false, length, IfOk, IsErrOf, ℕ, true, Bool, List, Option, Ok};
+ghost use Rattle.std.specs.Io.KnownBytes.{Appends};
 ghost use Rattle.zh_commands.specs.Lines.{desk_of};
-ghost use Rattle.zh_desks.specs.Batches.{rows_of};
-ghost use Rattle.zh_desks.specs.declared.desk.Desk.{Desk};
+ghost use Rattle.zh_csv.specs.Export.{export_text};
+ghost use Rattle.zh_disk.specs.History.{Call};
+ghost use Rattle.zh_office.specs.DeskBatches.{no_batches, rows_of};
+ghost use Rattle.zh_returns.specs.declared.batch.Desk.{Desk};
+ghost use Rattle.zh_ledger.specs.Opening.{MakesNew, Opening};
 ghost use Rattle.zh_ledger.specs.Submissions.{on_disk};
-ghost use Rattle.zh_answers.specs.Requests.{answer_may_write};
-ghost use Rattle.zh_office.specs.Runs.{Turn};
+ghost use Rattle.zh_office.specs.Opened.{ledger_of_opened};
+ghost use Rattle.zh_office.specs.Requests.{answer_may_write};
+ghost use Rattle.zh_office.specs.Runs.{Turn, Continues};
+ghost use Rattle.zh_snapshot.specs.Faults.{store_format_fails};
+ghost use Rattle.zh_totals.specs.Counting.{totals_of};
+ghost use Rattle.zh_csv.specs.Load.{LoadsFrom};
+ghost use Rattle.zh_csv.specs.Noted.{has_failed, inner_reader};
+ghost use Rattle.zh_office.specs.Load.{LoadTurn, load_refusal};
+ghost use Rattle.zh_office.specs.declared.answer.Answer.TheVariants as answers;
 
+use crate::answer::{Answer, submit_rows};
+use crate::desks::Desks;
+use std::alloc::{AllocError, Global};
+use std::io::{Read, Write};
 use std::marker::Model;
-use zh_answers::{Answer, Books};
 use zh_commands::{LineFault, Refusal, Reply, parse_line};
+use zh_csv::{LoadFault, NotedReader, read_batch, write_count};
 use zh_disk::Disk;
-use zh_returns::Count;
+use zh_districts::Setup;
+use zh_ledger::{FormatFault, Ledger, OpenFault};
+use zh_record_text::RecordFault;
+use zh_returns::{Batch, Count};
+use zh_totals::Totals;
+
+/// The bytes of the rows of a batch: 1,000 of 11 bytes.
+const ROWS_LENGTH: usize = 11_000;
 
 /// The count of an election, kept on a disk, and the desks that change it.
 ///
@@ -20,10 +42,19 @@ use zh_returns::Count;
 /// office answers `reopen-disk` until a new one is opened there.
 #[derive(Drop)]
 pub struct Office<'s> {
-    pub(crate) books: Books<'s>,
+    // the count on its disk, which is handed to each call
+    pub(crate) ledger: Ledger<'s>,
+    // the desks, with their batches
+    pub(crate) desks: Desks,
+    // where rows and sheets take their memory
+    pub(crate) alloc: Global,
+    // room for the rows of a batch that is submitted
+    pub(crate) rows: Vec<u8>,
 }
 
 impl<'s> Model for Office<'s> {
+    ghost use Rattle.std.specs.Prelude.{◌≤◌, vec_len};
+    ghost use Rattle.zh_returns.specs.Rows.{rows_length};
     ghost use Rattle.zh_office.specs.Office as office;
 
     ghost Value = { office.Office };
@@ -32,22 +63,71 @@ impl<'s> Model for Office<'s> {
 
     ghost coded = { office_code };
 
-    ghost view = { λ office. record { ledger = office.books.ledger; held = office.books.desks } };
+    ghost view = { λ office. record { ledger = office.ledger; held = office.desks } };
+
+    ghost invariant = { λ office. rows_length ≤ vec_len office.rows };
+}
+
+/// Room for the rows of a batch.
+fn row_bytes(alloc: Global) -> Result<Vec<u8>, AllocError>
+    ensures { IfOk result (λ bytes. length bytes.items ≡ ROWS_LENGTH) }
+{
+    vec![in alloc; 0; ROWS_LENGTH]
 }
 
 impl<'s> Office<'s> {
+    /// Makes a disk one on which nothing has been returned yet, whatever stands there, as `Ledger::format` does.
+    pub fn format<D: Disk>(alloc: Global, setup: &Setup, disk: &mut D) -> Result<(), FormatFault>
+        ensures call { Call store_format_fails (MakesNew setup.now) (D.history disk.old) (D.history disk.new) result }
+        ensures untouched { IsErrOf result FormatFault.Memory → disk.new ≡ disk.old }
+    {
+        Ledger::format(alloc, setup, disk)
+    }
+
+    /// Opens the office that a disk holds, as `Ledger::open` does. All memory is taken before the first call of the
+    /// device.
+    pub fn open<D: Disk>(
+        alloc: Global,
+        setup: &'s Setup,
+        disk: &mut D,
+    ) -> Result<Office<'s>, OpenFault>
+        // While the disk is honest this also says what each image is at each moment since the call began.
+        ensures opening { Opening setup.now (D.history disk.old) (D.history disk.new) (ledger_of_opened result) }
+
+        // No desk has a batch yet.
+        ensures held { IfOk result (λ office. office.held ≡ no_batches) }
+
+        ensures untouched { IsErrOf result OpenFault.Memory → disk.new ≡ disk.old }
+    {
+        let rows = row_bytes(alloc)?;
+        let ledger = Ledger::open(alloc, setup, disk)?;
+        Ok(Office {
+            ledger,
+            desks: Desks::new(),
+            alloc,
+            rows,
+        })
+    }
+
     /// The count as it is now.
     pub fn count(&self) -> &Count<'s>
         ensures { result.now ≡ self.now.ledger.tally }
     {
-        self.books.ledger.count()
+        self.ledger.count()
+    }
+
+    /// The votes of each group in each constituency, of the count as it is now.
+    pub fn totals(&self) -> &Totals<'s>
+        ensures { result.now ≡ totals_of self.now.ledger.tally }
+    {
+        self.ledger.totals()
     }
 
     /// Whether the device failed under this office, so that the disk must be opened again.
     pub fn faulted(&self) -> bool
         ensures { result ≡ self.now.ledger.store.broken }
     {
-        self.books.ledger.is_broken()
+        self.ledger.is_broken()
     }
 
     /// Answers a line, given without its LF. Only the lines `row`, `sheet` and `final` may take memory.
@@ -64,7 +144,69 @@ impl<'s> Office<'s> {
         match parse_line(bytes) {
             Err(LineFault::Syntax) => Answer::Reply(Reply::Refused(Refusal::Syntax)),
             Err(LineFault::Desk) => Answer::Reply(Reply::Refused(Refusal::Desk)),
-            Ok(line) => self.books.answer_to(disk, line),
+            Ok(line) => self.answer_to(disk, line),
         }
+    }
+
+    /// Writes what is held as comma-separated text, by municipality and then list, and gives the writer back.
+    pub fn export<W: Write + Drop>(&self, writer: W) -> Result<W, RecordFault>
+        ensures { IfOk result (λ after. Appends (W.contents writer) (W.contents after) (export_text self.now.ledger.tally)) }
+    {
+        write_count(self.count(), writer)
+    }
+}
+
+/// The desk of what no desk sent.
+const NO_DESK: u8 = 0;
+
+/// The name under which a text is refused.
+pub(crate) fn load_refusal(fault: LoadFault) -> Refusal
+    ensures { result ≡ load_refusal fault }
+{
+    match fault {
+        LoadFault::Csv | LoadFault::Read => Refusal::Csv,
+        LoadFault::Syntax => Refusal::Syntax,
+        LoadFault::Judged(reason) => Refusal::Judged(reason),
+        LoadFault::Row(fault) => Refusal::Row(fault),
+        LoadFault::Memory => Refusal::Memory,
+    }
+}
+
+impl<'s> Office<'s> {
+    /// Loads the returns of a comma-separated text as one batch, under no desk: it is stored whole, or not at all.
+    ///
+    /// The text is read record by record, and no further than up to the record that decides, but for what the crate `csv`
+    /// reads ahead. After a fault of the device nothing is read.
+    pub fn load<R: Read, D: Disk>(&mut self, disk: &mut D, reader: &mut NotedReader<R>) -> Reply
+        // While the disk is honest the turn also says what each image holds at each moment since the call began.
+        ensures turn { LoadTurn (on_disk self.old (D.history disk.old))
+            (R.remaining (inner_reader reader.old)) (has_failed reader.new) result
+            (on_disk self.new (D.history disk.new)) }
+
+        ensures disk { Continues (on_disk self.old.ledger (D.history disk.old)) (on_disk self.new.ledger (D.history disk.new)) }
+        ensures untouched { answer_may_write (answers.Reply result) ≡ false → disk.new ≡ disk.old }
+        ensures unread { self.old.ledger.store.broken ≡ true → reader.new ≡ reader.old }
+    {
+        if self.faulted() {
+            return Reply::Refused(Refusal::ReopenDisk);
+        }
+        match read_batch(self.alloc, self.count().setup(), reader) {
+            Ok(batch) => self.store(disk, &batch),
+            Err(fault) => Reply::Refused(load_refusal(fault)),
+        }
+    }
+
+    /// Stores the rows of a text, if it has any.
+    fn store<D: Disk>(&mut self, disk: &mut D, batch: &Batch) -> Reply
+        requires whole { self.old.ledger.store.broken ≡ false }
+        ensures turn { (text : Option (List ℕ)) (failed : Bool) → LoadsFrom self.old.ledger.tally.canton text failed (Ok batch.now)
+            → LoadTurn (on_disk self.old (D.history disk.old)) text failed result (on_disk self.new (D.history disk.new)) }
+        ensures disk { Continues (on_disk self.old.ledger (D.history disk.old)) (on_disk self.new.ledger (D.history disk.new)) }
+        ensures untouched { answer_may_write (answers.Reply result) ≡ false → disk.new ≡ disk.old }
+    {
+        if batch.len() == 0 {
+            return Reply::Same;
+        }
+        submit_rows(&mut self.ledger, disk, NO_DESK, batch, &mut self.rows)
     }
 }

@@ -1,24 +1,32 @@
 //! Serving the lines of a reader.
 
-ghost use Rattle.std.specs.Prelude.{◌≡◌, ◌++◌, ◌↔◌, [], length, MatchResult, IfOk, IsErrOf, OnOk};
+ghost use Rattle.std.specs.Prelude.{◌≡◌, ◌++◌, ◌∷◌, MatchOption, ◌↔◌, [], length, MatchResult, IfOk, IsErrOf, OnOk};
+ghost use Rattle.zh_office.specs.Text.{truncated, HasNoEnd, ended_lines, last_line};
 ghost use Rattle.zh_film.specs.Frames.{frames};
 ghost use Rattle.zh_film.specs.Scenes.{scenes};
 ghost use Rattle.zh_ledger.specs.Submissions.{on_disk};
 ghost use Rattle.zh_office.specs.Filmed.{FilmsAll, FilmsFront, TakesBlock, WritesAnswer, WritesText};
 ghost use Rattle.zh_office.specs.Runs.{Continues, answer_text};
-ghost use Rattle.zh_office.specs.Text.{HasNoEnd, ended_lines, last_line};
-ghost use Rattle.zh_office.specs.Served.{session, HasFailedRead};
-ghost use Rattle.zh_office.specs.Served.{EndsWithinReads, MakesAllReads, MakesReadsUpTo, ServesAll, ServesEnded, ServesFront};
+ghost use Rattle.zh_office.specs.Served.{session, HasFailedRead, EndsWithinReads, MakesAllReads, MakesReadsUpTo, ServesAll, ServesEnded};
+ghost use Rattle.zh_office.specs.Served.{ServesFront};
 
+use crate::answer::Answer;
 use crate::office::Office;
-use crate::partial_line::{PartialLine, extend_line, split_line};
+use arrayvec::ArrayVec;
+use memchr::memchr;
 use std::io::{Read, Write};
 use thiserror::Error;
-use zh_answers::Answer;
-use zh_commands::{WriteFault, desk_of, put, write_reply};
+use zh_commands::{desk_of, write_reply};
 use zh_disk::Disk;
 use zh_film::Film;
 use zh_sheet_text::write_sheet;
+use zh_text::{WriteFault, put};
+
+/// How many bytes of a line count: one more than a line may have, so that a longer one is noticed.
+const LINE_BYTES: usize = 121;
+
+/// The bytes that count of a line that isn't ended yet.
+type PartialLine = ArrayVec<u8, LINE_BYTES>;
 
 /// How many bytes a read asks for at most.
 const BLOCK: usize = 8192;
@@ -235,4 +243,21 @@ impl<'s> Office<'s> {
 /// Room for a read.
 fn blank_block() -> [u8; BLOCK] {
     [0; BLOCK]
+}
+
+/// Takes more bytes of a line.
+fn extend_line(line: &mut PartialLine, more: &[u8])
+    ensures { line.new.items ≡ truncated (line.old.items ++ more.now) }
+{
+    let count = more.len().min(line.remaining_capacity());
+    line.try_extend_from_slice(&more[..count]).unwrap();
+}
+
+/// The bytes before the first LF, and those after it.
+fn split_line(bytes: &[u8]) -> Option<(&[u8], &[u8])>
+    ensures { MatchOption result (HasNoEnd bytes.now)
+        (λ parts. HasNoEnd parts.0.now × (bytes.now ≡ parts.0.now ++ 10 ∷ parts.1.now)) }
+{
+    let end = memchr(b'\n', bytes)?;
+    Some((&bytes[..end], &bytes[end + 1..]))
 }

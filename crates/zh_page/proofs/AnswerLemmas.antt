@@ -1,6 +1,6 @@
 -- What is answered where both texts were read.
 use Rattle.std.proofs.Common.{ℕ, List}
-use Rattle.zh_checks.specs.Checks.{Inputs}
+use Rattle.zh_verdicts.specs.Checks.{Inputs}
 use Rattle.zh_page.specs.Answers.{AreTextsOf, IsVerdictOn, AnswersPage, Texts}
 use Rattle.zh_page.specs.declared.answer.PageStatus.{PageStatus}
 use Rattle.zh_page.specs.declared.answer.PageStatus.TheVariants.{Right, Wrong, NoSetup, NoRows, Memory}

@@ -3,22 +3,22 @@ use Rattle.std.specs.Prelude.{◌≡◌, ◌≢◌, ◌≤◌, ◌<◌, ℕ, Lis
 use Rattle.zh_check.specs.declared.checked.RightSheet.{RightSheet}
 use Rattle.zh_check.specs.declared.checked.SheetVerdict.{SheetVerdict}
 use Rattle.zh_check.specs.declared.checked.SheetVerdict.TheVariants as verdicts
-use Rattle.zh_checks.specs.Checks.{ComesTo, Inputs, SaysWrong, check_text}
-use Rattle.zh_checks.specs.Reports.{rows_report, setup_report}
-use Rattle.zh_csv.specs.declared.fault.LoadFault.{LoadFault}
+use Rattle.zh_verdicts.specs.Checks.{ComesTo, Inputs, SaysWrong, check_text}
+use Rattle.zh_verdicts.specs.Reports.{rows_report, setup_report}
+use Rattle.zh_csv.specs.declared.batch_reader.LoadFault.{LoadFault}
 use Rattle.zh_districts.specs.Canton.{Canton}
-use Rattle.zh_held.specs.Faults.{named}
-use Rattle.zh_held.specs.Held.{AddsUp}
-use Rattle.zh_held.specs.declared.fault.HeldFault.{HeldFault}
-use Rattle.zh_held.specs.declared.held_reader.HeldSums.{HeldSums}
+use Rattle.zh_csv.specs.Faults.{named}
+use Rattle.zh_csv.specs.Held.{AddsUp}
+use Rattle.zh_csv.specs.declared.held_sums.HeldFault.{HeldFault}
+use Rattle.zh_csv.specs.declared.held_sums.HeldSums.{HeldSums}
 use Rattle.zh_page.specs.declared.answer.PageStatus.{PageStatus}
 use Rattle.zh_page.specs.declared.answer.PageStatus.TheVariants.{Right, Wrong, NoSetup, NoRows, Memory}
-use Rattle.zh_page.specs.declared.handed.HandedStatus.{HandedStatus}
-use Rattle.zh_page.specs.declared.handed.HandedStatus.TheVariants.{Whole, NoRoom}
+use Rattle.zh_page.specs.declared.answer.HandedStatus.{HandedStatus}
+use Rattle.zh_page.specs.declared.answer.HandedStatus.TheVariants.{Whole, NoRoom}
 use Rattle.zh_setups.specs.Refusals.{IsPlaced}
 use Rattle.zh_setups.specs.SetupText.{reading_of}
-use Rattle.zh_setups.specs.declared.fault.SetupFault.TheVariants as of_setup
-use Rattle.zh_setups.specs.declared.fault.SetupRefusal.{SetupRefusal}
+use Rattle.zh_setups.specs.declared.text.SetupFault.TheVariants as of_setup
+use Rattle.zh_setups.specs.declared.text.SetupRefusal.{SetupRefusal}
 
 -- the texts that a page hands in: an export where one is given
 pub record Texts : Type 0 where

@@ -6,11 +6,10 @@ ghost use Rattle.zh_page.specs.Answers.{AddsUpIfGiven, AreNoRows, IsNoSetup, IsV
 
 use crate::answer::{PageAnswer, PageStatus};
 use std::alloc::Global;
-use zh_checks::{rows_report, setup_report, write_check};
-use zh_csv::{LoadFault, NotedReader};
+use zh_csv::{HeldFault, HeldSums, LoadFault, NotedReader, read_held};
 use zh_districts::Setup;
-use zh_held::{HeldFault, HeldSums, read_held};
 use zh_setups::{SetupFault, SetupRefusal, read_setup};
+use zh_verdicts::{rows_report, setup_report, write_check};
 
 /// The most bytes of a sheet that are looked at: one more than the longest has, as of a sheet's file.
 const LONGEST: usize = 280_065;

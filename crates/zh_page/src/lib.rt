@@ -3,8 +3,6 @@
 
 mod answer;
 mod checked;
-mod handed;
 
-pub use answer::{PageAnswer, PageStatus};
+pub use answer::{HandedStatus, PageAnswer, PageStatus, hand_over};
 pub use checked::check_texts;
-pub use handed::{HandedStatus, hand_over};

@@ -3,7 +3,7 @@
 ghost use Rattle.std.specs.Prelude.{◌≡◌, ◌≤◌};
 ghost use Rattle.zh_page.specs.Answers.{IsHanded};
 ghost use Rattle.zh_page.specs.declared.answer.PageStatus.TheVariants as statuses;
-ghost use Rattle.zh_page.specs.declared.handed.HandedStatus.TheVariants as handed;
+ghost use Rattle.zh_page.specs.declared.answer.HandedStatus.TheVariants as handed;
 ghost use Rattle.zh_page_module.specs.Given.{texts_given};
 
 use std::alloc::Global;

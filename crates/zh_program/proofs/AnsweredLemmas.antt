@@ -1,10 +1,10 @@
 -- What an answer says that is a sheet, or reports a tie. To a line without a command it is one of a few, which are gone through one
 -- by one; to a command it is the report of an outcome, which is neither.
 use Rattle.std.proofs.Common.{◌≡◌, ◌≢◌, ℕ, Bool, true, false, Option, Some, None, Result, Ok, Err, refl, sym, subst}
-use Rattle.zh_records.specs.declared.command.Command.{Command}
+use Rattle.zh_returns.specs.declared.command.Command.{Command}
 use Rattle.zh_returns.specs.Tally.{Tally}
-use Rattle.zh_desks.specs.Batches as desks
-use Rattle.zh_desks.specs.Batches.{rows_of}
+use Rattle.zh_office.specs.DeskBatches as desks
+use Rattle.zh_office.specs.DeskBatches.{rows_of}
 use Rattle.zh_commands.specs.declared.lines.Line.{Line}
 use Rattle.zh_commands.specs.declared.lines.LineFault.{LineFault}
 use Rattle.zh_commands.specs.declared.lines.LineFault.TheVariants as lines
@@ -18,17 +18,17 @@ use Rattle.zh_sheet.specs.Made.{IsMade, IsSheetOf}
 use Rattle.zh_sheet.specs.Refusals.{LeaveNoSeats}
 use Rattle.zh_sheet.specs.declared.fault.SheetFault.{SheetFault}
 use Rattle.zh_sheet.specs.declared.fault.SheetFault.TheVariants as faults
-use Rattle.zh_upper.specs.declared.refusal.UpperRefusal.TheVariants as uppers
-use Rattle.zh_sheet.specs.declared.refusal.SheetRefusal.TheVariants as sheets
+use Rattle.zh_upper.specs.declared.fault.UpperRefusal.TheVariants as uppers
+use Rattle.zh_sheet.specs.declared.fault.SheetRefusal.TheVariants as sheets
 use Rattle.zh_ledger.specs.Ledger.{Ledger}
 use Rattle.zh_ledger.specs.Submissions.{Log, OnDisk}
 use Rattle.zh_ledger.specs.declared.outcome.Outcome.{Outcome}
 use Rattle.zh_ledger.specs.declared.outcome.Outcome.TheVariants as outcomes
-use Rattle.zh_answers.proofs.CallerLemmas.{is_plain, HoldsWithoutCommand, without_command}
-use Rattle.zh_answers.specs.Requests.{Acts, MayAnswerWhere, reply_to}
-use Rattle.zh_answers.specs.Sheets.{MayGive, answer_with, sheet_refusal}
-use Rattle.zh_answers.specs.declared.answer.Answer.{Answer}
-use Rattle.zh_answers.specs.declared.answer.Answer.TheVariants as answers
+use Rattle.zh_office.proofs.CallerLemmas.{is_plain, HoldsWithoutCommand, without_command}
+use Rattle.zh_office.specs.Requests.{Acts, MayAnswerWhere, reply_to}
+use Rattle.zh_office.specs.Sheets.{MayGive, answer_with, sheet_refusal}
+use Rattle.zh_office.specs.declared.answer.Answer.{Answer}
+use Rattle.zh_office.specs.declared.answer.Answer.TheVariants as answers
 use Rattle.zh_office.specs.Office.{MayAnswer, Office}
 use Rattle.zh_program.specs.Sheets.{FollowsFrom, IsTie}
 use Rattle.zh_program.proofs.TieLemmas.{tied_above, tied_seats}

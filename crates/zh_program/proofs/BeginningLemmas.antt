@@ -5,7 +5,7 @@ use Rattle.zh_disk.specs.Disk.{Trail, disk_length, fresh_trail}
 use Rattle.zh_disk.specs.History.{History}
 use Rattle.zh_returns.specs.Tally.{Tally}
 use Rattle.zh_ledger.specs.Stands.{Holds}
-use Rattle.zh_world.specs.Files.{Begins, BeginsOrIsMade, BeginsWith}
+use Rattle.zh_file.specs.Files.{Begins, BeginsOrIsMade, BeginsWith}
 
 -- a disk that there is began with the bytes of its file, if these are known
 pub known_fresh : (known : Option (List ℕ)) (first : History) (bytes : List ℕ) → Begins known first → known ≡ Some bytes

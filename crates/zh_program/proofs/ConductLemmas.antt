@@ -8,11 +8,11 @@ use Rattle.zh_returns.specs.Tally.{Tally}
 use Rattle.zh_ledger.specs.Opening.{MayLeave, Opening, Opens}
 use Rattle.zh_ledger.specs.Stands.{Holds, HoldsFramed}
 use Rattle.zh_ledger.specs.Submissions.{OnDisk}
-use Rattle.zh_ledger.specs.declared.fault.OpenFault.{OpenFault}
+use Rattle.zh_ledger.specs.declared.opening.OpenFault.{OpenFault}
 use Rattle.zh_office.specs.Office.{Office}
-use Rattle.zh_tasks.specs.Opened.{IsFrom}
+use Rattle.zh_program.specs.Opened.{IsFrom}
 use Rattle.zh_program.specs.Exchanges.{Exchange}
-use Rattle.zh_tasks.specs.Run.{Streams}
+use Rattle.zh_program.specs.Run.{Streams}
 use Rattle.zh_program.specs.Headline.{Headline}
 use Rattle.zh_program.specs.Order.{Conversation}
 use Rattle.zh_program.specs.Stopped.{Always}

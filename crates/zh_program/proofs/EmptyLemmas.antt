@@ -6,8 +6,8 @@ use Rattle.std.proofs.lemmas.List.Elements.{All-nil, All-cons, All-head, All-tai
 use Rattle.zh_disk.specs.Disk.{Leaves, Moment, Trail, fresh_trail, settled}
 use Rattle.zh_districts.specs.Canton.{Canton, IsCanton}
 use Rattle.zh_districts.specs.Spelling.{setup_spelling}
-use Rattle.zh_records.specs.Spelling.{IsSpeakable}
-use Rattle.zh_records.specs.declared.format.Format.TheVariants.{Two}
+use Rattle.zh_returns.specs.Spelling.{IsSpeakable}
+use Rattle.zh_returns.specs.declared.command.Format.TheVariants.{Two}
 use Rattle.zh_returns.specs.Payload.{payload_spelling}
 use Rattle.zh_returns.specs.Tally.{Tally, empty}
 use Rattle.zh_returns.proofs.CallerLemmas.{IsTally-empty, said_in_two}
@@ -17,8 +17,8 @@ use Rattle.zh_snapshot.specs.Store.{Settles}
 use Rattle.zh_ledger.specs.Opened.{IsNew}
 use Rattle.zh_ledger.specs.Stands.{Holds}
 use Rattle.zh_ledger.proofs.CallerLemmas.{only_image}
-use Rattle.zh_tasks.specs.Format.{FormatsBlank}
-use Rattle.zh_tasks.specs.declared.fault.TaskFault.{TaskFault}
+use Rattle.zh_program.specs.Format.{FormatsBlank}
+use Rattle.zh_program.specs.declared.fault.TaskFault.{TaskFault}
 use Rattle.zh_program.specs.Stopped.{Always}
 use Rattle.zh_program.proofs.AlwaysLemmas.{AtMoment, always_left}
 

@@ -1,11 +1,11 @@
 -- What the program says of a task, by how it ended.
 use Rattle.std.proofs.Common.{◌≡◌, ◌≢◌, ◌∙◌, ℕ, Option, Result, Ok, Err, IfErr, MatchResult, sym, ap, subst}
 use Rattle.zh_arguments.specs.declared.arguments.Task.{Task}
-use Rattle.zh_tasks.specs.Remarks.{BecameOf}
-use Rattle.zh_tasks.specs.Tasks.{Does}
-use Rattle.zh_tasks.specs.World.{Known, UsedOf, WorldOf}
-use Rattle.zh_tasks.specs.declared.fault.TaskFault.{TaskFault}
-use Rattle.zh_tasks.specs.declared.fault.TaskFault.TheVariants as faults
+use Rattle.zh_program.specs.Remarks.{BecameOf}
+use Rattle.zh_program.specs.Tasks.{Does}
+use Rattle.zh_program.specs.World.{Known, UsedOf, WorldOf}
+use Rattle.zh_program.specs.declared.fault.TaskFault.{TaskFault}
+use Rattle.zh_program.specs.declared.fault.TaskFault.TheVariants as faults
 use Rattle.zh_program.specs.Program.{MetFault, ends}
 use Rattle.zh_program.specs.Paths.{fault_path}
 use Rattle.zh_program.specs.Reports.{report_text}

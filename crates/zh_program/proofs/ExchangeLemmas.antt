@@ -1,16 +1,16 @@
 -- Exchanges, one after the other: the log, the disk and what the desks hold after one more.
 use Rattle.std.proofs.Common.{◌≡◌, List, [], ◌∷◌, ◌++◌, Option, Some, None, refl, sym, ◌∙◌, ap}
 use Rattle.zh_disk.specs.Disk.{Trail}
-use Rattle.zh_records.specs.declared.command.Command.{Command}
-use Rattle.zh_desks.specs.Batches.{Held}
+use Rattle.zh_returns.specs.declared.command.Command.{Command}
+use Rattle.zh_office.specs.DeskBatches.{Held}
 use Rattle.zh_ledger.specs.Ledger.{Ledger}
 use Rattle.zh_ledger.specs.Submissions.{Log, OnDisk, followed_by, logged}
 use Rattle.zh_ledger.specs.declared.outcome.Outcome.{Outcome}
 use Rattle.zh_ledger.specs.declared.outcome.Outcome.TheVariants as outcomes
 use Rattle.zh_ledger.proofs.CallerLemmas.{log_none}
-use Rattle.zh_answers.specs.Requests.{Acts, reply_to}
-use Rattle.zh_answers.specs.declared.answer.Answer.{Answer}
-use Rattle.zh_answers.specs.declared.answer.Answer.TheVariants as answers
+use Rattle.zh_office.specs.Requests.{Acts, reply_to}
+use Rattle.zh_office.specs.declared.answer.Answer.{Answer}
+use Rattle.zh_office.specs.declared.answer.Answer.TheVariants as answers
 use Rattle.zh_office.proofs.CallerLemmas.{followed_by-assoc, nothing-followed_by}
 use Rattle.zh_program.specs.Exchanges.{Exchange, disk_by, held_by, held_then, log_by, log_of}
 

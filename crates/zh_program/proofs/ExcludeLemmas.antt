@@ -8,12 +8,12 @@ use Rattle.std.proofs.lemmas.Bool.{cases_lt}
 use Rattle.std.specs.Prelude.{All}
 use Rattle.std.proofs.lemmas.List.Elements.{All-tail}
 use Rattle.zh_disk.specs.Disk.{IsImage, Moment, Trail}
-use Rattle.zh_records.specs.declared.command.Command.{Command}
+use Rattle.zh_returns.specs.declared.command.Command.{Command}
 use Rattle.zh_returns.specs.Judgement.{judge}
 use Rattle.zh_returns.specs.Step.{after, changed, on_verdict, step}
 use Rattle.zh_returns.specs.Tally.{Tally}
-use Rattle.zh_returns.specs.declared.verdict.Verdict.{Verdict}
-use Rattle.zh_returns.specs.declared.verdict.Verdict.TheVariants as verdicts
+use Rattle.zh_returns.specs.declared.judgement.Verdict.{Verdict}
+use Rattle.zh_returns.specs.declared.judgement.Verdict.TheVariants as verdicts
 use Rattle.zh_divisors.specs.Rounding.{Rounds}
 use Rattle.zh_commands.specs.declared.replies.Reply.TheVariants.{Refused, Stored}
 use Rattle.zh_commands.specs.declared.replies.Refusal.TheVariants as refusals
@@ -22,8 +22,8 @@ use Rattle.zh_ledger.specs.Night.{StopsWithin}
 use Rattle.zh_ledger.specs.Stands.{Holds}
 use Rattle.zh_ledger.specs.Submissions.{Log}
 use Rattle.zh_ledger.proofs.CallerLemmas.{one_count}
-use Rattle.zh_answers.specs.declared.answer.Answer.{Answer}
-use Rattle.zh_answers.specs.declared.answer.Answer.TheVariants as answers
+use Rattle.zh_office.specs.declared.answer.Answer.{Answer}
+use Rattle.zh_office.specs.declared.answer.Answer.TheVariants as answers
 use Rattle.zh_program.specs.Exchanges.{Exchange, count_by, disk_by, log_by, log_of}
 use Rattle.zh_program.specs.Headline.{Headline}
 use Rattle.zh_program.specs.Order.{Conversation}

@@ -5,13 +5,13 @@ use Rattle.std.proofs.Common.{inl, inr, ⊎_elim, refl, sym, ◌∙◌, ap, arit
 use Rattle.std.specs.Prelude.{flat_map}
 use Rattle.std.proofs.lemmas.List.{append_cancel_left}
 use Rattle.std.proofs.lemmas.List.Concat.{flat_map-append}
-use Rattle.zh_records.specs.declared.command.Command.{Command}
+use Rattle.zh_returns.specs.declared.command.Command.{Command}
 use Rattle.zh_commands.specs.Lines.{desk_of}
 use Rattle.zh_commands.specs.Replies as replies
 use Rattle.zh_commands.specs.declared.replies.Reply.{Reply}
 use Rattle.zh_ledger.specs.Submissions.{Log, followed_by, nothing}
-use Rattle.zh_answers.specs.declared.answer.Answer.{Answer}
-use Rattle.zh_answers.specs.declared.answer.Answer.TheVariants as answers
+use Rattle.zh_office.specs.declared.answer.Answer.{Answer}
+use Rattle.zh_office.specs.declared.answer.Answer.TheVariants as answers
 use Rattle.zh_program.specs.Exchanges.{Exchange, Given, answer_to_given, log_by, log_of, text_of}
 use Rattle.zh_program.specs.Exchanges.Given.{line, text}
 use Rattle.zh_program.proofs.ExchangeLemmas.{log_append, log_more}

@@ -1,36 +1,35 @@
 -- What a load has answered and kept. Its text is the one exchange, with the reply as its answer; there is none where the file gave
 -- no text, or no office was opened.
-use Rattle.std.proofs.Common.{◌≡◌, ◌≢◌, ◌⊎◌, inl, inr, ℕ, Bool, true, false, List, [], ◌∷◌, Option, Some, None, Result, Err, Ok, refl, sym, subst}
+use Rattle.std.proofs.Common.{◌≡◌, ◌≢◌, ◌⊎◌, inl, inr, ℕ, Bool, true, false, List, [], ◌∷◌, Option, Some, None, Result, Err, Ok, refl, sym, subst, ⊎_elim}
 use Rattle.std.proofs.lemmas.List.{append-nil}
-use Rattle.std.specs.Prelude.{flat_map}
+use Rattle.std.specs.Prelude.{IsErrAnd, flat_map}
 use Rattle.std.specs.Io.KnownBytes.{Appends, Keeps as KeepsBytes}
 use Rattle.std.proofs.KnownBytes.{Appends-nil}
 use Rattle.zh_disk.specs.Disk.{Trail}
 use Rattle.zh_disk.specs.History.{History}
 use Rattle.zh_districts.specs.Canton.{Canton, IsCanton}
-use Rattle.zh_records.specs.declared.row.Row.{Row}
+use Rattle.zh_returns.specs.declared.row.Row.{Row}
 use Rattle.zh_returns.specs.Tally.{Tally}
-use Rattle.zh_desks.specs.Batches.{Held}
+use Rattle.zh_office.specs.DeskBatches.{Held}
 use Rattle.zh_commands.specs.declared.replies.Reply.{Reply}
 use Rattle.zh_commands.specs.declared.replies.Reply.TheVariants.{Refused}
 use Rattle.zh_csv.specs.Load.{LoadsFrom}
-use Rattle.zh_csv.specs.declared.fault.LoadFault.{LoadFault}
-use Rattle.zh_csv.specs.declared.fault.LoadFault.TheVariants as loading
+use Rattle.zh_csv.specs.declared.batch_reader.LoadFault.{LoadFault}
+use Rattle.zh_csv.specs.declared.batch_reader.LoadFault.TheVariants as loading
 use Rattle.zh_totals.specs.Counting.{totals_of}
 use Rattle.zh_ledger.specs.Opening.{Opening}
 use Rattle.zh_ledger.specs.Submissions.{OnDisk}
-use Rattle.zh_ledger.specs.declared.fault.OpenFault.{OpenFault}
-use Rattle.zh_answers.specs.declared.answer.Answer.{Answer}
-use Rattle.zh_answers.specs.declared.answer.Answer.TheVariants as answers
+use Rattle.zh_ledger.specs.declared.opening.OpenFault.{OpenFault}
+use Rattle.zh_office.specs.declared.answer.Answer.{Answer}
+use Rattle.zh_office.specs.declared.answer.Answer.TheVariants as answers
 use Rattle.zh_office.specs.Load.{LoadTurn, command_loaded, load_refusal, load_reply}
 use Rattle.zh_office.specs.Office.{Office}
-use Rattle.zh_tasks.specs.Load.{GivenText, LoadsFile, LoadsText, Replied, WritesPart, printed}
-use Rattle.zh_tasks.specs.Opened.{IsFrom, IsOnlyOpened}
-use Rattle.zh_tasks.specs.Run.{Streams}
-use Rattle.zh_tasks.specs.declared.fault.TaskFault.{TaskFault}
-use Rattle.zh_tasks.specs.declared.fault.TaskFault.TheVariants as faults
-use Rattle.zh_tasks.specs.declared.file.TaskFile.TheVariants as files
-use Rattle.zh_world.specs.declared.fault.FileFault.{FileFault}
+use Rattle.zh_program.specs.Load.{GivenText, IsUnreadable, LoadsFile, LoadsText, Replied, WritesPart, printed}
+use Rattle.zh_program.specs.Opened.{IsFrom, IsOnlyOpened}
+use Rattle.zh_program.specs.Run.{Streams}
+use Rattle.zh_program.specs.declared.fault.TaskFault.{TaskFault}
+use Rattle.zh_program.specs.declared.fault.TaskFault.TheVariants as faults
+use Rattle.zh_file.specs.declared.fault.FileFault.{FileFault}
 use Rattle.zh_program.specs.Due.{AnswerText, IsCutShort}
 use Rattle.zh_program.specs.Exchanges.{Exchange, command_given, text_of, IsReadRight}
 use Rattle.zh_program.specs.Exchanges.Given.{text}
@@ -190,7 +189,12 @@ module _ (known : Option (List ℕ)) (source : GivenText) (old new : Streams) (r
       → TellsOfFault status result
       → LoadsFile Met unwritten (LoadsText source old new) (IsFrom canton first last) result
       → HasAnswered
-  load_done Met unwritten silent (Err (faults.Unopened files.Csv cause)) failed by = none_given (failed (faults.Unopened files.Csv cause) refl) (silent by.1) by.2
-  load_done Met unwritten silent (Err faults.CsvFile) failed by = none_given (failed faults.CsvFile refl) (silent by.0) by.1
-  load_done Met unwritten silent (Err faults.Memory) failed by = none_given (failed faults.Memory refl) (silent by.0) by.1
-  load_done Met unwritten silent result failed by = text_done result failed by
+  load_done Met unwritten silent result failed by = ⊎_elim
+      (λ loads. text_done result failed loads)
+      (λ none. not_given result failed none.0 (silent none.1) none.2)
+      by
+    where
+      not_given : (r : Result (Unit {0}) TaskFault) → TellsOfFault status r → IsErrAnd r (IsUnreadable Met) → IsSilent old new
+          → IsOnlyOpened (IsFrom canton first last) → HasAnswered
+      not_given (Ok done) tells is unchanged only = absurd is
+      not_given (Err fault) tells is unchanged only = none_given (tells fault refl) unchanged only

@@ -9,17 +9,17 @@ use Rattle.zh_districts.proofs.CallerLemmas.{same_setup}
 use Rattle.zh_returns.specs.Tally.{Tally}
 use Rattle.zh_snapshot.specs.Image.{Content, IsClean, IsFramed}
 use Rattle.zh_snapshot.proofs.CallerLemmas.{framed_alike}
-use Rattle.zh_records.specs.declared.format.Format.{Format}
-use Rattle.zh_records.specs.declared.format.Format.TheVariants.{One}
+use Rattle.zh_returns.specs.declared.command.Format.{Format}
+use Rattle.zh_returns.specs.declared.command.Format.TheVariants.{One}
 use Rattle.zh_ledger.specs.Ledger.{Ledger}
 use Rattle.zh_ledger.specs.Opening.{IsCause, MayLeave, Migrates, Opens}
 use Rattle.zh_ledger.specs.Stands.{Holds, HoldsLedger, HoldsFramed, StandsFor}
 use Rattle.zh_ledger.specs.Submissions.{OnDisk}
-use Rattle.zh_ledger.specs.declared.fault.OpenFault.{OpenFault}
-use Rattle.zh_ledger.specs.declared.fault.OpenFault.TheVariants as faults
+use Rattle.zh_ledger.specs.declared.opening.OpenFault.{OpenFault}
+use Rattle.zh_ledger.specs.declared.opening.OpenFault.TheVariants as faults
 use Rattle.zh_ledger.proofs.CallerLemmas.{found_count, has_none, migrated_holds, one_count, only_image}
 use Rattle.zh_office.specs.Office.{Office}
-use Rattle.zh_tasks.specs.Opened.{IsStart}
+use Rattle.zh_program.specs.Opened.{IsStart}
 use Rattle.zh_program.specs.Stopped.{Always, OpensTo}
 use Rattle.zh_program.proofs.AlwaysLemmas.{always_left}
 use Rattle.zh_program.proofs.SoundLemmas.{holds_kept}

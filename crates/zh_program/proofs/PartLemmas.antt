@@ -9,24 +9,25 @@ use Rattle.zh_districts.specs.Canton.{Canton, IsCanton}
 use Rattle.zh_returns.specs.Tally.{Tally}
 use Rattle.zh_ledger.specs.Opening.{Opening}
 use Rattle.zh_ledger.specs.Submissions.{OnDisk}
-use Rattle.zh_ledger.specs.declared.fault.OpenFault.{OpenFault}
+use Rattle.zh_ledger.specs.declared.opening.OpenFault.{OpenFault}
 use Rattle.zh_office.specs.Office.{Office}
 use Rattle.zh_arguments.specs.declared.arguments.Paths.{Paths}
 use Rattle.zh_arguments.specs.declared.arguments.Task.{Task}
 use Rattle.zh_arguments.specs.declared.arguments.Task.TheVariants.{Format, Run, Load}
-use Rattle.zh_world.specs.Files.{BeginsOrIsMade}
-use Rattle.zh_tasks.specs.Format.{Formatted, FormatsBlank}
-use Rattle.zh_tasks.specs.Load.{HasLoaded, LoadsFile, LoadsText}
-use Rattle.zh_tasks.specs.OnDisk.{HasUsed, UsesFilm}
-use Rattle.zh_tasks.specs.Opened.{IsFrom, IsOnlyOpened, WithOffice}
+use Rattle.zh_file.specs.Files.{BeginsOrIsMade}
+use Rattle.zh_program.specs.Format.{Formatted, FormatsBlank}
+use Rattle.zh_program.specs.Load.{HasLoaded, LoadsFile, LoadsText}
+use Rattle.zh_program.specs.OnDisk.{HasUsed, UsesDisk}
+use Rattle.zh_program.specs.Opened.{IsFrom, IsOnlyOpened, WithOffice}
 use Rattle.zh_film.specs.Frames.{frame_of, frames}
 use Rattle.zh_film.specs.Scenes.{scenes}
-use Rattle.zh_tasks.specs.Run.{Ran, Serves, Streams, streams_of}
-use Rattle.zh_tasks.specs.Reading.{MakesReading}
-use Rattle.zh_tasks.specs.World.{EndOf, FilmedOf, IsMetAt, IsSetupAt, Known, ObservedOf, Sight, WorldOf}
-use Rattle.zh_tasks.specs.declared.fault.TaskFault.{TaskFault}
-use Rattle.zh_tasks.specs.declared.fault.TaskFault.TheVariants as faults
-use Rattle.zh_world.specs.declared.fault.FileFault.{FileFault}
+use Rattle.zh_program.specs.Run.{Ran, Serves, Streams, streams_of}
+use Rattle.zh_program.specs.Reading.{MakesReading}
+use Rattle.zh_program.specs.World.{EndOf, FilmedOf, IsMetAt, IsSetupAt, Known, WorldOf}
+use Rattle.zh_program.specs.declared.on_disk.Work.{Work}
+use Rattle.zh_program.specs.declared.fault.TaskFault.{TaskFault}
+use Rattle.zh_program.specs.declared.fault.TaskFault.TheVariants as faults
+use Rattle.zh_file.specs.declared.fault.FileFault.{FileFault}
 use Rattle.zh_program.specs.Due.{AnswerLines, AreOfTask, conversation, talk_of}
 use Rattle.zh_program.specs.Exchanges.{Exchange}
 use Rattle.zh_program.specs.Order.{Conversation}
@@ -61,22 +62,12 @@ by_office canton first last nothing Does (Ok done) by refused opened = opened by
 by_office canton first last nothing Does (Err fault) by refused opened = opened by
 
 module _ (of : Known) where
-  -- what a task may do with its disk, from a world with the disk to another, by a set-up; with what came of it and is to be seen
-  abbrev pub Doing : Type 1
-  Doing = Canton → WorldOf of × of.Disk → WorldOf of × of.Disk → Result (Unit {0}) TaskFault × ObservedOf of → Type 0
-
-  -- it was done with the disk that was handed over
-  abbrev pub IsDoneOn : Sight of.Folder of.Text of.Disk of.Right → Paths → WorldOf of → WorldOf of → Doing → EndOf of → Type 0
-  IsDoneOn sight paths old new DoesOn ended =
-      HasUsed sight paths old new (λ canton before after observed. DoesOn canton before after (ended.result, observed)) ended.used
-
-  -- or no disk was opened, and none is handed over
-  pub by_disk : {X : Type 0} (sight : Sight of.Folder of.Text of.Disk of.Right) (paths : Paths) (old new : WorldOf of) (DoesOn : Doing) (ended : EndOf of)
-      → UsesFilm sight paths old new DoesOn ended
+  -- no disk was opened, and none is handed over; or the work was done on the one that is
+  pub by_disk : {X : Type 0} (work : Work) (paths : Paths) (old new : WorldOf of) (ended : EndOf of) → UsesDisk of work paths old new ended
       → (ended.used ≡ None → X)
-      → (IsDoneOn sight paths old new DoesOn ended → X)
+      → (HasUsed of work paths old new ended → X)
       → X
-  by_disk sight paths old new DoesOn ended by none uses = ⊎_elim (λ early. none early.none) (λ used. uses used) by
+  by_disk work paths old new ended by none uses = ⊎_elim (λ early. none early.none) (λ used. uses used) by
 
   -- a task that answers no line and loads no text: no exchange is due, and what it writes is no part of a conversation
   pub record AnswersNone (task : Task) : Type 0 where
@@ -92,29 +83,26 @@ module _ (of : Known) where
     pub told : IsTold exchanges (talk_of of task old after opened used)
     pub kept : Keeps canton first (of.disks.history used.disk) (talk_of of task old after opened used) exchanges
 
-  module _ (old after : WorldOf of) (files : of.Folder) (first last : of.Disk) (observed : ObservedOf of) (canton : Canton) (limits : IsCanton canton)
+  module _ (old after : WorldOf of) (files : of.Folder) (first : of.Disk) (used : FilmedOf of) (canton : Canton) (limits : IsCanton canton)
       (status : ℕ) (result : Result (Unit {0}) TaskFault) (failed : TellsOfFault status result) where
     abbrev pub begun : History
     begun = of.disks.history first
 
     abbrev pub ended : History
-    ended = of.disks.history last
-
-    abbrev pub used : FilmedOf of
-    used = record { disk = last; observed = observed }
+    ended = of.disks.history used.disk
 
     -- what the streams were, and what they are, with the film
     abbrev before : Streams
     before = streams_of of old []
 
     abbrev now : Streams
-    now = streams_of of after (frames of.readers of.writers of.disks observed.film)
+    now = streams_of of after (frames of.readers of.writers of.disks used.film)
 
     -- the world once its files were asked
     abbrev asked : WorldOf of
     asked = record old { files = files }
 
-    none_shown : scenes observed.film ≡ [] → frames of.readers of.writers of.disks observed.film ≡ []
+    none_shown : scenes used.film ≡ [] → frames of.readers of.writers of.disks used.film ≡ []
     none_shown none = ap (map (frame_of of.readers of.writers of.disks)) none
 
     served : (paths : Paths) → HasServed before now status (IsFrom canton begun ended) → HasDone (Run paths) old after status canton begun used
@@ -130,10 +118,10 @@ module _ (of : Known) where
           kept = opened_keeps canton begun ended by.start by.end by.exchanges before now limits by.spans by.goes told;
         }
 
-    pub run_part : (paths : Paths) → Ran of canton (asked, first) (after, last) (result, observed)
+    pub run_part : (paths : Paths) → Ran of canton (asked, first) (after, used) result
         → HasDone (Run paths) old after status canton begun used
     run_part paths ran =
-        let untouched : Type 0 = (after.input ≡ old.input) × (after.output ≡ old.output) × (scenes observed.film ≡ []) in
+        let untouched : Type 0 = (after.input ≡ old.input) × (after.output ≡ old.output) × (scenes used.film ≡ []) in
         by_office canton begun ended untouched (Serves before now) result ran.served
         (λ fault is same opening.
         let silent : IsSilent before now
@@ -149,13 +137,13 @@ module _ (of : Known) where
         (λ serves. served paths (serve_done before now status (IsFrom canton begun ended) result failed serves))
 
     pub load_part : (paths : Paths) (csv : Bor (List ℕ)) → of.files.text_at files ≡ of.files.text_at old.files
-        → HasLoaded of csv.now canton (asked, first) (after, last) (result, observed)
+        → HasLoaded of csv.now canton (asked, first) (after, used) result
         → HasDone (Load paths csv) old after status canton begun used
     load_part paths csv texts by =
         let known = of.files.text_at old.files csv.now in
         let Met : FileFault → Type 0 = IsMetAt of.files csv.now files after.files in
-        let untouched : Type 0 = (after ≡ asked) × (scenes observed.film ≡ []) in
-        let unwritten : Type 0 = (after.output ≡ old.output) × (scenes observed.film ≡ []) in
+        let untouched : Type 0 = (after ≡ asked) × (scenes used.film ≡ []) in
+        let unwritten : Type 0 = (after.output ≡ old.output) × (scenes used.film ≡ []) in
         let read : KeepsBytes known by.text.bytes
         = subst (λ (at : List ℕ → Option (List ℕ)). KeepsBytes (at csv.now) by.text.bytes) texts by.read in
         let left : now.left ≡ before.left = ap (λ (world : WorldOf of). of.readers.remaining world.input) by.rest in
@@ -213,13 +201,13 @@ module _ (of : Known) where
 
     -- the same of a task that reads what is held
     pub read_part : (task : Task) → AnswersNone task → (Reads : Tally → WorldOf of → WorldOf of → Result (Unit {0}) TaskFault → Type 0)
-        → MakesReading of Reads canton (asked, first) (after, last) result
+        → MakesReading of Reads canton (asked, first) (after, used.disk) result
         → HasDone task old after status canton begun used
     read_part task none Reads by =
         only_part task none (after ≡ asked) (λ Spans end. (start : OnDisk Office) × Spans start start × Reads start.holder.ledger.tally asked after end)
         (λ reads. (reads.0, reads.1)) by.read
 
-    pub format_part : (paths : Paths) → Formatted of canton (asked, first) (after, last) result → HasDone (Format paths) old after status canton begun used
+    pub format_part : (paths : Paths) → Formatted of canton (asked, first) (after, used.disk) result → HasDone (Format paths) old after status canton begun used
     format_part paths by =
         let told = told_none apart apart ended.trail apart_silent in
         record {
@@ -231,7 +219,7 @@ module _ (of : Known) where
               not_formatted canton tally bytes result ended.trail holds (subst (λ (t : Trail). FormatsBlank canton result t ended.trail) fresh (by.call.did honest)));
         }
 
-    pub made_empty : Formatted of canton (asked, first) (after, last) result → (known : Option (List ℕ)) → BeginsOrIsMade known begun
+    pub made_empty : Formatted of canton (asked, first) (after, used.disk) result → (known : Option (List ℕ)) → BeginsOrIsMade known begun
         → IsTrue ended.honest
         → (bytes : List ℕ) → known ≡ Some bytes
         → MakesEmpty bytes status ended.trail

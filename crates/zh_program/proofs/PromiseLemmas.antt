@@ -16,21 +16,18 @@ use Rattle.zh_arguments.specs.declared.arguments.Paths.{Paths}
 use Rattle.zh_arguments.specs.declared.arguments.Task.{Task}
 use Rattle.zh_arguments.specs.declared.arguments.Task.TheVariants as tasks
 use Rattle.zh_arguments.specs.declared.arguments.Task.TheVariants.{Rehearse, Format, Run, Load}
-use Rattle.zh_returns.specs.Tally.{Tally}
-use Rattle.zh_world.specs.Files.{Begins}
-use Rattle.zh_world.specs.declared.world.Remark.{Remark}
-use Rattle.zh_tasks.specs.DryRun.{HasDryRun}
-use Rattle.zh_tasks.specs.Format.{Formatted}
-use Rattle.zh_tasks.specs.Load.{HasLoaded}
-use Rattle.zh_tasks.specs.OnDisk.{UsesFilm}
-use Rattle.zh_tasks.specs.Run.{Ran}
-use Rattle.zh_tasks.specs.Query.{MayShow}
-use Rattle.zh_tasks.specs.Reading.{MakesReading}
-use Rattle.zh_tasks.specs.Shown.{Shows}
-use Rattle.zh_tasks.specs.Tasks.{Does}
-use Rattle.zh_tasks.specs.World.{FilmedOf, Known, UsedOf, WorldOf, finding, making}
-use Rattle.zh_tasks.specs.declared.fault.TaskFault.{TaskFault}
-use Rattle.zh_tasks.specs.declared.used.Used.TheVariants.{Disk, Rehearsal}
+use Rattle.zh_file.specs.Files.{Begins}
+use Rattle.zh_file.specs.declared.world.Remark.{Remark}
+use Rattle.zh_program.specs.DryRun.{HasDryRun}
+use Rattle.zh_program.specs.OnDisk.{HasUsed, UsesDisk}
+use Rattle.zh_program.specs.Query.{MayShow}
+use Rattle.zh_program.specs.Shown.{Shows}
+use Rattle.zh_program.specs.Tasks.{Does}
+use Rattle.zh_program.specs.World.{BeginsAt, FilmedOf, Known, UsedOf, WorldOf}
+use Rattle.zh_program.specs.declared.fault.TaskFault.{TaskFault}
+use Rattle.zh_program.specs.declared.on_disk.Work.{Work}
+use Rattle.zh_program.specs.declared.on_disk.Work.TheVariants as works
+use Rattle.zh_program.specs.declared.on_disk.Used.TheVariants.{Disk, Rehearsal}
 use Rattle.zh_program.specs.Due.{talk_of}
 use Rattle.zh_program.specs.Program.{disk_path, ends}
 use Rattle.zh_program.specs.Promise.{Promise}
@@ -38,8 +35,7 @@ use Rattle.zh_program.specs.Stopped.{MakesEmpty}
 use Rattle.zh_program.proofs.BeginningLemmas.{held_made, known_fresh, known_made}
 use Rattle.zh_program.proofs.EndingLemmas.{TellsOfFault}
 use Rattle.zh_program.proofs.OrderLemmas.{awaited_of}
-use Rattle.zh_program.proofs.TouchLemmas.{unfilmed}
-use Rattle.zh_program.proofs.PartLemmas.{AnswersNone, Doing, HasDone, IsDoneOn, by_disk, setup_limits}
+use Rattle.zh_program.proofs.PartLemmas.{AnswersNone, HasDone, by_disk, setup_limits}
 use Rattle.zh_program.proofs.PartLemmas.{format_part, load_part, made_empty, read_part, run_part}
 
 at_path : (rows : List Row) (paths : Paths) (path : List ℕ) → Some paths.disk.now ≡ Some path → ArePaths rows paths → path ≡ path_in (codes "disk") rows
@@ -116,48 +112,37 @@ module _ (of : Known) where
 
     -- of a task whose disk is one that there is
     found_on : (task : Task) → AsksFor arguments task → (paths : Paths) → disk_path task ≡ Some paths.disk.now → IsNoFormat task
-        → (DoesOn : Doing of)
-        → ((uses : IsDoneOn of (finding of.files of.disks) paths old after DoesOn (ends result used)) → IsCanton uses.canton
-        → HasDone of task old after status uses.canton (of.disks.history uses.first) (record { disk = uses.last; observed = uses.observed }))
-        → UsesFilm (finding of.files of.disks) paths old after DoesOn (ends result used)
+        → (work : Work) → ((known : Option (List ℕ)) (first : History) → BeginsAt work known first → Begins known first)
+        → ((uses : HasUsed of work paths old after (ends result used)) → IsCanton uses.canton
+        → HasDone of task old after status uses.canton (of.disks.history uses.first) uses.last)
+        → UsesDisk of work paths old after (ends result used)
         → Promise of arguments old new status filmed
-    found_on task asked paths on other DoesOn part by =
-        by_disk of (finding of.files of.disks) paths old after DoesOn (ends result used) by
+    found_on task asked paths on other work there part by =
+        by_disk of work paths old after (ends result used) by
         (λ none. none_early none)
         (λ uses.
         let canton = uses.canton in
         let began = of.disks.history uses.first in
-        let last : FilmedOf of = record { disk = uses.last; observed = uses.observed } in
-        let limits = setup_limits (of.files.text_at old.files paths.setup.now) canton uses.began.setup in
-        let here = subst (HasDone of task old after status canton began) (same_disk last uses.used) (part uses limits) in
-        found task asked paths on other canton uses.first uses.began.begins (said_after task canton began here))
-
-    -- of one that reads what is held
-    found_reading : (task : Task) → AsksFor arguments task → (paths : Paths) → disk_path task ≡ Some paths.disk.now → IsNoFormat task
-        → AnswersNone of task
-        → (Reads : Tally → WorldOf of → WorldOf of → Result (Unit {0}) TaskFault → Type 0)
-        → UsesFilm (finding of.files of.disks) paths old after (unfilmed (MakesReading of Reads)) (ends result used)
-        → Promise of arguments old new status filmed
-    found_reading task asked paths on other none Reads by = found_on task asked paths on other (unfilmed (MakesReading of Reads))
-        (λ uses limits.
-        read_part of old after uses.files uses.first uses.last uses.observed uses.canton limits status result failed task none Reads uses.does) by
+        let limits = setup_limits (of.files.text_at old.files paths.setup.now) canton uses.setup in
+        let here = subst (HasDone of task old after status canton began) (same_disk uses.last uses.used) (part uses limits) in
+        found task asked paths on other canton uses.first (there _ began uses.begins) (said_after task canton began here))
 
     -- of a formatting, whose disk may have been made
     found_made : (paths : Paths) → AsksFor arguments (Format paths)
-        → IsDoneOn of (making of.files of.disks) paths old after (unfilmed (Formatted of)) (ends result used)
+        → HasUsed of works.Format paths old after (ends result used)
         → Promise of arguments old new status filmed
     found_made paths asked uses =
         let canton = uses.canton in
         let known = of.files.disk_at old.files paths.disk.now in
         let began = of.disks.history uses.first in
-        let limits = setup_limits (of.files.text_at old.files paths.setup.now) canton uses.began.setup in
-        let this = same_disk (record { disk = uses.last; observed = uses.observed }) uses.used in
-        let part = format_part of old after uses.files uses.first uses.last uses.observed canton limits status result failed paths uses.does in
+        let limits = setup_limits (of.files.text_at old.files paths.setup.now) canton uses.setup in
+        let this = same_disk uses.last uses.used in
+        let part = format_part of old after uses.files uses.first uses.last canton limits status result failed paths uses.does in
         let here = subst (HasDone of (Format paths) old after status canton began) this part in
         let Empties : FilmedOf of → Type 0
         = λ d. IsTrue (of.disks.history d.disk).honest → (bytes : List ℕ) → known ≡ Some bytes → MakesEmpty bytes status (of.disks.history d.disk).trail in
-        let made = made_empty of old after uses.files uses.first uses.last uses.observed canton limits status result failed uses.does in
-        let empties : Empties filmed = subst Empties this (made known uses.began.begins) in
+        let made = made_empty of old after uses.files uses.first uses.last canton limits status result failed uses.does in
+        let empties : Empties filmed = subst Empties this (made known uses.begins) in
         let honest_first : IsTrue (of.disks.history filmed.disk).honest → IsTrue began.honest
         = subst (λ (d : FilmedOf of). IsTrue (of.disks.history d.disk).honest → IsTrue began.honest) this uses.does.call.kept in
         record {
@@ -169,7 +154,7 @@ module _ (of : Known) where
           due = here.due;
           awaited = awaited_of (talk_of of (Format paths) old new here.opened filmed) here.exchanges here.told;
           on_a_count = λ honest bytes is tally own holds.
-              let fresh = held_made tally bytes began.trail holds (known_made known began bytes uses.began.begins (honest_first honest) is) in
+              let fresh = held_made tally bytes began.trail holds (known_made known began bytes uses.begins (honest_first honest) is) in
               here.kept.on_a_count honest bytes fresh tally own holds;
           idle = λ honest bytes is none. here.due;
           formatted = λ p is honest bytes known_is. empties honest bytes known_is;
@@ -181,20 +166,25 @@ module _ (of : Known) where
     promise_said (tasks.SheetSeats setup sheet layout) asked by = none_early by.0
     promise_said (tasks.Check paths) asked by = none_early by.0
     promise_said tasks.Version asked by = none_early by.0
-    promise_said (Run paths) asked by = found_on (Run paths) asked paths refl (λ p is. absurd cc) (Ran of)
-        (λ uses limits. run_part of old after uses.files uses.first uses.last uses.observed uses.canton limits status result failed paths uses.does) by
-    promise_said (Load paths csv) asked by = found_on (Load paths csv) asked paths refl (λ p is. absurd cc) (HasLoaded of csv.now)
+    promise_said (Run paths) asked by = found_on (Run paths) asked paths refl (λ p is. absurd cc) works.Run (λ known first begins. begins)
+        (λ uses limits. run_part of old after uses.files uses.first uses.last uses.canton limits status result failed paths uses.does) by
+    promise_said (Load paths csv) asked by = found_on (Load paths csv) asked paths refl (λ p is. absurd cc) (works.Load csv) (λ known first begins. begins)
         (λ uses limits.
-        load_part of old after uses.files uses.first uses.last uses.observed uses.canton limits status result failed paths csv
-        uses.began.calls.texts uses.does) by
+        load_part of old after uses.files uses.first uses.last uses.canton limits status result failed paths csv uses.asked.texts uses.does) by
     promise_said (tasks.DryRun paths csv) asked by =
         let none : AnswersNone of (tasks.DryRun paths csv) = record { due = λ text_at talk status. refl; apart = λ old after opened used. refl } in
-        found_reading (tasks.DryRun paths csv) asked paths refl (λ p is. absurd cc) none (HasDryRun of csv.now) by
+        found_on (tasks.DryRun paths csv) asked paths refl (λ p is. absurd cc) (works.DryRun csv) (λ known first begins. begins)
+        (λ uses limits.
+        read_part of old after uses.files uses.first uses.last uses.canton limits status result failed (tasks.DryRun paths csv) none
+        (HasDryRun of csv.now) uses.does) by
     promise_said (tasks.Show paths query) asked by =
         let none : AnswersNone of (tasks.Show paths query) = record { due = λ text_at talk status. refl; apart = λ old after opened used. refl } in
-        found_reading (tasks.Show paths query) asked paths refl (λ p is. absurd cc) none (λ tally. Shows of (MayShow query tally)) by
+        found_on (tasks.Show paths query) asked paths refl (λ p is. absurd cc) (works.Show query) (λ known first begins. begins)
+        (λ uses limits.
+        read_part of old after uses.files uses.first uses.last uses.canton limits status result failed (tasks.Show paths query) none
+        (λ tally. Shows of (MayShow query tally)) uses.does) by
     promise_said (Format paths) asked by =
-        by_disk of (making of.files of.disks) paths old after (unfilmed (Formatted of)) (ends result used) by
+        by_disk of works.Format paths old after (ends result used) by
         (λ none. none_early none)
         (λ uses. found_made paths asked uses)
 

@@ -8,28 +8,23 @@ use Rattle.zh_film.specs.declared.film.Film.{Film}
 use Rattle.zh_arguments.specs.declared.arguments.Paths.{Paths}
 use Rattle.zh_arguments.specs.declared.arguments.Task.{Task}
 use Rattle.zh_arguments.specs.declared.arguments.Task.TheVariants as tasks
-use Rattle.zh_tasks.specs.DryRun.{HasDryRun}
-use Rattle.zh_tasks.specs.Format.{Formatted}
-use Rattle.zh_tasks.specs.Load.{HasLoaded}
-use Rattle.zh_tasks.specs.OnDisk.{UsesFilm}
-use Rattle.zh_tasks.specs.Rehearse.{IsRehearsal, Rehearsed as HasRehearsed, Rehearses, in_memory, rehearsal_shown}
-use Rattle.zh_tasks.specs.Run.{Ran, Serves, Streams, streams_of}
-use Rattle.zh_tasks.specs.Query.{MayShow}
-use Rattle.zh_tasks.specs.Reading.{MakesReading}
-use Rattle.zh_tasks.specs.Shown.{Shows}
-use Rattle.zh_tasks.specs.Tasks.{Does}
-use Rattle.zh_tasks.specs.World.{FilmedOf, Known, Sight, UsedOf, WorldOf, finding, making}
-use Rattle.zh_tasks.specs.declared.fault.TaskFault.{TaskFault}
-use Rattle.zh_tasks.specs.declared.fault.TaskFault.TheVariants as faults
-use Rattle.zh_tasks.specs.declared.used.Used.TheVariants.{Disk, Rehearsal}
+use Rattle.zh_program.specs.OnDisk.{UsesDisk}
+use Rattle.zh_program.specs.Rehearse.{IsRehearsal, Rehearsed as HasRehearsed, Rehearses, in_memory, rehearsal_shown}
+use Rattle.zh_program.specs.Run.{Serves, Streams, streams_of}
+use Rattle.zh_program.specs.Tasks.{Does}
+use Rattle.zh_program.specs.World.{FilmedOf, Known, UsedOf, WorldOf}
+use Rattle.zh_program.specs.declared.fault.TaskFault.{TaskFault}
+use Rattle.zh_program.specs.declared.fault.TaskFault.TheVariants as faults
+use Rattle.zh_program.specs.declared.on_disk.Work.{Work}
+use Rattle.zh_program.specs.declared.on_disk.Work.TheVariants as works
+use Rattle.zh_program.specs.declared.on_disk.Used.TheVariants.{Disk, Rehearsal}
 use Rattle.zh_program.specs.Program.{ends}
 use Rattle.zh_program.specs.Promise.{RehearsalPromise}
 use Rattle.zh_program.proofs.EndingLemmas.{TellsOfFault}
 use Rattle.zh_program.proofs.OrderLemmas.{awaited_of}
-use Rattle.zh_program.proofs.PartLemmas.{Doing, by_disk}
+use Rattle.zh_program.proofs.PartLemmas.{by_disk}
 use Rattle.zh_program.proofs.ServedLemmas.{none_due, serve_done}
 use Rattle.zh_program.proofs.TalkLemmas.{IsSilent, talking, told_none}
-use Rattle.zh_program.proofs.TouchLemmas.{unfilmed}
 
 -- what was done is served, or nothing was done
 by_case : {X : Type 0} (nothing : Type 0) (old new : Streams) (result : Result (Unit {0}) TaskFault) → HasRehearsed nothing old new result
@@ -84,13 +79,8 @@ module _ (of : Known) where
     none_filmed : {X : Type 0} (filmed : FilmedOf of) → used ≡ Some (Disk filmed) → X
     none_filmed filmed is = let wrong : Some (Rehearsal film) ≡ Some (Disk filmed) = sym handed ∙ is in absurd cc
 
-    on_a_disk : {X : Type 0} (sight : Sight of.Folder of.Text of.Disk of.Right) (paths : Paths) (DoesOn : Doing of)
-        → UsesFilm sight paths old after DoesOn (ends result used)
-        → X
-    on_a_disk sight paths DoesOn by =
-        by_disk of sight paths old after DoesOn (ends result used) by
-        (λ none. none_other none)
-        (λ uses. none_filmed (record { disk = uses.last; observed = uses.observed }) uses.used)
+    on_a_disk : {X : Type 0} (work : Work) (paths : Paths) → UsesDisk of work paths old after (ends result used) → X
+    on_a_disk work paths by = by_disk of work paths old after (ends result used) by (λ none. none_other none) (λ uses. none_filmed uses.last uses.used)
 
     rehearsed_after : Rehearses of old after (ends result used) → RehearsalPromise of old after status film
     rehearsed_after by =
@@ -103,11 +93,11 @@ module _ (of : Known) where
     said (tasks.SheetSeats setup sheet layout) by = none_other by.0
     said (tasks.Check paths) by = none_other by.0
     said tasks.Version by = none_other by.0
-    said (tasks.Run paths) by = on_a_disk (finding of.files of.disks) paths (Ran of) by
-    said (tasks.Load paths csv) by = on_a_disk (finding of.files of.disks) paths (HasLoaded of csv.now) by
-    said (tasks.DryRun paths csv) by = on_a_disk (finding of.files of.disks) paths (unfilmed (MakesReading of (HasDryRun of csv.now))) by
-    said (tasks.Show paths query) by = on_a_disk (finding of.files of.disks) paths (unfilmed (MakesReading of (λ tally. Shows of (MayShow query tally)))) by
-    said (tasks.Format paths) by = on_a_disk (making of.files of.disks) paths (unfilmed (Formatted of)) by
+    said (tasks.Run paths) by = on_a_disk works.Run paths by
+    said (tasks.Load paths csv) by = on_a_disk (works.Load csv) paths by
+    said (tasks.DryRun paths csv) by = on_a_disk (works.DryRun csv) paths by
+    said (tasks.Show paths query) by = on_a_disk (works.Show query) paths by
+    said (tasks.Format paths) by = on_a_disk works.Format paths by
 
     -- and no more changed after it than what was said of it
     pub rehearsed_of : (new : WorldOf of) → new ≡ record after { faults = new.faults; remark = new.remark }

@@ -15,9 +15,9 @@ use Rattle.zh_office.specs.Served.{AnswersAll, BreaksOff, IsFilmed, ServesEnded,
 use Rattle.zh_office.specs.Text.{ended_lines, lines_of}
 use Rattle.zh_office.specs.declared.service.ServeFault.TheVariants as serving
 use Rattle.zh_office.proofs.CallerLemmas.{turn_honest}
-use Rattle.zh_tasks.specs.Run.{Served, Serves, ServesWhole, Streams, beside}
-use Rattle.zh_tasks.specs.declared.fault.TaskFault.{TaskFault}
-use Rattle.zh_tasks.specs.declared.fault.TaskFault.TheVariants as faults
+use Rattle.zh_program.specs.Run.{Served, Serves, ServesWhole, Streams, beside}
+use Rattle.zh_program.specs.declared.fault.TaskFault.{TaskFault}
+use Rattle.zh_program.specs.declared.fault.TaskFault.TheVariants as faults
 use Rattle.zh_program.specs.Due.{AnswerLines, IsCutShort}
 use Rattle.zh_program.specs.Exchanges.{Exchange, text_of}
 use Rattle.zh_program.proofs.ConductLemmas.{GoesOnTo}

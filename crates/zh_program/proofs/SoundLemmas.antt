@@ -7,12 +7,12 @@ use Rattle.std.proofs.Math.Seq.{take-append-add}
 use Rattle.std.specs.Prelude.{IfSome}
 use Rattle.zh_disk.specs.Disk.{Trail, IsImage, Leaves, Moves}
 use Rattle.zh_disk.proofs.CallerLemmas.{leaves_now}
-use Rattle.zh_records.specs.declared.command.Command.{Command}
+use Rattle.zh_returns.specs.declared.command.Command.{Command}
 use Rattle.zh_returns.specs.Judgement.{judge}
 use Rattle.zh_returns.specs.Step.{step, after}
 use Rattle.zh_returns.specs.Tally.{Tally}
-use Rattle.zh_returns.specs.declared.verdict.Verdict.{Verdict}
-use Rattle.zh_returns.specs.declared.verdict.Verdict.TheVariants as verdicts
+use Rattle.zh_returns.specs.declared.judgement.Verdict.{Verdict}
+use Rattle.zh_returns.specs.declared.judgement.Verdict.TheVariants as verdicts
 use Rattle.zh_ledger.specs.Images.{HasSome, KeepsOrSteps, LeavesBy, Stores}
 use Rattle.zh_ledger.specs.Ledger.{Becomes, Ledger, MayFollow, MayResult, MayResultWhere, MayStoreWhere, is_spent, stored}
 use Rattle.zh_ledger.specs.Stands.{Holds, HoldsLedger}
@@ -20,9 +20,9 @@ use Rattle.zh_ledger.specs.Submissions.{Log, OnDisk, followed_by, logged, nothin
 use Rattle.zh_ledger.specs.declared.outcome.Outcome.{Outcome}
 use Rattle.zh_ledger.specs.declared.outcome.Outcome.TheVariants.{Stored, Same, Device}
 use Rattle.zh_ledger.proofs.CallerLemmas.{has_none, log_none}
-use Rattle.zh_answers.specs.Requests.{Acts, reply_to}
-use Rattle.zh_answers.specs.declared.answer.Answer.{Answer}
-use Rattle.zh_answers.specs.declared.answer.Answer.TheVariants as answers
+use Rattle.zh_office.specs.Requests.{Acts, reply_to}
+use Rattle.zh_office.specs.declared.answer.Answer.{Answer}
+use Rattle.zh_office.specs.declared.answer.Answer.TheVariants as answers
 use Rattle.zh_commands.specs.declared.replies.Reply.TheVariants as replies
 use Rattle.zh_program.specs.Exchanges.{count_by}
 use Rattle.zh_program.specs.Stopped.{Always}

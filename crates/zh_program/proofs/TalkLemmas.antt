@@ -4,7 +4,7 @@ use Rattle.std.proofs.KnownBytes.{Appends-nil}
 use Rattle.zh_disk.specs.Disk.{Trail}
 use Rattle.zh_film.specs.Frames.{Frame, InOrder, now_at}
 use Rattle.zh_office.specs.Order.{ComesAfter}
-use Rattle.zh_tasks.specs.Run.{Streams}
+use Rattle.zh_program.specs.Run.{Streams}
 use Rattle.zh_program.specs.Order.{Conversation}
 use Rattle.zh_program.proofs.OrderLemmas.{IsTold}
 

@@ -9,7 +9,7 @@ use Rattle.zh_quorum.specs.Quorum.{AreParticipating}
 use Rattle.zh_totals.specs.Totals.{VoteTotals}
 use Rattle.zh_upper.specs.UpperSeats.{of_participants}
 use Rattle.zh_upper.specs.VoterNumbers.{AreVoterSums}
-use Rattle.zh_upper.specs.declared.refusal.UpperRefusal.TheVariants.{Tied}
+use Rattle.zh_upper.specs.declared.fault.UpperRefusal.TheVariants.{Tied}
 use Rattle.zh_sheet.specs.Refusals.{IsRefusedAbove, LeaveNoSeats}
 
 weak_from_strict : (weights : List ℕ) (house : ℕ) (seats : List ℕ) → IsStrictFit weights house seats → IsFit weights house seats

@@ -6,65 +6,53 @@ use Rattle.zh_arguments.specs.declared.arguments.Task.{Task}
 use Rattle.zh_arguments.specs.declared.arguments.Task.TheVariants.{Rehearse, Format, Run, Load, Check}
 use Rattle.zh_arguments.specs.declared.arguments.Task.TheVariants as tasks
 use Rattle.zh_districts.specs.Canton.{Canton}
-use Rattle.zh_world.specs.Files.{IsFilling, LeavesNoMore, LeavesOf}
-use Rattle.zh_world.specs.Places.{Places, Touches, TouchesOnly}
-use Rattle.zh_world.specs.declared.world.Ended.{Ended}
-use Rattle.zh_world.specs.declared.world.World.{World}
-use Rattle.zh_world.proofs.CallerLemmas.{before_stay}
-use Rattle.zh_tasks.specs.DryRun.{HasDryRun}
-use Rattle.zh_tasks.specs.Format.{Formatted}
-use Rattle.zh_tasks.specs.Load.{HasLoaded}
-use Rattle.zh_tasks.specs.OnDisk.{UsesFilm}
-use Rattle.zh_tasks.specs.Run.{Ran}
-use Rattle.zh_tasks.specs.Query.{MayShow}
-use Rattle.zh_tasks.specs.Reading.{MakesReading}
-use Rattle.zh_tasks.specs.Shown.{Shows}
-use Rattle.zh_tasks.specs.Tasks.{Does}
-use Rattle.zh_tasks.specs.Texts.{UsesTexts}
-use Rattle.zh_tasks.specs.Version.{WritesVersion}
-use Rattle.zh_tasks.specs.World.{EndOf, Known, Sight, WorldOf, finding, making}
-use Rattle.zh_tasks.specs.declared.fault.TaskFault.{TaskFault}
-use Rattle.zh_tasks.specs.declared.fault.TaskFault.TheVariants as faults
-use Rattle.zh_tasks.specs.declared.used.Used.{Used}
-use Rattle.zh_tasks.specs.declared.used.Observed.{Observed}
+use Rattle.zh_file.specs.Files.{IsFilling, LeavesNoMore, LeavesOf}
+use Rattle.zh_file.specs.Places.{Places, Touches, TouchesOnly}
+use Rattle.zh_file.proofs.CallerLemmas.{before_stay}
+use Rattle.zh_program.specs.OnDisk.{DoesOn, UsesDisk}
+use Rattle.zh_program.specs.Tasks.{Does}
+use Rattle.zh_program.specs.Texts.{UsesTexts}
+use Rattle.zh_program.specs.World.{EndOf, FilmedOf, Known, LeftAt, UsedOf, WorldOf}
+use Rattle.zh_program.specs.declared.fault.TaskFault.{TaskFault}
+use Rattle.zh_program.specs.declared.on_disk.Work.{Work}
+use Rattle.zh_program.specs.declared.on_disk.Work.TheVariants as works
 use Rattle.zh_ledger.specs.Stands.{Holds}
 use Rattle.zh_returns.specs.Tally.{Tally}
 use Rattle.zh_program.specs.Program.{IsLeftBy, LeavesAsFound, disk_path}
 
-module _ {I O E F D T : Type 0} where
-  -- what is done of which nothing is filmed
-  abbrev pub unfilmed : (Canton → World I O E F × D → World I O E F × D → Result (Unit {0}) TaskFault → Type 0)
-      → Canton → World I O E F × D → World I O E F × D → Result (Unit {0}) TaskFault × Observed I O D T → Type 0
-  unfilmed DoesOn canton before after done = DoesOn canton before after done.0
+module _ (of : Known) where
+  same_files : (old new : WorldOf of) → new.files ≡ old.files → of.files.places new.files ≡ of.files.places old.files
+  same_files old new same = ap of.files.places same
 
-module _ {I O E F T D R : Type 0} where
-  -- what a task does with its disk touches nothing at all
-  uses_touch : (sight : Sight F T D R) (paths : Paths) (old new : World I O E F)
-      (DoesOn : Canton → World I O E F × D → World I O E F × D → Result (Unit {0}) TaskFault × Observed I O D T → Type 0) (ended : Ended (Result (Unit {0}) TaskFault) (Used I O D T))
-      → ((canton : Canton) (before after : World I O E F × D) (observed : Observed I O D T) → DoesOn canton before after (ended.result, observed)
-      → sight.files.places after.0.files ≡ sight.files.places before.0.files)
-      → UsesFilm sight paths old new DoesOn ended
-      → Touches (Some paths.disk.now) (sight.files.places old.files) (sight.files.places new.files)
-  uses_touch sight paths old new DoesOn ended stays by = ⊎_elim
+  -- work on a disk touches nothing that stands anywhere
+  work_stays : (work : Work) (canton : Canton) (before : WorldOf of × of.Disk) (after : WorldOf of × FilmedOf of) (result : Result (Unit {0}) TaskFault)
+      → DoesOn of work canton before after result → of.files.places after.0.files ≡ of.files.places before.0.files
+  work_stays works.Format canton before after result does = same_files before.0 after.0 (ap (λ (w : WorldOf of). w.files) does.rest)
+  work_stays works.Run canton before after result does = same_files before.0 after.0 (ap (λ (w : WorldOf of). w.files) does.rest)
+  work_stays (works.Load csv) canton before after result does = does.stays
+  work_stays (works.DryRun csv) canton before after result does = does.stays
+  work_stays (works.Show query) canton before after result does = does.stays
+
+  uses_touch : (work : Work) (paths : Paths) (old new : WorldOf of) (ended : EndOf of) → UsesDisk of work paths old new ended
+      → Touches (Some paths.disk.now) (of.files.places old.files) (of.files.places new.files)
+  uses_touch work paths old new ended by = ⊎_elim
       (λ early. early.touches)
-      (λ uses. before_stay (TouchesOnly paths.disk.now) (sight.files.places old.files) (sight.files.places uses.files) (sight.files.places new.files)
-      (stays uses.canton (record old { files = uses.files }, uses.first) (new, uses.last) uses.observed uses.does) uses.began.calls.touches)
+      (λ uses. before_stay (TouchesOnly paths.disk.now) (of.files.places old.files) (of.files.places uses.files) (of.files.places new.files)
+      (work_stays work uses.canton (record old { files = uses.files }, uses.first) (new, uses.last) ended.result uses.does) uses.asked.touches)
       by
 
   -- a task that hands over no disk has ended before it had one
-  uses_leave : (sight : Sight F T D R) (paths : Paths) (old new : World I O E F)
-      (DoesOn : Canton → World I O E F × D → World I O E F × D → Result (Unit {0}) TaskFault × Observed I O D T → Type 0) (ended : Ended (Result (Unit {0}) TaskFault) (Used I O D T))
-      → ended.used ≡ None → UsesFilm sight paths old new DoesOn ended
-      → LeavesOf sight.IsLeft (sight.files.disk_at old.files paths.disk.now) (sight.files.left old.files) (sight.files.left new.files)
-  uses_leave sight paths old new DoesOn ended none by = ⊎_elim
+  uses_leave : (work : Work) (paths : Paths) (old new : WorldOf of) (ended : EndOf of) → ended.used ≡ None → UsesDisk of work paths old new ended
+      → LeavesOf (LeftAt work) (of.files.disk_at old.files paths.disk.now) (of.files.left old.files) (of.files.left new.files)
+  uses_leave work paths old new ended none by = ⊎_elim
       (λ early. early.leaves)
       (λ uses. handed_over _ (sym none ∙ uses.used))
       by
     where
-      handed_over : (it : Used I O D T) → None ≡ Some it → LeavesOf sight.IsLeft (sight.files.disk_at old.files paths.disk.now) (sight.files.left old.files) (sight.files.left new.files)
+      handed_over : (it : UsedOf of) → None ≡ Some it
+          → LeavesOf (LeftAt work) (of.files.disk_at old.files paths.disk.now) (of.files.left old.files) (of.files.left new.files)
       handed_over it wrong = absurd cc
 
-module _ (of : Known) where
   same_leaves : (old new : WorldOf of) → new.files ≡ old.files → LeavesNoMore (of.files.left old.files) (of.files.left new.files)
   same_leaves old new same = λ c here. subst (λ (f : of.Folder). of.files.left f c) same here
 
@@ -72,25 +60,18 @@ module _ (of : Known) where
       (old new : WorldOf of) (result : Result (Unit {0}) TaskFault) → UsesTexts of Reads DoesWith old new result → LeavesNoMore (of.files.left old.files) (of.files.left new.files)
   texts_leave Reads DoesWith old new result by = λ c here. by.calls.2.leaves c (subst (λ (f : of.Folder). of.files.left f c) by.rest here)
 
-  version_stays : (old new : WorldOf of) (result : Result (Unit {0}) TaskFault) → WritesVersion of old new result → new.files ≡ old.files
-  version_stays old new (Ok done) by = ap (λ (w : WorldOf of). w.files) by.1
-  version_stays old new (Err faults.Write) by = ap (λ (w : WorldOf of). w.files) by.1
-  version_stays old new (Err fault) by = absurd by
-
   does_leave : (task : Task) (old new : WorldOf of) (ended : EndOf of) → Does of task old new ended → ended.used ≡ None
       → LeavesAsFound task (of.files.disk_at old.files) (of.files.left old.files) (of.files.left new.files)
   does_leave Rehearse old new ended by none = same_leaves old new (ap (λ (w : WorldOf of). w.files) by.rest)
-  does_leave (Format paths) old new ended by none = uses_leave (making of.files of.disks) paths old new (unfilmed (Formatted of)) ended none by
-  does_leave (Run paths) old new ended by none = uses_leave (finding of.files of.disks) paths old new (Ran of) ended none by
-  does_leave (Load paths csv) old new ended by none = uses_leave (finding of.files of.disks) paths old new (HasLoaded of csv.now) ended none by
-  does_leave (tasks.DryRun paths csv) old new ended by none =
-      uses_leave (finding of.files of.disks) paths old new (unfilmed (MakesReading of (HasDryRun of csv.now))) ended none by
-  does_leave (tasks.Show paths query) old new ended by none =
-      uses_leave (finding of.files of.disks) paths old new (unfilmed (MakesReading of (λ tally. Shows of (MayShow query tally)))) ended none by
+  does_leave (Format paths) old new ended by none = uses_leave works.Format paths old new ended none by
+  does_leave (Run paths) old new ended by none = uses_leave works.Run paths old new ended none by
+  does_leave (Load paths csv) old new ended by none = uses_leave (works.Load csv) paths old new ended none by
+  does_leave (tasks.DryRun paths csv) old new ended by none = uses_leave (works.DryRun csv) paths old new ended none by
+  does_leave (tasks.Show paths query) old new ended by none = uses_leave (works.Show query) paths old new ended none by
   does_leave (tasks.List setup table) old new ended by none = texts_leave _ _ old new ended.result by.1
   does_leave (Check paths) old new ended by none = texts_leave _ _ old new ended.result by.1
   does_leave (tasks.SheetSeats setup sheet layout) old new ended by none = texts_leave _ _ old new ended.result by.1
-  does_leave tasks.Version old new ended by none = same_leaves old new (version_stays old new ended.result by.1)
+  does_leave tasks.Version old new ended by none = same_leaves old new (ap (λ (w : WorldOf of). w.files) by.1)
 
   -- and what is said after it leaves no more
   pub left_after : (task : Task) (old after new : WorldOf of) (ended : EndOf of) → Does of task old after ended
@@ -109,9 +90,6 @@ module _ (of : Known) where
       after_same None by = λ c here. by c (still c here)
       after_same (Some path) by = λ c here. by c (still c here)
 
-  same_files : (old new : WorldOf of) → new.files ≡ old.files → of.files.places new.files ≡ of.files.places old.files
-  same_files old new same = ap of.files.places same
-
   texts_stay : {X : Type 0} (Reads : of.Folder → of.Folder → Result X TaskFault → Type 0) (DoesWith : X → WorldOf of → WorldOf of → Result (Unit {0}) TaskFault → Type 0)
       (old new : WorldOf of) (result : Result (Unit {0}) TaskFault) → UsesTexts of Reads DoesWith old new result → of.files.places new.files ≡ of.files.places old.files
   texts_stay Reads DoesWith old new result by = ap of.files.places by.rest ∙ by.calls.2.stays
@@ -119,20 +97,15 @@ module _ (of : Known) where
   pub does_touch : (task : Task) (old new : WorldOf of) (ended : EndOf of) → Does of task old new ended
       → Touches (disk_path task) (of.files.places old.files) (of.files.places new.files)
   does_touch Rehearse old new ended by = same_files old new (ap (λ (w : WorldOf of). w.files) by.rest)
-  does_touch (Format paths) old new ended by = uses_touch (making of.files of.disks) paths old new (unfilmed (Formatted of)) ended
-      (λ canton before after film does. same_files before.0 after.0 (ap (λ (w : WorldOf of). w.files) does.rest)) by
-  does_touch (Run paths) old new ended by = uses_touch (finding of.files of.disks) paths old new (Ran of) ended
-      (λ canton before after film does. same_files before.0 after.0 (ap (λ (w : WorldOf of). w.files) does.rest)) by
-  does_touch (Load paths csv) old new ended by = uses_touch (finding of.files of.disks) paths old new (HasLoaded of csv.now) ended
-      (λ canton before after film does. does.stays) by
-  does_touch (tasks.DryRun paths csv) old new ended by = uses_touch (finding of.files of.disks) paths old new (unfilmed (MakesReading of (HasDryRun of csv.now))) ended
-      (λ canton before after film does. does.stays) by
-  does_touch (tasks.Show paths query) old new ended by = uses_touch (finding of.files of.disks) paths old new (unfilmed (MakesReading of (λ tally. Shows of (MayShow query tally)))) ended
-      (λ canton before after film does. does.stays) by
+  does_touch (Format paths) old new ended by = uses_touch works.Format paths old new ended by
+  does_touch (Run paths) old new ended by = uses_touch works.Run paths old new ended by
+  does_touch (Load paths csv) old new ended by = uses_touch (works.Load csv) paths old new ended by
+  does_touch (tasks.DryRun paths csv) old new ended by = uses_touch (works.DryRun csv) paths old new ended by
+  does_touch (tasks.Show paths query) old new ended by = uses_touch (works.Show query) paths old new ended by
   does_touch (tasks.List setup table) old new ended by = texts_stay _ _ old new ended.result by.1
   does_touch (Check paths) old new ended by = texts_stay _ _ old new ended.result by.1
   does_touch (tasks.SheetSeats setup sheet layout) old new ended by = texts_stay _ _ old new ended.result by.1
-  does_touch tasks.Version old new ended by = same_files old new (version_stays old new ended.result by.1)
+  does_touch tasks.Version old new ended by = same_files old new (ap (λ (w : WorldOf of). w.files) by.1)
 
   -- and what is said after it neither
   pub touched_after : (task : Task) (old after new : WorldOf of) (ended : EndOf of) → Does of task old after ended

@@ -4,20 +4,20 @@ use Rattle.std.proofs.Common.{◌≡◌, ◌≢◌, ℕ, List, [], ◌∷◌, �
 use Rattle.std.proofs.lemmas.List.{append-nil}
 use Rattle.std.specs.Prelude.{IfSome}
 use Rattle.zh_disk.specs.Disk.{Trail, IsImage}
-use Rattle.zh_records.specs.declared.command.Command.{Command}
+use Rattle.zh_returns.specs.declared.command.Command.{Command}
 use Rattle.zh_returns.specs.Judgement.{judge}
 use Rattle.zh_returns.specs.Tally.{Tally}
-use Rattle.zh_returns.specs.declared.verdict.Verdict.TheVariants as verdicts
-use Rattle.zh_desks.specs.Batches.{Held, no_batches}
+use Rattle.zh_returns.specs.declared.judgement.Verdict.TheVariants as verdicts
+use Rattle.zh_office.specs.DeskBatches.{Held, no_batches}
 use Rattle.zh_commands.specs.declared.lines.Line.{Line}
 use Rattle.zh_commands.specs.declared.lines.LineFault.{LineFault}
 use Rattle.zh_commands.specs.declared.replies.Reply.TheVariants.{Stored, Same}
 use Rattle.zh_totals.specs.Counting.{totals_of}
 use Rattle.zh_ledger.specs.Images.{HasSome}
 use Rattle.zh_ledger.specs.Submissions.{Log, OnDisk, followed_by}
-use Rattle.zh_answers.specs.Requests.{Acts}
-use Rattle.zh_answers.specs.declared.answer.Answer.{Answer}
-use Rattle.zh_answers.specs.declared.answer.Answer.TheVariants as answers
+use Rattle.zh_office.specs.Requests.{Acts}
+use Rattle.zh_office.specs.declared.answer.Answer.{Answer}
+use Rattle.zh_office.specs.declared.answer.Answer.TheVariants as answers
 use Rattle.zh_office.specs.Office.{Office, MayAnswer, batches_after, command_read}
 use Rattle.zh_office.specs.Runs.{Turn, its_ledger}
 use Rattle.zh_program.specs.Exchanges.{Exchange, Given, IsReadRight, command_given, count_by, disk_by, held_by, held_then, log_by, log_of}

@@ -4,12 +4,12 @@ use Rattle.zh_arguments.specs.Arguments.{AsksFor, refusals}
 use Rattle.zh_arguments.specs.declared.arguments.Task.{Task}
 use Rattle.zh_disk.specs.declared.memory.MemoryDisk.{MemoryDisk}
 use Rattle.zh_film.specs.declared.film.Film.{Film}
-use Rattle.zh_world.specs.Places.{Touches}
-use Rattle.zh_tasks.specs.Remarks.{BecameOf}
-use Rattle.zh_tasks.specs.Tasks.{Does}
-use Rattle.zh_tasks.specs.World.{FilmedOf, Known, UsedOf, WorldOf}
-use Rattle.zh_tasks.specs.declared.fault.TaskFault.TheVariants as faults
-use Rattle.zh_tasks.specs.declared.used.Used.TheVariants as used_as
+use Rattle.zh_file.specs.Places.{Touches}
+use Rattle.zh_program.specs.Remarks.{BecameOf}
+use Rattle.zh_program.specs.Tasks.{Does}
+use Rattle.zh_program.specs.World.{FilmedOf, Known, UsedOf, WorldOf}
+use Rattle.zh_program.specs.declared.fault.TaskFault.TheVariants as faults
+use Rattle.zh_program.specs.declared.on_disk.Used.TheVariants as used_as
 use Rattle.zh_program.specs.Program.{LeavesAsFound, MetFault, NothingDone, disk_path, ends}
 use Rattle.zh_program.specs.Promise.{Promise, RehearsalPromise}
 use Rattle.zh_program.specs.Reports.{report_text}

@@ -4,12 +4,12 @@ use Rattle.std.specs.Io.KnownBytes.{Appends, Consumes, IsAtEnd, Keeps}
 use Rattle.zh_disk.specs.Disk.{Trail}
 use Rattle.zh_film.specs.Frames.{Frame, frames}
 use Rattle.zh_film.specs.declared.kind.FrameKind.TheVariants.{Between}
-use Rattle.zh_records.specs.declared.row.Row.{Row}
-use Rattle.zh_csv.specs.declared.fault.LoadFault.{LoadFault}
+use Rattle.zh_returns.specs.declared.row.Row.{Row}
+use Rattle.zh_csv.specs.declared.batch_reader.LoadFault.{LoadFault}
 use Rattle.zh_office.specs.Text.{ended_lines, lines_of}
 use Rattle.zh_arguments.specs.declared.arguments.Task.{Task}
 use Rattle.zh_arguments.specs.declared.arguments.Task.TheVariants.{Run, Load}
-use Rattle.zh_tasks.specs.World.{FilmedOf, Known, WorldOf}
+use Rattle.zh_program.specs.World.{FilmedOf, Known, WorldOf}
 use Rattle.zh_program.specs.Exchanges.{Exchange, line_in, text_of}
 use Rattle.zh_program.specs.Exchanges.Given.{text}
 use Rattle.zh_program.specs.Order.{Conversation}
@@ -63,7 +63,7 @@ conversation of old new opened last noted = record {
 -- That of a task, once its disk was opened. One that answers no line and loads no text has none, whatever else it writes.
 abbrev pub talk_of : (of : Known) → Task → WorldOf of → WorldOf of → Trail → FilmedOf of → Conversation
 talk_of of (Run paths) old new opened used =
-    conversation of old new opened (of.disks.history used.disk).trail (frames of.readers of.writers of.disks used.observed.film)
+    conversation of old new opened (of.disks.history used.disk).trail (frames of.readers of.writers of.disks used.film)
 talk_of of (Load paths csv) old new opened used =
-    conversation of old new opened (of.disks.history used.disk).trail (frames of.readers of.writers of.disks used.observed.film)
+    conversation of old new opened (of.disks.history used.disk).trail (frames of.readers of.writers of.disks used.film)
 talk_of of task old new opened used = conversation of new new opened (of.disks.history used.disk).trail []

@@ -2,11 +2,11 @@
 use Rattle.std.specs.Prelude.{◌≡◌, ℕ, List, [], ◌∷◌, ◌++◌, fold, map, take, Option, Some, None, IfSome, Result, Ok, Err}
 use Rattle.zh_disk.specs.Disk.{Trail}
 use Rattle.zh_districts.specs.Canton.{Canton}
-use Rattle.zh_records.specs.declared.command.Command.{Command}
-use Rattle.zh_records.specs.declared.row.Row.{Row}
+use Rattle.zh_returns.specs.declared.command.Command.{Command}
+use Rattle.zh_returns.specs.declared.row.Row.{Row}
 use Rattle.zh_returns.specs.Step.{after}
 use Rattle.zh_returns.specs.Tally.{Tally}
-use Rattle.zh_desks.specs.Batches.{Held, rows_of}
+use Rattle.zh_office.specs.DeskBatches.{Held, rows_of}
 use Rattle.zh_commands.specs.Lines.{ParsesAs, desk_of}
 use Rattle.zh_commands.specs.Replies as replies
 use Rattle.zh_commands.specs.declared.lines.Line.{Line}
@@ -15,11 +15,11 @@ use Rattle.zh_commands.specs.declared.replies.Reply.TheVariants.{Stored, Refused
 use Rattle.zh_commands.specs.declared.replies.Refusal.TheVariants as refusals
 use Rattle.zh_csv.specs.Load.{AreLoaded, fields}
 use Rattle.zh_csv.specs.Records.{AreAll, names}
-use Rattle.zh_csv.specs.declared.fault.LoadFault.{LoadFault}
+use Rattle.zh_csv.specs.declared.batch_reader.LoadFault.{LoadFault}
 use Rattle.zh_ledger.specs.Submissions.{Log, nothing, followed_by}
-use Rattle.zh_answers.specs.Answers.{batch_of, command_of, held_after}
-use Rattle.zh_answers.specs.declared.answer.Answer.{Answer}
-use Rattle.zh_answers.specs.declared.answer.Answer.TheVariants.{Reply, Sheet}
+use Rattle.zh_office.specs.Answers.{batch_of, command_of, held_after}
+use Rattle.zh_office.specs.declared.answer.Answer.{Answer}
+use Rattle.zh_office.specs.declared.answer.Answer.TheVariants.{Reply, Sheet}
 use Rattle.zh_office.specs.Runs.{answer_text}
 
 -- the bytes of a line, and what it is read as; or a text that is loaded, whose bytes may be unknown, and what it loads

@@ -1,18 +1,18 @@
 -- The promise of the program on an office: each command, each answer, each sheet, and each moment of its disk.
 use Rattle.std.specs.Prelude.{◌≡◌, ◌≢◌, ℕ, Bool, List, ◌∷◌, [], ◌++◌, length, None, IfSome}
 use Rattle.zh_disk.specs.Disk.{Trail, IsImage}
-use Rattle.zh_records.specs.declared.command.Command.{Command}
+use Rattle.zh_returns.specs.declared.command.Command.{Command}
 use Rattle.zh_returns.specs.Judgement.{judge}
 use Rattle.zh_returns.specs.Tally.{Tally}
-use Rattle.zh_returns.specs.declared.verdict.Verdict.TheVariants as verdicts
-use Rattle.zh_desks.specs.Batches.{no_batches}
+use Rattle.zh_returns.specs.declared.judgement.Verdict.TheVariants as verdicts
+use Rattle.zh_office.specs.DeskBatches.{no_batches}
 use Rattle.zh_commands.specs.declared.replies.Reply.TheVariants.{Stored, Same}
 use Rattle.zh_totals.specs.Counting.{totals_of}
 use Rattle.zh_sheet.specs.Distribution.{Distribution}
 use Rattle.zh_sheet.specs.Refusals.{LeaveNoSeats}
 use Rattle.zh_ledger.specs.Images.{HasSome}
 use Rattle.zh_ledger.specs.Stands.{Holds}
-use Rattle.zh_answers.specs.declared.answer.Answer.TheVariants.{Reply, Sheet}
+use Rattle.zh_office.specs.declared.answer.Answer.TheVariants.{Reply, Sheet}
 use Rattle.zh_program.specs.Exchanges.{EachIn, Exchange, IsReadRight, command_given, count_by, disk_by, held_by, log_by, log_of}
 use Rattle.zh_program.specs.Order.{AnswersBeforeReading, Conversation, KeepsWhatIsTold, Throughout}
 use Rattle.zh_program.specs.Sheets.{FollowsFrom, IsTie}

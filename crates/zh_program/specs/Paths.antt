@@ -4,12 +4,12 @@ use Rattle.zh_arguments.specs.declared.arguments.Paths.{Paths}
 use Rattle.zh_arguments.specs.declared.arguments.Task.{Task}
 use Rattle.zh_arguments.specs.declared.arguments.Task.TheVariants.{Rehearse, Format, Run, Load, Check}
 use Rattle.zh_arguments.specs.declared.arguments.Task.TheVariants as tasks
-use Rattle.zh_checks.specs.Reports.{safe_byte}
-use Rattle.zh_record_text.specs.Each.{each_to}
-use Rattle.zh_tasks.specs.Places.{role_of}
-use Rattle.zh_tasks.specs.declared.fault.TaskFault.{TaskFault}
-use Rattle.zh_tasks.specs.declared.file.TaskFile.{TaskFile}
-use Rattle.zh_tasks.specs.declared.file.TaskFile.TheVariants as files
+use Rattle.zh_verdicts.specs.Reports.{safe_byte}
+use Rattle.zh_text.specs.Each.{each_to}
+use Rattle.zh_program.specs.Places.{role_of}
+use Rattle.zh_program.specs.declared.fault.TaskFault.{TaskFault}
+use Rattle.zh_program.specs.declared.place.TaskFile.{TaskFile}
+use Rattle.zh_program.specs.declared.place.TaskFile.TheVariants as files
 
 -- of a set-up and a disk
 abbrev pub path_among : Paths → TaskFile → Option (List ℕ)

@@ -3,14 +3,14 @@ use Rattle.std.specs.Prelude.{◌≡◌, ◌≢◌, ℕ, List, Option, None, Mat
 use Rattle.zh_arguments.specs.declared.arguments.Task.{Task}
 use Rattle.zh_arguments.specs.declared.arguments.Task.TheVariants.{Format}
 use Rattle.zh_arguments.specs.Commands.{paths_of}
-use Rattle.zh_world.specs.Files.{IsAsFound, IsFilling, LeavesNoMore, LeavesOf}
-use Rattle.zh_world.specs.declared.world.Ended.{Ended}
-use Rattle.zh_world.specs.declared.world.World.{World}
-use Rattle.zh_tasks.specs.Remarks.{BecameOf}
-use Rattle.zh_tasks.specs.Tasks.{Does}
-use Rattle.zh_tasks.specs.World.{Known, UsedOf, WorldOf}
-use Rattle.zh_tasks.specs.declared.fault.TaskFault.{TaskFault}
-use Rattle.zh_tasks.specs.declared.fault.TaskFault.TheVariants as faults
+use Rattle.zh_file.specs.Files.{IsAsFound, IsFilling, LeavesNoMore, LeavesOf}
+use Rattle.zh_file.specs.declared.world.Ended.{Ended}
+use Rattle.zh_file.specs.declared.world.World.{World}
+use Rattle.zh_program.specs.Remarks.{BecameOf}
+use Rattle.zh_program.specs.Tasks.{Does}
+use Rattle.zh_program.specs.World.{Known, UsedOf, WorldOf}
+use Rattle.zh_program.specs.declared.fault.TaskFault.{TaskFault}
+use Rattle.zh_program.specs.declared.fault.TaskFault.TheVariants as faults
 use Rattle.zh_program.specs.Paths.{fault_path}
 use Rattle.zh_program.specs.Reports.{report_text}
 

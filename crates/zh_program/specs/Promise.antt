@@ -11,8 +11,8 @@ use Rattle.zh_arguments.specs.Table.{path_in}
 use Rattle.zh_arguments.specs.declared.arguments.Paths.{Paths}
 use Rattle.zh_arguments.specs.declared.arguments.Task.{Task}
 use Rattle.zh_arguments.specs.declared.arguments.Task.TheVariants.{Format}
-use Rattle.zh_tasks.specs.Rehearse.{rehearsal_shown}
-use Rattle.zh_tasks.specs.World.{FilmedOf, Known, WorldOf}
+use Rattle.zh_program.specs.Rehearse.{rehearsal_shown}
+use Rattle.zh_program.specs.World.{FilmedOf, Known, WorldOf}
 use Rattle.zh_program.specs.Due.{AnswerLines, AreOfTask, conversation, talk_of}
 use Rattle.zh_program.specs.Exchanges.{Exchange}
 use Rattle.zh_program.specs.Headline.{Headline}

@@ -1,25 +1,25 @@
 -- What is reported of a fault, in bytes: 10 is LF, 32 the space.
 use Rattle.std.specs.Prelude.{ℕ, List, [], ◌∷◌, ◌++◌, Option, Some, None, codes, decimal}
-use Rattle.zh_checks.specs.Reports.{held_name, setup_name, setup_place}
+use Rattle.zh_verdicts.specs.Reports.{held_name, setup_name, setup_place}
 use Rattle.zh_disk.specs.Disk.{disk_length}
 use Rattle.zh_districts.specs.declared.shares.SeatFault.{SeatFault}
 use Rattle.zh_districts.specs.declared.shares.SeatFault.TheVariants as of_seats
-use Rattle.zh_ledger.specs.declared.fault.OpenFault.{OpenFault}
-use Rattle.zh_ledger.specs.declared.fault.OpenFault.TheVariants as of_opening
+use Rattle.zh_ledger.specs.declared.opening.OpenFault.{OpenFault}
+use Rattle.zh_ledger.specs.declared.opening.OpenFault.TheVariants as of_opening
 use Rattle.zh_office.specs.declared.service.ServeFault.{ServeFault}
 use Rattle.zh_office.specs.declared.service.ServeFault.TheVariants as of_serving
-use Rattle.zh_tasks.specs.Places.{named_place}
-use Rattle.zh_tasks.specs.declared.fault.TaskFault.{TaskFault}
-use Rattle.zh_tasks.specs.declared.fault.TaskFault.TheVariants as faults
+use Rattle.zh_program.specs.Places.{named_place}
+use Rattle.zh_program.specs.declared.fault.TaskFault.{TaskFault}
+use Rattle.zh_program.specs.declared.fault.TaskFault.TheVariants as faults
 use Rattle.zh_setups.specs.declared.place.FaultPlace.{FaultPlace}
 use Rattle.zh_setups.specs.declared.place.FaultPlace.TheVariants as of_text
 use Rattle.zh_setups.specs.declared.place.Key.TheVariants as keys
-use Rattle.zh_tasks.specs.declared.file.TaskFile.{TaskFile}
-use Rattle.zh_tasks.specs.declared.file.TaskFile.TheVariants as files
-use Rattle.zh_world.specs.Causes.{cause_name}
+use Rattle.zh_program.specs.declared.place.TaskFile.{TaskFile}
+use Rattle.zh_program.specs.declared.place.TaskFile.TheVariants as files
+use Rattle.zh_file.specs.Causes.{cause_name}
 use Rattle.zh_program.specs.Paths.{shown_path}
-use Rattle.zh_tasks.specs.declared.place.TaskPlace.{TaskPlace}
-use Rattle.zh_tasks.specs.declared.place.TaskPlace.TheVariants as places
+use Rattle.zh_program.specs.declared.place.TaskPlace.{TaskPlace}
+use Rattle.zh_program.specs.declared.place.TaskPlace.TheVariants as places
 
 -- the name of a fault of the opening of an office
 abbrev pub opening_name : OpenFault → List ℕ
@@ -41,27 +41,24 @@ serving_name of_serving.Read = codes "read"
 serving_name of_serving.Write = codes "write"
 serving_name of_serving.Turns = codes "turns"
 
--- of a file that was not opened
-abbrev pub unopened_name : TaskFile → List ℕ
-unopened_name files.Setup = codes "setup file"
-unopened_name files.Disk = codes "disk device"
-unopened_name files.Csv = codes "csv file"
-unopened_name files.Sheet = codes "sheet file"
-unopened_name files.Held = codes "held file"
+-- of a file that was not opened, or not read
+abbrev pub file_name : TaskFile → List ℕ
+file_name files.Setup = codes "setup file"
+file_name files.Disk = codes "disk device"
+file_name files.Csv = codes "csv file"
+file_name files.Sheet = codes "sheet file"
+file_name files.Held = codes "held file"
 
 -- the name of a fault
 abbrev pub fault_text : TaskFault → List ℕ
-fault_text (faults.Unopened file cause) = unopened_name file
-fault_text faults.SetupFile = unopened_name files.Setup
+fault_text (faults.Unopened file cause) = file_name file
+fault_text (faults.Unreadable file) = file_name file
 fault_text (faults.Setup refusal) = setup_name refusal.fault
-fault_text faults.Device = unopened_name files.Disk
+fault_text faults.Device = file_name files.Disk
 fault_text faults.Busy = codes "disk busy"
 fault_text (faults.Size found) = codes "disk size"
 fault_text faults.InUse = codes "disk inuse"
 fault_text (faults.Open fault) = opening_name fault
-fault_text faults.CsvFile = unopened_name files.Csv
-fault_text faults.SheetFile = unopened_name files.Sheet
-fault_text faults.HeldFile = unopened_name files.Held
 fault_text (faults.Held fault) = held_name fault
 fault_text (faults.Seats fault) = seats_name fault
 fault_text (faults.NoMunicipality number) = codes "nomunicipality " ++ decimal number
@@ -69,7 +66,7 @@ fault_text (faults.NoConstituency number) = codes "noconstituency " ++ decimal n
 fault_text faults.Memory = codes "memory"
 fault_text (faults.Serve fault) = serving_name fault
 fault_text faults.Write = codes "write"
-fault_text faults.Faulted = unopened_name files.Disk
+fault_text faults.Faulted = file_name files.Disk
 fault_text faults.Refused = codes "refused"
 
 -- the limits of the value at a place of a set-up

@@ -4,10 +4,10 @@ use Rattle.zh_commands.specs.declared.replies.Reply.TheVariants.{Refused}
 use Rattle.zh_commands.specs.declared.replies.Refusal.TheVariants as refusals
 use Rattle.zh_totals.specs.Totals.{VoteTotals}
 use Rattle.zh_sheet.specs.Distribution.{Distribution, IsDistribution}
-use Rattle.zh_upper.specs.declared.refusal.UpperRefusal.TheVariants as uppers
-use Rattle.zh_sheet.specs.declared.refusal.SheetRefusal.TheVariants as sheets
-use Rattle.zh_answers.specs.declared.answer.Answer.{Answer}
-use Rattle.zh_answers.specs.declared.answer.Answer.TheVariants.{Reply}
+use Rattle.zh_upper.specs.declared.fault.UpperRefusal.TheVariants as uppers
+use Rattle.zh_sheet.specs.declared.fault.SheetRefusal.TheVariants as sheets
+use Rattle.zh_office.specs.declared.answer.Answer.{Answer}
+use Rattle.zh_office.specs.declared.answer.Answer.TheVariants.{Reply}
 
 -- The distribution of the seats by these totals: each part follows from those before it, all totals are met, and each
 -- quotient rounds without a half to its seats under the divisors that the sheet carries. So no divisors lead to other seats:

@@ -1,32 +1,37 @@
-//! The program.
+//! The program, and each of its tasks.
 
 ghost use Rattle.std.specs.Prelude.{◌≡◌, ◌≢◌, ◌≤◌, ◌⊎◌, [], Err, IfErr, MatchResult, None, Ok, Some, map};
 ghost use Rattle.std.specs.String.{string_bytes};
 ghost use Rattle.clap.specs.Words.{kind_of};
 ghost use Rattle.zh_arguments.specs.Arguments.{AsksFor, refusals};
 ghost use Rattle.zh_arguments.specs.declared.arguments.Task.{Task};
-ghost use Rattle.zh_tasks.specs.Remarks.{BecameOf};
-ghost use Rattle.zh_tasks.specs.Tasks.{Does};
-ghost use Rattle.zh_tasks.specs.declared.used.Filmed.{Filmed};
-ghost use Rattle.zh_tasks.specs.declared.used.Used.TheVariants as used_as;
-ghost use Rattle.zh_tasks.specs.World.{known};
+ghost use Rattle.zh_program.specs.Remarks.{BecameOf};
+ghost use Rattle.zh_program.specs.Tasks.{Does};
+ghost use Rattle.zh_program.specs.declared.on_disk.Filmed.{Filmed};
+ghost use Rattle.zh_program.specs.declared.on_disk.Used.TheVariants as used_as;
+ghost use Rattle.zh_program.specs.World.{known};
 ghost use Rattle.zh_disk.specs.declared.memory.MemoryDisk.{MemoryDisk};
 ghost use Rattle.zh_film.specs.declared.film.Film.{Film};
 ghost use Rattle.zh_program.specs.Promise.{Promise, RehearsalPromise};
 ghost use Rattle.zh_program.specs.Program.{LeavesAsFound, MetFault, NothingDone, disk_path, ends};
-ghost use Rattle.zh_world.specs.Places.{Touches};
+ghost use Rattle.zh_file.specs.Places.{Touches};
 ghost use Rattle.zh_program.specs.Paths.{fault_path};
 ghost use Rattle.zh_program.specs.Reports.{report_text};
 
-use crate::paths::fault_path;
+use crate::check::check_files;
+use crate::fault::TaskFault;
+use crate::on_disk::{Used, Work, on_disk};
+use crate::place::fault_path;
 use crate::report::report;
+use crate::run::rehearse;
+use crate::sheet_seats::{SheetPaths, sheet_seats};
+use crate::shown::{list_at, write_version};
 use clap::Error;
 use clap::error::ErrorKind;
 use std::alloc::Global;
 use std::io::{Read, Write};
 use zh_arguments::{Task, read_arguments};
-use zh_tasks::{TaskFault, Used, carry_out};
-use zh_world::{Ended, Files, Remark, World};
+use zh_file::{Ended, Files, Remark, World};
 
 /// The status of a task that ended so. A fault is reported, but where it was refused the task has said why.
 fn end<I, O, E: Write, F>(
@@ -112,6 +117,54 @@ pub fn program<I: Read, O: Write, E: Write, F: Files>(
         }
         Err(refusal) => Ended {
             result: refuse(&refusal, world),
+            used: None,
+        },
+    }
+}
+
+/// Carries out a task. The disk that it worked on is handed over with its film, whatever the result.
+///
+/// An error says why the task was not done. The program reports it (docs/MANUAL.md).
+pub fn carry_out<I: Read, O: Write, E: Write, F: Files>(
+    alloc: Global,
+    task: Task<'_>,
+    right: F::Right,
+    world: &mut World<I, O, E, F>,
+) -> Ended<Result<(), TaskFault>, Used<I, O, F::Disk, F::Text>>
+    ensures { Does (known I.Read O.Write E.Write F.Files F.Disk.Disk) task.entry world.old world.new result }
+{
+    match task {
+        Task::Rehearse => rehearse(alloc, world),
+        Task::Format(paths) => on_disk(alloc, paths, right, Work::Format, world),
+        Task::Run(paths) => on_disk(alloc, paths, right, Work::Run, world),
+        Task::Load { paths, csv } => on_disk(alloc, paths, right, Work::Load(csv), world),
+        Task::DryRun { paths, csv } => on_disk(alloc, paths, right, Work::DryRun(csv), world),
+        Task::Show(paths, query) => on_disk(alloc, paths, right, Work::Show(query), world),
+        Task::List { setup, table } => Ended {
+            result: list_at(alloc, setup, table, world),
+            used: None,
+        },
+        Task::Check(paths) => Ended {
+            result: check_files(alloc, paths, world),
+            used: None,
+        },
+        Task::SheetSeats {
+            setup,
+            sheet,
+            layout,
+        } => {
+            let paths = SheetPaths {
+                setup,
+                sheet,
+                layout,
+            };
+            Ended {
+                result: sheet_seats(alloc, paths, world),
+                used: None,
+            }
+        }
+        Task::Version => Ended {
+            result: write_version(&mut world.output),
             used: None,
         },
     }

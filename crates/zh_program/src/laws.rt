@@ -1,16 +1,16 @@
-//! What the promise of the program comes to.
+//! What the promise of the program comes to, and laws of the tasks.
 
-ghost use Rattle.std.specs.Prelude.{◌≡◌, ◌≢◌, ◌⊎◌, ◌+◌, ◌*◌, ◌<◌, ◌≤◌, ℕ, Bool, IsTrue, MatchResult, Result};
-ghost use Rattle.std.specs.Prelude.{List, [], ◌∷◌, ◌++◌, flat_map, length, map, slice_index, take, None, Some};
+ghost use Rattle.std.specs.Prelude.{◌≡◌, ◌≢◌, ◌⊎◌, ◌+◌, ◌*◌, ◌<◌, ◌≤◌, ℕ, Bool, IsTrue, MatchResult, Result, List, [], ◌∷◌, ◌++◌, flat_map};
+ghost use Rattle.std.specs.Prelude.{length, map, slice_index, take, None, Some, ◌↔◌, Option};
 ghost use Rattle.zh_disk.specs.Disk.{IsImage, Trail};
-ghost use Rattle.zh_districts.specs.Canton.{IsCanton};
+ghost use Rattle.zh_districts.specs.Canton.{IsCanton, Canton};
 ghost use Rattle.zh_film.specs.Frames.{Frame};
 ghost use Rattle.zh_film.specs.declared.kind.FrameKind.TheVariants.{Asks};
-ghost use Rattle.zh_records.specs.declared.command.Command.{Command};
+ghost use Rattle.zh_returns.specs.declared.command.Command.{Command};
 ghost use Rattle.zh_returns.specs.Judgement.{judge};
 ghost use Rattle.zh_returns.specs.Step.{after};
 ghost use Rattle.zh_returns.specs.Tally.{Tally};
-ghost use Rattle.zh_returns.specs.declared.verdict.Verdict.TheVariants as verdicts;
+ghost use Rattle.zh_returns.specs.declared.judgement.Verdict.TheVariants as verdicts;
 ghost use Rattle.zh_commands.specs.declared.replies.Reply.TheVariants as replies;
 ghost use Rattle.zh_matrices.specs.Divisors.{Divisors};
 ghost use Rattle.zh_matrices.specs.Question.{cell};
@@ -21,13 +21,13 @@ ghost use Rattle.zh_ledger.specs.Ledger.{Ledger};
 ghost use Rattle.zh_ledger.specs.Night.{StopsWithin};
 ghost use Rattle.zh_ledger.specs.Opening.{IsCause, Opens};
 ghost use Rattle.zh_ledger.specs.Stands.{Holds, HoldsFramed};
-ghost use Rattle.zh_ledger.specs.declared.fault.OpenFault.{OpenFault};
-ghost use Rattle.zh_ledger.specs.declared.fault.OpenFault.TheVariants as faults;
-ghost use Rattle.zh_answers.specs.declared.answer.Answer.TheVariants as answers;
+ghost use Rattle.zh_ledger.specs.declared.opening.OpenFault.{OpenFault};
+ghost use Rattle.zh_ledger.specs.declared.opening.OpenFault.TheVariants as faults;
+ghost use Rattle.zh_office.specs.declared.answer.Answer.TheVariants as answers;
 ghost use Rattle.zh_program.specs.Exchanges.{Exchange, count_by, disk_by, line_in, log_of, text_of};
 ghost use Rattle.zh_office.specs.Text.{ended_lines};
-ghost use Rattle.zh_tasks.specs.World.{known};
-ghost use Rattle.zh_tasks.specs.declared.used.Filmed.{Filmed};
+ghost use Rattle.zh_program.specs.World.{known};
+ghost use Rattle.zh_program.specs.declared.on_disk.Filmed.{Filmed};
 ghost use Rattle.zh_program.specs.Headline.{Headline};
 ghost use Rattle.zh_program.specs.Order.{AreNext, Conversation};
 ghost use Rattle.zh_program.specs.Program.{LeavesAsFound, disk_path};
@@ -35,9 +35,18 @@ ghost use Rattle.zh_program.specs.Promise.{Promise};
 ghost use Rattle.zh_arguments.specs.declared.arguments.Task.{Task};
 ghost use Rattle.zh_program.specs.Sheets.{IsTie};
 ghost use Rattle.zh_program.specs.Stopped.{OpensTo};
+ghost use Rattle.zh_check.specs.Verdicts.{IsRight};
+ghost use Rattle.zh_check.specs.declared.checked.RightSheet.{RightSheet};
+ghost use Rattle.zh_disk.specs.History.{History};
+ghost use Rattle.zh_ledger.specs.Submissions.{IsLogged, Log, OnDisk};
+ghost use Rattle.zh_office.specs.Office.{Office};
+ghost use Rattle.zh_office.specs.Runs.{its_ledger};
+ghost use Rattle.zh_program.specs.Opened.{IsFrom, KeepsAll};
+ghost use Rattle.zh_totals.specs.Totals.{VoteTotals};
 
 use std::io::{Read, Write};
-use zh_world::{Files, World};
+use zh_file::{Files, World};
+use zh_sheet_text::no_longer;
 
 /// What the promise excludes, wherever a stop comes.
 pub fn headline_excludes()
@@ -127,3 +136,21 @@ pub fn reopenings()
     ensures causes { (count : Tally) (c : List ℕ) (fault : OpenFault) → OpensTo count c → IsCause count.canton c fault
         → (fault ≡ faults.Memory) ⊎ (fault ≡ faults.Device) }
 {}
+
+/// What a run, or a load, leaves of an honest disk that was clean and stood for a count: at each moment each image stands
+/// for that count with the first of the accepted commands, in order; in the end with all that were acknowledged.
+///
+/// Each of these images is clean again, so this holds from one opening to the next.
+pub fn kept_commands()
+    ensures { (canton : Canton) (first last : History) (start end : OnDisk Office) (log : Log) (tally : Tally)
+        → IsTrue last.honest → IsFrom canton first last start end → IsLogged (its_ledger start) log (its_ledger end)
+        → IsCanton canton → IsCanton tally.canton → Holds tally first.trail.now.bytes → KeepsAll tally log first.trail last.trail }
+{}
+
+/// A check reads one byte more of a file than the longest sheet has. What is read is right exactly where the whole file is.
+pub fn whole_file_is_checked()
+    ensures { (canton : Canton) (held : Option VoteTotals) (text : List ℕ) (right : RightSheet)
+        → IsRight canton held (take 280065 text) right ↔ IsRight canton held text right }
+{
+    no_longer();
+}

@@ -1,12 +1,25 @@
 //! The program `zhcount`: it reads its arguments, carries out its task in a world, and says how it ended.
 #![tactic(auto)]
 
+mod check;
 mod entry;
+mod fault;
+mod format;
 mod laws;
-mod paths;
+mod load;
+mod on_disk;
+mod place;
+mod query;
 mod report;
-mod report_parts;
+mod run;
+mod seats_counted;
+mod sheet_seats;
+mod shown;
+mod texts;
 
 pub use entry::program;
-pub use laws::{headline_excludes, opening_excludes, promise_excludes, reopenings};
-pub use zh_tasks::{Filmed, Used};
+pub use laws::{
+    headline_excludes, kept_commands, opening_excludes, promise_excludes, reopenings,
+    whole_file_is_checked,
+};
+pub use on_disk::{Filmed, LoadReader, Used};

@@ -1,3 +1,4 @@
+//! The quorum in the whole canton.
 ghost use Rattle.std.specs.Prelude.{◌≡◌, ◌≤◌, ◌↔◌, IsTrue, length};
 ghost use Rattle.zh_quorum.specs.Quorum.{ReachesCantonQuorum, group_votes};
 ghost use Rattle.zh_totals.specs.Totals.{all_votes};

@@ -1,3 +1,4 @@
+//! The quorum: the groups that take part.
 ghost use Rattle.std.specs.Prelude.{◌≤◌, ◌↔◌, IfOk, IsTrue, length};
 ghost use Rattle.zh_quorum.specs.Quorum.{AreParticipating, ReachesQuorum, ReachesSomewhere, TakesPart};
 

@@ -2,7 +2,7 @@
 #![tactic(auto)]
 
 mod records;
-mod table;
 
-pub use records::{RecordFault, write_record};
-pub use table::{NumberedRows, close_table, open_table, write_each, write_table};
+pub use records::{
+    NumberedRows, RecordFault, close_table, open_table, write_each, write_record, write_table,
+};

@@ -6,17 +6,17 @@ use Rattle.std.proofs.lemmas.Bool.{ltb-false}
 use Rattle.std.proofs.lemmas.List.{get_or-map, length-map}
 use Rattle.std.proofs.lemmas.List.Elements.{All-get_or, All-from_get_or}
 use Rattle.zh_districts.specs.Canton.{has_municipality, constituency_of}
-use Rattle.zh_records.specs.declared.command.Command.{Command}
-use Rattle.zh_records.specs.declared.command.Command.TheVariants as commands
-use Rattle.zh_records.specs.declared.row.Row.{Row}
-use Rattle.zh_returns.specs.declared.verdict.Verdict.{Verdict}
-use Rattle.zh_returns.specs.declared.verdict.Verdict.TheVariants.{Accept, Same, Refused}
-use Rattle.zh_returns.specs.declared.verdict.Reason.TheVariants as reasons
+use Rattle.zh_returns.specs.declared.command.Command.{Command}
+use Rattle.zh_returns.specs.declared.command.Command.TheVariants as commands
+use Rattle.zh_returns.specs.declared.row.Row.{Row}
+use Rattle.zh_returns.specs.declared.judgement.Verdict.{Verdict}
+use Rattle.zh_returns.specs.declared.judgement.Verdict.TheVariants.{Accept, Same, Refused}
+use Rattle.zh_returns.specs.declared.judgement.Reason.TheVariants as reasons
 use Rattle.zh_returns.specs.Judgement.{judge, judge_row, is_refusal, of_all}
 use Rattle.zh_returns.specs.Limits.{IsTally}
-use Rattle.zh_records.specs.Rows.{FitsRow}
-use Rattle.zh_records.specs.Spelling.{FitsCommand, HasNumbers, IsSpeakable}
-use Rattle.zh_records.specs.declared.format.Format.TheVariants.{Two}
+use Rattle.zh_returns.specs.Rows.{FitsRow}
+use Rattle.zh_returns.specs.Spelling.{FitsCommand, HasNumbers, IsSpeakable}
+use Rattle.zh_returns.specs.declared.command.Format.TheVariants.{Two}
 use Rattle.zh_returns.specs.Origin.{IsOriginOf, origin_of}
 use Rattle.zh_returns.specs.Tally.{Tally}
 use Rattle.zh_returns.proofs.JudgementLemmas.{Passes, passes}

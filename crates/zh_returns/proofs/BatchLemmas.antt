@@ -11,16 +11,16 @@ use Rattle.std.proofs.lemmas.List.Elements.{filter-append}
 use Rattle.std.proofs.lemmas.List.Sums.{fold-append}
 use Rattle.std.proofs.lemmas.Option.{slice_get_within, get_or_from_slice_get}
 use Rattle.zh_districts.specs.Misplaced.{misplaced}
-use Rattle.zh_records.specs.Keys.{key_cmp}
-use Rattle.zh_records.specs.declared.row.Row.{Row}
-use Rattle.zh_records.specs.Rows.{row_key, IsBatch}
-use Rattle.zh_records.proofs.CallerLemmas.{keys_total, fresh_from_distinct}
+use Rattle.zh_returns.specs.Keys.{key_cmp}
+use Rattle.zh_returns.specs.declared.row.Row.{Row}
+use Rattle.zh_returns.specs.Rows.{row_key, IsBatch}
+use Rattle.zh_returns.proofs.KeyLemmas.{keys_total, fresh_from_distinct}
 use Rattle.zh_returns.specs.declared.entry.Entry.{Entry}
-use Rattle.zh_returns.specs.declared.verdict.Verdict.TheVariants.{Refused}
-use Rattle.zh_returns.specs.declared.verdict.Reason.TheVariants as reasons
+use Rattle.zh_returns.specs.declared.judgement.Verdict.TheVariants.{Refused}
+use Rattle.zh_returns.specs.declared.judgement.Reason.TheVariants as reasons
 use Rattle.zh_returns.specs.Judgement.{judge_row, is_accept, unless_misplaced, too_many, against}
 use Rattle.zh_returns.specs.Step.{entry_of, with_rows, accepted_rows}
-use Rattle.zh_returns.specs.declared.origin.Origin.{Origin}
+use Rattle.zh_returns.specs.declared.entry.Origin.{Origin}
 use Rattle.zh_returns.specs.Tally.{Tally, held}
 use Rattle.zh_returns.proofs.VerdictLemmas.{rows_more}
 

@@ -7,13 +7,13 @@ use Rattle.std.proofs.lemmas.Bool.{cases_lt}
 use Rattle.std.proofs.lemmas.Nat.{from_be_bytes-to_be_bytes_4}
 use Rattle.std.proofs.lemmas.List.{get_or-set_same, get_or-set_other}
 use Rattle.zh_districts.specs.Canton.{Canton}
-use Rattle.zh_records.specs.declared.format.Format.{Format}
+use Rattle.zh_returns.specs.declared.command.Format.{Format}
 use Rattle.zh_returns.specs.declared.entry.Entry.{Entry}
-use Rattle.zh_returns.specs.declared.entry_bytes.EntryFields.{EntryFields}
+use Rattle.zh_returns.specs.declared.entry.EntryFields.{EntryFields}
 use Rattle.zh_returns.specs.EntryBytes.{entry_spelling, fields_of, fields_spelling}
 use Rattle.zh_returns.specs.Limits.{IsEntryOf, most_votes}
 use Rattle.zh_returns.specs.Tables.{IsHeldAt, IsTable, key_of}
-use Rattle.zh_records.proofs.CallerLemmas.{HasWidth, block_at}
+use Rattle.zh_returns.proofs.BlockLemmas.{HasWidth, block_at}
 use Rattle.zh_returns.proofs.OriginLemmas.{origin_once}
 
 -- an entry takes sixteen bytes

@@ -7,9 +7,9 @@ use Rattle.std.proofs.lemmas.List.Elements.{recursion_from_All}
 use Rattle.std.proofs.lemmas.List.{get_or_read}
 use Rattle.std.proofs.lemmas.Option.{none-some}
 use Rattle.zh_returns.specs.declared.entry.Entry.{Entry}
-use Rattle.zh_records.specs.Keys.{key_cmp}
+use Rattle.zh_returns.specs.Keys.{key_cmp}
 use Rattle.zh_returns.specs.Tables.{key_of, place_of, entries_from, entries_of}
-use Rattle.zh_records.proofs.CallerLemmas.{exact_keys, keys_total, same_key, keys_equal}
+use Rattle.zh_returns.proofs.KeyLemmas.{exact_keys, keys_total, same_key, keys_equal}
 use Rattle.zh_returns.proofs.PlaceLemmas.{places_equal, other_key, key_of-place_of}
 
 -- nothing is found under a key that no place from here on has

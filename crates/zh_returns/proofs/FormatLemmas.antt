@@ -2,7 +2,7 @@
 use Rattle.std.proofs.Common.{◌≡◌, ◌∙◌, ◌==◌, ℕ, suc, true, refl, slice_set, List, [], ◌∷◌, length, get_or, drop, Option, Some, None, sym, ap, arith}
 use Rattle.std.specs.Prelude.{IfSome}
 use Rattle.std.specs.List.{list_all}
-use Rattle.zh_records.specs.declared.format.Format.{Format}
+use Rattle.zh_returns.specs.declared.command.Format.{Format}
 use Rattle.zh_returns.specs.Payload.{format_byte, zeros}
 use Rattle.zh_returns.proofs.ZeroLemmas.{zeros_from_all}
 

@@ -8,17 +8,17 @@ use Rattle.std.specs.FinMap as map_of
 use Rattle.std.proofs.lemmas.Bool.{true≢false}
 use Rattle.std.proofs.lemmas.Map.Keys.{IsDistinct-head, IsDistinct-tail}
 use Rattle.std.proofs.lemmas.Option.{same_Some}
-use Rattle.zh_records.specs.Keys.{key_cmp}
-use Rattle.zh_records.specs.declared.row.Row.{Row}
-use Rattle.zh_records.specs.declared.command.Command.TheVariants as commands
-use Rattle.zh_records.specs.Rows.{row_key, has_key, IsBatch}
-use Rattle.zh_records.proofs.CallerLemmas.{keys_total, keys_alike, same_key}
+use Rattle.zh_returns.specs.Keys.{key_cmp}
+use Rattle.zh_returns.specs.declared.row.Row.{Row}
+use Rattle.zh_returns.specs.declared.command.Command.TheVariants as commands
+use Rattle.zh_returns.specs.Rows.{row_key, has_key, IsBatch}
+use Rattle.zh_returns.proofs.KeyLemmas.{keys_total, keys_alike, same_key}
 use Rattle.zh_returns.specs.declared.entry.Entry.{Entry}
-use Rattle.zh_returns.specs.declared.verdict.Verdict.{Verdict}
-use Rattle.zh_returns.specs.declared.verdict.Verdict.TheVariants.{Accept, Same, Refused}
+use Rattle.zh_returns.specs.declared.judgement.Verdict.{Verdict}
+use Rattle.zh_returns.specs.declared.judgement.Verdict.TheVariants.{Accept, Same, Refused}
 use Rattle.zh_returns.specs.Judgement.{judge, judge_row, is_accept, is_refusal}
 use Rattle.zh_returns.specs.Step.{entry_of, with_rows, changed}
-use Rattle.zh_returns.specs.declared.origin.Origin.{Origin}
+use Rattle.zh_returns.specs.declared.entry.Origin.{Origin}
 use Rattle.zh_returns.specs.Origin.{origin_of}
 use Rattle.zh_returns.specs.Tally.{Tally, held}
 use Rattle.zh_returns.proofs.JudgementLemmas.{row_held, row_unrefused}

@@ -8,14 +8,14 @@ use Rattle.std.proofs.lemmas.List.{get_or-map, length-map}
 use Rattle.std.proofs.lemmas.List.Elements.{All-get_or}
 use Rattle.std.proofs.lemmas.Option.{slice_get_within, get_or_from_slice_get}
 use Rattle.zh_districts.specs.Misplaced.{misplaced}
-use Rattle.zh_districts.specs.declared.misplaced.Misplaced.{Misplaced}
+use Rattle.zh_districts.specs.declared.setup.Misplaced.{Misplaced}
 use Rattle.zh_returns.specs.declared.entry.Entry.{Entry}
-use Rattle.zh_records.specs.declared.row.Row.{Row}
-use Rattle.zh_returns.specs.declared.verdict.Verdict.{Verdict}
-use Rattle.zh_returns.specs.declared.verdict.Verdict.TheVariants.{Accept, Same, Refused}
-use Rattle.zh_returns.specs.declared.verdict.Reason.TheVariants as reasons
+use Rattle.zh_returns.specs.declared.row.Row.{Row}
+use Rattle.zh_returns.specs.declared.judgement.Verdict.{Verdict}
+use Rattle.zh_returns.specs.declared.judgement.Verdict.TheVariants.{Accept, Same, Refused}
+use Rattle.zh_returns.specs.declared.judgement.Reason.TheVariants as reasons
 use Rattle.zh_returns.specs.Judgement.{judge_row, judge_content, unless_misplaced, against, same_content, too_many, is_refusal, of_all}
-use Rattle.zh_records.specs.Rows.{IsSpeakableRow, IsBatch}
+use Rattle.zh_returns.specs.Rows.{IsSpeakableRow, IsBatch}
 use Rattle.zh_returns.specs.Step.{MayStand}
 use Rattle.zh_returns.specs.Tally.{Tally, held}
 use Rattle.zh_returns.proofs.VerdictLemmas.{none_refused}

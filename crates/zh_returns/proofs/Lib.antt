@@ -1,4 +1,11 @@
 pub mod CallerLemmas
+mod BlockLemmas
+mod CommandLemmas
+mod KeyLemmas
+mod MarkLemmas
+mod NumeralLemmas
+mod PushLemmas
+mod RowBytesLemmas
 mod AcceptedLemmas
 mod BatchLemmas
 mod BitLemmas
@@ -19,3 +26,4 @@ mod TableWriteLemmas
 mod TallyTableLemmas
 mod VerdictLemmas
 mod ZeroLemmas
+mod BatchRowLemmas

@@ -8,16 +8,16 @@ use Rattle.std.specs.Ordering.{eq_by_cmp, nat_cmp}
 use Rattle.std.specs.FinMap as map
 use Rattle.std.specs.FinSet as set
 use Rattle.zh_districts.specs.Canton.{Canton, IsCanton, has_municipality, stands, constituency_of}
-use Rattle.zh_records.specs.declared.format.Format.TheVariants.{Two}
-use Rattle.zh_records.specs.declared.row.Row.{Row}
+use Rattle.zh_returns.specs.declared.command.Format.TheVariants.{Two}
+use Rattle.zh_returns.specs.declared.row.Row.{Row}
 use Rattle.zh_returns.specs.declared.entry.Entry.{Entry}
 use Rattle.zh_returns.specs.Limits.{IsTally, IsEntry, most_votes}
-use Rattle.zh_records.specs.Keys.{key_cmp}
-use Rattle.zh_returns.specs.declared.origin.Origin.{Origin}
+use Rattle.zh_returns.specs.Keys.{key_cmp}
+use Rattle.zh_returns.specs.declared.entry.Origin.{Origin}
 use Rattle.zh_returns.specs.Origin.{IsOriginOf}
 use Rattle.zh_returns.specs.Step.{entry_of}
 use Rattle.zh_returns.specs.Tally.{Tally, empty}
-use Rattle.zh_records.proofs.CallerLemmas.{keys_total, keys_equal}
+use Rattle.zh_returns.proofs.KeyLemmas.{keys_total, keys_equal}
 
 -- any fact of what stands under a key holds of a map without entries
 none_held : (P : Entry → Type 0) (key : ℕ × ℕ) → IfSome (map.get (map.empty {R = key_cmp}) key) P

@@ -13,8 +13,8 @@ use Rattle.std.proofs.lemmas.Option.{slice_get-get_or}
 use Rattle.std.proofs.lemmas.Map.Lookups.{exact_unsigned}
 use Rattle.std.proofs.lemmas.Nat.{from_be_bytes-to_be_bytes_8}
 use Rattle.zh_districts.specs.Canton.{Canton, IsCanton, has_municipality, stands, constituency_of}
-use Rattle.zh_records.specs.declared.format.Format.{Format}
-use Rattle.zh_records.specs.declared.format.Format.TheVariants.{One, Two}
+use Rattle.zh_returns.specs.declared.command.Format.{Format}
+use Rattle.zh_returns.specs.declared.command.Format.TheVariants.{One, Two}
 use Rattle.zh_returns.specs.declared.entry.Entry.{Entry}
 use Rattle.zh_returns.specs.Limits.{IsTally, IsEntry, IsSaidIn}
 use Rattle.zh_returns.specs.EntryBytes.{entry_spelling}
@@ -22,7 +22,8 @@ use Rattle.zh_returns.specs.Origin.{IsOriginOf}
 use Rattle.zh_returns.specs.Payload.{payload_spelling, format_byte, zeros, closed_byte, numbers, table_of, IsPayload}
 use Rattle.zh_returns.specs.Tables.{place_of, bit_of}
 use Rattle.zh_returns.specs.Tally.{Tally, held}
-use Rattle.zh_records.proofs.CallerLemmas.{block_at, exact_keys, keys_total}
+use Rattle.zh_returns.proofs.BlockLemmas.{block_at}
+use Rattle.zh_returns.proofs.KeyLemmas.{exact_keys, keys_total}
 use Rattle.zh_returns.proofs.ClosedBytesLemmas.{closed_bit, never}
 use Rattle.zh_returns.proofs.EntryBytesLemmas.{entries_wide, entry_once}
 use Rattle.zh_returns.proofs.PlaceLemmas.{key_of-place_of}

@@ -1,11 +1,11 @@
 -- Where entries come from, and what formats can say of it.
 use Rattle.std.proofs.Common.{◌≡◌, List, ℕ, get_or, ap, arith}
-use Rattle.zh_records.specs.declared.command.Command.{Command}
-use Rattle.zh_records.specs.declared.command.Command.TheVariants as commands
-use Rattle.zh_records.specs.declared.format.Format.{Format}
-use Rattle.zh_records.specs.declared.format.Format.TheVariants.{One, Two}
-use Rattle.zh_records.specs.Spelling.{HasNumbers}
-use Rattle.zh_returns.specs.declared.origin.Origin.{Origin}
+use Rattle.zh_returns.specs.declared.command.Command.{Command}
+use Rattle.zh_returns.specs.declared.command.Command.TheVariants as commands
+use Rattle.zh_returns.specs.declared.command.Format.{Format}
+use Rattle.zh_returns.specs.declared.command.Format.TheVariants.{One, Two}
+use Rattle.zh_returns.specs.Spelling.{HasNumbers}
+use Rattle.zh_returns.specs.declared.entry.Origin.{Origin}
 use Rattle.zh_returns.specs.Origin.{IsOriginOf, no_desk, origin_of, origin_spelling}
 
 -- two origins with the same bytes are the same

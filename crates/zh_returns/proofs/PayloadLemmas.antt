@@ -8,8 +8,8 @@ use Rattle.std.proofs.lemmas.Bool.{false≢true, cases_lt}
 use Rattle.std.proofs.lemmas.List.{take_at, drop_at, take-append-drop, length-map, get_or-drop}
 use Rattle.zh_districts.specs.Canton.{Canton, IsCanton, has_municipality, stands, constituency_of}
 use Rattle.zh_districts.proofs.CallerLemmas.{placed}
-use Rattle.zh_records.specs.declared.format.Format.{Format}
-use Rattle.zh_records.specs.declared.format.Format.TheVariants.{One, Two}
+use Rattle.zh_returns.specs.declared.command.Format.{Format}
+use Rattle.zh_returns.specs.declared.command.Format.TheVariants.{One, Two}
 use Rattle.zh_returns.specs.declared.entry.Entry.{Entry}
 use Rattle.zh_returns.specs.Limits.{IsTally, IsEntry, IsEntryOf, IsSaidIn}
 use Rattle.zh_returns.specs.EntryBytes.{entry_spelling}
@@ -17,7 +17,7 @@ use Rattle.zh_returns.specs.Origin.{IsOriginOf}
 use Rattle.zh_returns.specs.Payload.{payload_spelling, payload_length, format_byte, zeros, closed_byte, numbers, table_of}
 use Rattle.zh_returns.specs.Tables.{tally_from, closed_of, key_of, IsTable, IsHeldAt}
 use Rattle.zh_returns.specs.Tally.{Tally}
-use Rattle.zh_records.proofs.CallerLemmas.{length-blocks}
+use Rattle.zh_returns.proofs.BlockLemmas.{length-blocks}
 use Rattle.zh_returns.proofs.ClosedBytesLemmas.{none_set-at}
 use Rattle.zh_returns.proofs.EntryBytesLemmas.{entries_wide}
 use Rattle.zh_returns.proofs.FlagLemmas.{contains-closed_of, closed_from_one}

@@ -1,8 +1,8 @@
 -- The keys of places.
 use Rattle.std.proofs.Common.{◌≡◌, ◌≢◌, ◌≤◌, ◌+◌, ◌/◌, ◌%◌, ℕ, true, false, ap, refl, arith}
 use Rattle.std.specs.Ordering.{eq_by_cmp}
-use Rattle.zh_records.specs.Keys.{key_cmp}
-use Rattle.zh_records.proofs.CallerLemmas.{keys_equal}
+use Rattle.zh_returns.specs.Keys.{key_cmp}
+use Rattle.zh_returns.proofs.KeyLemmas.{keys_equal}
 use Rattle.zh_returns.specs.Tables.{key_of, place_of}
 
 -- two places have two keys

@@ -10,12 +10,13 @@ use Rattle.zh_districts.proofs.CallerLemmas.{not_misplaced}
 use Rattle.zh_returns.specs.declared.entry.Entry.{Entry}
 use Rattle.zh_returns.specs.Limits.{IsTally, IsEntry, IsSaidIn}
 use Rattle.zh_returns.specs.Origin.{IsOriginOf}
-use Rattle.zh_records.specs.declared.format.Format.{Format}
+use Rattle.zh_returns.specs.declared.command.Format.{Format}
 use Rattle.zh_returns.specs.Payload.{numbers, table_of}
 use Rattle.zh_returns.specs.Tables.{IsHeldAt, IsTable, key_of, entries_of, entries_from}
-use Rattle.zh_records.specs.Keys.{key_cmp}
+use Rattle.zh_returns.specs.Keys.{key_cmp}
 use Rattle.zh_returns.specs.Tally.{Tally, held}
-use Rattle.zh_records.proofs.CallerLemmas.{HasWidth, length-blocks, in_block, keys_total, keys_equal}
+use Rattle.zh_returns.proofs.BlockLemmas.{HasWidth, length-blocks, in_block}
+use Rattle.zh_returns.proofs.KeyLemmas.{keys_total, keys_equal}
 use Rattle.zh_returns.proofs.EntryTableLemmas.{get-entries_of}
 use Rattle.zh_returns.proofs.NumbersLemmas.{length-numbers, get_or-numbers}
 

@@ -9,9 +9,9 @@ use Rattle.std.proofs.lemmas.List.{take_more, map-append, take-append-drop, drop
 use Rattle.std.proofs.lemmas.List.Elements.{All-nil, All-cons}
 use Rattle.std.proofs.lemmas.List.Folds.{find-append, list_any-append}
 use Rattle.std.proofs.lemmas.Option.{slice_get_within, get_or_from_slice_get}
-use Rattle.zh_records.specs.declared.row.Row.{Row}
-use Rattle.zh_returns.specs.declared.verdict.Verdict.{Verdict}
-use Rattle.zh_returns.specs.declared.verdict.Verdict.TheVariants.{Accept, Same, Refused}
+use Rattle.zh_returns.specs.declared.row.Row.{Row}
+use Rattle.zh_returns.specs.declared.judgement.Verdict.{Verdict}
+use Rattle.zh_returns.specs.declared.judgement.Verdict.TheVariants.{Accept, Same, Refused}
 use Rattle.zh_returns.specs.Judgement.{is_refusal, is_accept, of_all}
 
 -- the rows up to one that was read, and this one

@@ -8,7 +8,7 @@ use Rattle.zh_districts.specs.Canton.{Canton}
 use Rattle.zh_districts.specs.contracts.setup.Setup as setup
 use Rattle.zh_returns.specs.declared.entry.Entry.{Entry}
 use Rattle.zh_returns.specs.contracts.entry.Entry as entry
-use Rattle.zh_records.specs.Keys.{key_cmp}
+use Rattle.zh_returns.specs.Keys.{key_cmp}
 use Rattle.zh_returns.specs.Tally.{Tally}
 
 -- a tally is stored as its fields, in pairs

@@ -2,7 +2,7 @@
 use Rattle.std.specs.Prelude.{ℕ, if◌then◌else◌, Option, Some, None, is_some, List, [], ◌∷◌, ◌++◌, unwrap_or}
 use Rattle.std.specs.Int.{w32, to_be_bytes}
 use Rattle.zh_returns.specs.declared.entry.Entry.{Entry}
-use Rattle.zh_returns.specs.declared.entry_bytes.EntryFields.{EntryFields}
+use Rattle.zh_returns.specs.declared.entry.EntryFields.{EntryFields}
 use Rattle.zh_returns.specs.Origin.{no_desk, origin_spelling}
 
 -- the state, where the entry came from in three bytes, the replacement number, the votes, four zero bytes

@@ -1,3 +1,10 @@
+pub mod Decoding
+pub mod Keys
+pub mod Rows
+pub mod RowBytes
+pub mod Pushed
+pub mod KeySet
+pub mod Spelling
 pub mod Origin
 pub mod Tally
 pub mod Limits
@@ -8,3 +15,6 @@ pub mod Tables
 pub mod Inside
 pub mod EntryBytes
 pub mod Payload
+pub mod Numbers
+pub mod Batches
+pub mod RowFaults

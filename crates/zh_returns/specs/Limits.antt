@@ -2,8 +2,8 @@
 use Rattle.std.specs.Prelude.{◌≡◌, ℕ, ◌≤◌, ◌<◌, ◌^◌, true, IfSome}
 use Rattle.std.specs.FinSet as set
 use Rattle.zh_districts.specs.Canton.{IsCanton, has_municipality, stands, constituency_of}
-use Rattle.zh_records.specs.declared.format.Format.{Format}
-use Rattle.zh_records.specs.declared.format.Format.TheVariants.{Two}
+use Rattle.zh_returns.specs.declared.command.Format.{Format}
+use Rattle.zh_returns.specs.declared.command.Format.TheVariants.{Two}
 use Rattle.zh_returns.specs.declared.entry.Entry.{Entry}
 use Rattle.zh_returns.specs.Origin.{IsOriginOf}
 use Rattle.zh_returns.specs.Tally.{Tally, held}

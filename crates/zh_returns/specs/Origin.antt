@@ -1,10 +1,10 @@
 -- Where an entry came from, and its three bytes.
 use Rattle.std.specs.Prelude.{◌≤◌, ℕ, List, [], ◌∷◌}
-use Rattle.zh_records.specs.Spelling.{last_desk}
-use Rattle.zh_records.specs.declared.command.Command.{Command}
-use Rattle.zh_records.specs.declared.command.Command.TheVariants as commands
-use Rattle.zh_records.specs.declared.format.Format.{Format}
-use Rattle.zh_returns.specs.declared.origin.Origin.{Origin}
+use Rattle.zh_returns.specs.Spelling.{last_desk}
+use Rattle.zh_returns.specs.declared.command.Command.{Command}
+use Rattle.zh_returns.specs.declared.command.Command.TheVariants as commands
+use Rattle.zh_returns.specs.declared.command.Format.{Format}
+use Rattle.zh_returns.specs.declared.entry.Origin.{Origin}
 
 -- no desk, or none that is known
 abbrev pub no_desk : Origin

@@ -5,19 +5,19 @@ use Rattle.std.specs.FinMap as map
 use Rattle.std.specs.FinSet as set
 use Rattle.zh_districts.specs.Canton.{Canton}
 use Rattle.zh_districts.specs.Misplaced.{misplaced}
-use Rattle.zh_records.specs.declared.command.Command.{Command}
-use Rattle.zh_records.specs.declared.command.Command.TheVariants as commands
+use Rattle.zh_returns.specs.declared.command.Command.{Command}
+use Rattle.zh_returns.specs.declared.command.Command.TheVariants as commands
 use Rattle.zh_returns.specs.declared.entry.Entry.{Entry}
-use Rattle.zh_records.specs.declared.row.Row.{Row}
-use Rattle.zh_returns.specs.declared.verdict.Verdict.{Verdict}
-use Rattle.zh_returns.specs.declared.verdict.Verdict.TheVariants.{Accept, Same, Refused}
-use Rattle.zh_records.specs.Keys.{key_cmp}
-use Rattle.zh_returns.specs.declared.origin.Origin.{Origin}
+use Rattle.zh_returns.specs.declared.row.Row.{Row}
+use Rattle.zh_returns.specs.declared.judgement.Verdict.{Verdict}
+use Rattle.zh_returns.specs.declared.judgement.Verdict.TheVariants.{Accept, Same, Refused}
+use Rattle.zh_returns.specs.Keys.{key_cmp}
+use Rattle.zh_returns.specs.declared.entry.Origin.{Origin}
 use Rattle.zh_returns.specs.Origin.{origin_of}
 use Rattle.zh_returns.specs.Tally.{Tally}
 use Rattle.zh_returns.specs.Judgement.{judge, judge_row, is_accept}
 use Rattle.zh_returns.specs.Limits.{most_votes}
-use Rattle.zh_records.specs.Rows.{row_key}
+use Rattle.zh_returns.specs.Rows.{row_key}
 
 -- what is held after a return
 abbrev pub entry_of : Origin → Row → Entry

@@ -7,9 +7,9 @@ use Rattle.std.specs.FinSet as set
 use Rattle.zh_returns.specs.declared.entry.Entry.{Entry}
 use Rattle.zh_districts.specs.Canton.{Canton}
 use Rattle.zh_districts.specs.Misplaced.{misplaced}
-use Rattle.zh_records.specs.declared.format.Format.{Format}
+use Rattle.zh_returns.specs.declared.command.Format.{Format}
 use Rattle.zh_returns.specs.Limits.{IsEntryOf}
-use Rattle.zh_records.specs.Keys.{key_cmp}
+use Rattle.zh_returns.specs.Keys.{key_cmp}
 use Rattle.zh_returns.specs.Tally.{Tally}
 
 -- the key of a place: each municipality has 32 places, one for each list

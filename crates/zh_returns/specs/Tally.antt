@@ -4,7 +4,7 @@ use Rattle.std.specs.Ordering.{nat_cmp}
 use Rattle.std.specs.FinMap as map
 use Rattle.std.specs.FinSet as set
 use Rattle.zh_districts.specs.Canton.{Canton}
-use Rattle.zh_records.specs.Keys.{key_cmp}
+use Rattle.zh_returns.specs.Keys.{key_cmp}
 use Rattle.zh_returns.specs.declared.entry.Entry.{Entry}
 
 -- the set-up, what is held under each (municipality, list), the closed municipalities, and how many commands were accepted

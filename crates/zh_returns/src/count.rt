@@ -1,21 +1,30 @@
 //! The count.
-
-ghost use Rattle.std.specs.Prelude.{◌≡◌, ◌+◌, ◌-◌, ◌++◌, ◌≤◌, ◌<◌, ◌^◌, length, drop, IfOk, IfSome, Some, None, false, true, All};
-ghost use Rattle.std.specs.FinMap as map;
-ghost use Rattle.std.specs.FinSet as set;
-ghost use Rattle.zh_returns.specs.Limits.{IsTally, IsEntry};
-ghost use Rattle.zh_records.specs.declared.format.Format.{Format};
-ghost use Rattle.zh_returns.specs.Payload.{TakesPayload, payload_spelling};
-ghost use Rattle.zh_returns.specs.Tables.{place_of};
-ghost use Rattle.zh_returns.specs.Tally.{Tally, empty, held};
+ghost use Rattle.std.specs.Prelude.{◌≡◌, ◌<◌, ◌+◌, ◌-◌, ◌++◌, ◌≤◌, ◌^◌, length, drop, IfOk, IfSome, Some, None, false, true, All};
 ghost use Rattle.zh_districts.specs.Canton.{has_municipality};
 ghost use Rattle.zh_districts.specs.Misplaced.{misplaced};
+ghost use Rattle.zh_returns.specs.Limits.{IsTally, IsEntry};
+ghost use Rattle.zh_returns.specs.Payload.{TakesPayload, payload_spelling};
+ghost use Rattle.zh_returns.specs.Tables.{key_of, place_of};
+ghost use Rattle.zh_returns.specs.Tally.{Tally, empty, held};
+ghost use Rattle.zh_returns.specs.declared.command.Format.{Format};
+ghost use Rattle.std.specs.FinMap as map;
+ghost use Rattle.std.specs.FinSet as set;
 
 use crate::entry::Entry;
 use crate::payload::{PAYLOAD_LENGTH, read_tables, write_tables};
 use std::alloc::{AllocError, Global};
 use std::marker::Model;
-use zh_districts::Setup;
+use zh_districts::{Misplaced, Setup};
+
+/// Why the list of a place does not stand in the municipality of the place, if it does not.
+pub(crate) fn misplaced_at(setup: &Setup, place: usize) -> Option<Misplaced>
+    requires { place < PLACES }
+    ensures { result ≡ misplaced setup.now (key_of place).0 (key_of place).1 }
+{
+    let municipality = (place / LISTS) as u32 + 1;
+    let list = (place % LISTS) as u32 + 1;
+    setup.misplaced(municipality, list)
+}
 
 /// The most municipalities of a set-up.
 pub(crate) const MUNICIPALITIES: usize = 512;

@@ -4,7 +4,7 @@ ghost use Rattle.std.specs.Prelude.{◌≡◌, None};
 ghost use Rattle.std.specs.FinMap as map;
 ghost use Rattle.zh_districts.specs.Canton.{Canton};
 ghost use Rattle.zh_districts.specs.Misplaced.{misplaced};
-ghost use Rattle.zh_records.specs.Keys.{key_cmp};
+ghost use Rattle.zh_returns.specs.Keys.{key_cmp};
 ghost use Rattle.zh_returns.specs.declared.entry.Entry.{Entry};
 ghost use Rattle.zh_returns.specs.Limits.{IsEntry};
 

@@ -1,12 +1,56 @@
 //! What becomes of a command.
-
 ghost use Rattle.std.specs.Prelude.{◌≡◌, map};
 ghost use Rattle.zh_returns.specs.Judgement.{against, judge, judge_content, judge_row, judge_close, judge_reopen, is_accept, of_all};
 
+use crate::command::Command;
 use crate::count::{Count, MOST_VOTES};
 use crate::entry::Entry;
-use crate::verdict::{Reason, Verdict};
-use zh_records::{Command, Row, Rows};
+use crate::row::Row;
+use crate::rows::Rows;
+use zh_districts::Misplaced;
+
+/// Why a command is refused.
+#[derive(Clone, Copy, Debug, PartialEq, Eq)]
+pub enum Reason {
+    /// The set-up has no such municipality.
+    Municipality,
+    /// The list does not stand in the constituency of the municipality.
+    List,
+    /// More than 1,000,000,000 votes.
+    Votes,
+    /// The municipality is closed.
+    Closed,
+    /// A replacement number below the one that is held.
+    Stale,
+    /// A replacement number above the next one.
+    Gap,
+    /// The number that is held, with other content.
+    Conflict,
+    /// This municipality is open.
+    NotClosed(u32),
+}
+
+impl From<Misplaced> for Reason {
+    ghost use Rattle.zh_returns.specs.Judgement.{reason_of};
+
+    ghost from_gives = { λ misplaced reason. reason ≡ reason_of misplaced };
+
+    fn from(misplaced: Misplaced) -> Reason {
+        match misplaced {
+            Misplaced::Municipality => Reason::Municipality,
+            Misplaced::List => Reason::List,
+        }
+    }
+}
+
+/// What becomes of a command.
+#[derive(Clone, Copy, Debug, PartialEq, Eq)]
+pub enum Verdict {
+    Accept,
+    /// The count holds it already.
+    Same,
+    Refused(Reason),
+}
 
 /// What becomes of a content, votes or none for a withdrawn list, under a replacement number.
 fn against(held: Option<Entry>, number: u32, content: Option<u32>) -> Verdict

@@ -1,20 +1,21 @@
-//! Laws about counts and accepted commands. The functions do nothing: their contracts are the laws.
+//! Laws about counts, commands and their bytes. The functions do nothing: their contracts are the laws.
 
-ghost use Rattle.std.specs.Prelude.{◌≡◌, ℕ, false, List, Some, length, slice_get};
+ghost use Rattle.std.specs.Prelude.{◌≡◌, ℕ, false, List, Some, length, slice_get, ◌≤◌};
 ghost use Rattle.std.specs.Option.{IsSomeAnd};
-ghost use Rattle.zh_records.specs.declared.command.Command.{Command};
-ghost use Rattle.zh_records.specs.declared.command.Command.TheVariants as commands;
-ghost use Rattle.zh_records.specs.declared.format.Format.{Format};
-ghost use Rattle.zh_records.specs.declared.row.Row.{Row};
-ghost use Rattle.zh_records.specs.Rows.{IsBatch, has_key};
-ghost use Rattle.zh_records.specs.Spelling.{FitsCommand, HasNumbers, IsSpeakable};
-ghost use Rattle.zh_returns.specs.declared.verdict.Verdict.TheVariants.{Accept, Same};
+ghost use Rattle.zh_returns.specs.declared.command.Command.{Command};
+ghost use Rattle.zh_returns.specs.declared.command.Command.TheVariants as commands;
+ghost use Rattle.zh_returns.specs.declared.command.Format.{Format};
+ghost use Rattle.zh_returns.specs.declared.row.Row.{Row};
+ghost use Rattle.zh_returns.specs.Rows.{IsBatch, has_key};
+ghost use Rattle.zh_returns.specs.Spelling.{FitsCommand, HasNumbers, IsSpeakable, command_spelling};
+ghost use Rattle.zh_returns.specs.declared.judgement.Verdict.TheVariants.{Accept, Same};
 ghost use Rattle.zh_returns.specs.Judgement.{judge, judge_row};
 ghost use Rattle.zh_returns.specs.Limits.{IsTally, IsSaidIn};
 ghost use Rattle.zh_returns.specs.Origin.{IsOriginOf, origin_of};
 ghost use Rattle.zh_returns.specs.Payload.{payload_spelling, payload_length, format_byte};
 ghost use Rattle.zh_returns.specs.Step.{changed, entry_of};
 ghost use Rattle.zh_returns.specs.Tally.{Tally, held};
+ghost use Rattle.zh_returns.specs.declared.command_bytes.TheConstants.{COMMAND_LENGTH};
 
 /// Two counts for one set-up with the same bytes are the same count, in the same format; each count has as many bytes,
 /// and byte 72 of them says the format. A count that a command may follow can be said in format Two.
@@ -57,4 +58,17 @@ pub fn batch_is_held()
     ensures others { (tally : Tally) (desk : ℕ) (rows : List Row) (municipality list : ℕ)
         → has_key rows (municipality, list) ≡ false
         → held (changed tally (commands.Batch desk rows)) municipality list ≡ held tally municipality list }
+{}
+
+/// Two commands with the same bytes in one format are the same command.
+pub fn one_command()
+    ensures { (format : Format) (a b : Command) → IsSpeakable format a → IsSpeakable format b
+        → command_spelling format a ≡ command_spelling format b → a ≡ b }
+{}
+
+/// A command that is read from bytes of either format fits those of format Two, and takes no more than a batch of 1,000 rows.
+pub fn speakable_fits()
+    ensures fits { (format : Format) (command : Command) → IsSpeakable format command → FitsCommand command }
+    ensures short { (format : Format) (command : Command) → IsSpeakable format command
+        → length (command_spelling format command) ≤ COMMAND_LENGTH }
 {}

@@ -1,26 +1,30 @@
-//! The count: what the municipalities returned, and what becomes of a command.
+//! The count: what the municipalities returned, what becomes of a command, the batch of a desk, and the bytes of each.
 #![tactic(auto)]
 
-mod closed_bytes;
+mod batch;
+mod command;
+mod command_bytes;
 mod count;
 mod entry;
-mod entry_bytes;
 mod follower;
 mod judgement;
 mod laws;
-mod origin;
 mod payload;
-mod places;
+mod row;
+mod row_checks;
+mod rows;
 mod step;
-mod table_bytes;
-mod verdict;
-mod zero_bytes;
 
+pub use batch::{Batch, BatchWriter, Desk};
+pub use command::{Command, Format, LAST_DESK};
+pub use command_bytes::{decode_command, encode_command};
 pub use count::{Count, MOST_VOTES};
-pub use entry::Entry;
+pub use entry::{Entry, Origin};
 pub use follower::Follower;
-pub use laws::{accepted_fits, accepted_is_speakable, batch_is_held, one_payload};
-pub use origin::Origin;
+pub use judgement::{Reason, Verdict};
+pub use laws::{
+    accepted_fits, accepted_is_speakable, batch_is_held, one_command, one_payload, speakable_fits,
+};
 pub use payload::{PAYLOAD_LENGTH, payload_format};
-pub use verdict::{Reason, Verdict};
-pub use zh_records::{Command, Format, Row, decode_command, encode_command};
+pub use row::{Row, RowFault, unfit};
+pub use rows::{MOST_ROWS, Rows};

@@ -1,22 +1,23 @@
 //! The bytes of a count, part by part.
-
-ghost use Rattle.std.specs.Prelude.{◌≡◌, ◌≢◌, ◌+◌, ◌∷◌, ◌++◌, ◌≤◌, ◌<◌, ◌^◌, length, drop, slice_get, Some, IfSome, IfNone};
+ghost use Rattle.std.specs.List.{flat_map, list_all};
+ghost use Rattle.std.specs.Prelude.{◌≡◌, ◌≢◌, ◌+◌, ◌∷◌, ◌++◌, ◌≤◌, ◌<◌, ◌^◌, length, drop, slice_get, Some, IfSome, IfNone, ◌*◌, Option};
+ghost use Rattle.std.specs.Prelude.{List, false, true, ℕ, ◌/◌, ◌%◌, not, take, get_or, slice_index, ◌==◌};
 ghost use Rattle.zh_districts.specs.Canton.{Canton};
+ghost use Rattle.zh_districts.specs.Spelling.{mask_of};
+ghost use Rattle.zh_returns.specs.Decoding.{Decodes};
+ghost use Rattle.zh_returns.specs.EntryBytes.{entry_spelling};
 ghost use Rattle.zh_returns.specs.Limits.{IsTally};
-ghost use Rattle.zh_records.specs.declared.format.Format.{Format};
 ghost use Rattle.zh_returns.specs.Payload.{IsPayload, format_byte, payload_spelling, zeros};
-ghost use Rattle.zh_returns.specs.Tables.{tally_from};
+ghost use Rattle.zh_returns.specs.Tables.{tally_from, IsHeldAt, IsTable, key_of, bit_of};
 ghost use Rattle.zh_returns.specs.Tally.{Tally};
+ghost use Rattle.zh_returns.specs.declared.command.Format.{Format};
+ghost use Rattle.zh_returns.specs.declared.entry.Entry.{Entry};
 
-use crate::closed_bytes::{none_set, read_flags, write_flags};
-use crate::count::{MUNICIPALITIES, PLACES};
-use crate::entry::Entry;
-use crate::entry_bytes::ENTRY_LENGTH;
-use crate::table_bytes::{read_entries, write_entries};
-use crate::zero_bytes::{is_zero, write_zeros};
+use crate::command::Format;
+use crate::count::{MUNICIPALITIES, PLACES, misplaced_at};
+use crate::entry::{ENTRY_LENGTH, Entry, read_entry, write_entry};
 use byteorder::{BigEndian, ByteOrder};
 use zh_districts::Setup;
-use zh_records::Format;
 
 /// The bytes of the number of accepted commands.
 const ACCEPTED_LENGTH: usize = 8;
@@ -144,4 +145,105 @@ pub(crate) fn read_tables(
         return None;
     }
     Some(BigEndian::read_u64(first))
+}
+
+pub(crate) fn write_entries(table: &[Option<Entry>], out: &mut [u8])
+    requires { length out.old ≡ ENTRY_LENGTH * length table.now }
+    ensures { out.new ≡ flat_map entry_spelling table.now }
+{
+    for (place, held) in table.iter().enumerate() {
+        let at = ENTRY_LENGTH * place;
+        write_entry(*held, &mut out[at..at + ENTRY_LENGTH]);
+    }
+}
+
+/// Fills a table from its bytes of a format, if they are those of a table for the set-up.
+pub(crate) fn read_entries(
+    setup: &Setup,
+    format: Format,
+    bytes: &[u8],
+    table: &mut [Option<Entry>],
+) -> bool
+    requires length { length bytes.now ≡ ENTRY_LENGTH * length table.old }
+    requires places { length table.old ≤ PLACES }
+    ensures length { length table.new ≡ length table.old }
+    ensures read { result ≡ true → (flat_map entry_spelling table.new ≡ bytes.now) × IsTable format setup.now table.new }
+    ensures refused { result ≡ false → (other : List (Option Entry)) → length other ≡ length table.old
+        → IsTable format setup.now other → flat_map entry_spelling other ≡ bytes.now → ⊥ }
+{
+    for place in 0..table.len() {
+        let at = ENTRY_LENGTH * place;
+        match read_held(setup, format, place, &bytes[at..at + ENTRY_LENGTH]) {
+            Some(held) => table[place] = held,
+            None => return false,
+        }
+    }
+    true
+}
+
+/// What is held at a place by these bytes of a format.
+fn read_held(setup: &Setup, format: Format, place: usize, bytes: &[u8]) -> Option<Option<Entry>>
+    requires length { length bytes.now ≡ ENTRY_LENGTH }
+    requires place { place < PLACES }
+    ensures { Decodes (λ held. IfSome held (IsHeldAt format setup.now (key_of place))) entry_spelling bytes.now result }
+{
+    let held = read_entry(format, bytes)?;
+    if held.is_some() && misplaced_at(setup, place).is_some() {
+        return None;
+    }
+    Some(held)
+}
+
+fn byte_of(flags: &[bool]) -> u8
+    requires { length flags.now ≤ 8 }
+    ensures { result ≡ mask_of flags.now }
+{
+    let mut byte = 0;
+    for (place, flag) in flags.iter().enumerate() {
+        if *flag {
+            byte += 1 << place;
+        }
+    }
+    byte
+}
+
+pub(crate) fn write_flags(flags: &[bool], out: &mut [u8])
+    requires { length flags.now ≡ 8 * length out.old }
+    ensures length { length out.new ≡ length out.old }
+    ensures bytes { (byte : ℕ) → byte < length out.old → slice_index out.new byte ≡ mask_of (take 8 (drop (8 * byte) flags.now)) }
+{
+    for byte in 0..out.len() {
+        out[byte] = byte_of(&flags[8 * byte..8 * byte + 8]);
+    }
+}
+
+pub(crate) fn read_flags(bytes: &[u8], flags: &mut [bool])
+    requires { length flags.old ≡ 8 * length bytes.now }
+    ensures length { length flags.new ≡ length flags.old }
+    ensures flags { (place : ℕ) → place < length flags.old
+        → get_or flags.new place false ≡ bit_of (slice_index bytes.now (place / 8)) (place % 8) }
+{
+    for place in 0..flags.len() {
+        flags[place] = (bytes[place / 8] >> (place % 8)) % 2 == 1;
+    }
+}
+
+/// Whether none of the flags is set.
+pub(crate) fn none_set(flags: &[bool]) -> bool
+    ensures { result ≡ list_all not flags.now }
+{
+    flags.iter().all(|flag| !*flag)
+}
+
+pub(crate) fn write_zeros(out: &mut [u8])
+    ensures { out.new ≡ zeros (length out.old) }
+{
+    out.fill(0);
+}
+
+/// Whether no byte but 0 is there.
+pub(crate) fn is_zero(bytes: &[u8]) -> bool
+    ensures { result ≡ list_all (λ byte. byte == 0) bytes.now }
+{
+    bytes.iter().all(|byte| *byte == 0)
 }

@@ -3,20 +3,20 @@
 ghost use Rattle.std.specs.Prelude.{◌≡◌, ◌-◌, ◌≤◌, ◌<◌, ◌^◌, map, None};
 ghost use Rattle.std.specs.FinMap as map_of;
 ghost use Rattle.zh_districts.specs.Misplaced.{misplaced};
-ghost use Rattle.zh_returns.specs.declared.verdict.Verdict.TheVariants.{Accept};
+ghost use Rattle.zh_returns.specs.declared.judgement.Verdict.TheVariants.{Accept};
 ghost use Rattle.zh_returns.specs.Judgement.{judge, judge_row, of_all};
 ghost use Rattle.zh_returns.specs.Limits.{IsEntry};
-ghost use Rattle.zh_records.specs.Rows.{row_key};
-ghost use Rattle.zh_records.specs.declared.format.Format.{Format};
+ghost use Rattle.zh_returns.specs.Rows.{row_key};
+ghost use Rattle.zh_returns.specs.declared.command.Format.{Format};
 ghost use Rattle.zh_returns.specs.Origin.{IsOriginOf, origin_of};
-ghost use Rattle.zh_returns.specs.Step.{step, changed, entry_of, with_rows, accepted_rows};
-ghost use Rattle.zh_returns.specs.Step.{MayStand, PutsFollowed, Steps};
+ghost use Rattle.zh_returns.specs.Step.{step, changed, entry_of, with_rows, accepted_rows, MayStand, PutsFollowed, Steps};
 
+use crate::command::Command;
 use crate::count::Count;
-use crate::entry::Entry;
+use crate::entry::{Entry, Origin};
 use crate::follower::Follower;
-use crate::origin::Origin;
-use zh_records::{Command, Row, Rows};
+use crate::row::Row;
+use crate::rows::Rows;
 
 impl<'s> Count<'s> {
     /// Applies a command, which has been judged and is accepted, to the count, and counts it. What is then held under its

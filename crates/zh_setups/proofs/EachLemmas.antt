@@ -8,8 +8,8 @@ use Rattle.toml.specs.Data.{Data}
 use Rattle.toml.specs.declared.value.Value.{Value}
 use Rattle.zh_setups.specs.Document.{◌>>=◌, each, stands_of}
 use Rattle.zh_setups.specs.Outcomes.{Fails, within_range}
-use Rattle.zh_setups.specs.declared.fault.SetupFault.{SetupFault}
-use Rattle.zh_setups.specs.declared.fault.SetupFault.TheVariants.{Memory, Range}
+use Rattle.zh_setups.specs.declared.text.SetupFault.{SetupFault}
+use Rattle.zh_setups.specs.declared.text.SetupFault.TheVariants.{Memory, Range}
 
 -- what was read before, and what is still read
 abbrev pub joined : {X : Type 0} → List X → Option (List X) → Option (List X)

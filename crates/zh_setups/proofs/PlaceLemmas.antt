@@ -8,8 +8,8 @@ use Rattle.zh_districts.specs.Canton.{Canton}
 use Rattle.zh_setups.specs.Document.{undoubled, has_double, repeats, same_name, same_number, stands_in}
 use Rattle.zh_setups.specs.Keys.{tables_at, has_keys, knows_keys, knows_keys_of, document_keys, known_keys, own_keys, misses_key, has_other_key}
 use Rattle.zh_setups.specs.Places.{constituencies_in, fault_place, first_failing, first_of, first_table, looked_into, namesake_of, table_checks, top_checks}
-use Rattle.zh_setups.specs.declared.fault.SetupFault.{SetupFault}
-use Rattle.zh_setups.specs.declared.fault.SetupFault.TheVariants as faults
+use Rattle.zh_setups.specs.declared.text.SetupFault.{SetupFault}
+use Rattle.zh_setups.specs.declared.text.SetupFault.TheVariants as faults
 use Rattle.zh_setups.specs.declared.place.FaultPlace.{FaultPlace}
 use Rattle.zh_setups.specs.declared.place.FaultPlace.TheVariants as places
 use Rattle.zh_setups.specs.declared.place.Key.{Key}

@@ -9,8 +9,8 @@ use Rattle.zh_districts.specs.Canton.{Canton, Constituency, Municipality, Group}
 use Rattle.zh_setups.specs.Document.{◌>>=◌, number_within, name_of, each, values_of, values_at, constituency_from, municipality_from, group_from, stands_of, quorum_of, setup_of, checked, has_double}
 use Rattle.zh_setups.specs.Keys.{misses_key, has_other_key}
 use Rattle.zh_setups.specs.Places.{are_within, constituencies_in, fault_place, first_of, table_checks, top_checks, values_under}
-use Rattle.zh_setups.specs.declared.fault.SetupFault.{SetupFault}
-use Rattle.zh_setups.specs.declared.fault.SetupFault.TheVariants as faults
+use Rattle.zh_setups.specs.declared.text.SetupFault.{SetupFault}
+use Rattle.zh_setups.specs.declared.text.SetupFault.TheVariants as faults
 use Rattle.zh_setups.specs.declared.place.Key.TheVariants as keys
 use Rattle.zh_setups.specs.declared.place.Kind.{Kind}
 use Rattle.zh_setups.specs.declared.place.Kind.TheVariants as kinds

@@ -7,7 +7,7 @@ use Rattle.zh_districts.specs.Canton.{Canton}
 use Rattle.zh_setups.specs.Document.{checked}
 use Rattle.zh_setups.specs.SetupText.{reading_of}
 use Rattle.zh_setups.specs.Rehearsal.{rehearsal}
-use Rattle.zh_setups.specs.declared.fault.SetupFault.{SetupFault}
+use Rattle.zh_setups.specs.declared.text.SetupFault.{SetupFault}
 use Rattle.std.proofs.lemmas.Str.{IsUtf8-from_is_utf8}
 use Rattle.zh_setups.proofs.AsciiLemmas.{ascii}
 use Rattle.zh_setups.proofs.SetupTextLemmas.{reading_of-table}

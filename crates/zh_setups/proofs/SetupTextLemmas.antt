@@ -10,8 +10,8 @@ use Rattle.zh_districts.specs.Canton.{Canton}
 use Rattle.zh_setups.specs.Document.{checked}
 use Rattle.zh_setups.specs.Outcomes.{Gives}
 use Rattle.zh_setups.specs.SetupText.{reading_of}
-use Rattle.zh_setups.specs.declared.fault.SetupFault.{SetupFault}
-use Rattle.zh_setups.specs.declared.fault.SetupFault.TheVariants.{Memory, Text, Missing, Unknown, Range, Double}
+use Rattle.zh_setups.specs.declared.text.SetupFault.{SetupFault}
+use Rattle.zh_setups.specs.declared.text.SetupFault.TheVariants.{Memory, Text, Missing, Unknown, Range, Double}
 
 -- a text that stands for a table
 pub reading_of-table : (text : List ℕ) (document : Members) → length text ≤ 1048576 → IsUtf8 text → parse_document text ≡ Some document → reading_of text ≡ checked document

@@ -10,8 +10,8 @@ use Rattle.zh_setups.specs.Keys.{list_of, tables_at, knows_keys, known_keys, has
 use Rattle.zh_setups.specs.Document.{◌>>=◌, number_within, name_of, each, values_of, values_at, constituency_from, municipality_from, group_from, quorum_of, setup_of, undoubled, checked}
 use Rattle.zh_setups.specs.Outcomes.{Gives}
 use Rattle.zh_setups.specs.SetupText.{ConstituencyOf, MunicipalityOf, GroupOf, HasVersion, SetupOf}
-use Rattle.zh_setups.specs.declared.fault.SetupFault.{SetupFault}
-use Rattle.zh_setups.specs.declared.fault.SetupFault.TheVariants.{Missing, Unknown}
+use Rattle.zh_setups.specs.declared.text.SetupFault.{SetupFault}
+use Rattle.zh_setups.specs.declared.text.SetupFault.TheVariants.{Missing, Unknown}
 use Rattle.zh_setups.proofs.KeyLemmas.{knows_top, no_quorum_key}
 use Rattle.zh_setups.proofs.PartLemmas.{parts_said}
 use Rattle.zh_setups.proofs.ValueLemmas.{bind_some, some_is, guard_some, name_of-some, number_within-bounds, number_within-some, HasName, each-holds, each-named}

@@ -8,8 +8,8 @@ use Rattle.std.specs.Str.{bytes_eq}
 use Rattle.toml.specs.Data.{Data, Members, string, integer, get, get_member, as_array, as_str, as_integer}
 use Rattle.zh_districts.specs.Canton.{Canton, Constituency, Municipality, Group, is_name}
 use Rattle.zh_setups.specs.Keys.{list_of, tables_at, misses_key, has_other_key}
-use Rattle.zh_setups.specs.declared.fault.SetupFault.{SetupFault}
-use Rattle.zh_setups.specs.declared.fault.SetupFault.TheVariants.{Missing, Unknown, Range, Double}
+use Rattle.zh_setups.specs.declared.text.SetupFault.{SetupFault}
+use Rattle.zh_setups.specs.declared.text.SetupFault.TheVariants.{Missing, Unknown, Range, Double}
 
 -- the next step, where the one before gave a value
 infixl 10 ◌>>=◌

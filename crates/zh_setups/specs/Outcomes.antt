@@ -1,7 +1,7 @@
 -- What a call that reads a part of a set-up text returns.
 use Rattle.std.specs.Prelude.{◌≡◌, Option, Some, None, Result, Ok, Err}
-use Rattle.zh_setups.specs.declared.fault.SetupFault.{SetupFault}
-use Rattle.zh_setups.specs.declared.fault.SetupFault.TheVariants.{Memory, Range}
+use Rattle.zh_setups.specs.declared.text.SetupFault.{SetupFault}
+use Rattle.zh_setups.specs.declared.text.SetupFault.TheVariants.{Memory, Range}
 
 -- this fault, unless memory ran out
 abbrev pub Fails : {Y : Type 0} → SetupFault → Result Y SetupFault → Type 0

@@ -8,8 +8,8 @@ use Rattle.zh_setups.specs.Keys.{first_other, known_keys, knows_keys, knows_keys
 use Rattle.zh_setups.specs.Document.{◌>>=◌, name_of, number_within, quorum_of, repeats, same_name, same_number, stands_in}
 use Rattle.zh_setups.specs.Document.{values_at, values_of}
 use Rattle.zh_setups.specs.PlaceNames.{kept_key, key_name}
-use Rattle.zh_setups.specs.declared.fault.SetupFault.{SetupFault}
-use Rattle.zh_setups.specs.declared.fault.SetupFault.TheVariants as faults
+use Rattle.zh_setups.specs.declared.text.SetupFault.{SetupFault}
+use Rattle.zh_setups.specs.declared.text.SetupFault.TheVariants as faults
 use Rattle.zh_setups.specs.declared.place.Key.{Key}
 use Rattle.zh_setups.specs.declared.place.Key.TheVariants as keys
 use Rattle.zh_setups.specs.declared.place.Kind.{Kind}

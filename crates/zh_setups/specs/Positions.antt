@@ -1,6 +1,6 @@
 -- Positions in a text. Lines and columns count from 1; a line ends with LF, which is 10, and a column is a character in UTF-8.
 use Rattle.std.specs.Prelude.{◌+◌, ◌==◌, ◌&&◌, ℕ, Bool, List, nat_le, nat_lt, fold, if◌then◌else◌}
-use Rattle.zh_setups.specs.declared.position.Position.{Position}
+use Rattle.zh_setups.specs.declared.text.Position.{Position}
 
 -- a byte that goes on with a character
 abbrev pub goes_on : ℕ → Bool

@@ -6,8 +6,8 @@ use Rattle.toml.specs.Data.{Members}
 use Rattle.toml.specs.Parse.{parse_document}
 use Rattle.zh_setups.specs.Places.{fault_place}
 use Rattle.zh_setups.specs.Positions.{position_after}
-use Rattle.zh_setups.specs.declared.fault.SetupFault.TheVariants as faults
-use Rattle.zh_setups.specs.declared.fault.SetupRefusal.{SetupRefusal}
+use Rattle.zh_setups.specs.declared.text.SetupFault.TheVariants as faults
+use Rattle.zh_setups.specs.declared.text.SetupRefusal.{SetupRefusal}
 use Rattle.zh_setups.specs.declared.place.FaultPlace.TheVariants as places
 
 -- what is no TOML is refused at the position after so many bytes of it

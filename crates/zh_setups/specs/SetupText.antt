@@ -9,8 +9,8 @@ use Rattle.toml.specs.Parse.{parse_document}
 use Rattle.zh_districts.specs.Canton.{Canton, Constituency, Municipality, Group}
 use Rattle.zh_setups.specs.Keys.{list_of, tables_at}
 use Rattle.zh_setups.specs.Document.{stands_of, checked}
-use Rattle.zh_setups.specs.declared.fault.SetupFault.{SetupFault}
-use Rattle.zh_setups.specs.declared.fault.SetupFault.TheVariants.{Text}
+use Rattle.zh_setups.specs.declared.text.SetupFault.{SetupFault}
+use Rattle.zh_setups.specs.declared.text.SetupFault.TheVariants.{Text}
 
 -- the set-up of the table that the text stands for in TOML, or the first fault
 abbrev pub reading_of : List ℕ → Result Canton SetupFault

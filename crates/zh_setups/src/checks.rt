@@ -9,10 +9,10 @@ ghost use Rattle.zh_setups.specs.Places.{are_within, double_checks, first_failin
 ghost use Rattle.zh_setups.specs.Places.{other_key, range_check, stands_within, table_checks, top_checks};
 
 use crate::doubles::{repeats_number, stands_in};
-use crate::fault::SetupFault;
 use crate::keys::{first_other, known_keys, knows_document_keys, knows_keys};
 use crate::place::{Key, Kind, OtherKey};
 use crate::table::{name, number, number_at, value_at, value_of, values, values_at};
+use crate::text::SetupFault;
 use toml::{Table, Value};
 
 /// The first key whose check fails.

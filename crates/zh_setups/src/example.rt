@@ -3,8 +3,7 @@
 ghost use Rattle.std.specs.Prelude.{◌≡◌, IfOk};
 ghost use Rattle.zh_setups.specs.Rehearsal.{rehearsal};
 
-use crate::fault::SetupFault;
-use crate::text::read_setup;
+use crate::text::{SetupFault, read_setup};
 use std::alloc::{AllocError, Global};
 use zh_districts::Setup;
 

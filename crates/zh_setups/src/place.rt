@@ -1,10 +1,18 @@
 //! Where a set-up text has its fault.
-
-ghost use Rattle.std.specs.Prelude.{◌≡◌, ◌≤◌, length, take};
+ghost use Rattle.std.specs.List.{list_any};
+ghost use Rattle.std.specs.Prelude.{◌≡◌, ◌≤◌, length, take, [], map};
+ghost use Rattle.toml.specs.View.{view, table_view};
+ghost use Rattle.zh_setups.specs.Document.{same_name};
 ghost use Rattle.zh_setups.specs.PlaceNames.{key_name, kind_name, kept_key};
+ghost use Rattle.zh_setups.specs.Places.{constituencies_in, first_failing, first_namesake, first_of, first_table, looked_into, namesake_of};
+ghost use Rattle.zh_setups.specs.Places.{fault_place, table_checks, values_under};
 
-use crate::position::Position;
+use crate::checks::{table_key, top_key};
+use crate::doubles::name_in;
+use crate::table::{tables_at, value_at, values};
+use crate::text::{Position, SetupFault};
 use std::fmt::InlineText;
+use toml::{Table, Value};
 
 /// How many bytes of a key are kept that is not known.
 const LONGEST: usize = 40;
@@ -105,4 +113,114 @@ pub enum FaultPlace {
     Top(Key),
     /// A key in a table. Tables of a kind are numbered from 1.
     Table { kind: Kind, number: usize, key: Key },
+}
+
+/// The first of these tables that has this fault.
+fn first_table(
+    values: &[Value],
+    fault: SetupFault,
+    kind: Kind,
+    constituencies: u32,
+) -> Option<FaultPlace>
+    ensures { result ≡ first_table (λ value. first_failing (table_checks fault kind constituencies value)) kind 1 (map view values.now) }
+{
+    for (place, value) in values.iter().enumerate() {
+        if let Some(key) = table_key(value, fault, kind, constituencies) {
+            return Some(FaultPlace::Table {
+                kind,
+                number: place + 1,
+                key,
+            });
+        }
+    }
+    None
+}
+
+/// Whether one of these tables has the name of this one.
+fn has_namesake(value: &Value, others: &[Value]) -> bool
+    ensures { result ≡ list_any (same_name (view value.now)) (map view others.now) }
+{
+    for other in others {
+        if name_in(value) == name_in(other) {
+            return true;
+        }
+    }
+    false
+}
+
+/// The first of these tables whose name one before it has.
+fn first_namesake(values: &[Value], kind: Kind) -> Option<FaultPlace>
+    ensures { result ≡ first_namesake kind 1 [] (map view values.now) }
+{
+    for (place, value) in values.iter().enumerate() {
+        if has_namesake(value, &values[..place]) {
+            return Some(FaultPlace::Table {
+                kind,
+                number: place + 1,
+                key: Key::Name,
+            });
+        }
+    }
+    None
+}
+
+/// The first of these tables with a name that stands twice, if that is the fault.
+fn namesake_of(values: &[Value], fault: SetupFault, kind: Kind) -> Option<FaultPlace>
+    ensures { result ≡ namesake_of fault kind (map view values.now) }
+{
+    match fault {
+        SetupFault::Double => first_namesake(values, kind),
+        _ => None,
+    }
+}
+
+/// The values of the array at a key, if there is one.
+fn values_under<'a>(document: &'a Table, key: &str) -> &'a [Value]
+    ensures { map view result.now ≡ values_under key.now (table_view document.now) }
+{
+    match value_at(document, key) {
+        Some(value) => match values(value) {
+            Some(values) => values,
+            None => &[],
+        },
+        None => &[],
+    }
+}
+
+/// How many constituencies there are, where there are not too many.
+fn constituencies_in(document: &Table) -> u32
+    ensures { result ≡ constituencies_in (table_view document.now) }
+{
+    values_under(document, "constituency").len().min(32) as u32
+}
+
+/// What is looked into for a fault.
+fn looked_into<'a>(document: &'a Table, fault: SetupFault, key: &str) -> &'a [Value]
+    ensures { map view result.now ≡ looked_into fault key.now (table_view document.now) }
+{
+    match fault {
+        SetupFault::Range => values_under(document, key),
+        _ => tables_at(document, key),
+    }
+}
+
+/// The first value under a key that has this fault.
+fn first_of(document: &Table, fault: SetupFault, kind: Kind, key: &str) -> Option<FaultPlace>
+    ensures { result ≡ first_of fault kind key.now (table_view document.now) }
+{
+    let values = looked_into(document, fault, key);
+    let constituencies = constituencies_in(document);
+    namesake_of(values, fault, kind).or(first_table(values, fault, kind, constituencies))
+}
+
+/// The place of this fault in a document.
+pub(crate) fn fault_place(document: &Table, fault: SetupFault) -> Option<FaultPlace>
+    ensures { result ≡ fault_place fault (table_view document.now) }
+{
+    if let Some(key) = top_key(document, fault) {
+        return Some(FaultPlace::Top(key));
+    }
+    first_of(document, fault, Kind::Constituency, "constituency")
+        .or(first_of(document, fault, Kind::Municipality, "municipality"))
+        .or(first_of(document, fault, Kind::Group, "group"))
 }

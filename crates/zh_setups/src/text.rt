@@ -1,20 +1,18 @@
 //! Reading a set-up text.
-
-ghost use Rattle.std.specs.Prelude.{◌≡◌, ◌≢◌, ◌≤◌, Ok, Err, IfOk, IfErr, IsSome, length};
+ghost use Rattle.std.specs.Prelude.{◌≡◌, ◌≢◌, ◌≤◌, Ok, Err, IfOk, IfErr, IsSome, length, ◌<◌, ◌+◌, ◌^◌};
+ghost use Rattle.toml.specs.Errors.{IsWithin};
 ghost use Rattle.toml.specs.View.{table_view};
 ghost use Rattle.zh_districts.specs.Canton.{IsCanton};
 ghost use Rattle.zh_setups.specs.Document.{checked};
 ghost use Rattle.zh_setups.specs.Places.{fault_place};
-ghost use Rattle.toml.specs.Errors.{IsWithin};
+ghost use Rattle.zh_setups.specs.Positions.{moved, position_after};
 ghost use Rattle.zh_setups.specs.Refusals.{IsPlaced, IsRefusedBy};
 ghost use Rattle.zh_setups.specs.SetupText.{reading_of, Describes, SetupOf};
+ghost use Rattle.zh_setups.specs.declared.text.SetupFault.TheVariants.{Memory};
 
 use crate::document::read_document;
-use crate::fault::{SetupFault, SetupRefusal};
-use crate::place::FaultPlace;
-use crate::places::fault_place;
-use crate::position::position_after;
-use std::alloc::Global;
+use crate::place::{FaultPlace, fault_place};
+use std::alloc::{AllocError, AllocFailed, Global};
 use toml::Table;
 use toml::de::Error;
 use zh_districts::Setup;
@@ -79,4 +77,81 @@ pub fn read_setup(alloc: Global, text: &[u8]) -> Result<Setup, SetupRefusal>
         Ok(document) => read_placed(alloc, &document),
         Err(error) => Err(refusal_of(&error, text)),
     }
+}
+
+/// The fault of a set-up text: the first of these checks, each over the whole document, that finds one.
+#[derive(Clone, Copy, Debug, PartialEq, Eq)]
+pub enum SetupFault {
+    /// Memory ran out.
+    Memory,
+    /// The text is longer than 1,048,576 bytes, or it is no TOML.
+    Text,
+    /// A key is missing at the top or in a table.
+    Missing,
+    /// Another key stands at the top or in a table.
+    Unknown,
+    /// A value is of another kind or outside its limits.
+    Range,
+    /// Two names of one kind are equal, or a group stands twice in one constituency.
+    Double,
+}
+
+/// The fault of a set-up text, and where the text has it, as far as that is known.
+#[derive(Clone, Copy, Debug, PartialEq, Eq)]
+pub struct SetupRefusal {
+    pub fault: SetupFault,
+    pub place: Option<FaultPlace>,
+}
+
+impl From<AllocError> for SetupFault {
+    ghost from_gives = { λ _ e. e ≡ Memory };
+
+    fn from(_e: AllocError) -> SetupFault {
+        SetupFault::Memory
+    }
+}
+
+impl<T: Drop> From<AllocFailed<T>> for SetupFault {
+    ghost from_gives = { λ _ e. e ≡ Memory };
+
+    fn from(_e: AllocFailed<T>) -> SetupFault {
+        SetupFault::Memory
+    }
+}
+
+/// A position in a text: its line and its column, both from 1. A column counts characters.
+#[derive(Clone, Copy, Debug, PartialEq, Eq)]
+pub struct Position {
+    pub line: usize,
+    pub column: usize,
+}
+
+/// The position after one more byte.
+fn moved(at: Position, byte: u8) -> Position
+    requires line { at.line + 1 < 2 ^ 64 }
+    requires column { at.column + 1 < 2 ^ 64 }
+    ensures { result ≡ moved at byte }
+{
+    match byte {
+        b'\n' => Position {
+            line: at.line + 1,
+            column: 1,
+        },
+        128..=191 => at,
+        _ => Position {
+            line: at.line,
+            column: at.column + 1,
+        },
+    }
+}
+
+/// The position after these bytes.
+pub(crate) fn position_after(bytes: &[u8]) -> Position
+    ensures { result ≡ position_after bytes.now }
+{
+    let mut at = Position { line: 1, column: 1 };
+    for byte in bytes {
+        at = moved(at, *byte);
+    }
+    at
 }

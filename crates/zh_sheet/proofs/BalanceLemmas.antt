@@ -7,7 +7,7 @@ use Rattle.std.proofs.lemmas.List.Sums.{sum_by-append, sum_by-cons}
 use Rattle.zh_divisors.specs.Sums.{sum_to}
 use Rattle.zh_totals.specs.Totals.{VoteTotals}
 use Rattle.zh_upper.specs.UpperSeats.{of_participants}
-use Rattle.zh_possible.specs.Ways.{AreBalanced}
+use Rattle.zh_decided.specs.Ways.{AreBalanced}
 use Rattle.zh_sheet.specs.Distribution.{Targets, lower_question, seated_groups}
 use Rattle.zh_sheet.proofs.AskedLemmas.{length-taking}
 use Rattle.zh_sheet.proofs.SeatedLemmas.{first_seated, seated_no, seated_yes}

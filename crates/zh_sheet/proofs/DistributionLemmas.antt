@@ -9,9 +9,9 @@ use Rattle.zh_divisors.specs.Shares.{Apportionment}
 use Rattle.zh_matrices.specs.Question.{IsFirstWithoutVotes}
 use Rattle.zh_matrices.specs.SeatMatrix.{IsStrict, SeatMatrix}
 use Rattle.zh_lower.specs.Seating.{LowerOutcome}
-use Rattle.zh_lower.specs.declared.fault.LowerFault.{LowerFault}
-use Rattle.zh_lower.specs.declared.fault.LowerFault.TheVariants as lower_faults
-use Rattle.zh_lower.proofs.CallerLemmas.{no_seats}
+use Rattle.zh_lower.specs.declared.lower.LowerFault.{LowerFault}
+use Rattle.zh_lower.specs.declared.lower.LowerFault.TheVariants as lower_faults
+use Rattle.zh_matrices.proofs.CallerLemmas.{no_seats}
 use Rattle.zh_totals.specs.Totals.{VoteTotals}
 use Rattle.zh_upper.specs.Refusals.{HaveNoUpperSeats, IsRefusedExactly}
 use Rattle.zh_upper.specs.declared.fault.UpperFault.{UpperFault}
@@ -19,7 +19,7 @@ use Rattle.zh_upper.specs.declared.fault.UpperFault.TheVariants as upper_faults
 use Rattle.zh_sheet.specs.Distribution.{Targets, lower_question, seated_groups}
 use Rattle.zh_sheet.specs.Refusals.{IsAnswer, IsBeforeLists, IsBeforeSearch, NoneOf}
 use Rattle.zh_sheet.specs.Stages.{HasColumn, StandAbove, of_lower, of_seats, of_upper}
-use Rattle.zh_sheet.specs.declared.refusal.SheetRefusal.TheVariants as refusals
+use Rattle.zh_sheet.specs.declared.fault.SheetRefusal.TheVariants as refusals
 use Rattle.zh_sheet.proofs.RefusalLemmas.{given_answer, memory_answer, none_above_lists, none_before_search, none_first, none_seated, none_untied, refused_answer}
 use Rattle.zh_sheet.proofs.TargetLemmas.{IsBasis, not_tied, reason_above, same_question}
 

@@ -19,7 +19,7 @@ use Rattle.zh_sheet.specs.Refusals.{IfRefused, IsAnswer, IsBeforeLists, IsCaseOf
 use Rattle.zh_sheet.specs.Stages.{StandAbove}
 use Rattle.zh_sheet.specs.declared.fault.SheetFault.{SheetFault}
 use Rattle.zh_sheet.specs.declared.fault.SheetFault.TheVariants.{Memory, Refused}
-use Rattle.zh_sheet.specs.declared.refusal.SheetRefusal.TheVariants as refusals
+use Rattle.zh_sheet.specs.declared.fault.SheetRefusal.TheVariants as refusals
 use Rattle.zh_sheet.proofs.OneSheetLemmas.{AreSameAbove, same_above, same_asked, same_parts}
 use Rattle.zh_sheet.proofs.RefusalLemmas.{none_above_lists, none_seated}
 use Rattle.zh_sheet.proofs.TargetLemmas.{same_question}

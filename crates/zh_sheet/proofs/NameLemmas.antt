@@ -7,11 +7,11 @@ use Rattle.std.proofs.lemmas.Fmt.{decimal_is_IsNumeral}
 use Rattle.std.proofs.lemmas.List.{drop_at, take_at}
 use Rattle.std.proofs.lemmas.Str.Parse.{digit_from_value}
 use Rattle.zh_upper.specs.Refusals.{upper_refusal_name}
-use Rattle.zh_upper.specs.declared.refusal.UpperRefusal.{UpperRefusal}
+use Rattle.zh_upper.specs.declared.fault.UpperRefusal.{UpperRefusal}
 use Rattle.zh_upper.proofs.CallerLemmas.{upper_named, upper_read_back}
 use Rattle.zh_sheet.specs.Refusals.{IsSheetRefusal, refusal_name}
-use Rattle.zh_sheet.specs.declared.refusal.SheetRefusal.{SheetRefusal}
-use Rattle.zh_sheet.specs.declared.refusal.SheetRefusal.TheVariants as refusals
+use Rattle.zh_sheet.specs.declared.fault.SheetRefusal.{SheetRefusal}
+use Rattle.zh_sheet.specs.declared.fault.SheetRefusal.TheVariants as refusals
 
 -- the number of a numeral, and of two with a space between
 abbrev pub number_of : List ℕ → ℕ

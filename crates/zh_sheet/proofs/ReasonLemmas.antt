@@ -4,10 +4,9 @@ use Rattle.zh_matrices.specs.NearlyTied.{IsClear}
 use Rattle.zh_matrices.specs.Question.{Question}
 use Rattle.zh_matrices.specs.SeatMatrix.{IsWeak}
 use Rattle.zh_matrices.proofs.CallerLemmas.{only_seats}
-use Rattle.zh_possible.specs.Impossible.{HasTooFewSeats}
-use Rattle.zh_possible.proofs.CallerLemmas.{no_divisors}
+use Rattle.zh_decided.specs.Impossible.{HasTooFewSeats}
+use Rattle.zh_decided.proofs.CallerLemmas.{no_divisors, no_clear}
 use Rattle.zh_decided.specs.Boxes.{NoneInRange}
-use Rattle.zh_decided.proofs.CallerLemmas.{no_clear}
 use Rattle.zh_totals.specs.Totals.{VoteTotals}
 use Rattle.zh_sheet.specs.Distribution.{Distribution, Targets, seated_groups}
 use Rattle.zh_sheet.specs.ListSeats.{SeatsOfLists}
@@ -17,7 +16,7 @@ use Rattle.zh_sheet.specs.declared.fault.SheetFault.{SheetFault}
 use Rattle.zh_sheet.specs.declared.fault.SheetFault.TheVariants.{Memory, Refused}
 use Rattle.zh_sheet.specs.declared.reason.ExhaustedReason.{ExhaustedReason}
 use Rattle.zh_sheet.specs.declared.reason.ExhaustedReason.TheVariants as reasons
-use Rattle.zh_sheet.specs.declared.refusal.SheetRefusal.TheVariants as refusals
+use Rattle.zh_sheet.specs.declared.fault.SheetRefusal.TheVariants as refusals
 use Rattle.zh_sheet.proofs.RefusalLemmas.{memory_answer}
 use Rattle.zh_sheet.proofs.TargetLemmas.{same_question}
 

@@ -8,13 +8,13 @@ use Rattle.zh_districts.specs.declared.shares.SeatFault.{SeatFault}
 use Rattle.zh_districts.specs.declared.shares.SeatFault.TheVariants as seat_faults
 use Rattle.zh_upper.specs.declared.fault.UpperFault.{UpperFault}
 use Rattle.zh_upper.specs.declared.fault.UpperFault.TheVariants as upper_faults
-use Rattle.zh_upper.specs.declared.refusal.UpperRefusal.{UpperRefusal}
+use Rattle.zh_upper.specs.declared.fault.UpperRefusal.{UpperRefusal}
 use Rattle.zh_sheet.specs.Stages.{IsAboveLists, of_seats, of_upper}
 use Rattle.zh_sheet.specs.Refusals.{HasNoVotes, IfRefused, IsAnswer, IsBeforeLists, IsBeforeSearch, IsCaseOf, IsFirstCase, IsRefusedAbove, LeaveNoSeats, NoneOf, place_in_order}
 use Rattle.zh_sheet.specs.declared.fault.SheetFault.{SheetFault}
 use Rattle.zh_sheet.specs.declared.fault.SheetFault.TheVariants.{Memory, Refused}
-use Rattle.zh_sheet.specs.declared.refusal.SheetRefusal.{SheetRefusal}
-use Rattle.zh_sheet.specs.declared.refusal.SheetRefusal.TheVariants as refusals
+use Rattle.zh_sheet.specs.declared.fault.SheetRefusal.{SheetRefusal}
+use Rattle.zh_sheet.specs.declared.fault.SheetRefusal.TheVariants as refusals
 use Rattle.zh_sheet.proofs.TargetLemmas.{none_without, not_tied, same_constituency, same_refused, same_row}
 
 -- two refusals of one place, whose cases both hold, are one

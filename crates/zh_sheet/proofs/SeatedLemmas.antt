@@ -7,7 +7,7 @@ use Rattle.std.proofs.lemmas.List.{get_or-map, length-map, map-append, take_all,
 use Rattle.std.proofs.lemmas.List.Concat.{flat_map-append}
 use Rattle.std.proofs.lemmas.List.Elements.{All-filter, All-from_get_or, filter-append, filter_passes}
 use Rattle.std.proofs.lemmas.List.FromFn.{get_or-range_with_len, length-range_with_len}
-use Rattle.zh_records.proofs.CallerLemmas.{HasWidth, in_block, length-blocks}
+use Rattle.zh_returns.proofs.CallerLemmas.{HasWidth, in_block, length-blocks}
 use Rattle.zh_totals.specs.Totals.{VoteTotals, votes_in}
 use Rattle.zh_sheet.specs.Distribution.{seated_groups}
 

@@ -13,7 +13,7 @@ use Rattle.zh_totals.specs.Totals.{VoteTotals}
 use Rattle.zh_upper.specs.UpperSeats.{AreUpperSeats, of_participants}
 use Rattle.zh_upper.specs.Refusals.{HaveNoUpperSeats}
 use Rattle.zh_upper.specs.VoterNumbers.{AreVoterSums}
-use Rattle.zh_upper.specs.declared.refusal.UpperRefusal.{UpperRefusal}
+use Rattle.zh_upper.specs.declared.fault.UpperRefusal.{UpperRefusal}
 use Rattle.zh_upper.proofs.CallerLemmas.{one_upper_refusal}
 use Rattle.zh_sheet.specs.Distribution.{HaveSeats, Targets, lower_question}
 use Rattle.zh_sheet.specs.Refusals.{GetsNoSeat, HasNoVotes, IsRefusedAbove}

@@ -7,13 +7,13 @@ use Rattle.zh_totals.specs.Totals.{VoteTotals}
 use Rattle.zh_upper.specs.Ranges.{AreUpperRanges}
 use Rattle.zh_upper.specs.VoterNumbers.{AreVoterSums}
 use Rattle.zh_upper.specs.declared.ranges.SeatRanges.{SeatRanges}
-use Rattle.zh_upper.specs.declared.refusal.UpperRefusal.TheVariants.{Tied}
+use Rattle.zh_upper.specs.declared.fault.UpperRefusal.TheVariants.{Tied}
 use Rattle.zh_sheet.specs.Distribution.{HaveSeats, Targets, lower_question, seated_groups}
 use Rattle.zh_sheet.specs.ListRanges.{RangesOfLists}
 use Rattle.zh_sheet.specs.declared.lot.Lot.{Lot}
 use Rattle.zh_sheet.specs.declared.lot.Lot.TheVariants.{Constituencies, Groups, Lists}
-use Rattle.zh_sheet.specs.declared.refusal.SheetRefusal.{SheetRefusal}
-use Rattle.zh_sheet.specs.declared.refusal.SheetRefusal.TheVariants as refusals
+use Rattle.zh_sheet.specs.declared.fault.SheetRefusal.{SheetRefusal}
+use Rattle.zh_sheet.specs.declared.fault.SheetRefusal.TheVariants as refusals
 
 -- for each group in order the fewest and the most seats that it has in the whole canton, over all seats that fit
 pub record AreGroupRanges (totals : VoteTotals) (x : SeatRanges) : Type 0 where

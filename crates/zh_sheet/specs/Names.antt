@@ -1,7 +1,7 @@
 -- Names as replies spell them: 32 is the space.
 use Rattle.std.specs.Prelude.{◌≡◌, ◌≤◌, ℕ, List, ◌∷◌, ◌++◌, length, decimal}
-use Rattle.zh_sheet.specs.declared.name.Name.{Name}
-use Rattle.zh_sheet.specs.declared.name.Name.TheVariants.{Words, Number, Pair}
+use Rattle.zh_sheet.specs.declared.fault.Name.{Name}
+use Rattle.zh_sheet.specs.declared.fault.Name.TheVariants.{Words, Number, Pair}
 
 -- the parts are those of these bytes, and the words of them are at most 12
 abbrev pub ArePartsOf : List ℕ → Name → Type 0

@@ -4,7 +4,7 @@ use Rattle.zh_matrices.specs.Divisors.{Divisors}
 use Rattle.zh_matrices.specs.NearlyTied.{IsClear, IsNearlyTied}
 use Rattle.zh_matrices.specs.Question.{Question}
 use Rattle.zh_matrices.specs.SeatMatrix.{IsStrict, IsWeak}
-use Rattle.zh_possible.specs.Impossible.{HasTooFewSeats, IsPossible}
+use Rattle.zh_decided.specs.Impossible.{HasTooFewSeats, IsPossible}
 use Rattle.zh_decided.specs.Boxes.{GiveWithin, NoneInRange}
 use Rattle.zh_totals.specs.Totals.{VoteTotals}
 use Rattle.zh_sheet.specs.Distribution.{Targets, lower_question, seated_groups}
@@ -12,7 +12,7 @@ use Rattle.zh_sheet.specs.ListSeats.{SeatsOfLists}
 use Rattle.zh_sheet.specs.Refusals.{IfRefused, IsBeforeLists, IsFirstCase}
 use Rattle.zh_sheet.specs.declared.fault.SheetFault.{SheetFault}
 use Rattle.zh_sheet.specs.declared.fault.SheetFault.TheVariants.{Memory}
-use Rattle.zh_sheet.specs.declared.refusal.SheetRefusal.TheVariants as refusals
+use Rattle.zh_sheet.specs.declared.fault.SheetRefusal.TheVariants as refusals
 use Rattle.zh_sheet.specs.declared.reason.ExhaustedReason.{ExhaustedReason}
 use Rattle.zh_sheet.specs.declared.reason.ExhaustedReason.TheVariants.{Beyond, Impossible, Missed, NearlyTied}
 

@@ -5,19 +5,19 @@ use Rattle.zh_districts.specs.Seats.{AreSeats, IsFirstWithout, persons}
 use Rattle.zh_divisors.specs.Fit as fits
 use Rattle.zh_matrices.specs.Divisors.{Divisors}
 use Rattle.zh_decided.specs.Boxes.{NoneGiven}
-use Rattle.zh_search.specs.Outcomes.{ComesToTie, NoneBefore}
+use Rattle.zh_lower.specs.Outcomes.{ComesToTie, NoneBefore}
 use Rattle.zh_matrices.specs.Question.{IsFirstWithoutVotes}
 use Rattle.zh_matrices.specs.SeatMatrix.{IsStrict}
 use Rattle.zh_quorum.specs.Quorum.{AreParticipating}
 use Rattle.zh_totals.specs.Totals.{VoteTotals}
 use Rattle.zh_upper.specs.Refusals.{HaveNoUpperSeats, upper_refusal_name}
 use Rattle.zh_upper.specs.VoterNumbers.{AreVoterSums}
-use Rattle.zh_upper.specs.declared.refusal.UpperRefusal.{UpperRefusal}
+use Rattle.zh_upper.specs.declared.fault.UpperRefusal.{UpperRefusal}
 use Rattle.zh_sheet.specs.Distribution.{HaveSeats, Targets, lower_question, seated_groups}
 use Rattle.zh_sheet.specs.declared.fault.SheetFault.{SheetFault}
 use Rattle.zh_sheet.specs.declared.fault.SheetFault.TheVariants.{Memory, Refused}
-use Rattle.zh_sheet.specs.declared.refusal.SheetRefusal.{SheetRefusal}
-use Rattle.zh_sheet.specs.declared.refusal.SheetRefusal.TheVariants as refusals
+use Rattle.zh_sheet.specs.declared.fault.SheetRefusal.{SheetRefusal}
+use Rattle.zh_sheet.specs.declared.fault.SheetRefusal.TheVariants as refusals
 
 -- this constituency, the first such, gets no seat
 pub record GetsNoSeat (totals : VoteTotals) (d : ℕ) : Type 0 where

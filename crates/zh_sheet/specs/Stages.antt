@@ -5,8 +5,8 @@ use Rattle.zh_districts.specs.declared.shares.SeatFault.TheVariants as seat_faul
 use Rattle.zh_districts.specs.Seats.{persons}
 use Rattle.zh_divisors.specs.Shares.{Apportionment, HasDivisor}
 use Rattle.zh_matrices.specs.Question.{AreSeatTotals, EachColumnHasVotes, Question}
-use Rattle.zh_lower.specs.declared.fault.LowerFault.{LowerFault}
-use Rattle.zh_lower.specs.declared.fault.LowerFault.TheVariants as lower_faults
+use Rattle.zh_lower.specs.declared.lower.LowerFault.{LowerFault}
+use Rattle.zh_lower.specs.declared.lower.LowerFault.TheVariants as lower_faults
 use Rattle.zh_quorum.specs.Quorum.{AreParticipating}
 use Rattle.zh_totals.specs.Totals.{VoteTotals}
 use Rattle.zh_upper.specs.UpperSeats.{AreUpperSeats, of_participants, shares_of_participants}
@@ -15,10 +15,10 @@ use Rattle.zh_upper.specs.declared.fault.UpperFault.{UpperFault}
 use Rattle.zh_upper.specs.declared.fault.UpperFault.TheVariants as upper_faults
 use Rattle.zh_sheet.specs.Distribution.{Distribution, HaveSeats}
 use Rattle.zh_sheet.specs.Refusals.{IfRefused, IsAnswer, IsBeforeLists, NoneOf}
-use Rattle.zh_sheet.specs.declared.above.Above.{Above}
+use Rattle.zh_sheet.specs.declared.apportionment.Above.{Above}
 use Rattle.zh_sheet.specs.declared.fault.SheetFault.{SheetFault}
 use Rattle.zh_sheet.specs.declared.fault.SheetFault.TheVariants.{Memory, Refused}
-use Rattle.zh_sheet.specs.declared.refusal.SheetRefusal.TheVariants as refusals
+use Rattle.zh_sheet.specs.declared.fault.SheetRefusal.TheVariants as refusals
 
 -- the refusals of a sheet for those of the parts below
 abbrev pub of_seats : SeatFault → SheetFault

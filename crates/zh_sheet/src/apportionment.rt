@@ -1,18 +1,18 @@
+//! A sheet from the totals of a count.
 ghost use Rattle.std.specs.Prelude.{◌≡◌};
 ghost use Rattle.zh_sheet.specs.Made.{IsMade};
-ghost use Rattle.zh_sheet.specs.Stages.{HasColumn, StandAbove, of_lower};
+ghost use Rattle.zh_sheet.specs.Stages.{HasColumn, StandAbove, of_lower, IsAboveLists};
 
-use crate::above::{Above, seats_above};
-use crate::fault::SheetFault;
-use crate::lower::seats_of_lists;
-use crate::refusal::SheetRefusal;
-use crate::seated::seated_groups;
+use crate::fault::{SheetFault, SheetRefusal};
+use crate::list_seats::{seated_groups, seats_of_lists};
 use crate::sheet::Sheet;
 use std::alloc::Global;
+use zh_districts::seats;
 use zh_divisors::Shares;
 use zh_lower::LowerFault;
+use zh_quorum::participating;
 use zh_totals::Totals;
-use zh_upper::Upper;
+use zh_upper::{Upper, upper, voters};
 
 /// The refusal of a sheet for one of the lower apportionment, whose columns are the seated groups.
 fn fault_of(fault: LowerFault, seated: &[u32]) -> SheetFault
@@ -78,4 +78,30 @@ pub fn make<'s>(alloc: Global, totals: &Totals<'s>) -> Result<Sheet<'s>, SheetFa
         upper,
     } = above;
     with_lists(alloc, totals, seats, taking, voters, upper)
+}
+
+/// The seats of the constituencies and of the groups, with what they follow from.
+#[derive(Drop)]
+pub(crate) struct Above {
+    pub seats: Shares,
+    pub taking: Vec<bool>,
+    pub voters: Vec<u64>,
+    pub upper: Upper,
+}
+
+/// These seats by the totals, or the first reason why there are none.
+pub(crate) fn seats_above(alloc: Global, totals: &Totals<'_>) -> Result<Above, SheetFault>
+    ensures { IsAboveLists totals.now result }
+{
+    let setup = totals.setup();
+    let seats = seats(alloc, setup)?;
+    let taking = participating(alloc, totals)?;
+    let voters = voters(alloc, totals, seats.seats())?;
+    let upper = upper(alloc, &voters, &taking, setup.house())?;
+    Ok(Above {
+        seats,
+        taking,
+        voters,
+        upper,
+    })
 }

@@ -6,9 +6,9 @@ ghost use Rattle.zh_sheet.specs.Given.{DoFit, DoFollow, IsGiven, given_lists};
 ghost use Rattle.zh_sheet.specs.Stages.{StandAbove};
 ghost use Rattle.zh_totals.specs.Hidden.{NoneHidden, NoneHiddenIn};
 
-use crate::above::{Above, seats_above};
+use crate::apportionment::{Above, seats_above};
 use crate::fault::SheetFault;
-use crate::seated::{seated_groups, seats_of, votes_of};
+use crate::list_seats::{seated_groups, seats_of, votes_of};
 use crate::sheet::Sheet;
 use std::alloc::{AllocError, Global};
 use zh_lower::{Lower, Matrix, is_strict};

@@ -2,30 +2,21 @@
 //! check each seat (GPR sections 88 and 102 to 104).
 #![tactic(auto)]
 
-mod above;
 mod apportionment;
 mod fault;
 mod given_lists;
 mod laws;
-mod list_ranges;
 mod list_seats;
 mod lot;
-mod lower;
-mod name;
 mod reason;
-mod refusal;
-mod seated;
 mod sheet;
 
 pub use apportionment::make;
-pub use fault::SheetFault;
+pub use fault::{Name, SheetFault, SheetRefusal};
 pub use given_lists::given;
 pub use laws::{made_is_given, one_result, one_sheet};
-pub use list_ranges::ListRanges;
 pub use list_seats::ListSeats;
-pub use lot::{Lot, explain_tie};
-pub use name::Name;
+pub use lot::{ListRanges, Lot, explain_tie};
 pub use reason::{ExhaustedReason, explain};
-pub use refusal::SheetRefusal;
 pub use sheet::Sheet;
 pub use zh_upper::{SeatRanges, UpperRefusal};

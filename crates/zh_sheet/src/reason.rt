@@ -3,18 +3,16 @@ ghost use Rattle.std.specs.Prelude.{◌≡◌, IfOk, length};
 ghost use Rattle.zh_decided.specs.Rooms.{IsDecisionRoom};
 ghost use Rattle.zh_matrices.specs.Asked.{asked};
 ghost use Rattle.zh_matrices.specs.Question.{AreSeatTotals};
-ghost use Rattle.zh_possible.specs.Ways.{AreBalanced};
+ghost use Rattle.zh_decided.specs.Ways.{AreBalanced};
 ghost use Rattle.zh_sheet.specs.Reasons.{IsExplained, IsReason, IsReasonAmong};
 ghost use Rattle.zh_sheet.specs.Stages.{StandAbove};
 
-use crate::above::{Above, seats_above};
+use crate::apportionment::{Above, seats_above};
 use crate::fault::SheetFault;
-use crate::list_seats::ListSeats;
-use crate::seated::{seated_groups, seats_of, votes_of};
+use crate::list_seats::{ListSeats, seated_groups, seats_of, votes_of};
 use std::alloc::{AllocError, Global};
-use zh_decided::{Decision, DecisionRoom, decide};
+use zh_decided::{Decision, DecisionRoom, MarkedRows, decide};
 use zh_matrices::{Matrix, Question};
-use zh_possible::MarkedRows;
 use zh_totals::Totals;
 
 /// Why the search for the seats of the lists found none, in the numbers of the set-up.

@@ -1,7 +1,8 @@
+//! A sheet: the seats of the groups in the constituencies, with all that they follow from.
 ghost use Rattle.std.specs.Prelude.{◌≡◌, ◌-◌, ◌<◌, ◌≤◌, if◌then◌else◌, Some, None, IfSome, [], length, slice_get, slice_index};
 ghost use Rattle.std.specs.Option.{option_map_or};
 
-use crate::seated::column_of;
+use crate::list_seats::column_of;
 use std::marker::Model;
 use zh_districts::Setup;
 use zh_divisors::Shares;

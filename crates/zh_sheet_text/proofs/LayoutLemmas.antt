@@ -11,12 +11,12 @@ use Rattle.std.proofs.lemmas.List.FromFn.{get_or-range_with_len, length-range_wi
 use Rattle.std.proofs.Math.Nat.{div-add-mod', mul-le-mul_left, mul-le-mul_right}
 use Rattle.zh_districts.specs.Canton.{Canton, Constituency, IsCanton}
 use Rattle.zh_matrices.proofs.CallerLemmas.{column_of, row_of}
-use Rattle.zh_records.proofs.CallerLemmas.{HasWidth, in_block, length-blocks}
+use Rattle.zh_returns.proofs.CallerLemmas.{HasWidth, in_block, length-blocks}
 use Rattle.zh_sheet_text.specs.Layout.{IsPartOf, IsUpTo, SheetLine, label_text, lines_below, sheet_lines}
 use Rattle.zh_sheet_text.specs.Layout.{constituency_line, end_line, group_line, head_line, house_line, key_line, list_line, quorum_line}
-use Rattle.zh_sheet_text.specs.declared.part.Label.TheVariants as labels
-use Rattle.zh_sheet_text.specs.declared.part.SheetPart.{SheetPart}
-use Rattle.zh_sheet_text.specs.declared.part.SheetPart.TheVariants.{Fixed, Kind, SeatsKey, UpperKey, ConstituencyDivisor, ConstituencyName, TakesPart, GroupDivisor, GroupName}
+use Rattle.zh_sheet_text.specs.declared.line.Label.TheVariants as labels
+use Rattle.zh_sheet_text.specs.declared.line.SheetPart.{SheetPart}
+use Rattle.zh_sheet_text.specs.declared.line.SheetPart.TheVariants.{Fixed, Kind, SeatsKey, UpperKey, ConstituencyDivisor, ConstituencyName, TakesPart, GroupDivisor, GroupName}
 use Rattle.zh_sheet_text.proofs.EachLemmas.{Each, all_blocks, all_numbers, each_all}
 
 abbrev rows : Canton → List SheetLine

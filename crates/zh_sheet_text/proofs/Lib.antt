@@ -5,3 +5,5 @@ mod LayoutLemmas
 mod LongestLemmas
 mod PageLemmas
 mod PrintingLemmas
+mod TextLemmas
+mod WidthLemmas

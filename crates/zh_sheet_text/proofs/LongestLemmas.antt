@@ -24,12 +24,12 @@ use Rattle.zh_sheet.specs.Distribution.{Distribution, IsDistribution, seated_gro
 use Rattle.zh_sheet.specs.Readings.{column_of, list_seats, takes_part}
 use Rattle.zh_sheet_text.specs.Layout.{IsPartOf, IsUpTo, SheetLine, mark_before, sheet_lines}
 use Rattle.zh_sheet_text.specs.SheetText.{divisor_text, line_text, part_text, joined_parts, sheet_text}
-use Rattle.zh_sheet_text.specs.declared.parts.Head.{Head}
-use Rattle.zh_sheet_text.specs.declared.part.SheetPart.{SheetPart}
-use Rattle.zh_sheet_text.specs.declared.part.SheetPart.TheVariants.{Fixed, Number, Desk, Kind, Accepted, SeatsKey, UpperKey}
-use Rattle.zh_sheet_text.specs.declared.part.SheetPart.TheVariants.{ConstituencySeats, ConstituencyVotes, ConstituencyDivisor, ConstituencyName}
-use Rattle.zh_sheet_text.specs.declared.part.SheetPart.TheVariants.{TakesPart, GroupVoters, GroupSeats, GroupDivisor, GroupName}
-use Rattle.zh_sheet_text.specs.declared.part.SheetPart.TheVariants.{ListVotes, ListVoters, ListSeats}
+use Rattle.zh_sheet_text.specs.declared.line.Head.{Head}
+use Rattle.zh_sheet_text.specs.declared.line.SheetPart.{SheetPart}
+use Rattle.zh_sheet_text.specs.declared.line.SheetPart.TheVariants.{Fixed, Number, Desk, Kind, Accepted, SeatsKey, UpperKey}
+use Rattle.zh_sheet_text.specs.declared.line.SheetPart.TheVariants.{ConstituencySeats, ConstituencyVotes, ConstituencyDivisor, ConstituencyName}
+use Rattle.zh_sheet_text.specs.declared.line.SheetPart.TheVariants.{TakesPart, GroupVoters, GroupSeats, GroupDivisor, GroupName}
+use Rattle.zh_sheet_text.specs.declared.line.SheetPart.TheVariants.{ListVotes, ListVoters, ListSeats}
 use Rattle.zh_sheet_text.proofs.DivisorLemmas.{digits, divisor}
 use Rattle.zh_sheet_text.proofs.EachLemmas.{Each, each_more}
 use Rattle.zh_sheet_text.proofs.LayoutLemmas.{IsLineOf, all_lines, few_lines, most, most_of}

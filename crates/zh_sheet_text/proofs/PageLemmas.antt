@@ -7,7 +7,7 @@ use Rattle.std.proofs.lemmas.Bool.{cases_lt, eq-eqb, ne_eqb}
 use Rattle.std.proofs.lemmas.List.{drop_all}
 use Rattle.zh_sheet_text.specs.Layout.{mark_before}
 use Rattle.zh_sheet_text.specs.Printing.{or_dash}
-use Rattle.zh_sheet_text.specs.declared.part.SheetPart.{SheetPart}
+use Rattle.zh_sheet_text.specs.declared.line.SheetPart.{SheetPart}
 
 -- a part and the mark after it, of what is still to be put
 pub marked_put : (page next new here whole rest all : List ℕ) (sign : ℕ) → page ++ whole ≡ all → whole ≡ here ++ sign ∷ rest → next ≡ page ++ here →

@@ -3,13 +3,13 @@ use Rattle.std.specs.Prelude.{ℕ, ◌^◌, ◌<◌, ◌≤◌, Bool, true, fals
 use Rattle.std.specs.Prelude.{List, [], ◌∷◌, ◌++◌, length, map, flat_map}
 use Rattle.std.specs.List.{range_with_len}
 use Rattle.zh_districts.specs.Canton.{Canton, persons_of, stands}
-use Rattle.zh_sheet_text.specs.declared.part.Label.{Label}
-use Rattle.zh_sheet_text.specs.declared.part.Label.TheVariants as labels
-use Rattle.zh_sheet_text.specs.declared.part.SheetPart.{SheetPart}
-use Rattle.zh_sheet_text.specs.declared.part.SheetPart.TheVariants.{Fixed, Number, Desk, Kind, Accepted, SeatsKey, UpperKey}
-use Rattle.zh_sheet_text.specs.declared.part.SheetPart.TheVariants.{ConstituencySeats, ConstituencyVotes, ConstituencyDivisor}
-use Rattle.zh_sheet_text.specs.declared.part.SheetPart.TheVariants.{ConstituencyName, TakesPart, GroupVoters, GroupSeats, GroupDivisor}
-use Rattle.zh_sheet_text.specs.declared.part.SheetPart.TheVariants.{GroupName, ListVotes, ListVoters, ListSeats}
+use Rattle.zh_sheet_text.specs.declared.line.Label.{Label}
+use Rattle.zh_sheet_text.specs.declared.line.Label.TheVariants as labels
+use Rattle.zh_sheet_text.specs.declared.line.SheetPart.{SheetPart}
+use Rattle.zh_sheet_text.specs.declared.line.SheetPart.TheVariants.{Fixed, Number, Desk, Kind, Accepted, SeatsKey, UpperKey}
+use Rattle.zh_sheet_text.specs.declared.line.SheetPart.TheVariants.{ConstituencySeats, ConstituencyVotes, ConstituencyDivisor}
+use Rattle.zh_sheet_text.specs.declared.line.SheetPart.TheVariants.{ConstituencyName, TakesPart, GroupVoters, GroupSeats, GroupDivisor}
+use Rattle.zh_sheet_text.specs.declared.line.SheetPart.TheVariants.{GroupName, ListVotes, ListVoters, ListSeats}
 
 abbrev pub label_text : Label → List ℕ
 label_text labels.Sheet = codes "sheet"

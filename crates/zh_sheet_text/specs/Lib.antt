@@ -1,3 +1,9 @@
 pub mod Layout
 pub mod Printing
 pub mod SheetText
+pub mod Lists
+pub mod Lots
+pub mod Quotients
+pub mod Refusals
+pub mod Reported
+pub mod Table

@@ -1,7 +1,7 @@
 -- Text on its way to a writer, of which some waits on a page.
 use Rattle.std.specs.Prelude.{◌≡◌, ℕ, ◌+◌, ◌<◌, ◌≤◌, List, ◌++◌, Option, Some, None, Result, OnErr, OnOk, codes, length, take}
 use Rattle.std.specs.Io.KnownBytes.{Appends}
-use Rattle.zh_commands.specs.declared.output.WriteFault.{WriteFault}
+use Rattle.zh_text.specs.declared.output.WriteFault.{WriteFault}
 use Rattle.zh_sheet_text.specs.declared.page.TheConstants.{LINE, ROOM}
 
 -- a dash where there is no number

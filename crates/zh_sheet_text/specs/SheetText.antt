@@ -9,12 +9,12 @@ use Rattle.zh_sheet.specs.Distribution.{Distribution}
 use Rattle.zh_sheet.specs.Readings.{column_of, list_seats, takes_part}
 use Rattle.zh_text.specs.Numbers.{millionths_text}
 use Rattle.zh_sheet_text.specs.Layout.{SheetLine, label_text, mark_before, sheet_lines}
-use Rattle.zh_sheet_text.specs.declared.parts.Head.{Head}
-use Rattle.zh_sheet_text.specs.declared.part.SheetPart.{SheetPart}
-use Rattle.zh_sheet_text.specs.declared.part.SheetPart.TheVariants.{Fixed, Number, Desk, Kind, Accepted, SeatsKey, UpperKey}
-use Rattle.zh_sheet_text.specs.declared.part.SheetPart.TheVariants.{ConstituencySeats, ConstituencyVotes, ConstituencyDivisor}
-use Rattle.zh_sheet_text.specs.declared.part.SheetPart.TheVariants.{ConstituencyName, TakesPart, GroupVoters, GroupSeats, GroupDivisor}
-use Rattle.zh_sheet_text.specs.declared.part.SheetPart.TheVariants.{GroupName, ListVotes, ListVoters, ListSeats}
+use Rattle.zh_sheet_text.specs.declared.line.Head.{Head}
+use Rattle.zh_sheet_text.specs.declared.line.SheetPart.{SheetPart}
+use Rattle.zh_sheet_text.specs.declared.line.SheetPart.TheVariants.{Fixed, Number, Desk, Kind, Accepted, SeatsKey, UpperKey}
+use Rattle.zh_sheet_text.specs.declared.line.SheetPart.TheVariants.{ConstituencySeats, ConstituencyVotes, ConstituencyDivisor}
+use Rattle.zh_sheet_text.specs.declared.line.SheetPart.TheVariants.{ConstituencyName, TakesPart, GroupVoters, GroupSeats, GroupDivisor}
+use Rattle.zh_sheet_text.specs.declared.line.SheetPart.TheVariants.{GroupName, ListVotes, ListVoters, ListSeats}
 
 -- a number of millionths, with six digits after the dot
 abbrev pub divisor_text : ℕ → List ℕ

@@ -1,19 +1,21 @@
-//! The text of a sheet.
+//! The text of a sheet, its seats as a table, and why there are none.
 #![tactic(auto)]
 
-mod divisor;
 mod laws;
-mod layout;
 mod line;
+mod lots;
+mod mark;
 mod page;
-mod part;
-mod parts;
+mod refusals;
+mod seats;
 mod sheet_writer;
+mod table;
 
-pub use divisor::is_divisor_text;
 pub use laws::no_longer;
-pub use layout::{line_at, line_count};
-pub use line::LineParts;
-pub use part::{SheetPart, label_text, mark_after};
-pub use parts::Head;
-pub use sheet_writer::write_sheet;
+pub use line::{Head, LineParts, SheetPart, label_text, mark_after};
+pub use mark::{Mark, MarkedSheet, NoSeats, Source};
+pub use page::is_divisor_text;
+pub use refusals::refusal_text;
+pub use seats::write_seats;
+pub use sheet_writer::{line_at, line_count, write_sheet};
+pub use table::seat_table;

@@ -1,9 +1,12 @@
-//! A line of a sheet, as its parts.
-ghost use Rattle.std.specs.Prelude.{◌≡◌, ◌≤◌, length};
-ghost use Rattle.zh_sheet_text.specs.Layout.{SheetLine};
+//! A line of a sheet: its parts, and how they are spelled.
+ghost use Rattle.std.specs.Prelude.{◌≡◌, ◌≤◌, length, ◌∷◌, [], if◌then◌else◌, ◌+◌, All, codes};
+ghost use Rattle.zh_sheet_text.specs.Layout.{SheetLine, label_text, IsPartOf};
+ghost use Rattle.zh_sheet_text.specs.Printing.{Puts};
+ghost use Rattle.zh_sheet_text.specs.SheetText.{part_text, joined_parts};
 
-use crate::part::SheetPart;
+use crate::page::{LINE, PART, Page, ROOM};
 use std::marker::Model;
+use zh_sheet::Sheet;
 
 /// The most parts that a line has.
 pub(crate) const MOST_PARTS: usize = 11;
@@ -56,5 +59,148 @@ impl LineParts {
         ensures few { length result.now ≤ MOST_PARTS }
     {
         &self.all[..self.end]
+    }
+}
+
+/// A word that says what follows it, the same in every sheet.
+#[derive(Clone, Copy)]
+pub enum Label {
+    Sheet,
+    House,
+    Seats,
+    Upper,
+    Key,
+    Quorum,
+    Canton,
+    Constituency,
+    Persons,
+    Votes,
+    Divisor,
+    Group,
+    Voters,
+    List,
+    End,
+}
+
+/// A part of a line: what the set-up says, or the name of what only a sheet can say.
+#[derive(Clone, Copy)]
+pub enum SheetPart {
+    Fixed(Label),
+    Number(u32),
+    Desk,
+    Kind,
+    Accepted,
+    SeatsKey,
+    UpperKey,
+    /// The seats of a constituency, its votes, its divisor and its name.
+    ConstituencySeats(u32),
+    ConstituencyVotes(u32),
+    ConstituencyDivisor(u32),
+    ConstituencyName(u32),
+    /// Whether a group takes part, its voter sum, its seats, its divisor and its name.
+    TakesPart(u32),
+    GroupVoters(u32),
+    GroupSeats(u32),
+    GroupDivisor(u32),
+    GroupName(u32),
+    /// The votes of a list, of a constituency and a group, its voter number and its seats.
+    ListVotes(u32, u32),
+    ListVoters(u32, u32),
+    ListSeats(u32, u32),
+}
+
+/// The text of a label.
+pub fn label_text(label: Label) -> &'static [u8]
+    ensures text { result.now ≡ label_text label }
+    ensures at_most { length result.now ≤ 12 }
+{
+    match label {
+        Label::Sheet => b"sheet",
+        Label::House => b"house",
+        Label::Seats => b"seats",
+        Label::Upper => b"upper",
+        Label::Key => b"key",
+        Label::Quorum => b"quorum",
+        Label::Canton => b"canton",
+        Label::Constituency => b"constituency",
+        Label::Persons => b"persons",
+        Label::Votes => b"votes",
+        Label::Divisor => b"divisor",
+        Label::Group => b"group",
+        Label::Voters => b"voters",
+        Label::List => b"list",
+        Label::End => b"end",
+    }
+}
+
+/// What stands after a part: a space, or the end of the line after the last.
+pub fn mark_after(is_last: bool) -> &'static [u8]
+    ensures { result.now ≡ (if is_last then 10 else 32) ∷ [] }
+{
+    if is_last { b"\n" } else { b" " }
+}
+
+/// What the first line of a sheet says.
+#[derive(Clone, Copy)]
+pub struct Head {
+    pub desk: u8,
+    pub is_final: bool,
+    pub accepted: u64,
+}
+
+/// Whether a sheet is final, in a word.
+fn kind(is_final: bool) -> &'static str
+    ensures kind { result.now ≡ (if is_final then codes "final" else codes "provisional") }
+    ensures short { length result.now ≤ 11 }
+{
+    if is_final { "final" } else { "provisional" }
+}
+
+fn yes_or_no(yes: bool) -> &'static str
+    ensures word { result.now ≡ (if yes then codes "yes" else codes "no") }
+    ensures short { length result.now ≤ 3 }
+{
+    if yes { "yes" } else { "no" }
+}
+
+/// Puts what stands at a part at the end of a page.
+fn push_part(page: &mut Page, sheet: &Sheet<'_>, head: Head, part: SheetPart)
+    requires there { IsPartOf sheet.now.totals.canton part }
+    requires room { length page.old + PART ≤ ROOM }
+    ensures { Puts PART (part_text sheet.now head part) page.old page.new }
+{
+    match part {
+        SheetPart::Fixed(label) => page.push(label_text(label)),
+        SheetPart::Number(number) => page.push_number(u64::from(number)),
+        SheetPart::Desk => page.push_number(u64::from(head.desk)),
+        SheetPart::Kind => page.push(kind(head.is_final).as_bytes()),
+        SheetPart::Accepted => page.push_number(head.accepted),
+        SheetPart::SeatsKey => page.push_fraction(sheet.seats().num(), sheet.seats().den()),
+        SheetPart::UpperKey => page.push_fraction(sheet.upper().num(), sheet.upper().den()),
+        SheetPart::ConstituencySeats(d) => page.push_number(u64::from(sheet.constituency_seats(d))),
+        SheetPart::ConstituencyVotes(d) => page.push_number(sheet.totals().constituency(d)),
+        SheetPart::ConstituencyDivisor(d) => page.push_divisor(sheet.constituency_divisor(d)),
+        SheetPart::ConstituencyName(d) => page.push(sheet.constituency_name(d).as_bytes()),
+        SheetPart::TakesPart(g) => page.push(yes_or_no(sheet.takes_part(g)).as_bytes()),
+        SheetPart::GroupVoters(g) => page.push_number_or_dash(sheet.voters(g)),
+        SheetPart::GroupSeats(g) => page.push_number(u64::from(sheet.group_seats(g))),
+        SheetPart::GroupDivisor(g) => page.push_divisor_or_dash(sheet.group_divisor(g)),
+        SheetPart::GroupName(g) => page.push(sheet.group_name(g).as_bytes()),
+        SheetPart::ListVotes(d, g) => page.push_number(sheet.totals().votes(d, g)),
+        SheetPart::ListVoters(d, g) => page.push_number_or_dash(sheet.list_voters(d, g)),
+        SheetPart::ListSeats(d, g) => page.push_number(u64::from(sheet.list_seats(d, g))),
+    }
+}
+
+/// Puts the parts of a line at the end of a page.
+pub(crate) fn push_parts(page: &mut Page, sheet: &Sheet<'_>, head: Head, parts: &[SheetPart])
+    requires there { All (IsPartOf sheet.now.totals.canton) parts.now }
+    requires few { length parts.now ≤ MOST_PARTS }
+    requires room { length page.old + LINE ≤ ROOM }
+    ensures { Puts LINE (joined_parts (part_text sheet.now head) parts.now) page.old page.new }
+{
+    for place in 0..parts.len() {
+        push_part(page, sheet, head, parts[place]);
+        page.push(mark_after(place + 1 == parts.len()));
     }
 }

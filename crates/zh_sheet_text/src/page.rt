@@ -1,13 +1,13 @@
 //! Text that waits for the writer.
 ghost use Rattle.std.specs.Prelude.{◌≡◌, ◌+◌, ◌≤◌, ◌++◌, [], codes, length, decimal, OnErr, OnOk};
+ghost use Rattle.std.specs.Str.{bytes_eq};
 ghost use Rattle.zh_sheet_text.specs.Printing.{Prints, Puts, WritesFront, or_dash};
 ghost use Rattle.zh_sheet_text.specs.SheetText.{divisor_text};
 
 use itoa::Buffer;
 use std::io::Write;
 use std::marker::Model;
-use zh_commands::{WriteFault, put};
-use zh_text::millionths_text;
+use zh_text::{WriteFault, millionths_text, put};
 
 /// The bytes that a page has room for.
 pub(crate) const ROOM: usize = 4096;
@@ -133,4 +133,12 @@ impl Page {
         }
         Ok(())
     }
+}
+
+/// Whether a word is a divisor of so many millionths, as a sheet writes it.
+pub fn is_divisor_text(millionths: u64, word: &[u8]) -> bool
+    ensures { result ≡ bytes_eq word.now (divisor_text millionths) }
+{
+    let text = millionths_text(u128::from(millionths));
+    word == text.as_slice()
 }

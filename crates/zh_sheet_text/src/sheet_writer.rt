@@ -1,17 +1,188 @@
-//! The text of a sheet, written through a page.
-ghost use Rattle.std.specs.Prelude.{◌+◌, ◌<◌, ◌≤◌, ℕ, All, length, OnErr, OnOk, take};
+//! The lines of a sheet, in their order (docs/FORMATS.md, "The sheet"), and its text, written through a page.
 ghost use Rattle.std.specs.Io.KnownBytes.{Appends};
-ghost use Rattle.zh_sheet_text.specs.Layout.{IsPartOf};
+ghost use Rattle.std.specs.Prelude.{◌≡◌, ◌≤◌, length, slice_index_or, ◌+◌, ◌<◌, ℕ, All, OnErr, OnOk, take};
+ghost use Rattle.zh_districts.specs.Canton.{IsCanton};
+ghost use Rattle.zh_sheet_text.specs.Layout.{constituency_line, end_line, group_line, head_line, house_line, key_line, lines_below};
+ghost use Rattle.zh_sheet_text.specs.Layout.{list_line, quorum_line, sheet_lines, IsPartOf};
 ghost use Rattle.zh_sheet_text.specs.Printing.{PrintsAll};
 ghost use Rattle.zh_sheet_text.specs.SheetText.{line_text, part_text, sheet_text};
 
-use crate::layout::{line_at, line_count};
-use crate::line::LineParts;
+use crate::line::{Head, Label, LineParts, SheetPart, push_parts};
 use crate::page::{LINE, Page, ROOM};
-use crate::parts::{Head, push_parts};
 use std::io::Write;
-use zh_commands::WriteFault;
+use zh_districts::Setup;
 use zh_sheet::Sheet;
+use zh_text::WriteFault;
+
+/// The first line: the desk, whether the sheet is final, and how many commands were accepted.
+fn head_line() -> LineParts
+    ensures { result ≡ head_line }
+{
+    LineParts::of(
+        true,
+        &[
+            SheetPart::Desk,
+            SheetPart::Fixed(Label::Sheet),
+            SheetPart::Kind,
+            SheetPart::Accepted,
+        ],
+    )
+}
+
+fn house_line(setup: &Setup) -> LineParts
+    ensures { result ≡ house_line setup.now }
+{
+    LineParts::of(
+        true,
+        &[
+            SheetPart::Fixed(Label::House),
+            SheetPart::Number(setup.house()),
+        ],
+    )
+}
+
+/// A divisor of seats, which is not reduced.
+fn key_line(whose: Label, key: SheetPart) -> LineParts
+    ensures { result ≡ key_line whose key }
+{
+    LineParts::of(
+        true,
+        &[SheetPart::Fixed(whose), SheetPart::Fixed(Label::Key), key],
+    )
+}
+
+/// The canton-wide quorum, where there is one.
+fn quorum_line(setup: &Setup) -> LineParts
+    ensures { result ≡ quorum_line setup.now.canton_quorum }
+{
+    match setup.canton_quorum() {
+        Some(per_mille) => LineParts::of(
+            true,
+            &[
+                SheetPart::Fixed(Label::Quorum),
+                SheetPart::Fixed(Label::Canton),
+                SheetPart::Number(per_mille),
+            ],
+        ),
+        None => LineParts::of(false, &[]),
+    }
+}
+
+fn constituency_line(setup: &Setup, constituency: u32) -> LineParts
+    requires from_one { 1 ≤ constituency }
+    requires there { constituency ≤ length setup.now.constituencies }
+    ensures { result ≡ constituency_line setup.now constituency }
+{
+    LineParts::of(
+        true,
+        &[
+            SheetPart::Fixed(Label::Constituency),
+            SheetPart::Number(constituency),
+            SheetPart::Fixed(Label::Persons),
+            SheetPart::Number(setup.persons(constituency)),
+            SheetPart::Fixed(Label::Seats),
+            SheetPart::ConstituencySeats(constituency),
+            SheetPart::Fixed(Label::Votes),
+            SheetPart::ConstituencyVotes(constituency),
+            SheetPart::Fixed(Label::Divisor),
+            SheetPart::ConstituencyDivisor(constituency),
+            SheetPart::ConstituencyName(constituency),
+        ],
+    )
+}
+
+fn group_line(group: u32) -> LineParts
+    ensures { result ≡ group_line group }
+{
+    LineParts::of(
+        true,
+        &[
+            SheetPart::Fixed(Label::Group),
+            SheetPart::Number(group),
+            SheetPart::Fixed(Label::Quorum),
+            SheetPart::TakesPart(group),
+            SheetPart::Fixed(Label::Voters),
+            SheetPart::GroupVoters(group),
+            SheetPart::Fixed(Label::Seats),
+            SheetPart::GroupSeats(group),
+            SheetPart::Fixed(Label::Divisor),
+            SheetPart::GroupDivisor(group),
+            SheetPart::GroupName(group),
+        ],
+    )
+}
+
+fn list_line(setup: &Setup, constituency: u32, group: u32) -> LineParts
+    requires from_one { 1 ≤ constituency }
+    requires there { constituency ≤ length setup.now.constituencies }
+    requires group_from_one { 1 ≤ group }
+    requires group_there { group ≤ length setup.now.groups }
+    ensures { result ≡ list_line setup.now constituency group }
+{
+    LineParts::of(
+        setup.stands(constituency, group),
+        &[
+            SheetPart::Fixed(Label::List),
+            SheetPart::Number(constituency),
+            SheetPart::Number(group),
+            SheetPart::Fixed(Label::Votes),
+            SheetPart::ListVotes(constituency, group),
+            SheetPart::Fixed(Label::Voters),
+            SheetPart::ListVoters(constituency, group),
+            SheetPart::Fixed(Label::Seats),
+            SheetPart::ListSeats(constituency, group),
+        ],
+    )
+}
+
+fn end_line() -> LineParts
+    ensures { result ≡ end_line }
+{
+    LineParts::of(true, &[SheetPart::Fixed(Label::End)])
+}
+
+/// The line at a place below that of the canton-wide quorum.
+fn line_below(setup: &Setup, place: u32) -> LineParts
+    ensures { result ≡ slice_index_or (lines_below setup.now) place end_line }
+{
+    let (rows, columns) = (setup.constituencies(), setup.groups());
+    if place < rows {
+        return constituency_line(setup, place + 1);
+    }
+    let of_group = place - rows;
+    if of_group < columns {
+        return group_line(of_group + 1);
+    }
+    let of_list = of_group - columns;
+    if of_list < rows * columns {
+        return list_line(setup, of_list / columns + 1, of_list % columns + 1);
+    }
+    end_line()
+}
+
+/// How many lines a sheet has, with those that are not there.
+pub fn line_count(setup: &Setup) -> u32
+    ensures count { result ≡ length (sheet_lines setup.now) }
+    ensures few { result ≤ 1094 }
+    ensures canton { IsCanton setup.now }
+{
+    let (rows, columns) = (setup.constituencies(), setup.groups());
+    6 + rows + columns + rows * columns
+}
+
+/// The line at a place, from 0; the last where there are no more.
+pub fn line_at(setup: &Setup, place: u32) -> LineParts
+    ensures { result ≡ slice_index_or (sheet_lines setup.now) place end_line }
+{
+    match place {
+        0 => head_line(),
+        1 => house_line(setup),
+        2 => key_line(Label::Seats, SheetPart::SeatsKey),
+        3 => key_line(Label::Upper, SheetPart::UpperKey),
+        4 => quorum_line(setup),
+        _ => line_below(setup, place - 5),
+    }
+}
 
 /// Puts a line on the page, where it is there, and makes room for the next.
 fn print_line<W: Write>(

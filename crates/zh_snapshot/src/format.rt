@@ -6,10 +6,9 @@ ghost use Rattle.zh_snapshot.specs.Calls.{ClosesDisk, WritesParts, EmptiesSlots,
 ghost use Rattle.zh_snapshot.specs.declared.layout.TheConstants.{SETUP_LIMIT, SNAPSHOT_LENGTH};
 
 use crate::fault::FormatFault;
-use crate::header::header_bytes;
-use crate::layout::{HEADER, SETUP, Slot};
+use crate::layout::{HEADER, SETUP, Slot, header_bytes};
+use crate::refill::zeros;
 use crate::store::Store;
-use crate::zeros::zeros;
 use std::alloc::Global;
 use zh_disk::{Disk, DiskFault};
 use zh_journal::{AREA_LENGTH, Area, OPEN_GATE, open_gate};

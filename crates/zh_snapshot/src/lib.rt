@@ -3,16 +3,13 @@
 //! docs/FORMATS.md has the places of the disk, and the device calls of each call here.
 #![tactic(auto)]
 
-mod compare;
 mod fault;
 mod format;
-mod header;
 mod laws;
 mod layout;
 mod opening;
 mod refill;
 mod store;
-mod zeros;
 
 pub use fault::{AppendFault, FormatFault, OpenFault, StoreFault, SwitchFault};
 pub use laws::one_content;

@@ -9,8 +9,7 @@ ghost use Rattle.zh_snapshot.specs.declared.layout.Slot.TheVariants.{First, Seco
 ghost use Rattle.zh_snapshot.specs.declared.layout.TheConstants.{SETUP_LIMIT};
 
 use crate::fault::OpenFault;
-use crate::header::setup_length;
-use crate::layout::Slot;
+use crate::layout::{Slot, setup_length};
 use zh_disk::{Disk, DiskFault};
 use zh_journal::OPEN_GATE;
 

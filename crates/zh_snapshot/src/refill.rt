@@ -1,4 +1,4 @@
-//! Writing a slot anew.
+//! Writing the shadow slot anew: its gate, the commit byte, is closed first and opened last.
 ghost use Rattle.std.specs.Prelude.{◌≡◌, ℕ, length, slice_index, IfOk, is_err};
 ghost use Rattle.zh_disk.specs.Disk.{Changes, Lands};
 ghost use Rattle.zh_disk.specs.History.{Call};
@@ -8,6 +8,7 @@ ghost use Rattle.zh_snapshot.specs.Slots.{Refills, IsRefilled};
 ghost use Rattle.zh_snapshot.specs.declared.layout.TheConstants.{SNAPSHOT_LENGTH};
 
 use crate::layout::Slot;
+use std::alloc::{AllocError, Global};
 use zh_disk::{Disk, DiskFault};
 use zh_journal::{AREA_LENGTH, Area, open_gate};
 
@@ -65,4 +66,12 @@ pub(crate) fn refill<D: Disk>(
     let area = fill_slot(disk, slot, generation, payload, zeros)?;
     open_gate(disk, slot.head())?;
     Ok(area)
+}
+
+/// n zeros
+pub(crate) fn zeros(alloc: Global, n: usize) -> Result<Vec<u8>, AllocError>
+    ensures len { IfOk result (λ v. length v.items ≡ n) }
+    ensures zero { IfOk result (λ v. (k : ℕ) → slice_index v.items k ≡ 0) }
+{
+    vec![in alloc; 0; n]
 }

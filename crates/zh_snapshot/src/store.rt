@@ -1,27 +1,27 @@
-//! A store: the set-up bytes, a snapshot, and the records since.
-mod switch;
-
-ghost use Rattle.std.specs.Prelude.{◌≡◌, ◌≢◌, ◌<◌, ◌≤◌, ◌↔◌, ℕ, true, false, length, slice_get, slice_index};
-ghost use Rattle.std.specs.Prelude.{Some, IfOk, OnOk, IsErrOf, is_err};
+//! A store: the set-up bytes, a snapshot, and its write-ahead log of the records since, in one of two shadow slots.
+ghost use Rattle.std.specs.Prelude.{◌≡◌, ◌≢◌, ◌<◌, ◌≤◌, ◌↔◌, ℕ, true, false, length, slice_get, slice_index, Some, IfOk, OnOk, IsErrOf};
+ghost use Rattle.std.specs.Prelude.{is_err, ◌+◌, slice_range, IsTrue};
 ghost use Rattle.zh_disk.specs.Disk.{Asks};
 ghost use Rattle.zh_disk.specs.History.{Call};
+ghost use Rattle.zh_disk.specs.declared.disk.TheConstants.{DISK_LENGTH};
 ghost use Rattle.zh_journal.specs.Pages.{pages_of};
 ghost use Rattle.zh_journal.specs.Place.{pages_left};
-ghost use Rattle.zh_snapshot.specs.Image.{Content, IsFramed};
-ghost use Rattle.zh_snapshot.specs.Faults.{store_open_fails, store_append_fails};
 ghost use Rattle.zh_snapshot.specs.Calls.{OpensStore, ReadsStore, ComparesSetup, StoreAppends};
+ghost use Rattle.zh_snapshot.specs.Faults.{store_open_fails, store_append_fails};
+ghost use Rattle.zh_snapshot.specs.Image.{Content, IsFramed};
 ghost use Rattle.zh_snapshot.specs.Slots.{IsInUse};
 ghost use Rattle.zh_snapshot.specs.Store.{longer};
 
-use crate::compare::{lend, stand_at};
 use crate::fault::{AppendFault, OpenFault, StoreFault};
 use crate::layout::{SETUP, SNAPSHOT_LENGTH, Slot};
 use crate::opening::{find_slot, open_header};
-use crate::zeros::zeros;
+use crate::refill::zeros;
 use std::alloc::Global;
 use std::marker::Model;
-use zh_disk::Disk;
+use zh_disk::{Disk, DiskFault};
 use zh_journal::{AREA_LENGTH, Area, LONGEST_PAYLOAD, Reader};
+
+mod switch;
 
 /// A disk's snapshot and records, as they were found or written.
 ///
@@ -208,4 +208,43 @@ impl Store {
             }
         }
     }
+}
+
+/// Whether these bytes stand from this place on.
+pub(crate) fn stand_at<D: Disk>(disk: &mut D, at: u64, bytes: &[u8]) -> Result<bool, DiskFault>
+    requires { at + length bytes.now ≤ DISK_LENGTH }
+
+    ensures call { Call is_err (Asks (λ stored answer. IfOk answer (λ equal.
+        IsTrue equal ↔ (slice_range stored at (at + length bytes.now) ≡ bytes.now))))
+        (D.history disk.old) (D.history disk.new) result }
+{
+    let mut buffer = [0; 256];
+    let mut done = 0;
+    while done < bytes.len() {
+        let n = (bytes.len() - done).min(256);
+        let stored = lend(disk, at + done as u64, n, &mut buffer)?;
+        if stored != &bytes[done..done + n] {
+            return Ok(false);
+        }
+        done += n;
+    }
+    Ok(true)
+}
+
+/// Lends the n bytes from this place on from the caller's buffer.
+pub(crate) fn lend<'b, D: Disk>(
+    disk: &mut D,
+    at: u64,
+    n: usize,
+    buffer: &'b mut [u8],
+) -> Result<&'b [u8], DiskFault>
+    requires room { at + n ≤ DISK_LENGTH }
+    requires buffer { n ≤ length buffer.old }
+
+    ensures call { Call is_err (Asks (λ stored answer. IfOk answer (λ lent. lent.now ≡ slice_range stored at (at + n))))
+        (D.history disk.old) (D.history disk.new) result }
+    ensures len { IfOk result (λ bytes. length bytes.now ≡ n) }
+{
+    disk.read_at(at, &mut buffer[..n])?;
+    Ok(&buffer[..n])
 }

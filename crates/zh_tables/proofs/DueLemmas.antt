@@ -1,8 +1,8 @@
 -- Numbers of returns that are due, summed from 1 on.
 use Rattle.std.proofs.Common.{◌≡◌, ◌+◌, ℕ, true, false, List, length, refl, sym, ap, ◌∙◌, arith, length-append}
 use Rattle.zh_districts.specs.Canton.{Canton, constituency_of, stands}
-use Rattle.zh_record_text.specs.Each.{each_to}
-use Rattle.zh_record_text.proofs.CallerLemmas.{each_to_next}
+use Rattle.zh_text.specs.Each.{each_to}
+use Rattle.zh_text.proofs.CallerLemmas.{each_to_next}
 use Rattle.zh_tables.specs.Returns.{due_of}
 
 -- a sum so far, and what the next number adds to it

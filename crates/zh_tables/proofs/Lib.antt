@@ -1,3 +1,6 @@
 mod DueLemmas
 mod ProblemLemmas
 mod TextLemmas
+mod ImplausibleLemmas
+mod ProgressLemmas
+mod StatusLemmas

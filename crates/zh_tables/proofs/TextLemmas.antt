@@ -4,7 +4,7 @@ use Rattle.std.specs.Io.KnownBytes.{Appends}
 use Rattle.zh_districts.specs.Canton.{Canton}
 use Rattle.zh_record_text.specs.Records.{record_text}
 use Rattle.zh_tables.specs.Tables.{header, AreLines, IsTableText}
-use Rattle.zh_tables.specs.declared.table.Table.{Table}
+use Rattle.zh_tables.specs.declared.tables.Table.{Table}
 
 pub table_text : (old new : Option (List ℕ)) (canton : Canton) (table : Table) (lines : List ℕ) → AreLines canton table lines
     → Appends old new (record_text (header table) ++ lines) → (text : List ℕ) × IsTableText canton table text × Appends old new text

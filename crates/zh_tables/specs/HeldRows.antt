@@ -3,7 +3,7 @@ use Rattle.std.specs.Prelude.{ℕ, length}
 use Rattle.zh_districts.specs.Canton.{Canton}
 use Rattle.zh_tables.specs.Returns.{returns_due}
 use Rattle.zh_tables.specs.declared.held_rows.HeldRows.{HeldRows}
-use Rattle.zh_tables.specs.declared.table.Part.TheVariants.{Whole}
+use Rattle.zh_tables.specs.declared.tables.Part.TheVariants.{Whole}
 
 -- so many rows, of one for each return that is due
 abbrev pub rows_held : Canton → ℕ → HeldRows

@@ -2,3 +2,6 @@ pub mod HeldRows
 pub mod Problems
 pub mod Returns
 pub mod Tables
+pub mod Progress
+pub mod Implausible
+pub mod Status

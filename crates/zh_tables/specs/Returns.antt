@@ -1,15 +1,15 @@
 -- The returns that are due: one for each list that stands in the constituency of a municipality.
 use Rattle.std.specs.Prelude.{◌≡◌, ◌≤◌, ◌==◌, ℕ, Bool, true, false, List, [], ◌∷◌, length, nat_lt, if◌then◌else◌, codes, decimal}
 use Rattle.zh_districts.specs.Canton.{Canton, constituency_of, stands}
-use Rattle.zh_record_text.specs.Each.{each_to}
+use Rattle.zh_text.specs.Each.{each_to}
 use Rattle.zh_record_text.specs.Records.{TableRecord, record_text}
 use Rattle.zh_tables.specs.declared.due.Due.{Due}
 use Rattle.zh_tables.specs.declared.fault.ListFault.{ListFault}
 use Rattle.zh_tables.specs.declared.fault.ListFault.TheVariants as faults
-use Rattle.zh_tables.specs.declared.table.Part.{Part}
-use Rattle.zh_tables.specs.declared.table.Part.TheVariants as parts
-use Rattle.zh_tables.specs.declared.table.Table.{Table}
-use Rattle.zh_tables.specs.declared.table.Table.TheVariants.{Returns}
+use Rattle.zh_tables.specs.declared.tables.Part.{Part}
+use Rattle.zh_tables.specs.declared.tables.Part.TheVariants as parts
+use Rattle.zh_tables.specs.declared.tables.Table.{Table}
+use Rattle.zh_tables.specs.declared.tables.Table.TheVariants.{Returns}
 
 -- the return of a list in a municipality, if the list stands there
 abbrev pub due_of : Canton → ℕ → ℕ → List Due

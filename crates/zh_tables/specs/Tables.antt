@@ -6,7 +6,7 @@ use Rattle.zh_divisors.specs.Fit.{IsTied}
 use Rattle.zh_districts.specs.Canton.{Canton, persons_of, constituency_of, stands}
 use Rattle.zh_districts.specs.Seats.{persons, AreSeats, IsFirstWithout}
 use Rattle.zh_districts.specs.declared.shares.SeatFault.TheVariants as refusals
-use Rattle.zh_record_text.specs.Each.{each_to}
+use Rattle.zh_text.specs.Each.{each_to}
 use Rattle.zh_record_text.specs.Names.{name_of_constituency, name_of_group, name_of_municipality}
 use Rattle.zh_record_text.specs.Records.{TableRecord, record_text}
 use Rattle.zh_record_text.specs.declared.records.RecordFault.{RecordFault}
@@ -15,9 +15,9 @@ use Rattle.zh_tables.specs.Problems.{AreProblems}
 use Rattle.zh_tables.specs.declared.fault.ListFault.{ListFault}
 use Rattle.zh_tables.specs.declared.fault.ListFault.TheVariants as faults
 use Rattle.zh_tables.specs.declared.problems.SetupProblems.{SetupProblems}
-use Rattle.zh_tables.specs.declared.table.Part.{Part}
-use Rattle.zh_tables.specs.declared.table.Table.{Table}
-use Rattle.zh_tables.specs.declared.table.Table.TheVariants.{Constituencies, Municipalities, Groups, Lists, Problems, Returns}
+use Rattle.zh_tables.specs.declared.tables.Part.{Part}
+use Rattle.zh_tables.specs.declared.tables.Table.{Table}
+use Rattle.zh_tables.specs.declared.tables.Table.TheVariants.{Constituencies, Municipalities, Groups, Lists, Problems, Returns}
 use Rattle.zh_tables.specs.Returns.{HasPart, IsMissing, return_columns, return_row, returns_due}
 
 -- the names of the columns

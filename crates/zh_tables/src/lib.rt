@@ -1,20 +1,23 @@
-//! The tables of a set-up as comma-separated text: its constituencies with their seats, its municipalities, its groups, its
-//! lists, the returns that are due, and what keeps it from ever giving seats.
+//! Tables of a set-up, and of how far its returns have come in, as comma-separated text: constituencies with their seats,
+//! municipalities, groups, lists, the returns that are due or missing, implausible votes, and what keeps the set-up from ever
+//! giving seats.
 #![tactic(auto)]
 
 mod due;
 mod fault;
 mod held_rows;
-mod problem_rows;
+mod implausible;
 mod problems;
-mod returns;
+mod progress;
 mod rows;
-mod table;
+mod status;
 mod tables;
+mod view;
 
 pub use due::exceeds_load;
 pub use fault::ListFault;
 pub use held_rows::HeldRows;
 pub use problems::{SetupProblems, problems_line, setup_problems};
-pub use table::{Part, Table};
-pub use tables::write_list;
+pub use status::write_status;
+pub use tables::{Part, Table, write_list};
+pub use view::{View, said_of};

@@ -1,13 +1,15 @@
 //! The rows of each table.
-
-ghost use Rattle.std.specs.Prelude.{◌≤◌, OnOk, length};
+ghost use Rattle.std.specs.Prelude.{◌≤◌, OnOk, length, ◌≡◌, IfOk, string_bytes};
 ghost use Rattle.zh_record_text.specs.Records.{IsBetweenRecords, PutsText};
+ghost use Rattle.zh_tables.specs.Implausible.{AreFound, found_note};
 ghost use Rattle.zh_tables.specs.Tables.{constituency_row, group_row, list_row, municipality_row};
 
 use csv::Writer;
 use itoa::Buffer;
+use std::alloc::{AllocError, Global};
 use std::io::Write;
-use zh_districts::Setup;
+use zh_districts::{SeatFault, Setup, seats};
+use zh_divisors::Shares;
 use zh_record_text::{RecordFault, write_record};
 
 /// Writes the record of a constituency with these seats.
@@ -102,4 +104,32 @@ pub(crate) fn write_list_in<W: Write + Drop>(
         setup.group_name(group).as_bytes(),
     ];
     write_record(writer, &fields)
+}
+
+/// The seats of the constituencies, or why they get none. Memory is not among the reasons.
+pub(crate) type Found = Result<Shares, SeatFault>;
+
+/// The seats of the constituencies of a set-up, or why they get none.
+pub(crate) fn found_seats(alloc: Global, setup: &Setup) -> Result<Found, AllocError>
+    ensures { IfOk result (AreFound setup.now) }
+{
+    match seats(alloc, setup) {
+        Err(SeatFault::Memory) => Err(AllocError),
+        found => Ok(found),
+    }
+}
+
+/// Why votes are not compared with persons, in a line, if they are not.
+pub(crate) fn found_note(alloc: Global, found: &Found) -> Result<String, AllocError>
+    ensures { IfOk result (λ note. string_bytes note ≡ found_note found.now) }
+{
+    match found {
+        Err(SeatFault::Tied) => {
+            format!(in alloc; "tied seats: votes are not compared with persons\n")
+        }
+        Err(SeatFault::NoSeat(constituency)) => {
+            format!(in alloc; "noseat {constituency}: votes are not compared with persons\n")
+        }
+        Err(SeatFault::Memory) | Ok(_) => Ok(String::new(alloc)),
+    }
 }

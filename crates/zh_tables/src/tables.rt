@@ -1,22 +1,46 @@
 //! The tables, written row by row.
-
-ghost use Rattle.std.specs.Prelude.{ℕ, List, IfErr, IfOk};
 ghost use Rattle.std.specs.Io.KnownBytes.{Appends};
+ghost use Rattle.std.specs.Prelude.{ℕ, List, IfErr, IfOk};
 ghost use Rattle.zh_tables.specs.Tables.{RefusesTable, IsTableText};
-ghost use Rattle.zh_tables.specs.declared.table.Table.TheVariants.{Constituencies};
+ghost use Rattle.zh_tables.specs.declared.tables.Table.TheVariants.{Constituencies};
 
-use crate::due::returns_due;
+use crate::due::{returns_due, write_returns};
 use crate::fault::ListFault;
-use crate::problem_rows::write_problems;
-use crate::problems::setup_problems;
-use crate::returns::write_returns;
+use crate::problems::{setup_problems, write_problems};
 use crate::rows::{write_constituency, write_group, write_list_in, write_municipality};
-use crate::table::Table;
 use csv::Writer;
 use std::alloc::Global;
 use std::io::Write;
 use zh_districts::{Setup, seats};
 use zh_record_text::{NumberedRows, RecordFault, write_each, write_table};
+
+/// The part of a set-up that a table is of.
+#[derive(Clone, Copy, Debug, PartialEq, Eq)]
+pub enum Part {
+    /// All of it.
+    Whole,
+    /// The municipality of this number.
+    Municipality(u32),
+    /// The municipalities of the constituency of this number.
+    Constituency(u32),
+}
+
+/// A table of a set-up.
+#[derive(Clone, Copy, Debug, PartialEq, Eq)]
+pub enum Table {
+    /// Each constituency with its persons and its seats.
+    Constituencies,
+    /// Each municipality with its constituency.
+    Municipalities,
+    /// Each group.
+    Groups,
+    /// Each list that stands: a group in a constituency.
+    Lists,
+    /// What keeps each constituency from ever getting or giving seats.
+    Problems,
+    /// The returns that are due in a part of the set-up, to be filled in and loaded.
+    Returns(Part),
+}
 
 /// The constituencies, with these seats.
 #[derive(Drop)]

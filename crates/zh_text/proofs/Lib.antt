@@ -1,3 +1,6 @@
 pub mod CallerLemmas
+mod EachLemmas
 mod NumberLemmas
 mod ShownLemmas
+mod DecimalLemmas
+mod WriteLemmas

@@ -1,6 +1,6 @@
 -- A text as it is shown in a line, with nothing that a terminal might act on.
 use Rattle.std.specs.Prelude.{ℕ, ◌-◌, ◌==◌, ◌||◌, nat_lt, if◌then◌else◌, List, [], ◌∷◌, codes, get_or, length}
-use Rattle.zh_record_text.specs.Each.{each_to}
+use Rattle.zh_text.specs.Each.{each_to}
 use Rattle.zh_text.specs.Signs.{sign_at}
 use Rattle.zh_text.specs.declared.shown.ShownNames.{ShownNames}
 use Rattle.zh_text.specs.declared.shown.ShownNames.TheVariants as names

@@ -1,9 +1,13 @@
-//! Text put together: numbers, and text as it is shown.
+//! Text and numbers, as they are read, written and shown.
 #![tactic(auto)]
 
+mod fixed_text;
 mod numbers;
+mod output;
 mod shown;
 mod signs;
 
-pub use numbers::{DecimalText, Padded, millionths_text, padded, push_number};
+pub use fixed_text::{push, push_bytes, push_numbered, push_numeral};
+pub use numbers::{DecimalText, Padded, millionths_text, numeral, padded, push_number};
+pub use output::{WriteFault, put};
 pub use shown::{ShownNames, push_shown, shown_at};

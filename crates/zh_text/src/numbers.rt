@@ -1,11 +1,12 @@
-//! Numbers in decimal.
-
-ghost use Rattle.std.specs.Prelude.{◌≡◌, ◌<◌, ◌≤◌, ◌^◌, ◌++◌, OnOk, length};
+//! Numbers in decimal, written and read.
+ghost use Rattle.std.specs.Int.{IsInRange};
+ghost use Rattle.std.specs.Prelude.{◌≡◌, ◌<◌, ◌≤◌, ◌^◌, ◌++◌, OnOk, length, ◌≢◌, ◌↔◌, ℕ, slice_index, decimal, IsTrue, MatchOption};
 ghost use Rattle.zh_text.specs.Numbers.{millionths_text, padded};
 
 use arrayvec::ArrayVec;
 use itoa::{Buffer, Integer};
 use std::alloc::AllocError;
+use std::str;
 
 /// Puts a number at the end of a text.
 pub fn push_number<I: Integer>(text: &mut Vec<u8>, number: I) -> Result<(), AllocError>
@@ -49,4 +50,25 @@ pub fn millionths_text(millionths: u128) -> DecimalText
     text.push(b'.');
     let _rest_fits = text.try_extend_from_slice(rest.as_slice());
     text
+}
+
+/// Whether a numeral may begin like this: `parse` also takes a sign and leading zeros.
+fn is_plain(word: &[u8]) -> bool
+    ensures { IsTrue result ↔ (1 < length word.now → IsInRange 49 57 (slice_index word.now 0)) }
+{
+    word.len() <= 1 || matches!(word[0], b'1'..=b'9')
+}
+
+/// The number of 32 bits with this numeral, which has no sign and no leading zero.
+pub fn numeral(word: &[u8]) -> Option<u32>
+    ensures { MatchOption result ((n : ℕ) → n < 2 ^ 32 → word.now ≢ decimal n)
+        (λ n. (n < 2 ^ 32) × (word.now ≡ decimal n)) }
+{
+    if !is_plain(word) {
+        return None;
+    }
+    let Ok(text) = str::from_utf8(word) else {
+        return None;
+    };
+    text.parse().ok()
 }

@@ -10,7 +10,7 @@ use Rattle.zh_districts.specs.Canton.{Canton, Municipality, IsCanton, has_munici
 use Rattle.zh_returns.specs.declared.entry.Entry.{Entry}
 use Rattle.zh_returns.specs.Limits.{IsTally, IsEntry}
 use Rattle.zh_returns.specs.Tally.{Tally, held, empty}
-use Rattle.zh_records.specs.Keys.{key_cmp}
+use Rattle.zh_returns.specs.Keys.{key_cmp}
 use Rattle.zh_districts.proofs.CallerLemmas.{municipality_within}
 use Rattle.zh_totals.specs.Totals.{AreTotals, votes_in, constituency_votes, all_votes}
 use Rattle.zh_totals.specs.Counting.{votes_of, counted, totals_of, lies_in}

@@ -2,8 +2,8 @@
 use Rattle.std.proofs.Common.{◌≡◌, ◌∙◌, ℕ, ◌+◌, ◌≤◌, true, None, Some, IfSome, sym, ap, subst, arith}
 use Rattle.zh_districts.specs.Canton.{has_municipality, stands, constituency_of}
 use Rattle.zh_districts.specs.Misplaced.{misplaced}
-use Rattle.zh_records.specs.declared.format.Format.TheVariants.{Two}
-use Rattle.zh_records.specs.declared.row.Row.{Row}
+use Rattle.zh_returns.specs.declared.command.Format.TheVariants.{Two}
+use Rattle.zh_returns.specs.declared.row.Row.{Row}
 use Rattle.zh_returns.specs.declared.entry.Entry.{Entry}
 use Rattle.zh_returns.specs.Limits.{IsTally, IsEntry}
 use Rattle.zh_returns.specs.Origin.{no_desk}
@@ -11,7 +11,7 @@ use Rattle.zh_returns.specs.Step.{entry_of}
 use Rattle.zh_returns.specs.Tally.{Tally, held}
 use Rattle.zh_returns.proofs.CallerLemmas.{IsTally-insert, entry_said, no_desk_said}
 use Rattle.zh_districts.proofs.CallerLemmas.{list_within, placed}
-use Rattle.zh_totals.specs.declared.change.Change.{Change}
+use Rattle.zh_totals.specs.declared.totals.Change.{Change}
 use Rattle.zh_totals.specs.Totals.{VoteTotals, all_votes}
 use Rattle.zh_totals.specs.Counting.{votes_of, totals_of}
 use Rattle.zh_totals.specs.Changes.{IsChange, noted, change_to}

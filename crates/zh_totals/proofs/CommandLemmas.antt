@@ -10,25 +10,25 @@ use Rattle.std.proofs.lemmas.List.Sums.{fold-append}
 use Rattle.std.proofs.lemmas.Option.{slice_get_cases, slice_get_within}
 use Rattle.std.specs.Option.{option_map_or}
 use Rattle.zh_districts.specs.Canton.{constituency_of}
-use Rattle.zh_records.specs.declared.command.Command.{Command}
-use Rattle.zh_records.specs.declared.command.Command.TheVariants as commands
+use Rattle.zh_returns.specs.declared.command.Command.{Command}
+use Rattle.zh_returns.specs.declared.command.Command.TheVariants as commands
 use Rattle.zh_returns.specs.declared.entry.Entry.{Entry}
-use Rattle.zh_records.specs.declared.row.Row.{Row}
-use Rattle.zh_returns.specs.declared.verdict.Verdict.{Verdict}
-use Rattle.zh_returns.specs.declared.verdict.Verdict.TheVariants.{Accept, Same, Refused}
+use Rattle.zh_returns.specs.declared.row.Row.{Row}
+use Rattle.zh_returns.specs.declared.judgement.Verdict.{Verdict}
+use Rattle.zh_returns.specs.declared.judgement.Verdict.TheVariants.{Accept, Same, Refused}
 use Rattle.zh_returns.specs.Judgement.{judge, judge_row, judge_content, is_refusal, is_accept, of_all}
 use Rattle.zh_returns.specs.Limits.{IsTally}
-use Rattle.zh_records.specs.Rows.{IsBatch, IsSpeakableRow}
-use Rattle.zh_records.specs.Spelling.{HasNumbers}
-use Rattle.zh_records.specs.declared.format.Format.TheVariants.{Two}
+use Rattle.zh_returns.specs.Rows.{IsBatch, IsSpeakableRow}
+use Rattle.zh_returns.specs.Spelling.{HasNumbers}
+use Rattle.zh_returns.specs.declared.command.Format.TheVariants.{Two}
 use Rattle.zh_returns.specs.Step.{entry_of, with_rows, accepted_rows, changed, MayStand}
-use Rattle.zh_returns.specs.declared.origin.Origin.{Origin}
+use Rattle.zh_returns.specs.declared.entry.Origin.{Origin}
 use Rattle.zh_returns.specs.Origin.{IsOriginOf, origin_of}
 use Rattle.zh_returns.specs.Tally.{Tally, held}
-use Rattle.zh_records.specs.Keys.{key_cmp}
+use Rattle.zh_returns.specs.Keys.{key_cmp}
 use Rattle.zh_returns.proofs.CallerLemmas.{passes, row_held, row_unrefused, rows_kept, IsHeld, IsTally-insert, entry_said, origin_named, rows_more, upto, with_row, held_still, next_row, passed_row}
 use Rattle.zh_districts.proofs.CallerLemmas.{placed}
-use Rattle.zh_records.proofs.CallerLemmas.{keys_total, keys_equal}
+use Rattle.zh_returns.proofs.CallerLemmas.{keys_total, keys_equal}
 use Rattle.zh_totals.specs.Totals.{VoteTotals}
 use Rattle.zh_totals.specs.Counting.{votes_of, totals_of}
 use Rattle.zh_totals.specs.Changes.{noted, all_noted, change_to, row_change, changes_of}

@@ -6,8 +6,8 @@ use Rattle.std.specs.FinMap.Entries.{put, find, is_sorted, below_all, by_order}
 use Rattle.std.proofs.lemmas.Bool.{and_parts, and_from}
 use Rattle.std.proofs.lemmas.List.Sums.{sum_by-cons}
 use Rattle.zh_returns.specs.declared.entry.Entry.{Entry}
-use Rattle.zh_records.specs.Keys.{key_cmp}
-use Rattle.zh_records.proofs.CallerLemmas.{keys_total, exact_keys, keys_equal}
+use Rattle.zh_returns.specs.Keys.{key_cmp}
+use Rattle.zh_returns.proofs.CallerLemmas.{keys_total, exact_keys, keys_equal}
 use Rattle.zh_totals.specs.Counting.{votes_of}
 
 -- the votes of the entries whose keys pass a test

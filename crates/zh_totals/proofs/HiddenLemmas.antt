@@ -5,8 +5,8 @@ use Rattle.std.specs.FinMap as map_of
 use Rattle.std.specs.FinMap.Entries.{below_all, find, is_sorted}
 use Rattle.std.proofs.lemmas.Bool.{and_parts, eqb-true, false_from_ne_true, false≢true}
 use Rattle.zh_districts.specs.Canton.{constituency_of, stands}
-use Rattle.zh_records.specs.Keys.{key_cmp}
-use Rattle.zh_records.proofs.CallerLemmas.{keys_equal, same_key}
+use Rattle.zh_returns.specs.Keys.{key_cmp}
+use Rattle.zh_returns.proofs.CallerLemmas.{keys_equal, same_key}
 use Rattle.zh_returns.specs.declared.entry.Entry.{Entry}
 use Rattle.zh_returns.specs.Limits.{IsTally}
 use Rattle.zh_returns.specs.Tally.{Tally, held}

@@ -7,8 +7,8 @@ use Rattle.std.proofs.lemmas.Bool.{cases_eq, and_from, and_parts, eq-eqb, eqb-tr
 use Rattle.zh_districts.specs.Canton.{Canton, constituency_of}
 use Rattle.zh_returns.specs.declared.entry.Entry.{Entry}
 use Rattle.zh_returns.specs.Tally.{Tally}
-use Rattle.zh_records.specs.Keys.{key_cmp}
-use Rattle.zh_records.proofs.CallerLemmas.{keys_total}
+use Rattle.zh_returns.specs.Keys.{key_cmp}
+use Rattle.zh_returns.proofs.CallerLemmas.{keys_total}
 use Rattle.zh_totals.specs.Totals.{place_in, votes_in}
 use Rattle.zh_totals.specs.Counting.{votes_of, lies_in, counted, totals_of}
 use Rattle.zh_totals.specs.Changes.{noted, sum_after, votes_held, change_to}

@@ -5,8 +5,7 @@ use Rattle.std.proofs.lemmas.Bool.{cases_lt}
 use Rattle.std.proofs.lemmas.List.{ext_get_or, length-map, get_or-map}
 use Rattle.std.specs.Prelude.{flat_map}
 use Rattle.zh_returns.specs.Payload.{numbers}
-use Rattle.zh_records.proofs.CallerLemmas.{HasWidth, length-blocks, in_block}
-use Rattle.zh_returns.proofs.CallerLemmas.{length-numbers, get_or-numbers}
+use Rattle.zh_returns.proofs.CallerLemmas.{HasWidth, length-blocks, in_block, length-numbers, get_or-numbers}
 
 -- a row after a row that is not later ends at or after its start
 pub row_before : (c d e : ℕ) → d < e → d * c + c ≤ e * c

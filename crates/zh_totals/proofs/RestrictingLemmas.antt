@@ -6,8 +6,8 @@ use Rattle.std.proofs.lemmas.Bool.Decides.{nat_tests}
 use Rattle.zh_returns.specs.declared.entry.Entry.{Entry}
 use Rattle.zh_returns.specs.Limits.{IsTally, IsEntry}
 use Rattle.zh_returns.specs.Tally.{Tally, held}
-use Rattle.zh_records.specs.Keys.{key_cmp}
-use Rattle.zh_records.proofs.CallerLemmas.{keys_total, exact_keys, keys_equal, key_test}
+use Rattle.zh_returns.specs.Keys.{key_cmp}
+use Rattle.zh_returns.proofs.CallerLemmas.{keys_total, exact_keys, keys_equal, key_test}
 use Rattle.zh_districts.proofs.CallerLemmas.{municipality_within, list_within}
 use Rattle.zh_districts.specs.Canton.{has_municipality, stands, constituency_of}
 use Rattle.std.specs.Option.{option_map_or}

@@ -1,6 +1,6 @@
 -- The sums of totals, and what a change does to them.
 use Rattle.std.proofs.Common.{◌≡◌, ◌≢◌, ◌∙◌, ℕ, ◌+◌, ◌-◌, ◌*◌, ◌^◌, ◌≤◌, List, length, get_or, set, slice_index, inl, inr, sym, ap, subst, arith, length-set, get_or-set_same, get_or-set_other}
-use Rattle.zh_totals.specs.declared.change.Change.{Change}
+use Rattle.zh_totals.specs.declared.totals.Change.{Change}
 use Rattle.zh_totals.specs.Totals.{VoteTotals, AreTotals, place_in, votes_in, constituency_votes, all_votes}
 use Rattle.zh_totals.specs.Changes.{IsChange, noted, sum_after}
 use Rattle.std.proofs.lemmas.Bool.{cases_eq}

@@ -3,12 +3,12 @@
 ghost use Rattle.std.specs.Prelude.{◌≡◌, ℕ, true};
 ghost use Rattle.std.specs.FinMap as map_of;
 ghost use Rattle.zh_districts.specs.Canton.{has_municipality, stands, constituency_of};
-ghost use Rattle.zh_records.specs.declared.command.Command.{Command};
+ghost use Rattle.zh_returns.specs.declared.command.Command.{Command};
 ghost use Rattle.zh_returns.specs.declared.entry.Entry.{Entry};
-ghost use Rattle.zh_returns.specs.declared.verdict.Verdict.TheVariants.{Accept};
+ghost use Rattle.zh_returns.specs.declared.judgement.Verdict.TheVariants.{Accept};
 ghost use Rattle.zh_returns.specs.Judgement.{judge};
 ghost use Rattle.zh_returns.specs.Limits.{IsTally};
-ghost use Rattle.zh_records.specs.Spelling.{HasNumbers};
+ghost use Rattle.zh_returns.specs.Spelling.{HasNumbers};
 ghost use Rattle.zh_returns.specs.Step.{changed};
 ghost use Rattle.zh_returns.specs.Tally.{Tally};
 ghost use Rattle.zh_totals.specs.Changes.{all_noted, noted, change_to, changes_of};

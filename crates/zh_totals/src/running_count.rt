@@ -1,20 +1,19 @@
 //! A count that keeps its totals.
-
 ghost use Rattle.std.specs.Prelude.{◌≡◌, ◌-◌, ◌≤◌, ◌<◌, ◌^◌, IfOk};
-ghost use Rattle.zh_returns.specs.declared.verdict.Verdict.TheVariants.{Accept};
 ghost use Rattle.zh_returns.specs.Judgement.{judge};
-ghost use Rattle.zh_records.specs.declared.format.Format.{Format};
 ghost use Rattle.zh_returns.specs.Origin.{IsOriginOf, origin_of};
 ghost use Rattle.zh_returns.specs.Payload.{TakesPayload};
 ghost use Rattle.zh_returns.specs.Step.{step};
 ghost use Rattle.zh_returns.specs.Tally.{Tally, empty};
+ghost use Rattle.zh_returns.specs.declared.command.Format.{Format};
+ghost use Rattle.zh_returns.specs.declared.judgement.Verdict.TheVariants.{Accept};
 ghost use Rattle.zh_totals.specs.Counting.{totals_of};
 
-use crate::totals::Totals;
+use crate::totals::{Change, Totals};
 use std::alloc::{AllocError, Global};
 use std::marker::Model;
 use zh_districts::Setup;
-use zh_returns::{Command, Count};
+use zh_returns::{Command, Count, Entry, Follower};
 
 /// A count, and its totals, which each change of it brings up to date. The memory is taken in `new`, and no other call
 /// takes any.
@@ -87,5 +86,24 @@ impl<'s> RunningCount<'s> {
         ensures { self.new ≡ step self.old command.now }
     {
         self.count.apply_followed(command, &mut self.totals);
+    }
+}
+
+impl<'s> Follower for Totals<'s> {
+    ghost follows = { λ totals canton entries. totals ≡ totals_of (record (empty canton) { entries = entries }) };
+
+    fn follow(&mut self, count: &Count<'_>, municipality: u32, list: u32, entry: Entry) {
+        // A count is within its limits, however many commands it accepted.
+        count.accepted();
+        let before = match count.entry(municipality, list) {
+            Some(held) => held.votes.unwrap_or(0),
+            None => 0,
+        };
+        self.note(&Change {
+            constituency: count.setup().constituency_of(municipality),
+            list,
+            before,
+            after: entry.votes.unwrap_or(0),
+        });
     }
 }

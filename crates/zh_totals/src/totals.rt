@@ -1,17 +1,28 @@
-//! The vote totals of an election.
-
+//! The vote totals of a count.
 ghost use Rattle.std.specs.Prelude.{◌≡◌, ◌+◌, ◌-◌, ◌*◌, ◌^◌, ◌≤◌, ◌<◌, length, replicate, set, slice_index, IfOk};
+ghost use Rattle.zh_returns.specs.Limits.{IsTally};
 ghost use Rattle.zh_returns.specs.Tally.{empty};
 ghost use Rattle.zh_totals.specs.Changes.{IsChange, noted};
 ghost use Rattle.zh_totals.specs.Counting.{totals_of};
 ghost use Rattle.zh_totals.specs.GivenVotes.{AreTotalsOf};
+ghost use Rattle.zh_totals.specs.Parts.{held_before};
 ghost use Rattle.zh_totals.specs.Totals.{AreTotals, votes_in, constituency_votes, place_in};
 
-use crate::change::Change;
 use crate::row_sums::row_sums;
 use std::alloc::{AllocError, Global};
 use std::marker::Model;
 use zh_districts::Setup;
+use zh_returns::Count;
+
+/// What becomes of the votes of a list in one municipality: `before` is replaced by `after`, each at most 1,000,000,000
+/// and 0 where nothing is held or the list is withdrawn. Constituencies and lists are numbered from 1.
+#[derive(Clone, Copy)]
+pub struct Change {
+    pub constituency: u32,
+    pub list: u32,
+    pub before: u32,
+    pub after: u32,
+}
 
 /// The votes of each group in each constituency, for one set-up. Constituencies and groups are numbered from 1. All
 /// votes together are at most 10^14. The memory is taken in `new` and in `copy`; no other call takes any.
@@ -158,5 +169,61 @@ impl<'s> Totals<'s> {
         ensures within { result < length self.now.canton.constituencies * length self.now.canton.groups }
     {
         (constituency - 1) as usize * self.setup.groups() as usize + (group - 1) as usize
+    }
+}
+
+impl<'s> Totals<'s> {
+    /// The totals of a count, by one pass over its entries.
+    pub fn of(alloc: Global, count: &Count<'s>) -> Result<Totals<'s>, AllocError>
+        ensures { IfOk result (λ totals. totals ≡ totals_of count.now) }
+    {
+        let mut totals = Totals::new(alloc, count.setup())?;
+        totals.note_count(count);
+        Ok(totals)
+    }
+
+    /// Notes each entry of a count in totals without votes, which become its totals.
+    pub fn note_count(&mut self, count: &Count<'_>)
+        requires { self.old ≡ totals_of (empty count.now.canton) }
+        ensures { self.new ≡ totals_of count.now }
+    {
+        // A count is within its limits, however many commands it accepted.
+        count.accepted();
+        for municipality in 1..=count.setup().municipalities() {
+            self.note_municipality(count, municipality);
+        }
+    }
+
+    /// Notes the entries of a municipality after those of the municipalities before it.
+    fn note_municipality(&mut self, count: &Count<'_>, municipality: u32)
+        requires limits { IsTally count.now }
+        requires from_one { 1 ≤ municipality }
+        requires there { municipality ≤ length count.now.canton.municipalities }
+        requires before { self.old ≡ totals_of (held_before count.now municipality 1) }
+        ensures { self.new ≡ totals_of (held_before count.now (municipality + 1) 1) }
+    {
+        for list in 1..=count.setup().groups() {
+            self.note_entry(count, municipality, list);
+        }
+    }
+
+    /// Notes an entry after those before it.
+    fn note_entry(&mut self, count: &Count<'_>, municipality: u32, list: u32)
+        requires limits { IsTally count.now }
+        requires from_one { 1 ≤ municipality }
+        requires there { municipality ≤ length count.now.canton.municipalities }
+        requires list_from_one { 1 ≤ list }
+        requires list_there { list ≤ length count.now.canton.groups }
+        requires before { self.old ≡ totals_of (held_before count.now municipality list) }
+        ensures { self.new ≡ totals_of (held_before count.now municipality (list + 1)) }
+    {
+        if let Some(entry) = count.entry(municipality, list) {
+            self.note(&Change {
+                constituency: count.setup().constituency_of(municipality),
+                list,
+                before: 0,
+                after: entry.votes.unwrap_or(0),
+            });
+        }
     }
 }

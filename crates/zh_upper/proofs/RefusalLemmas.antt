@@ -5,13 +5,13 @@ use Rattle.std.specs.Str.{bytes_eq}
 use Rattle.std.proofs.lemmas.Bool.{cases_order}
 use Rattle.zh_divisors.specs.Fit.{IsTied}
 use Rattle.zh_divisors.specs.Shares.{Apportions}
-use Rattle.zh_divisors.specs.declared.fault.ShareFault.{ShareFault}
-use Rattle.zh_divisors.specs.declared.fault.ShareFault.TheVariants as share_faults
+use Rattle.zh_divisors.specs.declared.shares.ShareFault.{ShareFault}
+use Rattle.zh_divisors.specs.declared.shares.ShareFault.TheVariants as share_faults
 use Rattle.zh_upper.specs.Refusals.{HaveNoUpperSeats, IsRefusedExactly, IsUpperCase, NoUpperCaseBefore, of_share_fault, upper_place, upper_refusal_name}
 use Rattle.zh_upper.specs.UpperSeats.{of_participants}
 use Rattle.zh_upper.specs.declared.fault.UpperFault.TheVariants.{Memory, Refused}
-use Rattle.zh_upper.specs.declared.refusal.UpperRefusal.{UpperRefusal}
-use Rattle.zh_upper.specs.declared.refusal.UpperRefusal.TheVariants.{NoGroup, NoVoters, Tied}
+use Rattle.zh_upper.specs.declared.fault.UpperRefusal.{UpperRefusal}
+use Rattle.zh_upper.specs.declared.fault.UpperRefusal.TheVariants.{NoGroup, NoVoters, Tied}
 use Rattle.zh_upper.proofs.ParticipantLemmas.{Contains-from_participant}
 
 -- all of them, in their order

@@ -1,13 +1,13 @@
 -- Why the groups get no seats: of these cases, in this order, the first that holds decides.
 use Rattle.std.specs.Prelude.{◌≡◌, ℕ, ◌<◌, ◌⊎◌, Bool, true, Result, IsErrOf, List, All, Contains, codes}
 use Rattle.zh_divisors.specs.Fit.{IsTied}
-use Rattle.zh_divisors.specs.declared.fault.ShareFault.{ShareFault}
-use Rattle.zh_divisors.specs.declared.fault.ShareFault.TheVariants as share_faults
+use Rattle.zh_divisors.specs.declared.shares.ShareFault.{ShareFault}
+use Rattle.zh_divisors.specs.declared.shares.ShareFault.TheVariants as share_faults
 use Rattle.zh_upper.specs.UpperSeats.{of_participants}
 use Rattle.zh_upper.specs.declared.fault.UpperFault.{UpperFault}
 use Rattle.zh_upper.specs.declared.fault.UpperFault.TheVariants.{Memory, Refused}
-use Rattle.zh_upper.specs.declared.refusal.UpperRefusal.{UpperRefusal}
-use Rattle.zh_upper.specs.declared.refusal.UpperRefusal.TheVariants.{NoGroup, NoVoters, Tied}
+use Rattle.zh_upper.specs.declared.fault.UpperRefusal.{UpperRefusal}
+use Rattle.zh_upper.specs.declared.fault.UpperRefusal.TheVariants.{NoGroup, NoVoters, Tied}
 
 -- the case of each, by the voter sums, who takes part, and the house: no group takes part; every group that does has the
 -- voter sum 0; the apportionment to the groups that take part is tied

@@ -1,13 +1,13 @@
-ghost use Rattle.std.specs.Prelude.{◌≡◌, ◌^◌, ◌<◌, ◌≤◌, All, Any, IfOk, MatchBool, length};
+//! The seats of the groups in the whole canton.
+ghost use Rattle.std.specs.Prelude.{◌≡◌, ◌^◌, ◌<◌, ◌≤◌, All, Any, IfOk, MatchBool, length, ℕ, false, Some, count_by, slice_get};
+ghost use Rattle.std.specs.Prelude.{slice_index};
 ghost use Rattle.zh_divisors.specs.Shares.{Apportions, HasDivisor, RoundsEach};
 ghost use Rattle.zh_upper.specs.Refusals.{HaveNoUpperSeats, IsRefusedExactly};
 ghost use Rattle.zh_upper.specs.UpperSeats.{AreUpperSeats, of_participants, shares_of_participants};
 
-use crate::fault::UpperFault;
-use crate::participants::{of_participants, spread};
-use crate::refusal::UpperRefusal;
+use crate::fault::{UpperFault, UpperRefusal};
 use crate::seats::Upper;
-use std::alloc::Global;
+use std::alloc::{AllocError, Global};
 use zh_divisors::{ShareFault, Shares, Weights, apportion};
 
 /// Whether some voter sum is not 0.
@@ -60,4 +60,41 @@ pub fn upper(
     let shares = shares_of(alloc, &sums, house)?;
     let seats = spread(alloc, shares.seats(), taking)?;
     Ok(Upper::new(seats, shares.num(), shares.den()))
+}
+
+/// The voter sums of the groups that take part, in their order.
+pub(crate) fn of_participants(
+    alloc: Global,
+    voters: &[u64],
+    taking: &[bool],
+) -> Result<Vec<u64>, AllocError>
+    requires { length taking.now ≡ length voters.now }
+    ensures { IfOk result (λ sums. sums.items ≡ of_participants voters.now taking.now) }
+{
+    voters
+        .iter()
+        .zip(taking)
+        .filter(|(_, takes_part)| **takes_part)
+        .map(|(sum, _)| *sum)
+        .collect(alloc)
+}
+
+/// The seats of all groups, from those of the groups that take part: 0 for each of the others.
+pub(crate) fn spread(alloc: Global, seats: &[u32], taking: &[bool]) -> Result<Vec<u32>, AllocError>
+    requires { length seats.now ≡ count_by (λ takes_part. takes_part) taking.now }
+    ensures one_each { IfOk result (λ all. length all.items ≡ length taking.now) }
+    ensures participants { IfOk result (λ all. of_participants all.items taking.now ≡ seats.now) }
+    ensures others { IfOk result (λ all. (place : ℕ) → slice_get taking.now place ≡ Some false → slice_index all.items place ≡ 0) }
+{
+    let mut all = Vec::with_capacity(alloc, taking.len())?;
+    let mut next = 0;
+    for takes_part in taking {
+        if *takes_part {
+            all.push(seats[next])?;
+            next += 1;
+        } else {
+            all.push(0)?;
+        }
+    }
+    Ok(all)
 }

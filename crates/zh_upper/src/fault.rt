@@ -1,7 +1,8 @@
-ghost use Rattle.std.specs.Prelude.{◌≡◌};
+//! Why no seats are found.
+ghost use Rattle.std.specs.Prelude.{◌≡◌, ◌≤◌, length};
+ghost use Rattle.zh_upper.specs.Refusals.{upper_refusal_name};
 ghost use Rattle.zh_upper.specs.declared.fault.UpperFault.TheVariants.{Memory};
 
-use crate::refusal::UpperRefusal;
 use std::alloc::AllocError;
 use thiserror::Error;
 use zh_divisors::ShareFault;
@@ -34,6 +35,31 @@ impl From<ShareFault> for UpperFault {
         match fault {
             ShareFault::Memory => UpperFault::Memory,
             ShareFault::Tied => UpperFault::Refused(UpperRefusal::Tied),
+        }
+    }
+}
+
+/// Why the groups get no seats, in the order in which the cases are looked for.
+#[derive(Clone, Copy, Debug, PartialEq, Eq)]
+pub enum UpperRefusal {
+    /// No group takes part.
+    NoGroup,
+    /// The voter sums of all groups that take part are 0.
+    NoVoters,
+    /// A seat is worth as much to two groups that take part.
+    Tied,
+}
+
+impl UpperRefusal {
+    /// Its name, as replies spell it.
+    pub fn name(self) -> &'static str
+        ensures name { upper_refusal_name self ≡ result.now }
+        ensures short { length result.now ≤ 12 }
+    {
+        match self {
+            UpperRefusal::NoGroup => "nogroup",
+            UpperRefusal::NoVoters => "novoters",
+            UpperRefusal::Tied => "tied upper",
         }
     }
 }

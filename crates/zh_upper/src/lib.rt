@@ -6,20 +6,15 @@
 #![tactic(auto)]
 
 pub use apportionment::upper;
-pub use fault::UpperFault;
+pub use fault::{UpperFault, UpperRefusal};
 pub use laws::one_voter_number;
-pub use number::voter_number;
 pub use ranges::{SeatRanges, upper_ranges};
-pub use refusal::UpperRefusal;
 pub use seats::Upper;
-pub use sums::voters;
+pub use voter_sums::{voter_number, voters};
 
 mod apportionment;
 mod fault;
 mod laws;
-mod number;
-mod participants;
 mod ranges;
-mod refusal;
 mod seats;
-mod sums;
+mod voter_sums;

@@ -4,9 +4,9 @@ ghost use Rattle.zh_divisors.specs.Fit.{IsTied};
 ghost use Rattle.zh_upper.specs.Halves.{AreFewHalves, IsFirstAbove, rounded_down, rounded_up, total_up};
 ghost use Rattle.zh_upper.specs.Ranges.{AreSeatRanges, AreUpperRanges};
 ghost use Rattle.zh_upper.specs.Refusals.{HaveNoUpperSeats};
-ghost use Rattle.zh_upper.specs.declared.refusal.UpperRefusal.TheVariants.{Tied};
+ghost use Rattle.zh_upper.specs.declared.fault.UpperRefusal.TheVariants.{Tied};
 
-use crate::participants::{of_participants, spread};
+use crate::apportionment::{of_participants, spread};
 use std::alloc::{AllocError, Global};
 use zh_divisors::{Weights, same_claims};
 

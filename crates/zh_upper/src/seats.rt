@@ -1,3 +1,4 @@
+//! The seats of the groups in the whole canton, and the divisor that they follow from.
 ghost use Rattle.std.specs.Prelude.{◌≡◌, ◌-◌, ◌≤◌, length, slice_index};
 
 use std::marker::Model;

@@ -1,2 +1,3 @@
 mod PutLemmas
 mod ShownLemmas
+mod WriteLemmas

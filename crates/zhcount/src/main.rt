@@ -8,8 +8,7 @@ use status::run;
 use std::process::ExitCode;
 use std::{env, io};
 use unknown::UnknownContent;
-use zh_file::{FolderFiles, HostFolder};
-use zh_world::{Remark, World};
+use zh_file::{FolderFiles, HostFolder, Remark, World};
 
 /// Hands the arguments, the streams and the files of the operating system on, and returns the status.
 fn main(rt: HostRuntime) -> ExitCode {

@@ -4,15 +4,14 @@ ghost use Rattle.std.specs.Prelude.{◌≡◌, ◌≢◌, drop, map, string_byte
 ghost use Rattle.std.specs.Process.{exit_status};
 ghost use Rattle.zh_program.specs.Does.{ProgramDoes};
 ghost use Rattle.zh_program.specs.Program.{NothingDone};
-ghost use Rattle.zh_tasks.specs.World.{known};
+ghost use Rattle.zh_program.specs.World.{known};
 
 use std::alloc::Global;
 use std::io;
 use std::io::{ErrorKind, Read, Write};
 use std::process::ExitCode;
-use zh_program::program;
-use zh_tasks::Used;
-use zh_world::{Ended, Files, World};
+use zh_file::{Ended, Files, World};
+use zh_program::{Used, program};
 
 /// The arguments after the program's name.
 fn after_name(all: &[String]) -> &[String]

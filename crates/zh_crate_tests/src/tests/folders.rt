@@ -4,8 +4,7 @@ use std::alloc::Global;
 use std::io;
 use std::test::Fail;
 use zh_disk::DISK_LENGTH;
-use zh_file::{MemoryFolder, Stood, open, open_or_make};
-use zh_world::{FileCause, FileFault};
+use zh_file::{FileCause, FileFault, MemoryFolder, Stood, open, open_or_make};
 
 /// A folder in which so many bytes stand at `d`.
 fn with_file(alloc: Global, length: u64) -> io::Result<MemoryFolder<()>> {

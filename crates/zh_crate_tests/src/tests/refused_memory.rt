@@ -1,4 +1,4 @@
-//! Allocations that are refused, one in each run: tests/refused_allocations.sh runs these tests once for each that is
+//! Allocations that are refused, one in each run: tests/test_refused.py runs these tests once for each that is
 //! made. What is called is called once more where memory was refused to it.
 
 use std::alloc::Global;

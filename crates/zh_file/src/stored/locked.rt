@@ -3,14 +3,13 @@ ghost use Rattle.std.specs.Prelude.{◌≡◌, ◌<◌, ◌∷◌, [], length, f
 ghost use Rattle.zh_file.specs.Locked.{kinds_after};
 ghost use Rattle.sqlite_disk.specs.Disk.{Cut, Holds, Only, Torn};
 ghost use Rattle.zh_disk.specs.Disk.{disk_length, fresh_trail};
-ghost use Rattle.zh_world.specs.Past.{items};
+ghost use Rattle.zh_film.specs.Past.{items};
 
 use super::{HeldFile, Stored};
-use crate::ranges::Ranges;
 use sqlite_disk::Disk as File;
 use std::io::{self, ErrorKind};
 use std::snapshot::Snapshot;
-use zh_world::Past;
+use zh_film::Past;
 
 /// A file that is locked. It notes what it was before each of its calls, and which of them failed, which only clauses read. Nothing
 /// else reaches it: code over any folder can neither drop one nor take its file out.
@@ -127,7 +126,7 @@ impl<D: File> Locked<D> {
         Stored {
             held: HeldFile {
                 file,
-                written: Ranges::new(),
+                written: Past::new(),
             },
             opening,
             before: Past::new(),

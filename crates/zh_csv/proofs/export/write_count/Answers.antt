@@ -1,6 +1,6 @@
 use Rattle.std.proofs.Common.{List, ℕ, ◌++◌, IfOk, length, subst}
 use Rattle.std.specs.Io.KnownBytes.{Appends}
-use Rattle.zh_record_text.specs.Each.{each_to}
+use Rattle.zh_text.specs.Each.{each_to}
 use Rattle.zh_csv.specs.Export.{municipality_text}
 use Rattle.zh_csv.specs.Records.{names}
 use Rattle.zh_csv.proofs.ExportLemmas.{names_plain, row_text-plain}

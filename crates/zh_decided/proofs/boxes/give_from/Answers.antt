@@ -1,8 +1,8 @@
 use Rattle.std.proofs.Common.{◌+◌, ◌*◌, ◌^◌, length, slice_index, refl, arith}
 use Rattle.std.proofs.lemmas.Bool.{false≢true}
-use Rattle.zh_logarithms.specs.Logarithms.{log_unit}
+use Rattle.zh_decided.specs.Logarithms.{log_unit}
 use Rattle.zh_matrices.specs.Asked.{asked}
-use Rattle.zh_sweeps.specs.Taken.{logs}
+use Rattle.zh_decided.specs.Taken.{logs}
 use Rattle.zh_decided.proofs.BeyondLemmas.{no-cycle-in-box, out-of-range}
 use Rattle.zh_decided.proofs.BoxLemmas.{column-reached, gives-strictly, row-reached, same-logs, within-limits}
 use Rattle.zh_decided.proofs.FirstBoxLemmas.{in-box, not-cycle, not-out}

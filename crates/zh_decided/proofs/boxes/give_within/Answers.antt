@@ -1,7 +1,7 @@
 use Rattle.std.proofs.Common.{inl, inr, refl, arith}
 use Rattle.std.proofs.lemmas.Bool.{cases_eq, cases_lt}
 use Rattle.zh_matrices.specs.Asked.{asked}
-use Rattle.zh_sweeps.specs.Taken.{logs}
+use Rattle.zh_decided.specs.Taken.{logs}
 use Rattle.zh_decided.proofs.FirstBoxLemmas.{outside}
 use Rattle.zh_decided.proofs.boxes.give_within.Goals as goal
 

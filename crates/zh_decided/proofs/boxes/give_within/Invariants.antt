@@ -1,8 +1,8 @@
 use Rattle.std.proofs.Common.{◌≡◌, ℕ, ◌-◌, ◌*◌, ◌<◌, length}
 use Rattle.zh_matrices.specs.Asked.{asked}
-use Rattle.zh_sweeps.specs.Sweeps.{StandsFree}
-use Rattle.zh_sweeps.specs.Taken.{logs, priced_in}
-use Rattle.zh_sweeps.specs.declared.sweeps.Potentials.{Potentials}
+use Rattle.zh_decided.specs.Sweeps.{StandsFree}
+use Rattle.zh_decided.specs.Taken.{logs, priced_in}
+use Rattle.zh_decided.specs.declared.sweeps.Potentials.{Potentials}
 use Rattle.zh_decided.specs.Boxes.{NoneInRange, StandsInBox}
 use Rattle.zh_decided.proofs.boxes.give_within.Given as goal
 

@@ -1,5 +1,5 @@
 use Rattle.std.proofs.Common.{ℕ, ◌-◌, ◌^◌, ◌<◌, ◌≤◌, slice_index}
-use Rattle.zh_logarithms.specs.Logarithms.{IsAntilogarithm, IsLog}
+use Rattle.zh_decided.specs.Logarithms.{IsAntilogarithm, IsLog}
 use Rattle.zh_decided.proofs.boxes.take_numbers.Given as goal
 
 abbrev pub invariant-loop-line : goal.invariant-loop-line

@@ -1,10 +1,10 @@
 use Rattle.std.proofs.Common.{◌≡◌, List, ℕ, Ok, Err, rules}
 use Rattle.std.specs.Prelude.{IfOk, IfSome}
 use Rattle.std.specs.String.{string_bytes}
-use Rattle.zh_world.specs.Places.{Places, found_at, companion_of}
-use Rattle.zh_world.specs.Places.Standing.{nothing}
-use Rattle.zh_world.proofs.CallerLemmas.{goes_both}
-use Rattle.zh_file.specs.Faults.{asked_with}
+use Rattle.zh_file.specs.Places.{Places, found_at, companion_of}
+use Rattle.zh_file.specs.Places.Standing.{nothing}
+use Rattle.zh_file.proofs.PlaceLemmas.{goes_both}
+use Rattle.zh_file.specs.Failures.{asked_with}
 use Rattle.zh_file.specs.Folder.{ActsAt, Folders, IsKind, LooksAt, Removes}
 use Rattle.zh_file.specs.Steps.{IsRidOfCompanion, LeavesCompanion}
 use Rattle.zh_file.specs.declared.folder.Found.{Found}

@@ -1,5 +1,5 @@
 use Rattle.std.proofs.Common.{inl, inr, ⊎_elim}
-use Rattle.zh_world.proofs.CallerLemmas.{goes_itself}
+use Rattle.zh_file.proofs.PlaceLemmas.{goes_itself}
 use Rattle.zh_file.specs.Locked.{setbacks_of}
 use Rattle.zh_file.proofs.NoteLemmas.{done_meets, unlocked_meets}
 use Rattle.zh_file.proofs.LockedLemmas.{same_moments}

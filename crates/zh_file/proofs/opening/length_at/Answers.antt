@@ -1,7 +1,7 @@
 use Rattle.std.proofs.Common.{◌≡◌, Err, rules}
 use Rattle.std.specs.IoError.{error_kind}
-use Rattle.zh_world.specs.Causes.{fault_of_kind}
-use Rattle.zh_world.proofs.CallerLemmas.{goes_same}
+use Rattle.zh_file.specs.Causes.{fault_of_kind}
+use Rattle.zh_file.proofs.PlaceLemmas.{goes_same}
 use Rattle.zh_file.proofs.NoteLemmas.{asked_meets, done_meets, folder_meets, special_meets}
 use Rattle.zh_file.proofs.opening.length_at.Goals as goal
 

@@ -1,5 +1,5 @@
-use Rattle.zh_world.proofs.CallerLemmas.{goes_itself}
-use Rattle.zh_file.specs.Faults.{locked_with}
+use Rattle.zh_file.proofs.PlaceLemmas.{goes_itself}
+use Rattle.zh_file.specs.Failures.{locked_with}
 use Rattle.zh_file.proofs.CompanionLemmas.{known_cleared}
 use Rattle.zh_file.proofs.NoteLemmas.{call_goes, lock_meets}
 use Rattle.zh_file.proofs.opening.lock.Goals as goal

@@ -1,14 +1,13 @@
 use Rattle.std.proofs.Common.{◌≡◌, ℕ, List, Err, inl, inr, rules, ⊎_elim, arith}
 use Rattle.std.specs.Prelude.{IfSome}
-use Rattle.zh_world.specs.Files.{IsAsFound}
+use Rattle.zh_file.specs.Files.{IsAsFound}
 use Rattle.zh_file.specs.Locked.{IsLeftOf}
-use Rattle.zh_file.specs.Stored.{IsLeftOpening}
+use Rattle.zh_file.specs.Stored.{IsLeftOpening, stored_history}
 use Rattle.zh_file.proofs.LockedLemmas.{begun_leaves, found_at_path, ok_map}
 use Rattle.zh_disk.specs.Disk.{disk_length}
-use Rattle.zh_file.specs.Stored.{stored_history}
 use Rattle.zh_file.proofs.FolderLemmas.{ok_bytes}
 use Rattle.zh_file.proofs.OpeningLemmas.{file_locked, file_unlocked, known_started, known_unlocked}
-use Rattle.zh_world.proofs.CallerLemmas.{goes_both, meets_after, meets_as}
+use Rattle.zh_file.proofs.PlaceLemmas.{goes_both, meets_after, meets_as}
 use Rattle.zh_file.proofs.CompanionLemmas.{ok_cleared}
 use Rattle.zh_file.proofs.NoteLemmas.{length_meets}
 use Rattle.zh_file.proofs.opening.open.Goals as goal

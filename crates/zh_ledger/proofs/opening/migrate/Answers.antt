@@ -1,6 +1,6 @@
 use Rattle.std.proofs.Common.{◌≢◌, ◌-◌, ◌^◌, ap, refl, sym}
 use Rattle.zh_disk.proofs.CallerLemmas.{no_call, handed}
-use Rattle.zh_records.specs.declared.format.Format.TheVariants.{One, Two}
+use Rattle.zh_returns.specs.declared.command.Format.TheVariants.{One, Two}
 use Rattle.zh_ledger.proofs.MigrationLemmas.{migrates_well, migrates_not, unmigrated}
 use Rattle.zh_ledger.proofs.opening.migrate.Goals as goal
 

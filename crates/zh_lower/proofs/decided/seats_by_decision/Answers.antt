@@ -1,7 +1,7 @@
 use Rattle.std.proofs.Common.{inl, inr, sym, ◌∙◌}
 use Rattle.std.proofs.lemmas.Bool.{false≢true}
 use Rattle.zh_matrices.specs.Asked.{asked}
-use Rattle.zh_sweeps.proofs.CallerLemmas.{few-fitting}
+use Rattle.zh_decided.proofs.CallerLemmas.{few-fitting}
 use Rattle.zh_decided.specs.Rooms.{found}
 use Rattle.zh_decided.specs.declared.decision.Decision.TheVariants.{Beyond, NearlyTied}
 use Rattle.zh_lower.proofs.DecidedLemmas.{few-strict, none-unbalanced}

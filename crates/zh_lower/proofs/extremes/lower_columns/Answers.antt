@@ -4,7 +4,7 @@ use Rattle.zh_matrices.specs.Asked.{asked}
 use Rattle.zh_lower.specs.Extremes.{IsGreatestColumn}
 use Rattle.zh_lower.proofs.ExtremeLemmas.{Enclose-column, NoneGive-column}
 use Rattle.zh_lower.proofs.RoundLemmas.{greatest-set, others-set, still-set}
-use Rattle.zh_search.proofs.CallerLemmas.{AreWithin-set}
+use Rattle.zh_lower.proofs.FilledLemmas.{AreWithin-set}
 use Rattle.zh_lower.proofs.extremes.lower_columns.Goals as goal
 use Rattle.zh_lower.proofs.extremes.lower_columns.Goals.{then-moved, else-moved}
 

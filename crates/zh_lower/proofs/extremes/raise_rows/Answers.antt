@@ -3,7 +3,7 @@ use Rattle.zh_matrices.specs.Asked.{asked}
 use Rattle.zh_lower.specs.Extremes.{IsLeastRow}
 use Rattle.zh_lower.proofs.ExtremeLemmas.{Enclose-row, NoneGive-row}
 use Rattle.zh_lower.proofs.RoundLemmas.{least-set, others-set}
-use Rattle.zh_search.proofs.CallerLemmas.{AreWithin-set}
+use Rattle.zh_lower.proofs.FilledLemmas.{AreWithin-set}
 use Rattle.zh_lower.proofs.extremes.raise_rows.Goals as goal
 
 pub returns-then-divisor-from-clause-out : goal.returns-then-divisor-from-clause-out

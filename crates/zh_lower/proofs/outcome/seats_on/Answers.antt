@@ -2,8 +2,8 @@ use Rattle.std.proofs.Common.{◌≡◌, arith, inl, rules}
 use Rattle.std.proofs.lemmas.Grind.{common_steps}
 use Rattle.zh_matrices.specs.Asked.{asked}
 use Rattle.zh_matrices.specs.SeatMatrix.{IsStrict}
-use Rattle.zh_search.specs.Outcomes.{AreTwoWays, IsFirstHalf, IsReached}
-use Rattle.zh_search.specs.Rooms.{divisors_of}
+use Rattle.zh_lower.specs.Outcomes.{AreTwoWays, IsFirstHalf, IsReached}
+use Rattle.zh_lower.specs.SearchRooms.{divisors_of}
 use Rattle.zh_lower.proofs.SeatingLemmas.{seated, tied}
 use Rattle.zh_lower.proofs.outcome.seats_on.Goals as goal
 

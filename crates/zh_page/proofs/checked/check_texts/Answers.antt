@@ -1,7 +1,7 @@
 use Rattle.std.proofs.Common.{Option, refl, subst, take}
 use Rattle.std.specs.Option.{option_copied}
-use Rattle.zh_checks.specs.Checks.{Inputs}
-use Rattle.zh_held.specs.declared.held_reader.HeldSums.{HeldSums}
+use Rattle.zh_verdicts.specs.Checks.{Inputs}
+use Rattle.zh_csv.specs.declared.held_sums.HeldSums.{HeldSums}
 use Rattle.zh_page.specs.Answers.{AreTextsOf, IsVerdictOn, Texts}
 use Rattle.zh_page.proofs.AnswerLemmas.{says_verdict}
 use Rattle.zh_page.proofs.checked.check_texts.Goals as goal

@@ -1,5 +1,5 @@
 use Rattle.std.proofs.Common.{◌≡◌, inl, inr, refl, ap}
-use Rattle.zh_tasks.specs.World.{known}
+use Rattle.zh_program.specs.World.{known}
 use Rattle.zh_program.proofs.EndingLemmas.{fails, met_fault, was_done}
 use Rattle.zh_program.proofs.PromiseLemmas.{promise_of}
 use Rattle.zh_program.proofs.RehearsalLemmas.{rehearsed_of}

@@ -1,8 +1,8 @@
 use Rattle.std.proofs.Common.{◌≡◌, ◌∙◌, ap, subst, Option}
 use Rattle.std.specs.Prelude.{IfSome}
-use Rattle.zh_records.specs.declared.command.Command.{Command}
+use Rattle.zh_returns.specs.declared.command.Command.{Command}
 use Rattle.zh_returns.specs.Judgement.{judge}
-use Rattle.zh_returns.specs.declared.verdict.Verdict.TheVariants as verdicts
+use Rattle.zh_returns.specs.declared.judgement.Verdict.TheVariants as verdicts
 use Rattle.zh_totals.specs.Counting.{totals_of}
 use Rattle.zh_matrices.proofs.CallerLemmas.{only_seats}
 use Rattle.zh_sheet.specs.Distribution.{question_of}

@@ -1,6 +1,6 @@
 use Rattle.std.proofs.Common.{◌≡◌, ◌∙◌, ℕ, List, subst}
 use Rattle.std.specs.Prelude.{option_map}
-use Rattle.zh_tasks.specs.Remarks.{BecameOf}
+use Rattle.zh_program.specs.Remarks.{BecameOf}
 use Rattle.zh_program.specs.Reports.{report_text}
 use Rattle.zh_program.proofs.report.report.Goals as goal
 

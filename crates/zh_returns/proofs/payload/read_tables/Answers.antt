@@ -9,7 +9,7 @@ use Rattle.zh_returns.specs.Tables.{IsTable, tally_from, bit_of}
 use Rattle.zh_returns.proofs.ClosedBytesLemmas.{none_above, packed, unpacked}
 use Rattle.zh_returns.proofs.OnePayloadLemmas.{format_once}
 use Rattle.zh_returns.proofs.TallyTableLemmas.{table_within, length-table_of, table_is}
-use Rattle.zh_records.proofs.CallerLemmas.{eight_read, first_fit}
+use Rattle.zh_returns.proofs.NumeralLemmas.{eight_read, first_fit}
 use Rattle.zh_returns.proofs.PayloadLemmas.{parts, parts_read, tables_within, tables_said}
 use Rattle.zh_returns.proofs.payload.read_tables.Goals as goal
 use Rattle.zh_returns.proofs.payload.read_tables.Goals.{then-not-none_set-via-then-not-none_set, then-not-none_set-via-else-not-none_set+then-not-read_entries}

@@ -2,7 +2,7 @@ use Rattle.std.proofs.Common.{◌∙◌, Err, ap, sym, ⊎_elim, arith}
 use Rattle.std.proofs.lemmas.Result.{IfOk-weaker}
 use Rattle.toml.specs.View.{table_view}
 use Rattle.zh_setups.specs.SetupText.{SetupOf, Describes}
-use Rattle.zh_setups.specs.declared.fault.SetupRefusal.{SetupRefusal}
+use Rattle.zh_setups.specs.declared.text.SetupRefusal.{SetupRefusal}
 use Rattle.zh_setups.proofs.SetupTextLemmas.{reading_of-table, reading_of-none}
 use Rattle.zh_setups.proofs.text.read_setup.Goals as goal
 

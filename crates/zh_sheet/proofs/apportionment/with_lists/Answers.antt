@@ -1,5 +1,5 @@
 use Rattle.std.proofs.lemmas.Result.{err_from_is_err_and}
-use Rattle.zh_lower.proofs.CallerLemmas.{only_seats}
+use Rattle.zh_matrices.proofs.CallerLemmas.{only_seats}
 use Rattle.zh_sheet.specs.Distribution.{lower_question}
 use Rattle.zh_sheet.proofs.AskedLemmas.{can_be_asked}
 use Rattle.zh_sheet.proofs.DistributionLemmas.{column_there, lower_given, lower_refused, targets_above}

@@ -1,7 +1,7 @@
 use Rattle.std.proofs.lemmas.Result.{IfOk-weaker}
 use Rattle.zh_upper.specs.Ranges.{AreUpperRanges}
 use Rattle.zh_upper.specs.declared.ranges.SeatRanges.{SeatRanges}
-use Rattle.zh_upper.specs.declared.refusal.UpperRefusal.TheVariants.{Tied}
+use Rattle.zh_upper.specs.declared.fault.UpperRefusal.TheVariants.{Tied}
 use Rattle.zh_sheet.specs.Distribution.{HaveSeats}
 use Rattle.zh_sheet.specs.Lots.{AreGroupRanges}
 use Rattle.zh_sheet.proofs.TargetLemmas.{IsBasis, reason_above}

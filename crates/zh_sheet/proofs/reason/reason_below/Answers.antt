@@ -1,7 +1,7 @@
 use Rattle.std.proofs.Common.{◌≡◌, ap, length, refl, subst, sym, ◌∙◌}
 use Rattle.zh_matrices.specs.Asked.{asked}
 use Rattle.zh_matrices.specs.Question.{AreSeatTotals, Question}
-use Rattle.zh_possible.specs.Ways.{AreBalanced}
+use Rattle.zh_decided.specs.Ways.{AreBalanced}
 use Rattle.zh_sheet.specs.Distribution.{lower_question, seated_groups}
 use Rattle.zh_sheet.specs.Reasons.{IsReasonAmong}
 use Rattle.zh_sheet.proofs.AskedLemmas.{can_be_asked, length-upper}

@@ -1,5 +1,5 @@
 use Rattle.std.proofs.Common.{refl}
-use Rattle.zh_floating.specs.Floats.{floating}
+use Rattle.zh_decided.specs.Floats.{floating}
 use Rattle.zh_matrices.specs.Divisors.{millionths}
 use Rattle.zh_sheet.proofs.reason.reason_of.Goals as goal
 

@@ -1,6 +1,6 @@
 use Rattle.std.proofs.Common.{◌≡◌, length, arith, sym}
 use Rattle.std.proofs.lemmas.List.{append-nil}
-use Rattle.zh_record_text.proofs.CallerLemmas.{gathered-next}
+use Rattle.zh_text.proofs.CallerLemmas.{gathered-next}
 use Rattle.zh_tables.specs.Returns.{due_of}
 use Rattle.zh_tables.proofs.due.push_each_due.Goals as goal
 

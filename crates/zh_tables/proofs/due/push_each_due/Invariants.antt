@@ -1,5 +1,5 @@
 use Rattle.std.proofs.Common.{◌≡◌, ◌++◌}
-use Rattle.zh_record_text.specs.Each.{each_to}
+use Rattle.zh_text.specs.Each.{each_to}
 use Rattle.zh_tables.specs.Returns.{due_of}
 use Rattle.zh_tables.proofs.due.push_each_due.Given as goal
 

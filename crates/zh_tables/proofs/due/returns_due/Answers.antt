@@ -1,5 +1,5 @@
 use Rattle.std.proofs.Common.{[]}
-use Rattle.zh_record_text.proofs.CallerLemmas.{gathered-next}
+use Rattle.zh_text.proofs.CallerLemmas.{gathered-next}
 use Rattle.zh_tables.specs.Returns.{returns_within}
 use Rattle.zh_tables.proofs.due.returns_due.Goals as goal
 

@@ -1,5 +1,5 @@
 use Rattle.std.proofs.Common.{◌≡◌}
-use Rattle.zh_record_text.specs.Each.{each_to}
+use Rattle.zh_text.specs.Each.{each_to}
 use Rattle.zh_tables.specs.Returns.{returns_within}
 use Rattle.zh_tables.proofs.due.returns_due.Given as goal
 

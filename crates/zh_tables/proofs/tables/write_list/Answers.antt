@@ -1,12 +1,12 @@
 use Rattle.std.proofs.Common.{List, length, ◌++◌, refl, subst, ◌∙◌}
 use Rattle.std.specs.Io.KnownBytes.{Appends}
 use Rattle.std.specs.List.{flat_map}
-use Rattle.zh_record_text.specs.Each.{each_to}
+use Rattle.zh_text.specs.Each.{each_to}
 use Rattle.zh_record_text.specs.Records.{record_text}
 use Rattle.zh_tables.specs.Returns.{return_columns, return_row}
 use Rattle.zh_tables.specs.Tables.{group_row, list_rows, municipality_row, problem_rows, return_rows}
 use Rattle.zh_tables.specs.declared.due.Due.{Due}
-use Rattle.zh_tables.specs.declared.table.Table.TheVariants.{Groups, Lists, Municipalities, Problems, Returns}
+use Rattle.zh_tables.specs.declared.tables.Table.TheVariants.{Groups, Lists, Municipalities, Problems, Returns}
 use Rattle.zh_tables.proofs.TextLemmas.{table_text}
 use Rattle.zh_tables.proofs.tables.write_list.Goals as goal
 

@@ -1,5 +1,5 @@
 use Rattle.std.proofs.Common.{◌++◌, ◌∙◌, ℕ, List, ap}
-use Rattle.zh_record_text.proofs.CallerLemmas.{gathered-next}
+use Rattle.zh_text.proofs.EachLemmas.{gathered-next}
 use Rattle.zh_text.specs.Shown.{shown_at}
 use Rattle.zh_text.proofs.shown.push_shown.Goals as goal
 

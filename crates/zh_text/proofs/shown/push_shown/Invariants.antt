@@ -1,5 +1,5 @@
 use Rattle.std.proofs.Common.{◌≡◌, ◌++◌}
-use Rattle.zh_record_text.specs.Each.{each_to}
+use Rattle.zh_text.specs.Each.{each_to}
 use Rattle.zh_text.specs.Shown.{shown_at}
 use Rattle.zh_text.proofs.shown.push_shown.Given as goal
 

@@ -3,7 +3,7 @@ use Rattle.std.proofs.lemmas.Grind.{common_steps}
 use Rattle.std.proofs.lemmas.Result.{err_from_is_err_and}
 use Rattle.zh_divisors.specs.Shares.{HasDivisor, RoundsEach}
 use Rattle.zh_upper.specs.UpperSeats.{of_participants}
-use Rattle.zh_upper.specs.declared.refusal.UpperRefusal.TheVariants.{NoVoters}
+use Rattle.zh_upper.specs.declared.fault.UpperRefusal.TheVariants.{NoVoters}
 use Rattle.zh_upper.proofs.RefusalLemmas.{first_refused, none_refused, shares_refused, some_group, untied}
 use Rattle.zh_upper.proofs.ParticipantLemmas.{length-of_participants, length-of_participants-le, All-of_participants, of_shares}
 use Rattle.zh_upper.proofs.apportionment.upper.Goals as goal

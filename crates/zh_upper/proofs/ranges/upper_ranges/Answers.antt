@@ -1,6 +1,6 @@
 use Rattle.std.proofs.Common.{◌≤◌, ◌^◌, ◌∙◌, ap, arith, length}
 use Rattle.zh_upper.specs.UpperSeats.{of_participants}
-use Rattle.zh_upper.specs.declared.refusal.UpperRefusal.TheVariants.{NoVoters}
+use Rattle.zh_upper.specs.declared.fault.UpperRefusal.TheVariants.{NoVoters}
 use Rattle.zh_upper.proofs.ClaimLemmas.{some_positive}
 use Rattle.zh_upper.proofs.ParticipantLemmas.{All-of_participants, length-of_participants, length-of_participants-le}
 use Rattle.zh_upper.proofs.ranges.upper_ranges.Goals as goal

@@ -1,6 +1,6 @@
 use Rattle.std.proofs.Common.{◌∙◌, ℕ, List, ap, drop, map, string_bytes, subst, sym}
 use Rattle.zh_program.specs.Does.{ProgramDoes}
-use Rattle.zh_tasks.specs.World.{known}
+use Rattle.zh_program.specs.World.{known}
 use Rattle.zhcount.proofs.status.run.Goals as goal
 
 pub returns-in-Ok : goal.returns-in-Ok

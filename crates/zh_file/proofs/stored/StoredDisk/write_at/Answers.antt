@@ -1,8 +1,8 @@
 use Rattle.std.proofs.Common.{◌∷◌, inl, refl, arith, ap, ◌∙◌}
 use Rattle.std.proofs.lemmas.Grind.{common_steps}
 use Rattle.std.specs.Prelude.{map}
-use Rattle.zh_world.specs.Past.{items}
-use Rattle.zh_file.specs.Held.{moment}
+use Rattle.zh_film.specs.Past.{items}
+use Rattle.zh_file.specs.Stored.{moment}
 use Rattle.zh_file.proofs.CallLemmas.{writes}
 use Rattle.zh_file.proofs.FailureLemmas.{file_counts, refused_call}
 use Rattle.zh_file.proofs.stored.StoredDisk.write_at.Goals as goal
@@ -15,7 +15,7 @@ returns-clause-call g c =
       did = λ clean.
           let size = c.args.self.now.size (call.clean clean) in
           writes _ _ _ _ _ _ c.args.at c.args.from.now c.write_at-done.result c.reported.result c.reported.ensures
-          c.push-2.ensures
+          (c.push-2.ensures ∙ ap (λ r. r ∷ items c.args.self.now.held.written) c.of-2.ensures)
           (ap (map (moment g.D.Disk.seen)) c.push.ensures ∙ ap (λ h. moment g.D.Disk.seen h ∷ map (moment g.D.Disk.seen) (items c.args.self.now.before)) c.of.ensures)
           (omega (arith, c.requires, size)) call.others call.written;
       counts = file_counts _ _ _ c.write_at-done.result c.reported.result c.reported.ensures call.faults;

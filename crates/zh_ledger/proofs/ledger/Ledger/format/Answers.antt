@@ -4,7 +4,7 @@ use Rattle.std.proofs.lemmas.Result.{on_ok_weaker}
 use Rattle.zh_disk.proofs.CallerLemmas.{told, refused}
 use Rattle.zh_districts.specs.Spelling.{setup_spelling}
 use Rattle.zh_returns.specs.Limits.{IsTally}
-use Rattle.zh_records.specs.declared.format.Format.TheVariants.{Two}
+use Rattle.zh_returns.specs.declared.command.Format.TheVariants.{Two}
 use Rattle.zh_returns.specs.Payload.{payload_spelling}
 use Rattle.zh_returns.specs.Tally.{empty}
 use Rattle.zh_snapshot.specs.Format.{IsFormatted}

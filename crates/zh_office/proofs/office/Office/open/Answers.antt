@@ -3,7 +3,7 @@ use Rattle.zh_disk.proofs.CallerLemmas.{leaves_none, no_call}
 use Rattle.zh_disk.specs.History.{History}
 use Rattle.zh_districts.specs.Canton.{Canton}
 use Rattle.zh_ledger.specs.Opening.{Opening}
-use Rattle.zh_ledger.specs.declared.fault.OpenFault.TheVariants as faults
+use Rattle.zh_ledger.specs.declared.opening.OpenFault.TheVariants as faults
 use Rattle.zh_office.proofs.office.Office.open.Goals as goal
 
 -- without memory no call of the disk is made
@@ -29,4 +29,4 @@ returns-in_err-ledger-clause-opening g c =
     rw is c.in_err-ledger.ensures.opening
 
 pub returns-clause-opening : goal.returns-clause-opening
-returns-clause-opening g c = rw c.new.ensures.ledger c.in_ok-ledger.ensures.opening
+returns-clause-opening g c = c.in_ok-ledger.ensures.opening

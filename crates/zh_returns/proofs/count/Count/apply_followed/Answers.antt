@@ -1,5 +1,5 @@
 use Rattle.std.proofs.Common.{rules, ◌≡◌, ◌∙◌, Some, sym, ap}
-use Rattle.zh_returns.specs.declared.verdict.Verdict.TheVariants.{Accept}
+use Rattle.zh_returns.specs.declared.judgement.Verdict.TheVariants.{Accept}
 use Rattle.zh_returns.specs.Judgement.{judge, judge_row, is_refusal}
 use Rattle.zh_returns.proofs.JudgementLemmas.{row_kept, accepted_from_one}
 use Rattle.zh_returns.proofs.count.Count.apply_followed.Goals as goal

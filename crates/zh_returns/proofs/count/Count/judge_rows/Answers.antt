@@ -1,7 +1,7 @@
 use Rattle.std.proofs.Common.{◌∙◌, Bool, true, false, cond, map, take, sym, ap, refl}
 use Rattle.std.specs.List.{list_any}
 use Rattle.std.proofs.Math.Bool.{or_comm}
-use Rattle.zh_returns.specs.declared.verdict.Verdict.TheVariants.{Accept, Same, Refused}
+use Rattle.zh_returns.specs.declared.judgement.Verdict.TheVariants.{Accept, Same, Refused}
 use Rattle.zh_returns.specs.Judgement.{judge_row, is_accept}
 use Rattle.zh_returns.proofs.VerdictLemmas.{unrefused_more, accepted_more, first_refusal}
 use Rattle.zh_returns.proofs.count.Count.judge_rows.Goals as goal

@@ -1,6 +1,6 @@
 use Rattle.std.proofs.Common.{◌≡◌, None, cond, map, take}
 use Rattle.std.specs.List.{find, list_any}
-use Rattle.zh_returns.specs.declared.verdict.Verdict.TheVariants.{Accept, Same}
+use Rattle.zh_returns.specs.declared.judgement.Verdict.TheVariants.{Accept, Same}
 use Rattle.zh_returns.specs.Judgement.{judge_row, is_refusal, is_accept}
 use Rattle.zh_returns.proofs.count.Count.judge_rows.Given as goal
 

@@ -3,7 +3,7 @@ use Rattle.zh_districts.specs.Canton.{Canton, constituency_of}
 use Rattle.zh_returns.specs.declared.entry.Entry.{Entry}
 use Rattle.zh_returns.specs.Limits.{IsTally}
 use Rattle.zh_returns.specs.Tally.{Tally, held}
-use Rattle.zh_totals.specs.declared.change.Change.{Change}
+use Rattle.zh_totals.specs.declared.totals.Change.{Change}
 use Rattle.zh_totals.specs.Totals.{VoteTotals}
 use Rattle.zh_totals.specs.Counting.{votes_of, totals_of}
 use Rattle.zh_totals.specs.Changes.{IsChange, noted}

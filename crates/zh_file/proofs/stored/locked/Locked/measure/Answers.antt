@@ -1,6 +1,6 @@
 use Rattle.std.proofs.Common.{◌≡◌, Err, rules}
 use Rattle.std.specs.IoError.{error_kind}
-use Rattle.zh_world.specs.Past.{items}
+use Rattle.zh_film.specs.Past.{items}
 use Rattle.zh_file.proofs.NoteLemmas.{last_kind, used_fault}
 use Rattle.zh_file.proofs.LockedLemmas.{asked_leaves, stay_step}
 use Rattle.zh_file.proofs.stored.locked.Locked.measure.Goals as goal

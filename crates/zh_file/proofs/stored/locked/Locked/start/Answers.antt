@@ -1,5 +1,5 @@
 use Rattle.std.proofs.Common.{◌∷◌, ◌∙◌, ap}
-use Rattle.zh_world.specs.Past.{items}
+use Rattle.zh_film.specs.Past.{items}
 use Rattle.zh_file.proofs.stored.locked.Locked.start.Goals as goal
 
 pub returns-clause-opening : goal.returns-clause-opening

@@ -1,4 +1,0 @@
-mod AnswerLemmas
-mod BrokenLemmas
-mod WithoutCommandLemmas
-pub mod CallerLemmas

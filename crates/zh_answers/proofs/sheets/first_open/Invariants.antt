@@ -1,7 +1,0 @@
-use Rattle.std.proofs.Common.{◌≡◌, ◌<◌, ◌≤◌, ℕ, true}
-use Rattle.std.specs.FinSet as set
-use Rattle.zh_answers.proofs.sheets.first_open.Given as goal
-
--- the municipalities so far are closed
-abbrev pub invariant-loop-municipality : goal.invariant-loop-municipality
-invariant-loop-municipality l = (k : ℕ) → 1 ≤ k → k < l.municipality → set.contains l.count.closed k ≡ true

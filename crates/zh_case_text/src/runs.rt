@@ -1,0 +1,135 @@
+//! What a run of the program is given, and its answer.
+
+use crate::progress::CaseFault;
+use crate::texts::{push_lines, spelled};
+use crate::words::read_number;
+use std::alloc::Global;
+use std::fs;
+
+/// What stands in a file, nothing where none is named.
+pub fn input_in(rt: &HostRuntime, name: &str) -> Result<Vec<u8>, CaseFault> {
+    if name.is_empty() {
+        return Ok(Vec::new(rt.alloc()));
+    }
+    Ok(fs::read(rt, name)?)
+}
+
+/// The words of a text.
+pub fn arguments_in(alloc: Global, text: &str) -> Result<Vec<String>, CaseFault> {
+    let mut arguments = Vec::new(alloc);
+    for argument in text.split_whitespace() {
+        arguments.push(String::from_str(alloc, argument)?)?;
+    }
+    Ok(arguments)
+}
+
+/// The answer of a run: its status, the lines of its output, each after a separator, and those of its standard error.
+pub fn answer_of(
+    alloc: Global,
+    status: u8,
+    separator: &str,
+    out: &[u8],
+    faults: &[u8],
+) -> Result<String, CaseFault> {
+    let mut answer = spelled(alloc, u64::from(status))?;
+    push_lines(&mut answer, separator, out)?;
+    push_lines(&mut answer, " | ", faults)?;
+    Ok(answer)
+}
+
+/// How much passes before all fails: calls of the files, reads of each text, calls of the disk, and bytes of the input and
+/// the output.
+#[derive(Clone, Copy)]
+pub struct Passes {
+    pub files: u64,
+    pub reads: u64,
+    pub calls: u64,
+    pub input: u64,
+    pub output: u64,
+}
+
+/// What passes, as in `calls 3 zhcount ..`, and what stands after `zhcount`. Without a limit all passes.
+pub fn read_passes(text: &str) -> Result<(Passes, &str), CaseFault> {
+    let Some((limit, given)) = text.split_once("zhcount") else {
+        return Err(CaseFault::Text("a run within a limit needs zhcount"));
+    };
+    let mut passes = Passes {
+        files: u64::MAX,
+        reads: u64::MAX,
+        calls: u64::MAX,
+        input: u64::MAX,
+        output: u64::MAX,
+    };
+    let limit = limit.trim();
+    if limit.is_empty() {
+        return Ok((passes, given));
+    }
+    let (word, number) = limit.split_once(' ').unwrap_or((limit, ""));
+    let number = read_number(number)?;
+    match word {
+        "files" => passes.files = number,
+        "reads" => passes.reads = number,
+        "calls" => passes.calls = number,
+        "input" => passes.input = number,
+        "output" => passes.output = number,
+        _ => return Err(CaseFault::Text("there is no such limit")),
+    }
+    Ok((passes, given))
+}
+
+/// The argument after the one of this name, or nothing.
+fn path_after<'t>(arguments: &'t [String], name: &str) -> &'t str {
+    let mut is_next = false;
+    for argument in arguments {
+        if is_next {
+            return argument.as_str();
+        }
+        is_next = argument.as_str() == name;
+    }
+    ""
+}
+
+/// A text of the folder. One that is not there stands at the empty path, which no argument is.
+#[derive(Drop)]
+pub struct TextAtPath {
+    pub path: String,
+    pub bytes: Vec<u8>,
+}
+
+impl TextAtPath {
+    /// The text at the path after the argument of this name.
+    fn read(rt: &HostRuntime, arguments: &[String], name: &str) -> Result<TextAtPath, CaseFault> {
+        let alloc = rt.alloc();
+        let path = path_after(arguments, name);
+        Ok(match fs::read(rt, path) {
+            Ok(bytes) => TextAtPath {
+                path: String::from_str(alloc, path)?,
+                bytes,
+            },
+            Err(_) => TextAtPath {
+                path: String::new(alloc),
+                bytes: Vec::new(alloc),
+            },
+        })
+    }
+}
+
+/// The texts of the folder that the arguments of a run name.
+#[derive(Drop)]
+pub struct RunTexts {
+    pub setup: TextAtPath,
+    pub csv: TextAtPath,
+    pub sheet: TextAtPath,
+    pub held: TextAtPath,
+}
+
+impl RunTexts {
+    pub fn read(rt: &HostRuntime, arguments: &[String]) -> Result<RunTexts, CaseFault> {
+        Ok(RunTexts {
+            setup: TextAtPath::read(rt, arguments, "--setup")?,
+            csv: TextAtPath::read(rt, arguments, "--csv")?,
+            sheet: TextAtPath::read(rt, arguments, "--sheet")?,
+            held: TextAtPath::read(rt, arguments, "--held")?,
+        })
+    }
+}

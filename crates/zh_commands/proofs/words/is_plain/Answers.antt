@@ -1,5 +1,0 @@
-use Rattle.std.proofs.Common.{rules}
-use Rattle.zh_commands.proofs.words.is_plain.Goals as goal
-
-pub returns-in-49-to-57 : goal.returns-in-49-to-57
-returns-in-49-to-57 c = search rules

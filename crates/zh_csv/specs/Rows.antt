@@ -1,0 +1,59 @@
+-- The rows of an export: what is held under a municipality and a list.
+use Rattle.std.specs.Prelude.{◌≡◌, ℕ, ◌<◌, ◌≤◌, ◌^◌, Bool, List, map, All, None, IfSome, unwrap_or}
+use Rattle.std.specs.List.{list_any, IsDistinct}
+use Rattle.std.specs.Ordering.{eq_by_cmp}
+use Rattle.std.specs.FinMap as map_of
+use Rattle.zh_districts.specs.Canton.{Canton}
+use Rattle.zh_returns.specs.Keys.{key_cmp}
+use Rattle.zh_returns.specs.declared.row.Row.{Row}
+use Rattle.zh_returns.specs.declared.entry.Entry.{Entry}
+use Rattle.zh_returns.specs.Origin.{no_desk}
+use Rattle.zh_returns.specs.Tally.{Tally, empty}
+use Rattle.zh_returns.specs.RowFaults.{unfit}
+use Rattle.zh_totals.specs.Counting.{totals_of}
+use Rattle.zh_totals.specs.Totals.{VoteTotals}
+use Rattle.zh_csv.specs.Export.{record_of}
+use Rattle.zh_csv.specs.Records.{Record}
+use Rattle.zh_csv.specs.declared.held_sums.HeldRow.{HeldRow}
+
+-- the key under which it is held
+abbrev pub held_key : HeldRow → ℕ × ℕ
+held_key row = (row.municipality, row.list)
+
+-- what is held there; an export does not say where it came from
+abbrev pub held_entry : HeldRow → Entry
+held_entry row = record { origin = no_desk; number = row.number; votes = row.votes }
+
+-- its record, as an export has it
+abbrev pub held_fields : HeldRow → Record
+held_fields row = record_of row.municipality row.list (held_entry row)
+
+-- as a row of a batch; a withdrawn list has no votes
+abbrev pub as_row : HeldRow → Row
+as_row row = record { municipality = row.municipality; list = row.list; number = row.number; votes = unwrap_or row.votes 0 }
+
+-- numbers of 32 bits, and a replacement number from 1
+pub record IsHeldRow (row : HeldRow) : Type 0 where
+  pub municipality : row.municipality < 2 ^ 32
+  pub list : row.list < 2 ^ 32
+  pub number : (1 ≤ row.number) × (row.number < 2 ^ 32)
+  pub votes : IfSome row.votes (λ votes. votes < 2 ^ 32)
+
+-- whether one of the rows is held under a key
+abbrev pub holds_key : List HeldRow → ℕ × ℕ → Bool
+holds_key rows key = list_any (eq_by_cmp key_cmp key) (map held_key rows)
+
+-- rows of a set-up: each of a list that stands in its municipality, with no more votes than a return may have, and no two
+-- under one key
+pub record AreHeld (canton : Canton) (rows : List HeldRow) : Type 0 where
+  pub readable : All IsHeldRow rows
+  pub fit : All (λ row. unfit canton (as_row row) ≡ None) rows
+  pub keys : IsDistinct (eq_by_cmp key_cmp) (map held_key rows)
+
+-- the count in which these rows are held
+abbrev pub count_of : Canton → List HeldRow → Tally
+count_of canton rows = record (empty canton) { entries = map_of.from_entries (map (λ row. (held_key row, held_entry row)) rows) }
+
+-- the votes of each list in each constituency, summed over the rows
+abbrev pub sums_of : Canton → List HeldRow → VoteTotals
+sums_of canton rows = totals_of (count_of canton rows)

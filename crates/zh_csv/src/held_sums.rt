@@ -1,0 +1,226 @@
+//! The sums of an export, row by row, and why one is not held.
+ghost use Rattle.std.specs.Ordering.{eq_by_cmp};
+ghost use Rattle.std.specs.Prelude.{◌≡◌, Some, IsErrOf, true, ◌≢◌, ◌++◌, ◌∷◌, [], ◌||◌, ℕ, List, MatchResult, IfOk, false, ◌<◌, ◌^◌};
+ghost use Rattle.std.specs.Prelude.{Option, IfSome, MatchOption, length};
+ghost use Rattle.csv.specs.Records.{fields_of};
+ghost use Rattle.zh_csv.specs.Export.{votes_field};
+ghost use Rattle.zh_csv.specs.Faults.{named};
+ghost use Rattle.zh_csv.specs.Held.{IsHolding, row_fault};
+ghost use Rattle.zh_csv.specs.Noted.{has_failed, inner_reader};
+ghost use Rattle.zh_csv.specs.Reading.{IsUnread};
+ghost use Rattle.zh_csv.specs.Rows.{holds_key, IsHeldRow, held_fields};
+ghost use Rattle.zh_csv.specs.Running.{has_seen, AreKeysOf, HasTaken};
+ghost use Rattle.zh_csv.specs.declared.batch_reader.LoadFault.{LoadFault};
+ghost use Rattle.zh_csv.specs.declared.held_sums.HeldRow.{HeldRow};
+ghost use Rattle.zh_districts.specs.Canton.{Canton};
+ghost use Rattle.zh_returns.specs.Keys.{key_cmp};
+ghost use Rattle.zh_returns.specs.declared.row.RowFault.TheVariants.{Twice};
+
+use crate::batch_reader::LoadFault;
+use crate::noted_reader::NotedReader;
+use crate::records::{field, may_be_row};
+use crate::row_reader::{Takes, read_rows};
+use csv::ByteRecord;
+use std::alloc::{AllocError, Global};
+use std::collections::BTreeSet;
+use std::io::Read;
+use zh_districts::Setup;
+use zh_returns::{Reason, Row, RowFault, unfit};
+use zh_text::numeral;
+use zh_totals::{Change, Totals};
+
+/// The rows of an export: how many there are, and for each list in each constituency the votes of them all.
+#[derive(Drop)]
+pub struct HeldSums<'s> {
+    pub rows: u32,
+    pub totals: Totals<'s>,
+}
+
+/// Reads an export: its rows, in any order, and their sums. One record is held at a time, and 16,386 are read at most.
+pub fn read_held<'s, R: Read>(
+    alloc: Global,
+    setup: &'s Setup,
+    text: &mut NotedReader<R>,
+) -> Result<HeldSums<'s>, LoadFault>
+    ensures held { IsHolding setup.now (λ bytes. R.remaining (inner_reader text.old) ≡ Some bytes) result }
+    ensures read { IsErrOf result LoadFault.Read → has_failed text.new ≡ true }
+{
+    let mut sums = RunningSums::new(alloc, setup)?;
+    let rows = read_rows(alloc, text, &mut sums)?;
+    Ok(HeldSums {
+        rows,
+        totals: sums.totals(),
+    })
+}
+
+/// The keys of the rows read so far, and their sums.
+#[derive(Drop)]
+pub(crate) struct RunningSums<'s> {
+    keys: BTreeSet<(u32, u32)>,
+    totals: Totals<'s>,
+}
+
+/// Notes the key of a row, which no row before it may have.
+fn note_key(keys: &mut BTreeSet<(u32, u32)>, municipality: u32, list: u32) -> Result<(), LoadFault>
+    ensures { (rows : List HeldRow) → AreKeysOf rows keys.old → MatchResult result
+        (λ _. (holds_key rows (municipality, list) ≡ false)
+        × ((key : ℕ × ℕ) → has_seen keys.new key ≡ (eq_by_cmp key_cmp key (municipality, list) || holds_key rows key)))
+        (λ fault. fault ≢ LoadFault.Memory → (fault ≡ LoadFault.Row Twice) × (holds_key rows (municipality, list) ≡ true)) }
+{
+    match keys.insert((municipality, list)) {
+        Ok(true) => Ok(()),
+        Ok(false) => Err(LoadFault::Row(RowFault::Twice)),
+        Err(_) => Err(LoadFault::Memory),
+    }
+}
+
+impl<'s> RunningSums<'s> {
+    /// No row was read yet.
+    pub(crate) fn new(alloc: Global, setup: &'s Setup) -> Result<RunningSums<'s>, AllocError>
+        ensures { IfOk result (HasTaken setup.now []) }
+    {
+        Ok(RunningSums {
+            keys: BTreeSet::new(alloc),
+            totals: Totals::new(alloc, setup)?,
+        })
+    }
+
+    /// Notes one row more.
+    fn note(&mut self, row: &HeldRow) -> Result<(), LoadFault>
+        requires readable { IsHeldRow row.now }
+        requires taken { (canton : Canton) × (rows : List HeldRow) × HasTaken canton rows self.old }
+        ensures { (canton : Canton) (rows : List HeldRow) → HasTaken canton rows self.old → MatchResult result
+            (λ _. HasTaken canton (rows ++ row.now ∷ []) self.new)
+            (λ fault. fault ≢ LoadFault.Memory → row_fault canton rows row.now ≡ Some fault) }
+    {
+        let votes = row.votes.unwrap_or(0);
+        let as_row = Row {
+            municipality: row.municipality,
+            list: row.list,
+            number: row.number,
+            votes,
+        };
+        if let Some(reason) = unfit(self.totals.setup(), as_row) {
+            return Err(LoadFault::Judged(reason));
+        }
+        note_key(&mut self.keys, row.municipality, row.list)?;
+        self.totals.note(&Change {
+            constituency: self.totals.setup().constituency_of(row.municipality),
+            list: row.list,
+            before: 0,
+            after: votes,
+        });
+        Ok(())
+    }
+
+    /// The sums.
+    pub(crate) fn totals(self) -> Totals<'s>
+        ensures { result ≡ self.entry.totals }
+    {
+        self.totals
+    }
+}
+
+impl<'s> Takes for RunningSums<'s> {
+    ghost use Rattle.zh_csv.specs.Held.{holding};
+    ghost use Rattle.zh_csv.specs.Running.{HasTaken};
+
+    type Row = HeldRow;
+
+    ghost kind = { holding };
+
+    ghost holds = { λ canton sums rows. HasTaken canton rows sums };
+
+    fn take(&mut self, record: &ByteRecord) -> Result<(), LoadFault> {
+        // So its rows are few.
+        let setup = self.totals.setup();
+        let is_small = setup.municipalities() <= 512 && setup.groups() <= 32;
+        prove!(is_small);
+        self.note(&row_of(record)?)
+    }
+}
+
+/// What is held under a municipality and a list: a replacement number from 1, and the votes, or none where the list is
+/// withdrawn.
+#[derive(Clone, Copy, Debug, PartialEq, Eq)]
+pub struct HeldRow {
+    pub municipality: u32,
+    pub list: u32,
+    pub number: u32,
+    pub votes: Option<u32>,
+}
+
+/// The votes that a field says: a numeral, or that the list is withdrawn.
+fn votes_in(field: &[u8]) -> Option<Option<u32>>
+    ensures { MatchOption result
+        ((votes : Option ℕ) → IfSome votes (λ n. n < 2 ^ 32) → field.now ≢ votes_field votes)
+        (λ votes. IfSome votes (λ n. n < 2 ^ 32) × (field.now ≡ votes_field votes)) }
+{
+    if field == b"withdrawn".as_slice() {
+        return Some(None);
+    }
+    let votes = numeral(field)?;
+    Some(Some(votes))
+}
+
+/// The row that four fields say.
+fn row_in(record: &ByteRecord) -> Option<HeldRow>
+    requires { length (fields_of «record».now) ≡ 4 }
+    ensures { MatchOption result
+        ((row : HeldRow) → IsHeldRow row → fields_of «record».now ≢ held_fields row)
+        (λ row. IsHeldRow row × (fields_of «record».now ≡ held_fields row)) }
+{
+    let row = HeldRow {
+        municipality: numeral(field(record, 0))?,
+        list: numeral(field(record, 1))?,
+        number: numeral(field(record, 2))?,
+        votes: votes_in(field(record, 3))?,
+    };
+    if row.number == 0 { None } else { Some(row) }
+}
+
+/// The row of a record.
+pub(crate) fn row_of(record: &ByteRecord) -> Result<HeldRow, LoadFault>
+    ensures { MatchResult result
+        (λ row. IsHeldRow row × (fields_of «record».now ≡ held_fields row))
+        (IsUnread held_fields IsHeldRow (fields_of «record».now)) }
+{
+    if !may_be_row(record) {
+        return Err(LoadFault::Csv);
+    }
+    row_in(record).ok_or(LoadFault::Syntax)
+}
+
+/// What is wrong with a record.
+#[derive(Clone, Copy, Debug, PartialEq, Eq)]
+pub enum HeldFault {
+    /// The first record does not name the columns, or one does not have four fields or is too long.
+    Csv,
+    /// A field is no numeral, or a replacement number is 0.
+    Syntax,
+    /// The set-up has no such municipality.
+    Municipality,
+    /// The list does not stand in the constituency of the municipality.
+    List,
+    /// More than 1,000,000,000 votes.
+    Votes,
+    /// A record before it has its municipality and list.
+    Twice,
+}
+
+impl HeldFault {
+    /// What is wrong with the record that a fault is of. Refused memory and a reader that fails are of none.
+    pub fn of(fault: LoadFault) -> Option<HeldFault>
+        ensures { result ≡ named fault }
+    {
+        match fault {
+            LoadFault::Csv => Some(HeldFault::Csv),
+            LoadFault::Syntax => Some(HeldFault::Syntax),
+            LoadFault::Judged(Reason::Municipality) => Some(HeldFault::Municipality),
+            LoadFault::Judged(Reason::List) => Some(HeldFault::List),
+            LoadFault::Judged(_) => Some(HeldFault::Votes),
+            LoadFault::Row(_) => Some(HeldFault::Twice),
+            LoadFault::Memory | LoadFault::Read => None,
+        }
+    }
+}

@@ -1,0 +1,9 @@
+use Rattle.std.proofs.Common.{arith}
+use Rattle.zh_decided.specs.Bounds.{asked_in}
+use Rattle.zh_decided.proofs.PathTurnLemmas.{IsOneMore-taken}
+use Rattle.zh_decided.proofs.completion.take.Goals as goal
+
+pub returns : goal.returns
+returns c =
+    IsOneMore-taken (asked_in c.args.bounds.now) c.args.seats.now c.args.row c.args.column c.requires.seats c.requires.row c.requires.column
+    (omega (arith, c.requires.spare))

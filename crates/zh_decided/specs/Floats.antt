@@ -1,0 +1,20 @@
+-- Divisors that float: whole numbers in units of 2^-32799, so that products of two have 2^-65598 for a unit.
+use Rattle.std.specs.Prelude.{ℕ, ◌*◌, List, map, slice_index_or}
+use Rattle.zh_decided.specs.Logarithms.{power}
+use Rattle.zh_matrices.specs.Divisors.{Divisors}
+use Rattle.zh_decided.specs.declared.floating.FloatingDivisors.{FloatingDivisors}
+use Rattle.zh_decided.specs.declared.floating.Floating.{Floating}
+
+abbrev pub value_of : Floating → ℕ
+value_of f = f.mantissa * power 2 f.exponent
+
+abbrev pub float_scale : ℕ
+float_scale = power 2 32799
+
+-- the divisors that they are
+abbrev pub floating : FloatingDivisors → Divisors
+floating x = record { scale = float_scale; of_rows = map value_of x.of_rows; of_columns = map value_of x.of_columns }
+
+-- the divisor in a place, and 0 beyond the last
+abbrev pub float_at : List Floating → ℕ → Floating
+float_at xs i = slice_index_or xs i (record { mantissa = 0; exponent = 0 })

@@ -1,6 +1,0 @@
-use Rattle.zh_file.specs.declared.zeros.TheConstants.{BLOCK}
-use Rattle.zh_file.proofs.ZeroLemmas.{replicated}
-use Rattle.zh_file.proofs.zeros.block_of_zeros.Goals as goal
-
-pub returns : goal.returns
-returns c = replicated BLOCK

@@ -1,0 +1,158 @@
+//! The files that the program is given by name: texts and disks, and those in a folder.
+ghost use Rattle.std.specs.Prelude.{◌≡◌, ℕ, List, Option, IfOk, ◌+◌, None, Some, MatchResult, option_map};
+ghost use Rattle.zh_film.specs.Past.{number};
+ghost use Rattle.zh_file.specs.Causes.{EndsAt};
+ghost use Rattle.zh_file.specs.Failures.{FailedCall, Meets};
+ghost use Rattle.zh_file.specs.Files.{Begins, BeginsOrIsMade, IsAsFound, IsCallOfFiles, IsFilling, IsReadOfFiles, LeavesNoMore, LeavesOf};
+ghost use Rattle.zh_file.specs.Places.{IfKnown, Places, TouchesOnly};
+ghost use Rattle.zh_file.specs.Folder.{bytes_known};
+
+use crate::fault::FileFault;
+use crate::folder::Folder;
+use crate::opening::{open, open_or_make};
+use crate::stored::Stored;
+use std::io::Read;
+use zh_disk::Disk;
+use zh_film::Past;
+
+/// Texts and disks, by their paths.
+pub trait Files {
+    ghost use Rattle.zh_file.specs.declared.fault.FileFault.{FileFault};
+
+    /// What reads a text.
+    type Text: Read + Drop;
+    /// A disk. Code over any files cannot drop one: what it has opened it must hand over.
+    type Disk: Disk;
+    /// The right to one disk. Code over any files can make none and copy none, so it opens one disk at most.
+    type Right: Drop;
+
+    /// The bytes of the text at this path, where they are known.
+    ghost text_at: { Self → List ℕ → Option (List ℕ) };
+
+    /// The bytes that the disk at this path begins with, where they are known; none of them where there is no disk.
+    ghost disk_at: { Self → List ℕ → Option (List ℕ) };
+
+    /// What stands where, if it is known: as it was found or left, apart from what is written through the disks that were opened.
+    ghost places: { Self → Option Places };
+
+    /// What a stop may have left of a disk's file that was opened and is no disk, at any moment since its lock, as far as all of
+    /// its answers were right.
+    ghost left: { Self → List ℕ → Type 0 };
+
+    /// How many calls were made.
+    ghost calls: { Self → ℕ };
+
+    /// The fault of the last call, if it failed.
+    ghost fault: { Self → Option FileFault };
+
+    /// The calls of the system that failed, the latest first.
+    ghost failed: { Self → List FailedCall };
+
+    /// The text at this path, from its first byte.
+    fn text(&mut self, path: &str) -> Result<Self::Text, FileFault>
+        ensures call { IsReadOfFiles text_at disk_at places calls self.old self.new }
+        ensures leaves { LeavesNoMore (left self.old) (left self.new) }
+        ensures ends { EndsAt (places self.old) path.now (fault self.new) result }
+        ensures meets { Meets path.now result (failed self.old) (failed self.new) }
+        ensures bytes { IfOk result (λ text. Self.Text.remaining text ≡ text_at self.old path.now) };
+
+    /// The disk at this path.
+    fn disk(&mut self, right: Self::Right, path: &str) -> Result<Self::Disk, FileFault>
+        ensures call { IsCallOfFiles text_at disk_at calls self.old self.new }
+        ensures touches { IfKnown (TouchesOnly path.now) (places self.old) (places self.new) }
+        ensures leaves { LeavesOf IsAsFound (disk_at self.old path.now) (left self.old) (left self.new) }
+        ensures ends { EndsAt (places self.old) path.now (fault self.new) result }
+        ensures meets { Meets path.now result (failed self.old) (failed self.new) }
+        ensures begins { IfOk result (λ disk. Begins (disk_at self.old path.now) (Self.Disk.history disk)) };
+
+    /// The disk at this path. Where there is none, it is made, of zeros.
+    fn disk_or_make(&mut self, right: Self::Right, path: &str) -> Result<Self::Disk, FileFault>
+        ensures call { IsCallOfFiles text_at disk_at calls self.old self.new }
+        ensures touches { IfKnown (TouchesOnly path.now) (places self.old) (places self.new) }
+        ensures leaves { LeavesOf IsFilling (disk_at self.old path.now) (left self.old) (left self.new) }
+        ensures ends { EndsAt (places self.old) path.now (fault self.new) result }
+        ensures meets { Meets path.now result (failed self.old) (failed self.new) }
+        ensures begins { IfOk result (λ disk. BeginsOrIsMade (disk_at self.old path.now) (Self.Disk.history disk)) };
+}
+
+/// The texts and the disks in a folder.
+#[derive(Drop)]
+pub struct FolderFiles<F: Folder + Drop> {
+    folder: F,
+    // how many disks were asked for
+    disks: Past<()>,
+    // how the last call failed
+    fault: Option<FileFault>,
+}
+
+impl<F: Folder + Drop> FolderFiles<F> {
+    /// Those of this folder.
+    pub fn new(folder: F) -> FolderFiles<F>
+        ensures folder { result.folder ≡ folder }
+        ensures unmade { number result.disks ≡ 0 }
+        ensures unfailed { result.fault ≡ None }
+    {
+        FolderFiles {
+            folder,
+            disks: Past::new(),
+            fault: None,
+        }
+    }
+}
+
+/// How a call ended, which is noted.
+fn noted<T>(fault: &mut Option<FileFault>, opened: Result<T, FileFault>) -> Result<T, FileFault>
+    ensures same { result ≡ opened }
+    ensures noted { MatchResult result (λ _. fault.new ≡ None) (λ met. fault.new ≡ Some met) }
+{
+    match opened {
+        Ok(it) => {
+            *fault = None;
+            Ok(it)
+        }
+        Err(met) => {
+            *fault = Some(met);
+            Err(met)
+        }
+    }
+}
+
+impl<F: Folder + Drop> Files for FolderFiles<F> {
+    type Text = F::Text;
+
+    type Disk = Stored<F::File>;
+
+    type Right = F::Right;
+
+    ghost text_at = { λ files. bytes_known (F.known files.folder) };
+
+    ghost disk_at = { λ files. F.disk_at files.folder };
+
+    ghost places = { λ files. option_map (λ known. known.places) (F.known files.folder) };
+
+    ghost left = { λ files. F.left files.folder };
+
+    // Texts are counted where they are asked for.
+    ghost calls = { λ files. number files.disks + F.texts files.folder };
+
+    ghost fault = { λ files. files.fault };
+
+    ghost failed = { λ files. F.failed files.folder };
+
+    fn text(&mut self, path: &str) -> Result<F::Text, FileFault> {
+        let opened = self.folder.text(path).map_err(FileFault::from);
+        noted(&mut self.fault, opened)
+    }
+
+    fn disk(&mut self, right: F::Right, path: &str) -> Result<Stored<F::File>, FileFault> {
+        self.disks.add();
+        let opened = open(&mut self.folder, right, path);
+        noted(&mut self.fault, opened)
+    }
+
+    fn disk_or_make(&mut self, right: F::Right, path: &str) -> Result<Stored<F::File>, FileFault> {
+        self.disks.add();
+        let opened = open_or_make(&mut self.folder, right, path);
+        noted(&mut self.fault, opened)
+    }
+}

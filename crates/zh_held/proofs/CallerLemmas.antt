@@ -1,1 +1,0 @@
--- What the crates above may use.

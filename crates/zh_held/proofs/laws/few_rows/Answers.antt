@@ -1,5 +1,0 @@
-use Rattle.zh_held.proofs.FewRowsLemmas.{few_rows}
-use Rattle.zh_held.proofs.laws.few_rows.Goals as goal
-
-pub returns : goal.returns
-returns c = few_rows

@@ -1,5 +1,0 @@
-use Rattle.zh_held.proofs.RunningLemmas.{none_taken}
-use Rattle.zh_held.proofs.running_sums.RunningSums.new.Goals as goal
-
-pub returns : goal.returns
-returns c = none_taken c.args.setup.now _ c.new.ensures.empty c.in_ok-new.ensures

@@ -1,4 +1,0 @@
-pub mod Rows
-pub mod Held
-pub mod Running
-pub mod Faults

@@ -1,0 +1,134 @@
+//! A record on its pages: staged, all but its gates, and read to the caller's buffer.
+ghost use Rattle.std.specs.Prelude.{◌+◌, ◌*◌, ◌<◌, ◌≤◌, length, is_err, ◌≡◌, ℕ, slice_index, IfOk, OnOk};
+ghost use Rattle.zh_disk.specs.Disk.{Writes, Asks};
+ghost use Rattle.zh_disk.specs.History.{Call};
+ghost use Rattle.zh_disk.specs.declared.disk.TheConstants.{DISK_LENGTH};
+ghost use Rattle.zh_journal.specs.Calls.{Stages, IsOnPage, HasPayload, GivesRecord, FindsPage};
+ghost use Rattle.zh_journal.specs.Pages.{body_of, pages_of};
+ghost use Rattle.zh_journal.specs.declared.page.TheConstants.{LONGEST_PAYLOAD};
+
+use crate::page::{
+    AREA_LENGTH, AREA_PAGES, Head, LONGEST_PAYLOAD, PAGE_LENGTH, page_of, pages_of, read_head,
+};
+use zh_disk::{Disk, DiskFault};
+
+fn write_page<D: Disk>(disk: &mut D, at: u64, payload: &[u8], i: u32) -> Result<(), DiskFault>
+    requires len { length payload.now ≤ LONGEST_PAYLOAD }
+    requires i { i < pages_of (length payload.now) }
+    requires room { at + 256 * pages_of (length payload.now) ≤ DISK_LENGTH }
+
+    // It is one write, whatever the disk answers.
+    ensures call { Call is_err (Writes (at + 256 * i + 1) (body_of payload.now i))
+        (D.history disk.old) (D.history disk.new) result }
+{
+    let page = page_of(payload, i);
+    disk.write_at(at + PAGE_LENGTH * (i as u64) + 1, &page)
+}
+
+/// Writes a record on the pages from this place on, all but their gates, one write a page.
+pub(crate) fn stage<D: Disk>(disk: &mut D, at: u64, payload: &[u8]) -> Result<(), DiskFault>
+    requires len { length payload.now ≤ LONGEST_PAYLOAD }
+    requires room { at + 256 * pages_of (length payload.now) ≤ DISK_LENGTH }
+
+    ensures call { Call is_err (Stages at payload.now) (D.history disk.old) (D.history disk.new) result }
+{
+    for i in 0..pages_of(payload.len() as u32) {
+        write_page(disk, at, payload, i)?;
+    }
+    Ok(())
+}
+
+/// Reads what page i of a record has of its payload. Byte k of a payload on page i stands at place
+/// 4 + k + i of the record: after three bytes of the head and the gates up to that of its page.
+fn read_page<D: Disk>(
+    disk: &mut D,
+    at: u64,
+    len: u32,
+    i: u32,
+    buffer: &mut [u8],
+) -> Result<(), DiskFault>
+    requires len { len ≤ LONGEST_PAYLOAD }
+    requires i { i < pages_of len }
+    requires room { at + 256 * pages_of len ≤ DISK_LENGTH }
+    requires buffer { len ≤ length buffer.old }
+
+    ensures call { Call is_err (Asks (λ bytes answer. OnOk answer (IsOnPage i at len bytes buffer.new)))
+        (D.history disk.old) (D.history disk.new) result }
+
+    ensures rest { (k : ℕ) → k + 3 < 255 * i → slice_index buffer.new k ≡ slice_index buffer.old k }
+{
+    let from = (255 * i).saturating_sub(3);
+    let to = (255 * i + 252).min(len);
+    disk.read_at(
+        at + (4 + from + i) as u64,
+        &mut buffer[from as usize..to as usize],
+    )
+}
+
+/// Reads the payload of the record at this place, whose head gives this length.
+fn read_payload<D: Disk>(
+    disk: &mut D,
+    at: u64,
+    len: u32,
+    buffer: &mut [u8],
+) -> Result<(), DiskFault>
+    requires len { len ≤ LONGEST_PAYLOAD }
+    requires room { at + 256 * pages_of len ≤ DISK_LENGTH }
+    requires buffer { len ≤ length buffer.old }
+
+    ensures call { Call is_err (Asks (λ bytes answer. OnOk answer (HasPayload at len bytes buffer.new)))
+        (D.history disk.old) (D.history disk.new) result }
+{
+    for i in 0..pages_of(len) {
+        read_page(disk, at, len, i, buffer)?;
+    }
+    Ok(())
+}
+
+/// Reads the record at this place, with so many pages left, and gives its length: 0 where no record stands
+/// there.
+pub(crate) fn read_record<D: Disk>(
+    disk: &mut D,
+    at: u64,
+    left: u32,
+    buffer: &mut [u8],
+) -> Result<u32, DiskFault>
+    requires room { at + 256 * left ≤ DISK_LENGTH }
+    requires buffer { LONGEST_PAYLOAD ≤ length buffer.old }
+
+    ensures call { Call is_err (Asks (λ bytes answer. IfOk answer (GivesRecord at left bytes buffer.new)))
+        (D.history disk.old) (D.history disk.new) result }
+    ensures len { IfOk result (λ len. (len ≤ LONGEST_PAYLOAD) × (1 ≤ len → pages_of len ≤ left)) }
+{
+    if left == 0 {
+        return Ok(0);
+    }
+    let Head::Record(len) = read_head(disk, at, left)? else {
+        return Ok(0);
+    };
+    read_payload(disk, at, len, buffer)?;
+    Ok(len)
+}
+
+/// The page at which record i of the area at this base begins, by the heads of those before it. Where they are
+/// not heads of records, it is the end of the area.
+pub(crate) fn find_page<D: Disk>(disk: &mut D, base: u64, i: u32) -> Result<u32, DiskFault>
+    requires { base + AREA_LENGTH ≤ DISK_LENGTH }
+
+    ensures call { Call is_err (Asks (λ bytes answer. IfOk answer (FindsPage base i bytes)))
+        (D.history disk.old) (D.history disk.new) result }
+    ensures inside { IfOk result (λ page. page ≤ AREA_PAGES) }
+{
+    let mut page = 0;
+    for _passed in 0..i {
+        if page == AREA_PAGES {
+            break;
+        }
+        let at = base + PAGE_LENGTH * (page as u64);
+        let Head::Record(len) = read_head(disk, at, AREA_PAGES - page)? else {
+            return Ok(AREA_PAGES);
+        };
+        page += pages_of(len);
+    }
+    Ok(page)
+}

@@ -1,9 +1,0 @@
-mod AnsweredLemmas
-mod AnyLemmas
-pub mod CallerLemmas
-mod FindingLemmas
-mod FrontLemmas
-mod JudgedLemmas
-mod LoadedLemmas
-mod RowLemmas
-mod WholeLemmas

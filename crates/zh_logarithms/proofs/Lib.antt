@@ -1,6 +1,0 @@
-pub mod CallerLemmas
-mod ApproximationLemmas
-mod LogLemmas
-mod PowerLemmas
-mod RoundingLemmas
-mod SquaringLemmas

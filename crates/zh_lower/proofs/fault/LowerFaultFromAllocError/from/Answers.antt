@@ -1,5 +1,0 @@
-use Rattle.std.proofs.Common.{rules}
-use Rattle.zh_lower.proofs.fault.LowerFaultFromAllocError.from.Goals as goal
-
-pub returns : goal.returns
-returns c = search rules

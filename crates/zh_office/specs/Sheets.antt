@@ -1,0 +1,61 @@
+-- What is answered to the lines of sheets.
+use Rattle.std.specs.Prelude.{◌≡◌, ◌⊎◌, ℕ, ◌<◌, ◌≤◌, Bool, true, false, length, Result, Ok, Err}
+use Rattle.std.specs.FinSet as set
+use Rattle.zh_returns.specs.Tally.{Tally}
+use Rattle.zh_returns.specs.declared.judgement.Reason.TheVariants as reasons
+use Rattle.zh_totals.specs.Counting.{totals_of}
+use Rattle.zh_totals.specs.Totals.{VoteTotals}
+use Rattle.zh_sheet.specs.Distribution.{Distribution}
+use Rattle.zh_sheet.specs.Made.{IsMade}
+use Rattle.zh_sheet.specs.declared.fault.SheetFault.{SheetFault}
+use Rattle.zh_sheet.specs.declared.fault.SheetFault.TheVariants as faults
+use Rattle.zh_commands.specs.declared.replies.Reply.TheVariants.{Refused}
+use Rattle.zh_commands.specs.declared.replies.Refusal.{Refusal}
+use Rattle.zh_commands.specs.declared.replies.Refusal.TheVariants as refusals
+use Rattle.zh_office.specs.declared.answer.Answer.{Answer}
+use Rattle.zh_office.specs.declared.answer.Answer.TheVariants as answers
+
+-- the name under which a sheet is refused
+abbrev pub sheet_refusal : SheetFault → Refusal
+sheet_refusal faults.Memory = refusals.Memory
+sheet_refusal (faults.Refused refusal) = refusals.Sheet refusal
+
+-- the answer with this sheet, or with why there is none
+abbrev pub answer_with : Bool → Result Distribution SheetFault → Answer
+answer_with is_final (Ok sheet) = answers.Sheet sheet is_final
+answer_with is_final (Err fault) = answers.Reply (Refused (sheet_refusal fault))
+
+-- totals are answered with their sheet
+abbrev pub MayGiveFor : VoteTotals → Bool → Answer → Type 0
+MayGiveFor totals is_final answer = (made : Result Distribution SheetFault) × IsMade totals made × (answer ≡ answer_with is_final made)
+
+-- and a count with that of its totals
+abbrev pub MayGive : Tally → Bool → Answer → Type 0
+MayGive tally is_final answer = MayGiveFor (totals_of tally) is_final answer
+
+-- each municipality is closed
+abbrev pub AreClosed : Tally → Type 0
+AreClosed tally = (m : ℕ) → 1 ≤ m → m ≤ length tally.canton.municipalities → set.contains tally.closed m ≡ true
+
+-- this municipality is open, the lowest such
+pub record IsFirstOpen (tally : Tally) (m : ℕ) : Type 0 where
+  pub from_one : 1 ≤ m
+  pub there : m ≤ length tally.canton.municipalities
+  pub not_closed : set.contains tally.closed m ≡ false
+  pub before : (k : ℕ) → 1 ≤ k → k < m → set.contains tally.closed k ≡ true
+
+-- the lowest open municipality is reported; if none is open, the final sheet is given
+abbrev pub MayAnswerFinal : Tally → Answer → Type 0
+MayAnswerFinal tally answer =
+    ((m : ℕ) × IsFirstOpen tally m × (answer ≡ answers.Reply (Refused (refusals.Judged (reasons.NotClosed m)))))
+    ⊎ (AreClosed tally × MayGive tally true answer)
+
+-- the line `sheet`, or the line `final`, may be answered so
+abbrev pub MayAnswerSheet : Tally → Bool → Answer → Type 0
+MayAnswerSheet tally false answer = MayGive tally false answer
+MayAnswerSheet tally true answer = MayAnswerFinal tally answer
+
+-- the answer that gives this sheet, or says why there is none
+abbrev pub sheet_answer : Bool → Result Distribution Refusal → Answer
+sheet_answer is_final (Ok sheet) = answers.Sheet sheet is_final
+sheet_answer is_final (Err refusal) = answers.Reply (Refused refusal)

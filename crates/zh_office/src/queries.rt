@@ -1,0 +1,125 @@
+//! Answers to what a desk asks about the count.
+
+ghost use Rattle.std.specs.Prelude.{◌≡◌, MatchOption};
+ghost use Rattle.zh_office.specs.Answers.{MayAnswerQuery, shown, answer_to_show, answer_to_last};
+ghost use Rattle.zh_office.specs.Sheets.{sheet_refusal, sheet_answer, MayAnswerSheet, AreClosed, IsFirstOpen};
+
+use crate::answer::Answer;
+use crate::office::Office;
+use zh_commands::{DeskQuery, Refusal, Reply};
+use zh_returns::{Count, Entry, Reason};
+use zh_sheet::{Sheet, SheetFault, make};
+
+impl<'s> Office<'s> {
+    /// Answers a query from the count and its totals.
+    pub(crate) fn answer_query(&self, query: DeskQuery) -> Answer<'s>
+        ensures { MayAnswerQuery self.now.ledger.tally query result }
+    {
+        match query {
+            DeskQuery::Show { municipality, list } => {
+                Answer::Reply(answer_to_show(self.count(), municipality, list))
+            }
+            DeskQuery::Last { municipality, list } => {
+                Answer::Reply(answer_to_last(self.count(), municipality, list))
+            }
+            DeskQuery::Sheet => self.answer_with_sheet(false),
+            DeskQuery::Final => self.answer_with_sheet(true),
+        }
+    }
+
+    /// Answers with a sheet, or with why there is none.
+    fn answer_with_sheet(&self, is_final: bool) -> Answer<'s>
+        ensures { MayAnswerSheet self.now.ledger.tally is_final result }
+    {
+        match self.sheet(is_final) {
+            Ok(sheet) => Answer::Sheet(sheet, is_final),
+            Err(refusal) => Answer::Reply(Reply::Refused(refusal)),
+        }
+    }
+
+    /// The sheet of the count as it is now, or why there is none. The final one is given only where every municipality is
+    /// closed.
+    pub fn sheet(&self, is_final: bool) -> Result<Sheet<'s>, Refusal>
+        ensures { MayAnswerSheet self.now.ledger.tally is_final (sheet_answer is_final result) }
+    {
+        let open = if is_final {
+            first_open(self.count())
+        } else {
+            None
+        };
+        if let Some(municipality) = open {
+            return Err(Refusal::Judged(Reason::NotClosed(municipality)));
+        }
+        match make(self.alloc, self.totals()) {
+            Ok(sheet) => Ok(sheet),
+            Err(fault) => Err(sheet_refusal(fault)),
+        }
+    }
+}
+
+/// The name under which a sheet is refused whose making met this fault.
+fn sheet_refusal(fault: SheetFault) -> Refusal
+    ensures { result ≡ sheet_refusal fault }
+{
+    match fault {
+        SheetFault::Memory => Refusal::Memory,
+        SheetFault::Refused(refusal) => Refusal::Sheet(refusal),
+    }
+}
+
+/// The lowest municipality that is open, if one is.
+fn first_open(count: &Count<'_>) -> Option<u32>
+    ensures { MatchOption result (AreClosed count.now) (IsFirstOpen count.now) }
+{
+    for municipality in 1..=count.setup().municipalities() {
+        if !count.closed(municipality) {
+            return Some(municipality);
+        }
+    }
+    None
+}
+
+fn shown(entry: Option<Entry>) -> Reply
+    ensures { result ≡ shown entry }
+{
+    match entry {
+        None => Reply::Nothing,
+        Some(
+            Entry {
+                number,
+                votes: Some(votes),
+                ..
+            },
+        ) => Reply::Shows(number, votes),
+        Some(
+            Entry {
+                number,
+                votes: None,
+                ..
+            },
+        ) => Reply::ShowsWithdrawn(number),
+    }
+}
+
+/// What is held of a list in a municipality.
+fn answer_to_show(count: &Count<'_>, municipality: u32, list: u32) -> Reply
+    ensures { result ≡ answer_to_show count.now municipality list }
+{
+    match count.setup().misplaced(municipality, list) {
+        Some(place) => Reply::Refused(Refusal::Judged(Reason::from(place))),
+        None => shown(count.entry(municipality, list)),
+    }
+}
+
+/// The desk that set what is held of a list in a municipality.
+fn answer_to_last(count: &Count<'_>, municipality: u32, list: u32) -> Reply
+    ensures { result ≡ answer_to_last count.now municipality list }
+{
+    if let Some(place) = count.setup().misplaced(municipality, list) {
+        return Reply::Refused(Refusal::Judged(Reason::from(place)));
+    }
+    match count.entry(municipality, list) {
+        None => Reply::Nothing,
+        Some(entry) => Reply::LastDesk(entry.origin.desk),
+    }
+}

@@ -1,6 +1,0 @@
-use Rattle.zh_possible.specs.Bounds.{asked_in}
-use Rattle.zh_possible.proofs.TurnLemmas.{IsOneMore-given}
-use Rattle.zh_possible.proofs.turns.give.Goals as goal
-
-pub returns : goal.returns
-returns c = IsOneMore-given (asked_in c.args.bounds.now) c.args.seats.now c.args.row c.args.column c.requires.seats c.requires.row c.requires.column

@@ -1,9 +1,0 @@
-use Rattle.std.proofs.Common.{arith}
-use Rattle.zh_possible.specs.Bounds.{asked_in}
-use Rattle.zh_possible.proofs.TurnLemmas.{IsOneMore-taken}
-use Rattle.zh_possible.proofs.turns.take.Goals as goal
-
-pub returns : goal.returns
-returns c =
-    IsOneMore-taken (asked_in c.args.bounds.now) c.args.seats.now c.args.row c.args.column c.requires.seats c.requires.row c.requires.column
-    (omega (arith, c.requires.spare))

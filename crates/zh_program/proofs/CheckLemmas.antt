@@ -1,0 +1,46 @@
+-- What a check reads, and what it answers.
+use Rattle.std.proofs.Common.{◌≡◌, ◌≤◌, ℕ, List, length, take, Option, Some, None, Result, Ok, Err, IfErr, refl, sym, subst, arith}
+use Rattle.std.proofs.lemmas.List.{length-take, take_all}
+use Rattle.zh_verdicts.specs.Checks.{Inputs, WritesCheck, check_text}
+use Rattle.zh_districts.specs.Canton.{Canton}
+use Rattle.zh_csv.specs.declared.held_sums.HeldSums.{HeldSums}
+use Rattle.zh_verdicts.specs.declared.verdict.VerdictFault.{VerdictFault}
+use Rattle.zh_verdicts.specs.declared.verdict.VerdictFault.TheVariants as of_verdict
+use Rattle.zh_file.specs.declared.files.Files.{Ghosts as Files}
+use Rattle.zh_program.specs.World.{AreCalls}
+use Rattle.zh_program.specs.Check.{Answers, IsOfSheet, LacksSheetFile, ReadsHeld, VerdictFaultAs}
+use Rattle.zh_file.specs.declared.fault.FileFault.{FileFault}
+use Rattle.zh_program.specs.declared.fault.TaskFault.{TaskFault}
+use Rattle.zh_program.specs.declared.fault.TaskFault.TheVariants as faults
+use Rattle.zh_program.specs.declared.place.TaskFile.TheVariants as files
+use Rattle.zh_program.proofs.LoadLemmas.{writes_front}
+use Rattle.zh_program.proofs.TextLemmas.{no_calls}
+
+-- a file that was opened gives no sheet
+opened_lacks : (Met : FileFault → Type 0) (fault : TaskFault) → IsOfSheet fault → LacksSheetFile Met fault
+opened_lacks Met (faults.Unreadable files.Sheet) is = tt
+opened_lacks Met faults.Memory is = tt
+opened_lacks Met fault is = absurd is
+
+pub opened_result : {X : Type 0} (Met : FileFault → Type 0) (result : Result X TaskFault) → IfErr result IsOfSheet → IfErr result (LacksSheetFile Met)
+opened_result Met (Ok text) is = tt
+opened_result Met (Err fault) is = opened_lacks Met fault is
+
+-- a verdict that is not written to its end
+pub not_written : (U : Type 0) (w w' : Option (List ℕ)) (inputs : Inputs) (fault : VerdictFault) (e : TaskFault)
+    → VerdictFaultAs fault e → WritesCheck U w w' inputs (Err fault) → Answers U w w' inputs (Err e)
+not_written U w w' inputs of_verdict.Memory e is written = rw is written
+not_written U w w' inputs of_verdict.Write e is (verdict, comes, part) =
+    rw is (verdict, comes, writes_front w w' (check_text inputs verdict) (check_text inputs verdict) refl part)
+
+-- an export is read in one call at most
+pub held_calls : {F T D R : Type 0} (files : Files F T D R) (canton : Canton) (path : Option (List ℕ)) (old new : F) (result : Result (Option HeldSums) TaskFault)
+    → ReadsHeld files canton path old new result → (n : ℕ) × (n ≤ 1) × AreCalls files n old new
+held_calls {F} files canton None old new result none = (0, omega arith, subst (λ (f : F). AreCalls files 0 old f) (sym none.0) (no_calls files old))
+held_calls files canton (Some path) old new (Ok None) by = absurd by
+held_calls files canton (Some path) old new (Ok (Some sums)) by = (1, omega arith, by.call)
+held_calls files canton (Some path) old new (Err fault) by = (1, omega arith, by.call)
+
+-- a front that is shorter than what was asked for is the whole
+pub front_is_whole : (text : List ℕ) → length (take 280065 text) ≤ 280064 → take 280065 text ≡ text
+front_is_whole text short = take_all 280065 text (omega (arith, length-take 280065 text, short))

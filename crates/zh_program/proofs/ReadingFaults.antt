@@ -1,0 +1,9 @@
+-- The faults that a task which reads what is held may end with.
+use Rattle.zh_program.specs.declared.fault.TaskFault.{TaskFault}
+use Rattle.zh_program.specs.declared.fault.TaskFault.TheVariants as faults
+
+-- a fault that is neither one of opening an office nor one of its device
+abbrev pub IsOfReading : TaskFault → Type 0
+IsOfReading (faults.Open fault) = ⊥
+IsOfReading faults.Faulted = ⊥
+IsOfReading fault = Unit {0}

@@ -1,0 +1,29 @@
+-- What a query shows of what is held.
+use Rattle.std.specs.Prelude.{◌≡◌, Result}
+use Rattle.zh_arguments.specs.declared.commands.Query.{Query}
+use Rattle.zh_arguments.specs.declared.commands.Query.TheVariants.{Export, Status, Seats}
+use Rattle.zh_csv.specs.Export.{export_text}
+use Rattle.zh_districts.specs.Canton.{Canton}
+use Rattle.zh_returns.specs.Tally.{Tally}
+use Rattle.zh_tables.specs.Status.{IsSaidOf, IsStatusText}
+use Rattle.zh_sheet_text.specs.declared.mark.MarkedSheet.{MarkedSheet}
+use Rattle.zh_sheet_text.specs.declared.mark.NoSeats.{NoSeats}
+use Rattle.zh_program.specs.Reading.{MakesReading}
+use Rattle.zh_program.specs.Seats.{AreSeatsOf, AreShownSeats}
+use Rattle.zh_program.specs.Shown.{Shows}
+use Rattle.zh_program.specs.World.{Known, WorldOf}
+use Rattle.zh_program.specs.declared.fault.TaskFault.{TaskFault}
+use Rattle.zh_program.specs.declared.shown.Shown.{Shown}
+use Rattle.zh_program.specs.declared.shown.Shown.TheVariants.{Text, Advised}
+
+-- What may be shown of a count: its export; this view of it, and what is said beside it; or its seats, or why there are none.
+abbrev pub MayShow : Query → Tally → Shown → Type 0
+MayShow Export tally (Text text) = text.items ≡ export_text tally
+MayShow (Status view) tally (Advised text advice) = IsStatusText tally view text.items × IsSaidOf tally view advice.items
+MayShow (Seats is_final layout) tally shown =
+    (seats : Result MarkedSheet NoSeats) × AreSeatsOf tally is_final seats × AreShownSeats tally.canton layout seats shown
+MayShow query tally shown = ⊥
+
+-- what this query asks of what the office on a disk holds is shown
+abbrev pub ShowsHeld : (of : Known) → Query → Canton → WorldOf of × of.Disk → WorldOf of × of.Disk → Result (Unit {0}) TaskFault → Type 0
+ShowsHeld of query = MakesReading of (λ tally. Shows of (MayShow query tally))

@@ -1,0 +1,46 @@
+-- The seats by a count or by a published sheet, or why there are none.
+use Rattle.std.specs.Prelude.{ℕ, Result, Ok, Err, None, List}
+use Rattle.zh_districts.specs.Canton.{Canton}
+use Rattle.zh_totals.specs.Totals.{VoteTotals}
+use Rattle.zh_sheet.specs.Lots.{IsForTheLot, IsLotOf}
+use Rattle.zh_sheet.specs.Reasons.{IsReason}
+use Rattle.zh_sheet.specs.declared.fault.SheetRefusal.{SheetRefusal}
+use Rattle.zh_sheet.specs.declared.fault.SheetRefusal.TheVariants as sheets
+use Rattle.zh_commands.specs.declared.replies.Reply.TheVariants as replies
+use Rattle.zh_commands.specs.declared.replies.Refusal.TheVariants as refusals
+use Rattle.zh_office.specs.declared.answer.Answer.{Answer}
+use Rattle.zh_office.specs.declared.answer.Answer.TheVariants as answers
+use Rattle.zh_check.specs.Verdicts.{IsRight}
+use Rattle.zh_check.specs.declared.checked.RightSheet.{RightSheet}
+use Rattle.zh_sheet_text.specs.declared.mark.MarkedSheet.{MarkedSheet}
+use Rattle.zh_sheet_text.specs.declared.mark.NoSeats.{NoSeats}
+use Rattle.zh_sheet_text.specs.declared.mark.NoSeats.TheVariants.{Refused, Exhausted, Tied, Wrong}
+
+-- why there are no seats, and what there is instead, as the line of a sheet is answered
+abbrev pub refusal_answer : NoSeats → Answer
+refusal_answer (Refused refusal) = answers.Reply (replies.Refused refusal)
+refusal_answer (Exhausted reason) = answers.Reply (replies.Refused (refusals.Sheet sheets.Exhausted))
+refusal_answer (Tied refusal lot) = answers.Reply (replies.Refused (refusals.Sheet refusal))
+refusal_answer Wrong = answers.Reply replies.Nothing
+
+abbrev pub answer_of : Result MarkedSheet NoSeats → Answer
+answer_of (Ok seats) = answers.Sheet seats.sheet seats.mark.is_final
+answer_of (Err why) = refusal_answer why
+
+-- a refusal that says all: neither of an exhausted search nor of tied seats
+abbrev pub SaysAll : SheetRefusal → Type 0
+SaysAll sheets.Exhausted = ⊥
+SaysAll refusal = ¬ IsForTheLot refusal
+
+-- an exhausted search has a reason, and tied seats what the lot decides, and it is this one
+abbrev pub IsReasonFor : VoteTotals → NoSeats → Type 0
+IsReasonFor totals (Exhausted reason) = IsReason totals reason
+IsReasonFor totals (Tied refusal lot) = IsLotOf totals refusal lot
+IsReasonFor totals (Refused (refusals.Sheet refusal)) = SaysAll refusal
+IsReasonFor totals why = Unit {0}
+
+-- the bytes are a right sheet of this set-up in no way; or memory was refused
+abbrev pub IsNoSheetOf : Canton → List ℕ → NoSeats → Type 0
+IsNoSheetOf canton bytes Wrong = (c : RightSheet) → ¬ IsRight canton None bytes c
+IsNoSheetOf canton bytes (Refused refusals.Memory) = Unit {0}
+IsNoSheetOf canton bytes why = ⊥

@@ -1,0 +1,40 @@
+-- What is shown of the seats.
+use Rattle.std.specs.Prelude.{◌≡◌, ℕ, Bool, List, Result, Ok, Err, IfOk, IfErr}
+use Rattle.zh_arguments.specs.declared.seats.Layout.{Layout}
+use Rattle.zh_arguments.specs.declared.seats.Layout.TheVariants.{Records, Table}
+use Rattle.zh_districts.specs.Canton.{Canton}
+use Rattle.zh_returns.specs.Tally.{Tally}
+use Rattle.zh_totals.specs.Counting.{totals_of}
+use Rattle.zh_sheet_text.specs.Lists.{seats_text}
+use Rattle.zh_sheet_text.specs.declared.mark.Source.TheVariants as sources
+use Rattle.zh_sheet_text.specs.Table.{table_text}
+use Rattle.zh_office.specs.Sheets.{MayAnswerSheet}
+use Rattle.zh_program.specs.Results.{IsReasonFor, answer_of}
+use Rattle.zh_sheet_text.specs.Reported.{refusal_text}
+use Rattle.zh_sheet_text.specs.declared.mark.MarkedSheet.{MarkedSheet}
+use Rattle.zh_sheet_text.specs.declared.mark.NoSeats.{NoSeats}
+use Rattle.zh_program.specs.declared.shown.Shown.{Shown}
+use Rattle.zh_program.specs.declared.shown.Shown.TheVariants.{Text, Nothing}
+
+-- the text of seats in a form
+abbrev pub laid_out : Layout → MarkedSheet → List ℕ
+laid_out Records seats = seats_text seats.sheet seats.mark
+laid_out Table seats = table_text seats.sheet seats.mark
+
+-- why there are none
+abbrev pub IsShownReason : Canton → NoSeats → Shown → Type 0
+IsShownReason canton why (Nothing text) = text.items ≡ refusal_text canton why
+IsShownReason canton why shown = ⊥
+
+-- these seats, or why there are none
+abbrev pub AreShownSeats : Canton → Layout → Result MarkedSheet NoSeats → Shown → Type 0
+AreShownSeats canton layout (Ok seats) (Text text) = text.items ≡ laid_out layout seats
+AreShownSeats canton layout (Err why) shown = IsShownReason canton why shown
+AreShownSeats canton layout seats shown = ⊥
+
+-- the seats of a count, as its line `sheet` may be answered, or those that are final, as its line `final` may be; or why there
+-- are none
+pub record AreSeatsOf (tally : Tally) (is_final : Bool) (seats : Result MarkedSheet NoSeats) : Type 0 where
+  pub answer : MayAnswerSheet tally is_final (answer_of seats)
+  pub mark : IfOk seats (λ shown. shown.mark ≡ record { is_final = is_final; accepted = tally.accepted; source = sources.Count })
+  pub reason : IfErr seats (IsReasonFor (totals_of tally))

@@ -1,0 +1,204 @@
+//! Why a task was not done.
+
+use crate::place::{TaskFile, TaskPlace};
+use std::alloc::AllocError;
+use zh_csv::HeldFault;
+use zh_districts::SeatFault;
+use zh_file::{FileCause, FileFault};
+use zh_office::{OpenFault, ServeFault};
+use zh_record_text::RecordFault;
+use zh_setups::{SetupFault, SetupRefusal};
+use zh_tables::ListFault;
+use zh_text::WriteFault;
+use zh_verdicts::VerdictFault;
+
+/// The fault of a task, in the order of the manual.
+#[derive(Clone, Copy)]
+pub enum TaskFault {
+    /// A file could not be opened or made, and why.
+    Unopened(TaskFile, FileCause),
+    /// A file could not be read; of the CSV file of a load its first bytes.
+    Unreadable(TaskFile),
+    Setup(SetupRefusal),
+    /// The disk could not be formatted.
+    Device,
+    /// Another program has the disk open.
+    Busy,
+    /// The file of the disk has so many bytes, and not those of a disk.
+    Size(u64),
+    /// The disk that is to be formatted is not blank.
+    InUse,
+    /// No office could be opened on the disk.
+    Open(OpenFault),
+    /// A record of the export is refused.
+    Held(HeldFault),
+    /// The constituencies get no seats.
+    Seats(SeatFault),
+    /// The set-up has no municipality of this number.
+    NoMunicipality(u32),
+    /// The set-up has no constituency of this number.
+    NoConstituency(u32),
+    Memory,
+    Serve(ServeFault),
+    /// What the task answers could not be written to its end.
+    Write,
+    /// All is answered, and the device failed under it.
+    Faulted,
+    /// The answer, which is written, or a remark says why. Nothing else is reported.
+    Refused,
+}
+
+impl TaskFault {
+    ghost use Rattle.std.specs.Prelude.{◌≡◌};
+    ghost use Rattle.zh_program.specs.Places.{named_place, role_of};
+
+    /// Where it was met, or why, as far as that is known.
+    pub fn place(&self) -> Option<TaskPlace>
+        ensures { result ≡ named_place self.now }
+    {
+        match self {
+            TaskFault::Unopened(_, cause) => Some(TaskPlace::Cause(*cause)),
+            TaskFault::Setup(refusal) => match refusal.fault {
+                SetupFault::Range => refusal.place.map(TaskPlace::Range),
+                _ => refusal.place.map(TaskPlace::Setup),
+            },
+            TaskFault::Size(length) => Some(TaskPlace::Length(*length)),
+            _ => None,
+        }
+    }
+
+    /// The file that it is a fault of, if it is of one.
+    pub fn file(&self) -> Option<TaskFile>
+        ensures { result ≡ role_of self.now }
+    {
+        match self {
+            TaskFault::Unopened(file, _) | TaskFault::Unreadable(file) => Some(*file),
+            TaskFault::Setup(refusal) => match refusal.fault {
+                SetupFault::Memory => None,
+                _ => Some(TaskFile::Setup),
+            },
+            TaskFault::Open(OpenFault::Memory) => None,
+            TaskFault::Device
+            | TaskFault::Busy
+            | TaskFault::Size(_)
+            | TaskFault::InUse
+            | TaskFault::Open(_)
+            | TaskFault::Faulted => Some(TaskFile::Disk),
+            TaskFault::Held(_) => Some(TaskFile::Held),
+            _ => None,
+        }
+    }
+}
+
+impl From<AllocError> for TaskFault {
+    ghost use Rattle.std.specs.Prelude.{◌≡◌};
+    ghost use Rattle.zh_program.specs.declared.fault.TaskFault.TheVariants as faults;
+
+    ghost from_gives = { λ _ e. e ≡ faults.Memory };
+
+    fn from(_: AllocError) -> Self {
+        TaskFault::Memory
+    }
+}
+
+impl From<FileFault> for TaskFault {
+    ghost use Rattle.zh_program.specs.OnDisk.{FoundAs};
+
+    ghost from_gives = { FoundAs };
+
+    fn from(fault: FileFault) -> Self {
+        match fault {
+            FileFault::Memory => TaskFault::Memory,
+            FileFault::Device(cause) => TaskFault::Unopened(TaskFile::Disk, cause),
+            FileFault::Size(length) => TaskFault::Size(length),
+            FileFault::Busy => TaskFault::Busy,
+        }
+    }
+}
+
+impl From<zh_snapshot::FormatFault> for TaskFault {
+    ghost use Rattle.zh_program.specs.Format.{FormattedAs};
+
+    ghost from_gives = { FormattedAs };
+
+    fn from(fault: zh_snapshot::FormatFault) -> Self {
+        match fault {
+            zh_snapshot::FormatFault::Memory => TaskFault::Memory,
+            zh_snapshot::FormatFault::Device => TaskFault::Device,
+        }
+    }
+}
+
+impl From<OpenFault> for TaskFault {
+    ghost use Rattle.std.specs.Prelude.{◌≡◌};
+    ghost use Rattle.zh_program.specs.declared.fault.TaskFault.TheVariants as faults;
+
+    ghost from_gives = { λ fault e. e ≡ faults.Open fault };
+
+    fn from(fault: OpenFault) -> Self {
+        TaskFault::Open(fault)
+    }
+}
+
+impl From<ServeFault> for TaskFault {
+    ghost use Rattle.std.specs.Prelude.{◌≡◌};
+    ghost use Rattle.zh_program.specs.declared.fault.TaskFault.TheVariants as faults;
+
+    ghost from_gives = { λ fault e. e ≡ faults.Serve fault };
+
+    fn from(fault: ServeFault) -> Self {
+        TaskFault::Serve(fault)
+    }
+}
+
+impl From<RecordFault> for TaskFault {
+    ghost use Rattle.std.specs.Prelude.{◌≡◌};
+    ghost use Rattle.zh_program.specs.declared.fault.TaskFault.TheVariants as faults;
+
+    // The text is made in memory, where nothing else can fail.
+    ghost from_gives = { λ _ e. e ≡ faults.Memory };
+
+    fn from(_: RecordFault) -> Self {
+        TaskFault::Memory
+    }
+}
+
+impl From<WriteFault> for TaskFault {
+    ghost use Rattle.std.specs.Prelude.{◌≡◌};
+    ghost use Rattle.zh_program.specs.declared.fault.TaskFault.TheVariants as faults;
+
+    ghost from_gives = { λ _ e. e ≡ faults.Write };
+
+    fn from(_: WriteFault) -> Self {
+        TaskFault::Write
+    }
+}
+
+impl From<ListFault> for TaskFault {
+    ghost use Rattle.zh_program.specs.List.{RefusedAs};
+
+    ghost from_gives = { RefusedAs };
+
+    fn from(fault: ListFault) -> Self {
+        match fault {
+            ListFault::Seats(refusal) => TaskFault::Seats(refusal),
+            ListFault::NoMunicipality(number) => TaskFault::NoMunicipality(number),
+            ListFault::NoConstituency(number) => TaskFault::NoConstituency(number),
+            // The text is made in memory, where nothing else can fail.
+            ListFault::Memory | ListFault::Write => TaskFault::Memory,
+        }
+    }
+}
+
+impl From<VerdictFault> for TaskFault {
+    ghost use Rattle.zh_program.specs.Check.{VerdictFaultAs};
+
+    ghost from_gives = { VerdictFaultAs };
+
+    fn from(fault: VerdictFault) -> Self {
+        match fault {
+            VerdictFault::Memory => TaskFault::Memory,
+            VerdictFault::Write => TaskFault::Write,
+        }
+    }
+}

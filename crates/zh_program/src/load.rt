@@ -1,0 +1,168 @@
+//! Loading a CSV file, and saying what that would do.
+
+ghost use Rattle.std.specs.Prelude.{◌≡◌, [], false, IfErr, IfOk, OnErr, OnOk, IsErrOf, Some, true};
+ghost use Rattle.std.specs.Io.Buffered.{reader_buffer};
+ghost use Rattle.std.specs.Io.KnownBytes.{Appends, Keeps};
+ghost use Rattle.zh_csv.specs.Noted.{has_failed, inner_reader};
+ghost use Rattle.zh_film.specs.Frames.{frames};
+ghost use Rattle.zh_film.specs.Scenes.{scenes};
+ghost use Rattle.zh_ledger.specs.Submissions.{on_disk};
+ghost use Rattle.zh_program.specs.Load.{HasBegun, HasLoaded, IsUnreadable, LoadsText, WritesPart, given_text, printed};
+ghost use Rattle.zh_program.specs.Opened.{IsThis, LeavesDisk};
+ghost use Rattle.zh_program.specs.Run.{streams};
+ghost use Rattle.zh_program.specs.World.{AreCalls, IsMetAt, known};
+ghost use Rattle.zh_office.specs.Judged.{Judges};
+ghost use Rattle.zh_program.specs.DryRun.{JudgesText, MakesDryRun};
+
+use crate::fault::TaskFault;
+use crate::on_disk::Filmed;
+use crate::place::TaskFile;
+use crate::texts::open_text;
+use std::alloc::Global;
+use std::io::{BufRead, BufReader, Read, Write};
+use zh_commands::{Reply, write_reply};
+use zh_disk::Disk;
+use zh_districts::Setup;
+use zh_file::{Files, World};
+use zh_film::Film;
+use zh_office::{JudgementFault, NotedReader, Office, ServeFault, write_judgement};
+use zh_text::{WriteFault, put};
+
+/// The text at this path, with its first bytes read.
+pub(crate) fn text_at<F: Files>(
+    alloc: Global,
+    files: &mut F,
+    path: &str,
+) -> Result<BufReader<F::Text>, TaskFault>
+    ensures call { AreCalls F.Files 1 files.old files.new }
+    ensures text { IfOk result (λ text. Keeps (F.text_at files.old path.now) (⟦<BufReader<F::Text> as Read>⟧.remaining text)) }
+    ensures begun { IfOk result (λ text. HasBegun (F.text_at files.old path.now) (reader_buffer text)) }
+    ensures fault { IfErr result (IsUnreadable (IsMetAt F.Files path.now files.old files.new)) }
+{
+    let file = open_text(files, path, TaskFile::Csv)?;
+    let Ok(mut text) = BufReader::new(alloc, file) else {
+        return Err(TaskFault::Memory);
+    };
+    if text.fill_buf().is_err() {
+        return Err(TaskFault::Unreadable(TaskFile::Csv));
+    }
+    Ok(text)
+}
+
+/// Writes a reply without its desk.
+fn print_reply<O: Write>(reply: &Reply, out: &mut O) -> Result<(), WriteFault>
+    ensures all { OnOk result (Appends (O.contents out.old) (O.contents out.new) (printed reply.now)) }
+    ensures front { OnErr result (WritesPart (O.contents out.old) (O.contents out.new) (printed reply.now)) }
+{
+    let mut text = [0; 64];
+    let length = write_reply(0, reply, &mut text);
+    put(out, &text[2..length])
+}
+
+/// Gives an office a text, and writes the reply. The film notes that the reply comes last.
+fn load_text<I: Read, R: Read, O: Write, D: Disk>(
+    office: &mut Office<'_>,
+    disk: &mut D,
+    reader: &mut NotedReader<R>,
+    input: &I,
+    out: &mut O,
+    film: &mut Film<I, O, D>,
+) -> Result<(), TaskFault>
+    requires whole { office.old.ledger.store.broken ≡ false }
+    requires film { scenes film.old ≡ [] }
+    ensures disk { LeavesDisk (D.history disk.old) (D.history disk.new) result }
+    ensures loaded { LoadsText (given_text (R.remaining (inner_reader reader.old)) (has_failed reader.new))
+        (streams (I.remaining input.now) (O.contents out.old) (frames I.Read O.Write D.Disk film.old))
+        (streams (I.remaining input.now) (O.contents out.new) (frames I.Read O.Write D.Disk film.new))
+        (IsThis (on_disk office.old (D.history disk.old)) (D.history disk.new)) result }
+{
+    film.note(input, out, disk);
+    let reply = office.load(disk, reader);
+    film.note(input, out, disk);
+    print_reply(&reply, out)?;
+    film.note(input, out, disk);
+    if office.faulted() {
+        return Err(TaskFault::Faulted);
+    }
+    match reply {
+        Reply::Refused(_) => Err(TaskFault::Refused),
+        _ => Ok(()),
+    }
+}
+
+/// Opens the office on the disk, gives it the text at this path, and writes the reply. The reader of the text is handed out.
+pub(crate) fn load_from<I: Read, O: Write, E: Write, F: Files>(
+    alloc: Global,
+    setup: &Setup,
+    csv: &str,
+    world: &mut World<I, O, E, F>,
+    filmed: &mut Filmed<I, O, F::Disk, F::Text>,
+) -> Result<(), TaskFault>
+    requires { scenes filmed.old.film ≡ [] }
+    ensures { HasLoaded (known I.Read O.Write E.Write F.Files F.Disk.Disk) csv.now setup.now
+        (world.old, filmed.old.disk) (world.new, filmed.new) result }
+{
+    let mut office = Office::open(alloc, setup, &mut filmed.disk)?;
+    let text = text_at(alloc, &mut world.files, csv)?;
+    let mut noted = NotedReader::new(text);
+    let result = load_text(
+        &mut office,
+        &mut filmed.disk,
+        &mut noted,
+        &world.input,
+        &mut world.output,
+        &mut filmed.film,
+    );
+    filmed.text = Some(noted);
+    result
+}
+
+impl From<JudgementFault> for TaskFault {
+    ghost use Rattle.zh_program.specs.DryRun.{JudgedAs};
+
+    ghost from_gives = { JudgedAs };
+
+    fn from(fault: JudgementFault) -> Self {
+        match fault {
+            JudgementFault::Memory => TaskFault::Memory,
+            JudgementFault::Read => TaskFault::Unreadable(TaskFile::Csv),
+            JudgementFault::Turns => TaskFault::Serve(ServeFault::Turns),
+            JudgementFault::Write => TaskFault::Write,
+        }
+    }
+}
+
+/// Judges a text against what an office holds, and writes what comes of it.
+fn judge_text<R: Read, O: Write>(
+    alloc: Global,
+    office: &Office<'_>,
+    text: &mut NotedReader<R>,
+    out: &mut O,
+) -> Result<(), TaskFault>
+    ensures runs { JudgesText (Judges office.now.ledger.tally (λ bytes. R.remaining (inner_reader text.old) ≡ Some bytes)
+        (O.contents out.old) (O.contents out.new)) result }
+    ensures read { IsErrOf result (TaskFault.Unreadable TaskFile.Csv) → has_failed text.new ≡ true }
+{
+    let forecast = write_judgement(alloc, office.count(), text, out)?;
+    if forecast.refused > 0 {
+        return Err(TaskFault::Refused);
+    }
+    Ok(())
+}
+
+/// Says what a load of the CSV file at a path would do with what the office on a disk holds, and stores nothing.
+pub(crate) fn dry_run<I: Read, O: Write, E: Write, F: Files>(
+    alloc: Global,
+    setup: &Setup,
+    csv: &str,
+    world: &mut World<I, O, E, F>,
+    disk: &mut F::Disk,
+) -> Result<(), TaskFault>
+    ensures { MakesDryRun (known I.Read O.Write E.Write F.Files F.Disk.Disk) csv.now setup.now
+        (world.old, disk.old) (world.new, disk.new) result }
+{
+    let office = Office::open(alloc, setup, disk)?;
+    let rows = text_at(alloc, &mut world.files, csv)?;
+    let mut reader = NotedReader::new(rows);
+    judge_text(alloc, &office, &mut reader, &mut world.output)
+}

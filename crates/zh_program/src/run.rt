@@ -1,0 +1,139 @@
+//! Serving on a disk, and a rehearsal.
+
+ghost use Rattle.std.specs.Prelude.{◌≡◌, ◌^◌, [], false};
+ghost use Rattle.zh_film.specs.Frames.{frames};
+ghost use Rattle.zh_film.specs.Scenes.{scenes};
+ghost use Rattle.zh_ledger.specs.Submissions.{on_disk};
+ghost use Rattle.zh_program.specs.Opened.{IsThis, LeavesDisk, WithOffice};
+ghost use Rattle.zh_program.specs.Run.{IsReadWithin, Ran, Serves, streams, UsesUpReads};
+ghost use Rattle.zh_program.specs.World.{known};
+ghost use Rattle.zh_program.specs.Rehearse.{Rehearsed, Rehearses, announcement};
+ghost use Rattle.zh_program.specs.Remarks.{BecameOf};
+
+use crate::fault::TaskFault;
+use crate::format::format_blank;
+use crate::on_disk::{Filmed, Used};
+use crate::report::make_remark;
+use std::alloc::Global;
+use std::io::{Read, Write};
+use zh_disk::{Disk, MemoryDisk};
+use zh_districts::Setup;
+use zh_file::{Ended, Files, Remark, World};
+use zh_film::Film;
+use zh_office::Office;
+use zh_setups::rehearsal;
+
+/// How many reads of the input a run makes at most.
+fn most_reads() -> u64
+    ensures { result ≡ 2 ^ 32 }
+{
+    1 << 32
+}
+
+/// Opens the office that a disk holds, and serves the lines of the input.
+pub(crate) fn serve_on<I: Read, O: Write, D: Disk>(
+    alloc: Global,
+    setup: &Setup,
+    disk: &mut D,
+    input: &mut I,
+    out: &mut O,
+    film: &mut Film<I, O, D>,
+) -> Result<(), TaskFault>
+    requires { scenes film.old ≡ [] }
+    ensures served { WithOffice setup.now (D.history disk.old) (D.history disk.new)
+        ((input.new ≡ input.old) × (out.new ≡ out.old) × (scenes film.new ≡ []))
+        (Serves (streams (I.remaining input.old) (O.contents out.old) (frames I.Read O.Write D.Disk film.old))
+        (streams (I.remaining input.new) (O.contents out.new) (frames I.Read O.Write D.Disk film.new))) result }
+    ensures reads { IsReadWithin (frames I.Read O.Write D.Disk film.new) (I.remaining input.old) (I.remaining input.new) (2 ^ 32) result }
+    ensures disk { LeavesDisk (D.history disk.old) (D.history disk.new) result }
+{
+    let mut office = Office::open(alloc, setup, disk)?;
+    serve_lines(&mut office, disk, input, out, film)
+}
+
+/// Serves the lines of the input on an office.
+fn serve_lines<I: Read, O: Write, D: Disk>(
+    office: &mut Office<'_>,
+    disk: &mut D,
+    input: &mut I,
+    out: &mut O,
+    film: &mut Film<I, O, D>,
+) -> Result<(), TaskFault>
+    requires whole { office.old.ledger.store.broken ≡ false }
+    requires film { scenes film.old ≡ [] }
+    ensures disk { LeavesDisk (D.history disk.old) (D.history disk.new) result }
+    ensures served { Serves (streams (I.remaining input.old) (O.contents out.old) (frames I.Read O.Write D.Disk film.old))
+        (streams (I.remaining input.new) (O.contents out.new) (frames I.Read O.Write D.Disk film.new))
+        (IsThis (on_disk office.old (D.history disk.old)) (D.history disk.new)) result }
+    ensures reads { IsReadWithin (frames I.Read O.Write D.Disk film.new) (I.remaining input.old) (I.remaining input.new) (2 ^ 32) result }
+{
+    office.serve(input, out, disk, film, most_reads())?;
+    if office.faulted() {
+        return Err(TaskFault::Faulted);
+    }
+    Ok(())
+}
+
+/// Serves the lines of the input on the office on the disk.
+pub(crate) fn run_from<I: Read, O: Write, E: Write, F: Files>(
+    alloc: Global,
+    setup: &Setup,
+    world: &mut World<I, O, E, F>,
+    filmed: &mut Filmed<I, O, F::Disk, F::Text>,
+) -> Result<(), TaskFault>
+    requires { scenes filmed.old.film ≡ [] }
+    ensures { Ran (known I.Read O.Write E.Write F.Files F.Disk.Disk) setup.now
+        (world.old, filmed.old.disk) (world.new, filmed.new) result }
+{
+    serve_on(
+        alloc,
+        setup,
+        &mut filmed.disk,
+        &mut world.input,
+        &mut world.output,
+        &mut filmed.film,
+    )
+}
+
+/// Says of a rehearsal that nothing is kept. Where that can't be written it is one all the same.
+fn announce<E: Write>(faults: &mut E) -> Remark
+    ensures { BecameOf result (E.contents faults.old) (E.contents faults.new) announcement }
+{
+    make_remark(b"zhcount: rehearsal, nothing is kept\n", faults)
+}
+
+/// Serves the lines of the input on the set-up of the rehearsal, on a disk in memory.
+fn serve_rehearsal<I: Read, O: Write>(
+    alloc: Global,
+    input: &mut I,
+    out: &mut O,
+    film: &mut Film<I, O, MemoryDisk>,
+) -> Result<(), TaskFault>
+    requires { scenes film.old ≡ [] }
+    ensures served { Rehearsed ((input.new ≡ input.old) × (out.new ≡ out.old) × (scenes film.new ≡ []))
+        (streams (I.remaining input.old) (O.contents out.old) (frames I.Read O.Write ⟦<MemoryDisk as Disk>⟧ film.old))
+        (streams (I.remaining input.new) (O.contents out.new) (frames I.Read O.Write ⟦<MemoryDisk as Disk>⟧ film.new)) result }
+    ensures reads { UsesUpReads (frames I.Read O.Write ⟦<MemoryDisk as Disk>⟧ film.new)
+        (I.remaining input.old) (I.remaining input.new) (2 ^ 32) result }
+{
+    let setup = rehearsal(alloc)?;
+    let mut disk = MemoryDisk::blank(alloc)?;
+    format_blank(alloc, &setup, &mut disk)?;
+    serve_on(alloc, &setup, &mut disk, input, out, film)
+}
+
+/// Rehearses, keeps nothing, and hands over the film of it.
+pub(crate) fn rehearse<I: Read, O: Write, E: Write, F: Files>(
+    alloc: Global,
+    world: &mut World<I, O, E, F>,
+) -> Ended<Result<(), TaskFault>, Used<I, O, F::Disk, F::Text>>
+    ensures { Rehearses (known I.Read O.Write E.Write F.Files F.Disk.Disk) world.old world.new result }
+{
+    world.remark = announce(&mut world.faults);
+    let mut film = Film::new();
+    let result = serve_rehearsal(alloc, &mut world.input, &mut world.output, &mut film);
+    Ended {
+        result,
+        used: Some(Used::Rehearsal(film)),
+    }
+}

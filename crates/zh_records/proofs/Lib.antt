@@ -1,8 +1,0 @@
-pub mod CallerLemmas
-mod BlockLemmas
-mod CommandLemmas
-mod KeyLemmas
-mod MarkLemmas
-mod NumeralLemmas
-mod PushLemmas
-mod RowBytesLemmas

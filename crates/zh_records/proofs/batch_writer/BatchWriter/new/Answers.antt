@@ -1,8 +1,0 @@
-use Rattle.zh_records.proofs.PushLemmas.{none_pushed, none_written}
-use Rattle.zh_records.proofs.batch_writer.BatchWriter.new.Goals as goal
-
-pub invariant_of-result : goal.invariant_of-result
-invariant_of-result c = none_written c.args.bytes.now
-
-pub returns-clause-rows : goal.returns-clause-rows
-returns-clause-rows c = none_pushed c.args.bytes.now

@@ -1,8 +1,0 @@
-use Rattle.zh_records.proofs.CommandLemmas.{speakable_fit, short}
-use Rattle.zh_records.proofs.laws.speakable_fits.Goals as goal
-
-pub returns-clause-fits : goal.returns-clause-fits
-returns-clause-fits c = speakable_fit
-
-pub returns-clause-short : goal.returns-clause-short
-returns-clause-short c = short

@@ -1,9 +1,0 @@
-use Rattle.zh_matrices.specs.Asked.{asked}
-use Rattle.zh_search.specs.Rooms.{divisors_of}
-use Rattle.zh_search.proofs.StateLemmas.{goes_on}
-use Rattle.zh_search.proofs.first_search.round.Goals as goal
-
-pub returns-clause-goes_on : goal.returns-clause-goes_on
-returns-clause-goes_on c =
-    goes_on (asked c.args.question.now) (divisors_of c.args.state.now) (divisors_of c.step_columns.new.state) (divisors_of c.step_rows.new.state)
-    c.end_test-2.result c.step_columns.ensures.columns c.step_rows.ensures.rows c.in_default.ensures.none c.end_test-2.ensures.none

@@ -1,6 +1,0 @@
-pub mod Outcomes
-pub mod Places
-pub mod Quotients
-pub mod Rooms
-pub mod SeatBounds
-pub mod States

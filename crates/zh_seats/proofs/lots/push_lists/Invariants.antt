@@ -1,7 +1,0 @@
-use Rattle.std.proofs.Common.{◌++◌, ◌≡◌}
-use Rattle.zh_record_text.specs.Each.{each_to}
-use Rattle.zh_seats.specs.Lots.{lines_in}
-use Rattle.zh_seats.proofs.lots.push_lists.Given as goal
-
-abbrev pub invariant-loop-place : goal.invariant-loop-place
-invariant-loop-place l = l.out.items ≡ l.fn.out.items ++ each_to l.place (lines_in l.fn.listed l.fn.lists)

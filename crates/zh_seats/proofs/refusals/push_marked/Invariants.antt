@@ -1,7 +1,0 @@
-use Rattle.std.proofs.Common.{◌++◌, ◌≡◌}
-use Rattle.zh_record_text.specs.Each.{each_to}
-use Rattle.zh_seats.specs.Refusals.{number_if_among}
-use Rattle.zh_seats.proofs.refusals.push_marked.Given as goal
-
-abbrev pub invariant-loop-place : goal.invariant-loop-place
-invariant-loop-place l = l.out.items ≡ l.fn.out.items ++ each_to l.place (number_if_among l.fn.marked)

@@ -1,0 +1,169 @@
+//! What is reported where there are no seats.
+
+ghost use Rattle.std.specs.Prelude.{◌≡◌, ◌≤◌, ◌++◌, ◌∷◌, [], IfOk, OnOk, codes, decimal, length};
+ghost use Rattle.zh_text.specs.Each.{each_to};
+ghost use Rattle.zh_sheet_text.specs.Reported.{refusal_text};
+ghost use Rattle.zh_sheet_text.specs.Refusals.{number_if_among, only_seats_text, reason_text, refusal_line, seats_line, seats_line_of};
+
+use crate::lots::push_lot;
+use crate::mark::NoSeats;
+use std::alloc::{AllocError, Global};
+use zh_commands::{Refusal, Reply, write_answer};
+use zh_decided::MarkedRows;
+use zh_districts::Setup;
+use zh_sheet::{ExhaustedReason, ListSeats, SheetRefusal};
+use zh_text::push_number;
+
+/// Puts the line of a refusal at the end.
+fn push_refusal(out: &mut Vec<u8>, refusal: Refusal) -> Result<(), AllocError>
+    ensures { OnOk result (out.new.items ≡ out.old.items ++ refusal_line refusal) }
+{
+    let mut answer = [0; 64];
+    let length = write_answer(&Reply::Refused(refusal), &mut answer);
+    out.extend_from_slice(b"zhcount: ")?;
+    out.extend_from_slice(&answer[..length])
+}
+
+/// Puts a space and a number at the end.
+pub(crate) fn push_spaced(out: &mut Vec<u8>, number: u32) -> Result<(), AllocError>
+    ensures { OnOk result (out.new.items ≡ out.old.items ++ (32 ∷ decimal number)) }
+{
+    out.push(b' ')?;
+    push_number(out, number)
+}
+
+/// Puts the number of a constituency at the end, if it is marked.
+fn push_if_marked(
+    out: &mut Vec<u8>,
+    marked: &MarkedRows,
+    constituency: u32,
+) -> Result<(), AllocError>
+    requires from_one { 1 ≤ constituency }
+    requires most { constituency ≤ 32 }
+    ensures { OnOk result (out.new.items ≡ out.old.items ++ number_if_among marked.now constituency) }
+{
+    if marked.contains(constituency) {
+        push_spaced(out, constituency)
+    } else {
+        Ok(())
+    }
+}
+
+/// Puts the constituencies that are marked at the end.
+fn push_marked(out: &mut Vec<u8>, setup: &Setup, marked: &MarkedRows) -> Result<(), AllocError>
+    ensures { OnOk result (out.new.items ≡ out.old.items
+        ++ each_to (length setup.now.constituencies) (number_if_among marked.now)) }
+{
+    for place in 0..setup.constituencies() {
+        push_if_marked(out, marked, place + 1)?;
+    }
+    Ok(())
+}
+
+/// Puts the constituency and the group of a near tie at the end.
+fn push_near_tie(out: &mut Vec<u8>, constituency: u32, group: u32) -> Result<(), AllocError>
+    ensures { OnOk result (out.new.items
+        ≡ out.old.items ++ (codes "nearly tied" ++ 32 ∷ decimal constituency ++ 32 ∷ decimal group)) }
+{
+    out.extend_from_slice(b"nearly tied")?;
+    push_spaced(out, constituency)?;
+    push_spaced(out, group)
+}
+
+/// Puts a line with three numbers at the end, beginning with the end of the line before.
+fn push_line(out: &mut Vec<u8>, constituency: u32, group: u32, seats: u32) -> Result<(), AllocError>
+    ensures { OnOk result (out.new.items
+        ≡ out.old.items ++ (10 ∷ decimal constituency ++ 32 ∷ decimal group ++ 32 ∷ decimal seats)) }
+{
+    out.push(b'\n')?;
+    push_number(out, constituency)?;
+    push_spaced(out, group)?;
+    push_spaced(out, seats)
+}
+
+/// Puts the line of a list at the end, if it has seats.
+pub(crate) fn push_list(
+    out: &mut Vec<u8>,
+    constituency: u32,
+    group: u32,
+    seats: u32,
+) -> Result<(), AllocError>
+    ensures { OnOk result (out.new.items ≡ out.old.items ++ seats_line constituency group seats) }
+{
+    if seats > 0 {
+        push_line(out, constituency, group, seats)
+    } else {
+        Ok(())
+    }
+}
+
+/// Puts the lines of a constituency at the end.
+fn push_lists(out: &mut Vec<u8>, lists: &ListSeats, constituency: u32) -> Result<(), AllocError>
+    requires from_one { 1 ≤ constituency }
+    requires there { constituency ≤ lists.now.constituencies }
+    ensures { OnOk result (out.new.items ≡ out.old.items ++ each_to (length lists.now.groups) (seats_line_of lists.now constituency)) }
+{
+    let groups = lists.groups();
+    for place in 0..groups.len() {
+        let seats = lists.seats(constituency, place as u32 + 1);
+        push_list(out, constituency, groups[place], seats)?;
+    }
+    Ok(())
+}
+
+/// Puts the only seats at the end.
+fn push_only_seats(out: &mut Vec<u8>, lists: &ListSeats) -> Result<(), AllocError>
+    ensures { OnOk result (out.new.items ≡ out.old.items ++ only_seats_text lists.now) }
+{
+    out.extend_from_slice(b": no sheet, but these are the only seats")?;
+    for place in 0..lists.constituencies() {
+        push_lists(out, lists, place + 1)?;
+    }
+    Ok(())
+}
+
+/// Puts a reason at the end.
+fn push_reason(out: &mut Vec<u8>, setup: &Setup, reason: &ExhaustedReason) -> Result<(), AllocError>
+    ensures { OnOk result (out.new.items ≡ out.old.items ++ reason_text setup.now reason.now) }
+{
+    match reason {
+        ExhaustedReason::Impossible(marked) => {
+            out.extend_from_slice(b"impossible")?;
+            push_marked(out, setup, marked)
+        }
+        ExhaustedReason::NearlyTied(constituency, group) => {
+            push_near_tie(out, *constituency, *group)
+        }
+        ExhaustedReason::Beyond(lists) => {
+            out.extend_from_slice(b"beyond")?;
+            push_only_seats(out, lists)
+        }
+        ExhaustedReason::Missed(lists) => {
+            out.extend_from_slice(b"missed")?;
+            push_only_seats(out, lists)
+        }
+    }
+}
+
+/// What is reported of why there are no seats: the refusal in a line; of an exhausted search its reason in another; and of
+/// tied seats what the lot decides.
+pub fn refusal_text(alloc: Global, setup: &Setup, why: &NoSeats) -> Result<Vec<u8>, AllocError>
+    ensures { IfOk result (λ text. text.items ≡ refusal_text setup.now why.now) }
+{
+    let mut out = Vec::new(alloc);
+    match why {
+        NoSeats::Refused(refusal) => push_refusal(&mut out, *refusal)?,
+        NoSeats::Exhausted(reason) => {
+            push_refusal(&mut out, Refusal::Sheet(SheetRefusal::Exhausted))?;
+            push_reason(&mut out, setup, reason)?;
+            out.push(b'\n')?;
+        }
+        NoSeats::Tied(refusal, lot) => {
+            push_refusal(&mut out, Refusal::Sheet(*refusal))?;
+            push_lot(&mut out, setup, lot)?;
+            out.push(b'\n')?;
+        }
+        NoSeats::Wrong => out.extend_from_slice(b"zhcount: sheet wrong\n")?,
+    }
+    Ok(out)
+}

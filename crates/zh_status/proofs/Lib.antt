@@ -1,3 +1,0 @@
-mod ImplausibleLemmas
-mod ProgressLemmas
-mod StatusLemmas

@@ -1,6 +1,0 @@
-use Rattle.zh_matrices.specs.Asked.{asked}
-use Rattle.zh_sweeps.proofs.TurnLemmas.{AreTurned}
-use Rattle.zh_sweeps.proofs.turns.turn_cycle.Given as goal
-
-abbrev pub invariant-loop-place : goal.invariant-loop-place
-invariant-loop-place l = AreTurned (asked l.question) l.cycle l.place l.initial.seats l.seats

@@ -1,0 +1,207 @@
+//! Votes that are hardly true, written row by row.
+
+ghost use Rattle.std.specs.Prelude.{◌≡◌, ◌≤◌, OnOk, length};
+ghost use Rattle.zh_record_text.specs.Records.{IsBetweenRecords, PutsText};
+ghost use Rattle.zh_tables.specs.Implausible.{IsSeated, exceeding_in, exceeding_row, implausible_row, most_in, outweighing_row, outweighs};
+ghost use Rattle.zh_tables.specs.Progress.{AreFew};
+
+use crate::progress::{Progress, Region, entry_votes, progress_of, progress_within};
+use crate::rows::Found;
+use csv::Writer;
+use itoa::Buffer;
+use std::io::Write;
+use zh_districts::Setup;
+use zh_divisors::Shares;
+use zh_record_text::{NumberedRows, RecordFault, write_each, write_record};
+use zh_returns::Count;
+
+/// Votes, and what they are more than.
+#[derive(Clone, Copy)]
+struct Excess {
+    votes: u64,
+    limit: u64,
+}
+
+/// Writes the record of a list in a municipality, or without a list that of all its lists.
+fn write_implausible<'a, W: Write + Drop>(
+    writer: &mut Writer<W>,
+    municipality: u32,
+    list: &'a [u8],
+    excess: Excess,
+    name: &'a str,
+    list_name: &'a str,
+) -> Result<(), RecordFault>
+    requires { IsBetweenRecords writer.old }
+    ensures { OnOk result (PutsText W.contents
+        (implausible_row municipality list.now excess.votes excess.limit name.now list_name.now) writer.old writer.new) }
+{
+    let mut numeral = Buffer::new();
+    let mut votes = Buffer::new();
+    let mut limit = Buffer::new();
+    let fields = [
+        numeral.format(municipality).as_bytes(),
+        list,
+        votes.format(excess.votes).as_bytes(),
+        limit.format(excess.limit).as_bytes(),
+        name.as_bytes(),
+        list_name.as_bytes(),
+    ];
+    write_record(writer, &fields)
+}
+
+/// The most votes that a list can have in a constituency with these seats.
+fn most_in(setup: &Setup, seats: &[u32], constituency: u32) -> u64
+    requires from_one { 1 ≤ constituency }
+    requires there { constituency ≤ length setup.now.constituencies }
+    requires each { length seats.now ≡ length setup.now.constituencies }
+    ensures { result ≡ most_in setup.now seats.now constituency }
+{
+    u64::from(setup.persons(constituency)) * u64::from(seats[(constituency - 1) as usize])
+}
+
+/// Writes the record of a return, if it has more votes than there can be.
+fn write_exceeding<W: Write + Drop>(
+    writer: &mut Writer<W>,
+    count: &Count<'_>,
+    seats: &[u32],
+    municipality: u32,
+    list: u32,
+) -> Result<(), RecordFault>
+    requires ready { IsBetweenRecords writer.old }
+    requires each { length seats.now ≡ length count.now.canton.constituencies }
+    requires from_one { 1 ≤ municipality }
+    requires there { municipality ≤ length count.now.canton.municipalities }
+    requires list_from_one { 1 ≤ list }
+    requires list_there { list ≤ length count.now.canton.groups }
+    ensures { OnOk result
+        (PutsText W.contents (exceeding_row count.now seats.now municipality list) writer.old writer.new) }
+{
+    let setup = count.setup();
+    let limit = most_in(setup, seats, setup.constituency_of(municipality));
+    let votes = entry_votes(count.entry(municipality, list));
+    if votes <= limit {
+        return Ok(());
+    }
+    let mut numeral = Buffer::new();
+    write_implausible(
+        writer,
+        municipality,
+        numeral.format(list).as_bytes(),
+        Excess { votes, limit },
+        setup.municipality_name(municipality),
+        setup.group_name(list),
+    )
+}
+
+/// The returns of a municipality that have more votes than there can be.
+#[derive(Drop)]
+struct ExceedingIn<'c> {
+    count: &'c Count<'c>,
+    seats: &'c [u32],
+    municipality: u32,
+}
+
+impl<'c, W: Write + Drop> NumberedRows<W> for ExceedingIn<'c> {
+    ghost use Rattle.std.specs.Prelude.{length};
+    ghost use Rattle.zh_tables.specs.Implausible.{IsSeated, exceeding_row};
+
+    ghost AreRows = { λ rows. IsSeated rows.count.now.canton rows.seats.now rows.municipality };
+
+    ghost numbers = { λ rows. length rows.count.now.canton.groups };
+
+    ghost text = { λ rows list. exceeding_row rows.count.now rows.seats.now rows.municipality list };
+
+    fn last(&self) -> u32 {
+        self.count.setup().groups()
+    }
+
+    fn write_row(&self, writer: &mut Writer<W>, list: u32) -> Result<(), RecordFault> {
+        write_exceeding(writer, self.count, self.seats, self.municipality, list)
+    }
+}
+
+/// Writes the returns of a municipality that have more votes than there can be.
+fn write_each_exceeding<W: Write + Drop>(
+    writer: &mut Writer<W>,
+    count: &Count<'_>,
+    shares: &Shares,
+    municipality: u32,
+) -> Result<(), RecordFault>
+    requires ready { IsBetweenRecords writer.old }
+    requires seated { IsSeated count.now.canton shares.now.seats municipality }
+    ensures { OnOk result (PutsText W.contents (exceeding_in count.now (Ok shares.now) municipality) writer.old writer.new) }
+{
+    let exceeding = ExceedingIn {
+        count,
+        seats: shares.seats(),
+        municipality,
+    };
+    write_each(writer, &exceeding)
+}
+
+/// Whether votes are more than ten times those of others, of which there are some, each with returns.
+fn outweighs(votes: u64, others: &Progress) -> bool
+    requires { AreFew 512 others.now }
+    ensures { result ≡ outweighs votes others.now }
+{
+    others.municipalities > 0 && others.begun == others.municipalities && votes > 10 * others.votes
+}
+
+/// Writes the record of a municipality, if it outweighs the others of its constituency.
+fn write_outweighing<W: Write + Drop>(
+    writer: &mut Writer<W>,
+    count: &Count<'_>,
+    municipality: u32,
+) -> Result<(), RecordFault>
+    requires ready { IsBetweenRecords writer.old }
+    requires from_one { 1 ≤ municipality }
+    requires there { municipality ≤ length count.now.canton.municipalities }
+    ensures { OnOk result (PutsText W.contents (outweighing_row count.now municipality) writer.old writer.new) }
+{
+    let setup = count.setup();
+    let constituency = setup.constituency_of(municipality);
+    let others = Region::Others {
+        constituency,
+        besides: municipality,
+    };
+    let others = progress_within(count, others);
+    let own = progress_of(count, municipality);
+    if !outweighs(own.votes, &others) {
+        return Ok(());
+    }
+    let excess = Excess {
+        votes: own.votes,
+        limit: 10 * others.votes,
+    };
+    let name = setup.municipality_name(municipality);
+    write_implausible(writer, municipality, b"", excess, name, "")
+}
+
+/// The implausible votes, municipality by municipality.
+#[derive(Drop)]
+pub(crate) struct ImplausibleRows<'c> {
+    pub count: &'c Count<'c>,
+    pub found: &'c Found,
+}
+
+impl<'c, W: Write + Drop> NumberedRows<W> for ImplausibleRows<'c> {
+    ghost use Rattle.std.specs.Prelude.{length};
+    ghost use Rattle.zh_tables.specs.Implausible.{AreFound, implausible_in};
+
+    ghost AreRows = { λ rows. AreFound rows.count.now.canton rows.found.now };
+
+    ghost numbers = { λ rows. length rows.count.now.canton.municipalities };
+
+    ghost text = { λ rows m. implausible_in rows.count.now rows.found.now m };
+
+    fn last(&self) -> u32 {
+        self.count.setup().municipalities()
+    }
+
+    fn write_row(&self, writer: &mut Writer<W>, municipality: u32) -> Result<(), RecordFault> {
+        if let Ok(shares) = self.found {
+            write_each_exceeding(writer, self.count, shares, municipality)?;
+        }
+        write_outweighing(writer, self.count, municipality)
+    }
+}

@@ -1,5 +1,0 @@
-use Rattle.zh_tasks.proofs.KeptLemmas.{keeps_all}
-use Rattle.zh_tasks.proofs.laws.kept_commands.Goals as goal
-
-pub returns : goal.returns
-returns c = keeps_all

@@ -1,5 +1,0 @@
-use Rattle.std.proofs.Common.{rules}
-use Rattle.zh_tasks.proofs.run.most_reads.Goals as goal
-
-pub returns : goal.returns
-returns c = search rules

@@ -1,0 +1,33 @@
+//! Bytes that are put to a writer.
+ghost use Rattle.std.specs.Prelude.{◌≡◌, ℕ, ◌<◌, [], length, take, IsOk, OnOk, OnErr};
+ghost use Rattle.std.specs.Io.KnownBytes.{Appends};
+
+use std::io::Write;
+use thiserror::Error;
+
+/// The writer failed, or took no byte.
+#[derive(Clone, Copy, Debug, PartialEq, Eq, Error)]
+#[error("write")]
+pub struct WriteFault;
+
+/// Writes all of the bytes, in as many writes as the writer needs. After an error a front of them is written, never all.
+///
+/// It fails at the first write that fails, an interrupted one too, or that takes no byte.
+pub fn put<W: Write>(out: &mut W, bytes: &[u8]) -> Result<(), WriteFault>
+    ensures all { OnOk result (Appends (W.contents out.old) (W.contents out.new) bytes.now) }
+    ensures nothing { bytes.now ≡ [] → IsOk result }
+    ensures front { OnErr result ((n : ℕ) × (n < length bytes.now)
+        × Appends (W.contents out.old) (W.contents out.new) (take n bytes.now)) }
+{
+    let mut rest = bytes;
+    while !rest.is_empty() {
+        let Ok(written) = out.write(rest) else {
+            return Err(WriteFault);
+        };
+        if written == 0 {
+            return Err(WriteFault);
+        }
+        rest = &rest[written..];
+    }
+    Ok(())
+}

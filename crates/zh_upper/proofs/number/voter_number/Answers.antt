@@ -1,5 +1,0 @@
-use Rattle.std.proofs.Common.{rules}
-use Rattle.zh_upper.proofs.number.voter_number.Goals as goal
-
-pub returns-clause-formula : goal.returns-clause-formula
-returns-clause-formula c = search rules

@@ -1,0 +1,68 @@
+-- What is reported of a text that gives no set-up, or no export of one, in bytes: 10 is LF, 32 the space.
+use Rattle.std.specs.Prelude.{ℕ, Bool, ◌==◌, ◌||◌, ◌&&◌, nat_lt, if◌then◌else◌, List, [], ◌∷◌, ◌++◌, length}
+use Rattle.std.specs.Prelude.{Option, Some, None, codes, decimal}
+use Rattle.std.specs.Char.{is_ascii_alphanumeric}
+use Rattle.std.specs.List.{list_all}
+use Rattle.zh_csv.specs.declared.held_sums.HeldFault.{HeldFault}
+use Rattle.zh_csv.specs.declared.held_sums.HeldFault.TheVariants as of_held
+use Rattle.zh_setups.specs.PlaceNames.{key_name, kind_name}
+use Rattle.zh_setups.specs.declared.text.SetupFault.{SetupFault}
+use Rattle.zh_setups.specs.declared.text.SetupFault.TheVariants as of_setup
+use Rattle.zh_setups.specs.declared.text.SetupRefusal.{SetupRefusal}
+use Rattle.zh_setups.specs.declared.place.FaultPlace.{FaultPlace}
+use Rattle.zh_setups.specs.declared.place.FaultPlace.TheVariants as places
+use Rattle.zh_setups.specs.declared.place.Key.{Key}
+use Rattle.zh_text.specs.Each.{each_to}
+use Rattle.zh_text.specs.Shown.{shown_at}
+use Rattle.zh_text.specs.declared.shown.ShownNames.TheVariants as names
+
+-- the name of a fault of a set-up
+abbrev pub setup_name : SetupFault → List ℕ
+setup_name of_setup.Memory = codes "memory"
+setup_name of_setup.Text = codes "setup text"
+setup_name of_setup.Missing = codes "setup missing"
+setup_name of_setup.Unknown = codes "setup unknown"
+setup_name of_setup.Range = codes "setup range"
+setup_name of_setup.Double = codes "setup double"
+
+-- of a record of an export
+abbrev pub held_name : HeldFault → List ℕ
+held_name of_held.Csv = codes "held csv"
+held_name of_held.Syntax = codes "held syntax"
+held_name of_held.Municipality = codes "held municipality"
+held_name of_held.List = codes "held list"
+held_name of_held.Votes = codes "held votes"
+held_name of_held.Twice = codes "held twice"
+
+-- the byte of this number, from 1, as it is shown: a byte order mark and each control as a question mark
+abbrev pub safe_byte : List ℕ → ℕ → List ℕ
+safe_byte text number = shown_at names.None text number
+
+-- a letter, a digit, _ or -, which are 95 and 45
+abbrev pub is_bare : ℕ → Bool
+is_bare byte = is_ascii_alphanumeric byte || (byte == 95) || (byte == 45)
+
+-- a key as it is shown: in quotes, which are 34, if it is empty or has any other byte
+abbrev pub shown_key : Key → List ℕ
+shown_key key =
+    if nat_lt 0 (length (key_name key)) && list_all is_bare (key_name key) then key_name key
+    else 34 ∷ each_to (length (key_name key)) (safe_byte (key_name key)) ++ 34 ∷ []
+
+-- a place in the text of a set-up: a position, or a key at the top or in a table
+abbrev pub setup_place : FaultPlace → List ℕ
+setup_place (places.At position) = codes "line " ++ decimal position.line ++ codes ", column " ++ decimal position.column
+setup_place (places.Top key) = shown_key key
+setup_place (places.Table kind number key) = kind_name kind ++ 32 ∷ decimal number ++ codes ", " ++ shown_key key
+
+-- the line of a place, if it is known
+abbrev pub setup_place_line : Option FaultPlace → List ℕ
+setup_place_line None = []
+setup_place_line (Some place) = setup_place place ++ 10 ∷ []
+
+-- the report of the fault of a set-up text: a line with its name, and then that of its place
+abbrev pub setup_report : SetupRefusal → List ℕ
+setup_report refusal = setup_name refusal.fault ++ 10 ∷ setup_place_line refusal.place
+
+-- the report of what is wrong with a record of an export
+abbrev pub rows_report : HeldFault → List ℕ
+rows_report fault = held_name fault ++ 10 ∷ []

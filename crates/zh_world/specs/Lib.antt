@@ -1,8 +1,0 @@
-pub mod Causes
-pub mod Count
-pub mod Failures
-pub mod Files
-pub mod Memory
-pub mod MemoryFiles
-pub mod Past
-pub mod Places
