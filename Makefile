@@ -3,36 +3,38 @@
 	bench fmt
 
 PREFIX = /usr/local
+# pytest, with what the part desks or page needs, or no part (all).
+pytest = scripts/test-needs --check $(1) && /usr/bin/python3 -m pytest -v
 
 help:
 	@cat scripts/help
 
 run:
-	@scripts/run
+	@program=$$(scripts/program) && exec $$program
 
 build:
 	@scripts/build
 
 example:
-	@scripts/example
+	@program=$$(scripts/program) && examples/zurich2006/run $$program
 
 night:
 	@examples/canton/run $(SEED)
 
 test:
-	@scripts/test page
+	@scripts/test
 
 test-needs:
 	@scripts/test-needs
 
 proofs:
-	@scripts/test
+	@scripts/test --ignore tests/page --deselect "tests/test_plants.py::test_mistake[page-"
 
 page:
-	@if page/module --noted 2> /dev/null; then page/seal; else page/module; fi
+	@page/seal
 
 test-page:
-	@tests/page.sh $(TESTS)
+	@$(call pytest,page) $(if $(TESTS),tests/page -k "$(TESTS)",tests -k "tests/page or page-")
 
 card:
 	@scripts/card
@@ -41,7 +43,7 @@ install:
 	@scripts/install "$(DESTDIR)" "$(PREFIX)"
 
 uninstall:
-	@scripts/uninstall "$(DESTDIR)" "$(PREFIX)"
+	@scripts/install "$(DESTDIR)" "$(PREFIX)" remove
 
 dist:
 	@scripts/dist
@@ -58,25 +60,25 @@ cases:
 	$(CURDIR)/crates/zh_cases/out/zh_cases $(CASES); status=$$?; rm -r $$folder; exit $$status
 
 refused:
-	@tests/refused_allocations.sh
+	@$(call pytest,all) tests/test_refused.py
 
 wrong-bodies:
 	@tests/edits --all $(CRATES)
 
 desks:
-	@tests/desks.sh
+	@$(call pytest,desks) tests/desks
 
 desk-bodies:
-	@tests/desks/plants.py $(BODIES)
+	@$(call pytest,desks) tests -m plants -k "desks- $(if $(BODIES),and ($(BODIES)))"
 
 folder-bodies:
-	@tests/real_file_bodies.sh $(BODIES)
+	@$(call pytest,all) tests -m plants -k "without_a_mistake or real_file- $(if $(BODIES),and ($(BODIES)))"
 
 documents:
-	@tests/documents && tests/translations
+	@python3 tests/pages run
 
 shape:
-	@tests/shape.sh && tests/definitions --check && tests/owed && tests/sentences && scripts/drawing --check && tests/evidence --check
+	@python3 tests/pages check
 
 bench:
 	@bench/run

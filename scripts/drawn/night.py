@@ -39,7 +39,7 @@ MOMENTS = [
     (("on the day", "am Wahltag"), ("Open the office", "Eröffnen"), "zhcount-office --witness .."),
     (("all evening", "den ganzen Abend"), ("Enter the returns", "Meldungen erfassen"), "return 1 1 1 525    stored 1"),
     (("every ten minutes", "alle zehn Minuten"), ("Look how far it is", "Nachsehen, wie weit"), "cat office/now/sums"),
-    (("one by one", "eine um die andere"), ("Close the municipalities", "Gemeinden schliessen"), "close 1    stored 11"),
+    (("one by one", "nacheinander"), ("Close the municipalities", "Gemeinden schliessen"), "close 1    stored 11"),
     (("all are closed", "alle geschlossen"), ("Ask for the final seats", "Endgültige Sitze verlangen"), "final"),
     (("at once", "sofort"), ("Check the sheet", "Resultatblatt prüfen"), "zhcount check ..    sheet ok"),
     (("then", "dann"), ("Publish", "Veröffentlichen"), "sheet  held.csv  setup.toml"),

@@ -6,7 +6,8 @@ import re
 import shutil
 import subprocess
 
-from room import PROGRAM, REHEARSAL, Room, same
+from places import PROGRAM, REHEARSAL
+from room import Room, same
 
 from zhcount_desks import Record
 
@@ -130,13 +131,6 @@ class Night(Room):
         ran = subprocess.run(self.script("zhcount-office", *words), env={**os.environ, "ZHCOUNT": str(program)}, capture_output=True,
                              text=True)
         return ran.returncode, ran.stdout + ran.stderr
-
-    def stands_in(self, script):
-        """A program that does this first."""
-        path = self.path / "stand-in"
-        path.write_text(f"#!/bin/bash\n{script}\nexec '{PROGRAM}' \"$@\"\n")
-        path.chmod(0o755)
-        return path
 
     def rebuild(self, *more, program=PROGRAM):
         self.new.unlink() if os.path.lexists(self.new) else None

@@ -1,7 +1,5 @@
 """A room for an office and its desks: a folder with a set-up and a disk, the processes in it, and what its protocols have to say.
-
-ZHCOUNT is the program's path, and DESKS the folder of the scripts."""
-import concurrent.futures
+DESKS names another folder of the scripts, and PATIENCE how many seconds a test waits for what has to happen."""
 import contextlib
 import os
 import pathlib
@@ -14,18 +12,13 @@ import tempfile
 import threading
 import time
 
-TOP = pathlib.Path(__file__).resolve().parents[2]
-SCRIPTS = pathlib.Path(os.environ.get("DESKS", TOP / "desks"))
-PROGRAM = pathlib.Path(os.environ.get("ZHCOUNT") or TOP / "crates/zhcount/out/zhcount").resolve()
-REHEARSAL = TOP / "crates/zh_setups/data/rehearsal.toml"
-SECONDS = int(os.environ.get("PATIENCE", "30"))  # for what has to happen
+from places import PROGRAM, REHEARSAL, TOP
 
-sys.dont_write_bytecode = True
+SCRIPTS = pathlib.Path(os.environ.get("DESKS", TOP / "desks"))
+SECONDS = int(os.environ.get("PATIENCE", "90"))  # a busy machine may take long
+
 sys.path.insert(0, str(SCRIPTS))
 from zhcount_desks import records_in
-
-# A shell that starts these tests in the background has INT ignored; an office would be started so, and not hear it.
-signal.signal(signal.SIGINT, signal.default_int_handler)
 
 
 def same(what, wanted, found):
@@ -153,6 +146,26 @@ class Room:
     def script(self, name, *words):
         return [sys.executable, self.scripts / name, *words]
 
+    def stands_in(self, task):
+        """Has a stand-in for the program do this first, in bash. Its path."""
+        path = self.path / "stand-in"
+        path.write_text(f"#!/bin/bash\n{task}\nexec '{PROGRAM}' \"$@\"\n")
+        path.chmod(0o755)
+        self.environment["ZHCOUNT"] = str(path)
+        return path
+
+    def edits_answers(self, edit):
+        """Has the answers of `run` edited on the way."""
+        self.stands_in(f"[ $1 = run ] && exec '{PROGRAM}' \"$@\" > >(exec sed -u '{edit}')")
+
+    def other_disk(self, *lines):
+        """A disk of the same set-up with these lines, and its path."""
+        path = self.path / "other.disk"
+        for task, given in (("format", ""), ("run", "".join(f"1 {it}\n" for it in lines))):
+            words = [PROGRAM, task, "--setup", self.setup, "--disk", path]
+            same(task, 0, subprocess.run(words, input=given, capture_output=True, text=True).returncode)
+        return path
+
     def process(self, kind, words):
         self.processes.append(kind(words, self.environment))
         return self.processes[-1]
@@ -240,35 +253,3 @@ def export_of(records):
             rows.clear() if word == "commit" else None
     lines = ["municipality,list,number,votes", *(f"{m},{g},{n},{v}" for (m, g), (n, v) in sorted(held.items()))]
     return "".join(line + "\n" for line in lines)
-
-
-class Skipped(Exception):
-    """Why a test can't be tried here."""
-
-
-def run(tests, at_once=1):
-    """Runs functions without arguments, each named by its first line. How many failed."""
-    def outcome(test):
-        try:
-            test()
-        except Skipped as it:
-            return "skipped", str(it)
-        except (AssertionError, OSError, subprocess.SubprocessError) as wrong:
-            return "FAIL", str(wrong) or "failed"
-        return "ok", ""
-
-    counts = dict.fromkeys(("ok", "FAIL", "skipped"), 0)
-    with concurrent.futures.ThreadPoolExecutor(at_once) as pool:
-        for test, (word, said) in zip(tests, pool.map(outcome, tests)):
-            counts[word] += 1
-            print(f"{word:<5} {test.__doc__}{': ' * bool(said)}{said}", flush=True)
-    print(f"{counts['ok']} passed, {counts['FAIL']} failed" + (f", {counts['skipped']} skipped" if counts["skipped"] else ""))
-    return counts["FAIL"]
-
-
-def main(tests, at_once=1):
-    """Runs these tests, or those that the arguments name; the status of the whole."""
-    by_name, names = {it.__name__: it for it in tests}, sys.argv[1:]
-    if strange := [it for it in names if it not in by_name]:
-        sys.exit(f"there is no test {', '.join(strange)}; there are {', '.join(by_name)}")
-    return int(run([by_name[it] for it in names] or tests, at_once) > 0)

@@ -5,7 +5,8 @@ import signal
 import subprocess
 import zlib
 
-from room import PROGRAM, final_answers, same, that, until
+from places import PROGRAM
+from room import final_answers, same, that, until
 
 # The lines of the night: the desk, the line, and its answer where nothing is stopped. Between two parts the office is told to end, and
 # started again.

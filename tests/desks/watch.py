@@ -1,6 +1,5 @@
 """A room whose processes ask before each call that changes something in it (watched.c), so that a test can stop them there, or see
 what a power cut at that moment would leave."""
-import atexit
 import compileall
 import contextlib
 import dataclasses
@@ -17,24 +16,22 @@ import threading
 from room import SCRIPTS, Desk, Room
 
 HERE = pathlib.Path(__file__).resolve().parent
-PLACE = pathlib.Path(tempfile.mkdtemp(prefix="watch-"))
-LIBRARY, COMPILED = PLACE / "watched.so", PLACE / "scripts"
+LIBRARY, COMPILED = "watched.so", "scripts"
 
 
-def prepare():
-    """Compiles what is preloaded, and the scripts."""
-    atexit.register(shutil.rmtree, PLACE, ignore_errors=True)
-    if not LIBRARY.exists():
-        subprocess.run(["cc", "-shared", "-fPIC", "-O1", "-o", LIBRARY, HERE / "watched.c", "-ldl"], check=True)
-        shutil.copytree(SCRIPTS, COMPILED)
-        compileall.compile_dir(COMPILED, quiet=1)
+def prepare(place):
+    """Puts what is preloaded, and the scripts, compiled, into a folder."""
+    subprocess.run(["cc", "-shared", "-fPIC", "-O1", "-o", place / LIBRARY, HERE / "watched.c", "-ldl"], check=True)
+    shutil.copytree(SCRIPTS, place / COMPILED)
+    compileall.compile_dir(place / COMPILED, quiet=1)
+    return place
 
 
 class QuickRoom(Room):
     """A room whose scripts start soon, as they are compiled and no packages are looked for. The disk has a folder of its own."""
 
-    def __init__(self):
-        super().__init__(scripts=COMPILED)
+    def __init__(self, place):
+        super().__init__(scripts=place / COMPILED)
         made, self.disk = self.disk, self.path / "disks/night.disk"
         self.disk.parent.mkdir()
         made.rename(self.disk)
@@ -63,7 +60,8 @@ class Watch(threading.Thread):
     def __init__(self, goes_on):
         super().__init__(daemon=True)
         self.goes_on, self.fault, self.held = goes_on, None, []
-        self.path = tempfile.mktemp(dir=PLACE)
+        self.folder = tempfile.TemporaryDirectory(prefix="watch-")
+        self.path = f"{self.folder.name}/socket"
         self.socket = socket.socket(socket.AF_UNIX)
         self.socket.bind(self.path)
         self.socket.listen(64)
@@ -91,13 +89,15 @@ class Watch(threading.Thread):
         self.socket.close()
         for it in self.held:
             it.close()
+        self.folder.cleanup()
 
 
 class WatchedRoom(QuickRoom):
     """A room whose office and desks are watched."""
 
-    def __init__(self, goes_on):
-        super().__init__()
+    def __init__(self, place, goes_on):
+        super().__init__(place)
+        self.library = place / LIBRARY
         self.pids, self.starting = set(), threading.Lock()
         self.watch = Watch(lambda call: self.hear(call, goes_on))
 
@@ -112,7 +112,7 @@ class WatchedRoom(QuickRoom):
 
     def process(self, kind, words):
         who = f"desk {words[3]}" if kind is Desk else "office"
-        watched = {"LD_PRELOAD": str(LIBRARY), "WATCHED": str(self.path), "WATCHER": self.watch.path, "WATCHED_AS": who}
+        watched = {"LD_PRELOAD": str(self.library), "WATCHED": str(self.path), "WATCHER": self.watch.path, "WATCHED_AS": who}
         with self.starting:
             self.processes.append(kind(words, {**self.environment, **watched}))
             self.pids.add(self.processes[-1].process.pid)

@@ -11,11 +11,10 @@ import tempfile
 import threading
 import time
 
-from room import PROGRAM, TOP, Desk, Room, same, that, until
-
-sys.path.insert(0, str(TOP / "examples/canton"))
 from canton import Canton, Chance
 from office import Office
+from places import PROGRAM
+from room import Desk, Room, same, that, until
 
 MIRRORED = ("setup.toml", "protocol", *(f"protocol.{desk}" for desk in range(1, 9)))
 # A witness that isn't there while a file says so, and that says which process it is.

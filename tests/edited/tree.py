@@ -9,6 +9,8 @@ from edited.edit import edits_of
 from edited.functions import without_bodies
 
 PARTS = ("src", "specs", "proofs")
+# A line of a comment: what is refused does not depend on it.
+COMMENT = re.compile(r"(?m)^[ \t]*(?://|--).*\n")
 # So many wrong bodies are tried of a crate that did not change.
 MOST_OF_A_CRATE = 30
 
@@ -51,6 +53,9 @@ class Tree:
         paths = [it for part in parts for it in sorted((self.folder(crate) / part).rglob("*")) if it.is_file()]
         return [(str(it.relative_to(self.folder(crate))), it.read_text(encoding="utf-8", errors="replace")) for it in paths]
 
+    def without_comments(self, crate, *parts):
+        return [(path, COMMENT.sub("", text)) for path, text in self.files(crate, *parts)]
+
     @cached_property
     def logic(self):
         """The toolchain's line without the name of the kit: two kits of one logic prove the same."""
@@ -59,23 +64,24 @@ class Tree:
 
     def stated(self, crate):
         """What the crates above see of a crate: its specs, its lemmas for callers, and its library's text without bodies."""
-        specs = [(path, re.sub(r"(?m)^ *--.*\n", "", text)) for path, text in self.files(crate, "specs")]
-        lemmas = [it for it in self.files(crate, "proofs") if "CallerLemmas" in it[0]]
-        return [*specs, *lemmas, *((path, without_bodies(text)) for path, text in self.files(crate, "src"))]
+        lemmas = [it for it in self.without_comments(crate, "proofs") if "CallerLemmas" in it[0]]
+        return [*self.without_comments(crate, "specs"), *lemmas,
+                *((path, without_bodies(text)) for path, text in self.without_comments(crate, "src"))]
 
     def sums(self, crates):
-        """For each crate the sum of all that its wrong bodies are refused for. The folders of crates and edits count for nothing."""
+        """For each crate the sum of all that its wrong bodies are refused for. Comments and the folders of crates and edits count for
+        nothing."""
         stated, found = {it: self.stated(it) for it in self.below(*crates)}, {}
         for crate in crates:
             edits = sorted((it.path.name, it.text) for it in self.edits(crate))
             below = [(it, stated[it]) for it in self.below(crate)]
-            whole = (self.logic, self.named[crate], self.files(crate, *PARTS), edits, below)
+            whole = (self.logic, self.named[crate], self.without_comments(crate, *PARTS), edits, below)
             found[crate] = hashlib.sha256(repr(whole).encode()).hexdigest()[:32]
         return found
 
     def sum_of_rest(self, crate):
         """The sum of all that a wrong body of the crate is refused for, but the wrong body itself."""
-        whole = (self.logic, self.named[crate], self.files(crate, *PARTS), [(it, self.stated(it)) for it in self.below(crate)])
+        whole = (self.logic, self.named[crate], self.without_comments(crate, *PARTS), [(it, self.stated(it)) for it in self.below(crate)])
         return hashlib.sha256(repr(whole).encode()).hexdigest()[:32]
 
     def library(self, crate):

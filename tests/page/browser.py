@@ -12,7 +12,8 @@ from selenium.webdriver.common.by import By
 from selenium.webdriver.common.keys import Keys
 from selenium.webdriver.support.ui import WebDriverWait
 
-TOP = pathlib.Path(__file__).resolve().parents[2]
+from places import TOP
+
 PAGE = TOP / "page" / "index.html"
 # No test is about time: a machine may be slow, and have other work. So many seconds mean that nothing comes any more.
 PATIENCE = 600

@@ -1,13 +1,8 @@
 """The checks of the cases: what stands in the files when a case calls `zhcount check` (docs/CASES.md, "Turns on files")."""
 import re
 
-import sheets
-
-
-def coded(words):
-    """The bytes that groups of hexadecimal digits stand for, as `a5 01` or `ff*300`."""
-    groups = [word.partition("*") for word in words]
-    return b"".join(bytes.fromhex(digits) * int(times or 1) for digits, _, times in groups)
+from cases import coded, repeated
+from places import CASES
 
 
 def replaced(text, change):
@@ -32,7 +27,7 @@ def turn(line, files):
 def turns(name):
     """(line, files) for each turn of a file of cases, with the files as they stand before it."""
     files, writing = {}, None
-    for line in sheets.repeated((sheets.DATA / name).read_text().split("\n")):
+    for line in repeated((CASES / name).read_text().split("\n")):
         text = line.strip()
         if text == "end file":
             writing = None

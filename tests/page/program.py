@@ -1,5 +1,4 @@
-"""What `zhcount check` answers, as far as the page is compared with it. ZHCOUNT names the program; if it is not set, it is
-crates/zhcount/out/zhcount."""
+"""What `zhcount check` answers, as far as the page is compared with it."""
 import concurrent.futures
 import functools
 import os
@@ -7,9 +6,7 @@ import pathlib
 import subprocess
 import tempfile
 
-import browser
-
-PROGRAM = os.environ.get("ZHCOUNT") or str(browser.TOP / "crates" / "zhcount" / "out" / "zhcount")
+from places import PROGRAM
 
 
 def without_path(report):

@@ -2,10 +2,11 @@
 import base64
 import importlib.machinery
 import importlib.util
-import pathlib
 import re
 
-PAGE = pathlib.Path(__file__).resolve().parents[2] / "page"
+from places import TOP
+
+PAGE = TOP / "page"
 PARTS = PAGE / "parts"
 
 

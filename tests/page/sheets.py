@@ -1,49 +1,16 @@
 """The sheets of this repository with their set-ups and the rows that were held: those of the cases, which were computed by
 hand or by another program, and the election of 2006."""
-import pathlib
 import re
 
-TOP = pathlib.Path(__file__).resolve().parents[2]
-DATA = TOP / "crates" / "zh_cases" / "data"
-ZURICH = TOP / "examples" / "zurich2006"
+from cases import repeated
+from places import CASES, REHEARSAL, ZURICH
+
 HEAD = "municipality,list,number,votes"
-
-
-def repeated(lines):
-    """Lines in which `repeat n = 1 to 3` .. `end repeat` are written out (docs/CASES.md, "Repetitions")."""
-    written = []
-    at = 0
-    while at < len(lines):
-        match = re.match(r"\s*repeat (\w+) = (.+?)\s*$", lines[at])
-        if not match:
-            written.append(lines[at])
-            at += 1
-            continue
-        depth, end = 1, at
-        while depth > 0:
-            end += 1
-            depth += bool(re.match(r"\s*repeat ", lines[end])) - (lines[end].strip() == "end repeat")
-        for value in values(match[2]):
-            written += repeated([put(line, match[1], value) for line in lines[at + 1:end]])
-        at = end + 1
-    return written
-
-
-def values(text):
-    span = re.fullmatch(r"(-?\d+) to (-?\d+)(?: by (\d+))?", text)
-    if span:
-        return [str(n) for n in range(int(span[1]), int(span[2]) + 1, int(span[3] or 1))]
-    return [value.strip() for value in text.split(",")]
-
-
-def put(line, name, value):
-    line = line.replace("{" + name + "}", value)
-    return re.sub(r"\{" + name + r"([+-]\d+)\}", lambda match: str(int(value) + int(match[1])), line)
 
 
 def setup(name):
     """The text of a set-up of the cases."""
-    path = TOP / "crates" / "zh_setups" / "data" / "rehearsal.toml" if name == "rehearsal" else DATA / name
+    path = REHEARSAL if name == "rehearsal" else CASES / name
     return "\n".join(repeated(path.read_text().split("\n")))
 
 
@@ -104,7 +71,7 @@ def of_cases(path):
 
 
 def all_sheets():
-    for path in sorted(DATA.glob("*.case")):
+    for path in sorted(CASES.glob("*.case")):
         yield from of_cases(path)
     yield "the election of 2006", zurich(), zurich_setup(), zurich_held()
 

@@ -1,16 +1,15 @@
 """The card for a desk: its dialogue and its table have what a desk shows, and its two sides the same."""
 import html
-import os
 import re
 import subprocess
-import tempfile
 import unittest
 
-import program
-from browser import TOP
-from case import OTHER_WORDS
+import pytest
 
-SETUP = TOP / "crates" / "zh_setups" / "data" / "rehearsal.toml"
+from case import OTHER_WORDS
+from places import TOP
+from room import Room
+
 SIDES = dict(re.findall(r'<section lang="(\w+)">(.*?)</section>', (TOP / "page" / "card.html").read_text(), re.S))
 # How what zhcount-desk shows of itself begins, where somebody has to do something.
 MESSAGES = ("the office has ended: ", "no answer yet ", "a batch is open; ", "perhaps stored: show it", "not repeated: ",
@@ -38,21 +37,15 @@ def refusals():
 
 
 class Card(unittest.TestCase):
+    @pytest.mark.usefixtures("program")
     def test_its_dialogue_is_what_a_screen_shows(self):
         lines = dialogue(SIDES["de"])
         self.assertEqual((len(lines), dialogue(SIDES["en"])), (5, lines))
         typed = "".join(f"{text}\n" for text, is_typed in lines if is_typed)
-        with tempfile.TemporaryDirectory() as room:
-            disk, folder = f"{room}/disk", f"{room}/office"
-            subprocess.run([program.PROGRAM, "format", "--setup", SETUP, "--disk", disk], check=True)
-            office = subprocess.Popen([TOP / "desks" / "zhcount-office", SETUP, disk, folder], stderr=subprocess.DEVNULL,
-                                      env={**os.environ, "ZHCOUNT": program.PROGRAM})
-            try:
-                desk = subprocess.run([TOP / "desks" / "zhcount-desk", "3", folder], input=typed, stdout=subprocess.PIPE,
-                                      stderr=subprocess.STDOUT, text=True, timeout=60)
-            finally:
-                office.terminate()
-                office.wait()
+        with Room() as room:
+            room.start()
+            desk = subprocess.run(room.script("zhcount-desk", "3", room.folder), input=typed, stdout=subprocess.PIPE, stderr=subprocess.STDOUT,
+                                  text=True)
         self.assertEqual(desk.stdout.splitlines(), [text for text, is_typed in lines if not is_typed])
 
     def test_what_a_desk_shows_has_a_row(self):

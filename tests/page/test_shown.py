@@ -9,6 +9,7 @@ import program
 import seals
 from browser import By
 from case import EXAMPLE, EXAMPLE_SETUP, PATH, ROWS, WRONG, Case, changed
+from places import TOP
 from program import utf8
 
 
@@ -117,11 +118,11 @@ class Shown(Case):
     def test_which_page_this_is(self):
         """Its foot says of which version it is, and how that is found out: by a command, with the sum in README. It shows no sum itself."""
         foot = self.page.open().text("#which")
-        self.assertTrue(foot.startswith(f"Is this the real page of zhcount {(browser.TOP / 'VERSION').read_text().strip()}?"), foot)
+        self.assertTrue(foot.startswith(f"Is this the real page of zhcount {(TOP / 'VERSION').read_text().strip()}?"), foot)
         self.assertIn("Compute the SHA-256 of this file, and compare it with the one in the README of zhcount", foot)
         command = re.search(r"Linux: (.*)", foot)[1]
         told = subprocess.run(command.split(), cwd=browser.PAGE.parent, stdout=subprocess.PIPE, text=True, check=True).stdout
-        self.assertIn(f"`{told.split()[0]}`", (browser.TOP / "README.md").read_text())
+        self.assertIn(f"`{told.split()[0]}`", (TOP / "README.md").read_text())
         self.assertEqual(re.findall("[0-9a-f]{8,}", self.page.text("body")), [])
 
     def test_german(self):

@@ -1,27 +1,4 @@
-# Checks, and what they compare.
-
-passed=0 failed=0 skipped=0
-
-# check NAME FUNCTION ARGUMENT..: passes where the function compared something and all of it was as wanted; it is skipped where the
-# function says that it can't be tried here. Where CHECKS has names, one on a line, the others are left out.
-check() {
-    local name=$1
-    shift
-    [ -z "${CHECKS:-}" ] || grep -qxF -- "$name" <<< "$CHECKS" || return
-    compared=0 different="" note="" untried=""
-    "$@"
-    [ "$compared" -gt 0 ] || [ "$untried" ] || different="nothing was compared"
-    if [ -z "$different" ] && [ "$untried" ]; then
-        skipped=$((skipped + 1))
-        echo "skipped $name: $untried"
-    elif [ -z "$different" ]; then
-        passed=$((passed + 1))
-        echo "ok    $name${note:+ ($note)}"
-    else
-        failed=$((failed + 1))
-        echo "FAIL  $name: $different"
-    fi
-}
+# What a check compares.
 
 # same WHAT WANTED FOUND
 same() {

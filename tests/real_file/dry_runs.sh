@@ -1,6 +1,6 @@
 # What a load would do.
 
-dry_run() { timeout 20 "$program" load --dry-run --setup "$setup" --disk "$1" --csv "$2"; }
+dry_run() { timeout 120 "$program" load --dry-run --setup "$setup" --disk "$1" --csv "$2"; }
 
 forecasts() {
     new_disk d

@@ -172,7 +172,7 @@ no_permission() {
         : > $there.$file
     done
     chmod 000 $there $there.*
-    denied() { ends 1 "$1"$'\n'"$2: no permission" "" timeout 20 "${as[@]}" kinds/zhcount "${@:3}"; }
+    denied() { ends 1 "$1"$'\n'"$2: no permission" "" timeout 120 "${as[@]}" kinds/zhcount "${@:3}"; }
     denied "disk device" $there export --setup "kinds/$(basename "$setup")" --disk $there
     denied "disk device" kinds/new format --setup "kinds/$(basename "$setup")" --disk kinds/new
     denied "setup file" $there.setup list --setup $there.setup --of groups
@@ -185,10 +185,10 @@ no_permission() {
 # What a fault says of a path: the path as it was given, its control characters as question marks.
 shown_paths() {
     local name=$'a\tb\nc\x7fd\xc2\x85e\xef\xbb\xbff'
-    ends 1 $'setup file\na?b?c?d?e?f: there is no such file' "" timeout 20 "$program" list --setup "$name" --of groups
+    ends 1 $'setup file\na?b?c?d?e?f: there is no such file' "" timeout 120 "$program" list --setup "$name" --of groups
     ends 1 $'disk device\n./d\xc3\xbcr/../x: there is no such file' "" run $'./d\xc3\xbcr/../x' < /dev/null
     name=$(printf 'x%.0s' {1..4200})
-    ends 1 $'setup file\n'"${name:0:4096}: the name is too long" "" timeout 20 "$program" list --setup "$name" --of groups
+    ends 1 $'setup file\n'"${name:0:4096}: the name is too long" "" timeout 120 "$program" list --setup "$name" --of groups
 }
 
 # The files of a load, and of a folder that is given for one.
@@ -212,5 +212,5 @@ files_of_a_load() {
     mkdir kinds
     ends 1 $'csv file\nkinds/none.csv: there is no such file' "" load d kinds/none.csv
     ends 1 $'csv file\nkinds: is a folder' "" load d kinds
-    ends 1 $'setup file\nkinds: is a folder' "" timeout 20 "$program" list --setup kinds --of groups
+    ends 1 $'setup file\nkinds: is a folder' "" timeout 120 "$program" list --setup kinds --of groups
 }

@@ -1,6 +1,6 @@
 # The tables of a set-up.
 
-list() { timeout 20 "$program" list --setup "$1" --of "$2"; }
+list() { timeout 120 "$program" list --setup "$1" --of "$2"; }
 
 # The 10 seats of the rehearsal: 5,000, 3,000 and 2,000 persons over 1,000.
 all_tables() {

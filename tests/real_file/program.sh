@@ -1,9 +1,9 @@
 # The program, and what a check asks of a run.
 
-format() { timeout 20 "$program" format --setup "$setup" --disk "$1"; }
+format() { timeout 120 "$program" format --setup "$setup" --disk "$1"; }
 run() { timeout 120 "$program" run --setup "$setup" --disk "$1"; }
-load() { timeout 20 "$program" load --setup "$setup" --disk "$1" --csv "$2"; }
-export_csv() { timeout 20 "$program" export --setup "$setup" --disk "$1"; }
+load() { timeout 120 "$program" load --setup "$setup" --disk "$1" --csv "$2"; }
+export_csv() { timeout 120 "$program" export --setup "$setup" --disk "$1"; }
 
 # A new disk at this path, and nothing else.
 new_disk() {

@@ -1,6 +1,6 @@
 # The seats, by a count or by a sheet.
 
-seats() { timeout 20 "$program" seats --setup "$setup" "$@"; }
+seats() { timeout 120 "$program" seats --setup "$setup" "$@"; }
 
 # The election of FORMATS, on a new disk, and its sheet.
 elected() {

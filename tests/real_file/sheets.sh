@@ -1,6 +1,6 @@
 # The check of a published sheet: that of the election whose seats are known, and of the rehearsal.
 
-check_sheet() { timeout 20 "$program" check --setup "$1" --sheet "$2" "${@:3}"; }
+check_sheet() { timeout 120 "$program" check --setup "$1" --sheet "$2" "${@:3}"; }
 
 # A disk of the rehearsal with all its returns, the rows held and the sheet.
 sheet_and_rows() {

@@ -1,6 +1,6 @@
 # How far the returns have come in.
 
-status() { timeout 20 "$program" status --setup "$setup" --disk "$@"; }
+status() { timeout 120 "$program" status --setup "$setup" --disk "$@"; }
 
 status_of_a_disk() {
     new_disk d

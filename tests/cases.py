@@ -1,0 +1,40 @@
+"""How the cases write what is repeated, and bytes (docs/CASES.md)."""
+import re
+
+
+def repeated(lines):
+    """Lines in which `repeat n = 1 to 3` .. `end repeat` are written out (docs/CASES.md, "Repetitions")."""
+    written = []
+    at = 0
+    while at < len(lines):
+        match = re.match(r"\s*repeat (\w+) = (.+?)\s*$", lines[at])
+        if not match:
+            written.append(lines[at])
+            at += 1
+            continue
+        depth, end = 1, at
+        while depth > 0:
+            end += 1
+            depth += bool(re.match(r"\s*repeat ", lines[end])) - (lines[end].strip() == "end repeat")
+        for value in values(match[2]):
+            written += repeated([put(line, match[1], value) for line in lines[at + 1:end]])
+        at = end + 1
+    return written
+
+
+def values(text):
+    span = re.fullmatch(r"(-?\d+) to (-?\d+)(?: by (\d+))?", text)
+    if span:
+        return [str(n) for n in range(int(span[1]), int(span[2]) + 1, int(span[3] or 1))]
+    return [value.strip() for value in text.split(",")]
+
+
+def put(line, name, value):
+    line = line.replace("{" + name + "}", value)
+    return re.sub(r"\{" + name + r"([+-]\d+)\}", lambda match: str(int(value) + int(match[1])), line)
+
+
+def coded(words):
+    """The bytes that groups of hexadecimal digits stand for, as `a5 01` or `ff*300`."""
+    groups = [word.partition("*") for word in words]
+    return b"".join(bytes.fromhex(digits) * int(times or 1) for digits, _, times in groups)

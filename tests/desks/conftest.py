@@ -1,0 +1,29 @@
+"""What the tests of the scripts of desks/ need."""
+import pytest
+
+from nights import Night
+from room import Room
+from watch import prepare
+
+
+@pytest.fixture(autouse=True)
+def needs(program):
+    """None of these tests can do without the program."""
+
+
+@pytest.fixture
+def room():
+    with Room() as room:
+        yield room
+
+
+@pytest.fixture
+def night():
+    with Night() as night:
+        yield night
+
+
+@pytest.fixture
+def place(tmp_path):
+    """A folder with what a watched room needs."""
+    return prepare(tmp_path)

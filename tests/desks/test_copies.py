@@ -1,0 +1,280 @@
+"""Tests of when an office copies its disk, and of the child that writes what follows from a copy: killed, slow, failing, or left by its
+office."""
+import concurrent.futures
+import os
+import re
+import resource
+import signal
+
+import pytest
+
+from now import NEVER, RETURNS, QuickRoom, compare, in_haste, link_of, names_of_now, table_of
+from places import PROGRAM
+from room import Room, same, stays, that, until
+from watch import COMPILED, WatchedRoom
+from witnessed import Witnessed
+
+# A run that spoils the first byte of the disk for as long as a line is in the air.
+RUN_THAT_SPOILS = r"""put() {{ printf "$1" | dd of='{disk}' bs=1 conv=notrunc status=none; }}
+if [ $1 = run ]; then
+    coproc real {{ exec '{program}' "$@"; }}
+    while IFS= read -r line; do
+        [ "$line" ] && {{ put '\x00'; sleep 0.3; put '\xa5'; }}
+        echo "$line" >&${{real[1]}}
+        read -r answer <&${{real[0]}}
+        echo "$answer"
+    done
+    exec {{real[1]}}>&-
+    wait
+    exit
+fi"""
+
+
+@pytest.fixture
+def room():
+    with QuickRoom() as room:
+        yield room
+
+
+@pytest.mark.xdist_group("times")
+def test_every_ten_seconds():
+    """a command that comes soon after a copy is seen ten seconds after that copy, though no other line comes"""
+    with Room() as room:
+        room.start()
+        until("the first", lambda: link_of(room) == "now-0")
+        first = (room.folder / "now-0/disk").stat().st_mtime
+        same("the answers", ["stored 1", "stored 2"], room.ask(1, *RETURNS[:2]).out)
+        until("the next", lambda: link_of(room) == "now-2", 25)
+        after = (room.folder / "now-2/disk").stat().st_ctime - first
+        that(f"after {after:.1f} seconds", 9.5 < after < 20)
+        stays("nothing is copied where nothing has changed", lambda: names_of_now(room) == ["now", "now-2"])
+        room.stop()
+
+
+def test_lines_meanwhile():
+    """what comes while the child works is in none of its files"""
+    with QuickRoom(every=NEVER) as room:
+        room.start()
+        room.shows(0)
+        same("the answers", ["stored 1", "stored 2"], room.ask(1, *RETURNS[:2]).out)
+        room.stop()
+        room.holds()
+        room.start()
+        until("the child", room.child)
+        same("its priority", 19, os.getpriority(os.PRIO_PROCESS, until("a question", room.left_over) and room.child()))
+        same("the answers meanwhile", ["same", "stored 3"], room.ask(2, RETURNS[0], RETURNS[2]).out)
+        same("`now` is not there before all is", ["now.new"], names_of_now(room))
+        room.goes_on()
+        compare(room, room.shows(2), [f"1 {it}" for it in RETURNS[:2]], "1,1,1,525,1,N,A\n1,2,1,300,1,N,B\n")
+        room.stop()
+
+
+def test_copies_between_lines():
+    """the disk is copied only where no line is in the air"""
+    with QuickRoom(every=0.05) as room:
+        room.stands_in(RUN_THAT_SPOILS.format(program=PROGRAM, disk=room.disk))
+        room.start()
+        desk = room.desk(1)
+        for number, line in enumerate(RETURNS, 1):
+            same("the answer", f"stored {number}", desk.send(line))
+        compare(room, room.shows(9), [f"1 {it}" for it in RETURNS], table_of(RETURNS, 1))
+        same("nothing failed", "", "".join(it for it in room.office.error if "not made anew" in it))
+        room.stop()
+
+
+class QuickWitnessed(QuickRoom, Witnessed):
+    """A room whose office copies the disk more often, and has a witness."""
+
+
+def test_copies_and_a_witness():
+    """what no desk was shown yet, since it waits for the witness, is in no copy"""
+    with QuickWitnessed() as room:
+        room.options.append("--witness-required")
+        room.holds()
+        room.start()
+        until("the first copy", room.left_over)
+        desk = room.desk(1)
+        same("the answer", "stored 1", desk.send(RETURNS[0]))
+        room.signal(signal.SIGSTOP)
+        desk.write(f"{RETURNS[1]}\n")
+        until("the line is noted", lambda: room.records("protocol")[-1].text == RETURNS[1])
+        room.goes_on()
+        until("the first is shown", lambda: link_of(room) == "now-0" and not room.child())
+        stays("nothing that waits is copied", lambda: not room.child() and names_of_now(room) == ["now", "now-0"], 2)
+        room.signal(signal.SIGCONT)
+        same("the answer", "stored 2", desk.answer())
+        until("then it is", lambda: link_of(room) == "now-2")
+        room.stop()
+
+
+def test_copy_of_other_commands(room):
+    """a copy that has other commands than the protocol is not shown"""
+    one_more = f"printf '1 return 1 1 1 5\\n' | '{PROGRAM}' run --setup '{room.setup}' --disk '{room.folder}/now.new/disk'"
+    room.on_copies(f"{one_more} > '{room.path}/said'")
+    room.start()
+    has_failed(room, "not made anew: the copy has 1 commands, and the protocol 0")
+    same("nothing is shown", None, link_of(room))
+    room.stop()
+
+
+def test_copy_of_another_disk(room):
+    """another disk at the disk's path is not copied: the office stops"""
+    room.holds()
+    room.start()
+    until("the first copy", room.left_over)
+    same("the answer", ["stored 1"], room.ask(1, RETURNS[0]).out)
+    os.replace(room.other_disk(RETURNS[1]), room.disk)
+    room.goes_on()
+    same("the status", 3, room.office.wait())
+    that(f"it says so: {room.office.said()}", "is not the file any more" in room.office.said())
+
+
+# The child
+
+
+def has_failed(room, text, times=1):
+    until(f"{text}: {room.office.said()}", lambda: sum(text in it for it in room.office.error) >= times)
+
+
+def test_failing_child(room):
+    """of a child that fails the log says once why, and the office goes on"""
+    tries = room.path / "tries"
+    room.on_copies(f"[ -e '{room.held}' ] && {{ echo >> '{tries}'; echo 'zhcount: disk damaged' >&2; exit 1; }}")
+    room.held.write_text("")
+    room.start()
+    until("it is tried again", lambda: tries.exists() and len(tries.read_text()) >= 3)
+    same("the answer", ["stored 1"], room.ask(1, RETURNS[0]).out)
+    same("it is said once", ["zhcount-office: `now` is not made anew: zhcount status: zhcount: disk damaged"],
+         [it for it in room.office.error if "not made anew" in it])
+    room.held.unlink()
+    compare(room, room.shows(1), [f"1 {RETURNS[0]}"], table_of(RETURNS[:1], 1))
+    room.stop()
+
+
+def test_killed_child(room):
+    """a child that is killed leaves nothing behind, and another one does its work"""
+    room.holds()
+    room.start()
+    asked = until("a question", room.left_over)
+    os.kill(room.child(), signal.SIGKILL)
+    has_failed(room, "not made anew: status -9")
+    until("it is left to nobody", lambda: not {*asked} & {*room.left_over()}, 5)
+    room.goes_on()
+    compare(room, room.shows(0), [], "")
+    room.stop()
+
+
+def test_slow_child():
+    """a child that takes too long is killed, with what it has started, and desks are answered meanwhile"""
+    with QuickRoom(longest=1) as room:
+        room.holds()
+        room.start()
+        until("a question", room.left_over)
+        same("the answer meanwhile", ["stored 1"], room.ask(1, RETURNS[0]).out)
+        has_failed(room, "not made anew: not done after 1 seconds")
+        room.stop()
+        until("nothing is left", lambda: not room.left_over())
+        same("and no folder", [], names_of_now(room))
+
+
+def test_no_room(room):
+    """an office that has no room for a copy or a sheet says so, and goes on"""
+    office = room.start()
+    room.shows(0)
+    resource.prlimit(office.process.pid, resource.RLIMIT_FSIZE, (500_000, resource.RLIM_INFINITY))
+    same("the answers", [f"stored {it}" for it in range(1, 10)], room.ask(1, *RETURNS).out)
+    has_failed(room, "not made anew: [Errno 27] File too large")
+    (room.folder / "sheet-9.new").mkdir()
+    same("the sheet", "2 sheet provisional 9", room.ask(2, "sheet").out[0])
+    has_failed(room, "a sheet is not put into the folder: ")
+    same("an older one stays", ["now", "now-0"], names_of_now(room))
+    resource.prlimit(office.process.pid, resource.RLIMIT_FSIZE, (resource.RLIM_INFINITY, resource.RLIM_INFINITY))
+    room.shows(9)
+    same("the end", 0, room.stop())
+
+
+def test_killed_office():
+    """a child ends with its office, and the next start removes what it left"""
+    with QuickRoom(every=NEVER) as room:
+        room.start()
+        same("the answer", ["stored 1"], room.ask(1, RETURNS[0]).out)
+        room.stop()
+        room.holds()
+        room.start()
+        until("a question", room.left_over)
+        room.stop(signal.SIGKILL)
+        until("nothing is left", lambda: not room.left_over(), 5)
+        same("what is there", ["now.new"], names_of_now(room))
+        (room.folder / "now-7").mkdir()
+        (room.folder / "now").symlink_to("now-7")
+        room.start()
+        until("a question", room.left_over)
+        same("an older `now` is gone", ["now.new"], names_of_now(room))
+        room.goes_on()
+        compare(room, room.shows(1), [f"1 {RETURNS[0]}"], table_of(RETURNS[:1], 1))
+        same("nothing else", ["now", "now-1"], names_of_now(room))
+        room.stop()
+        room.check()
+
+
+class Stop:
+    """An office that is stopped before its call of this number in `now`."""
+
+    def __init__(self, place, number):
+        self.place, self.number, self.calls = place, number, 0
+
+    def goes_on(self, call):
+        is_of_now = re.search(r"/office/now[^/]*(/.*)?$", call.path) and call.name != "look"
+        if not is_of_now or call.pid not in self.room.pids:  # a call of the child
+            return True
+        self.calls += 1
+        if self.calls == self.number:
+            os.kill(call.pid, signal.SIGKILL)
+        return self.calls != self.number
+
+    def run(self):
+        """Has the office show two commands, one after the other, and starts it again where it was stopped. How many calls there were."""
+        with WatchedRoom(self.place, self.goes_on) as room:
+            self.room = room
+            room.start(is_awaited=False)
+            for number, line in enumerate(RETURNS[:2], 1):
+                desk = room.desk(1)
+                desk.write(f"{line}\n")
+                self.until(f"now-{number}", lambda: link_of(room) == f"now-{number}")
+                self.until("the answer", lambda: desk.out)
+                desk.process.stdin.close()
+                self.until("the end of the desk", lambda: desk.process.poll() is not None)
+            self.until("nothing else", lambda: names_of_now(room) == ["now", "now-2"])
+            same("the rows", "municipality,list,number,votes\n1,1,1,525\n1,2,1,300\n", (room.folder / "now/held.csv").read_text())
+            room.stop()
+        return self.calls
+
+    def until(self, what, holds):
+        """Waits until something holds, and starts the office again where it was stopped."""
+        until(f"stop {self.number}: {what}", lambda: self.starts_again() or holds(), 120)
+
+    def starts_again(self):
+        if self.room.office.process.poll() == -signal.SIGKILL:
+            self.room.start(is_awaited=False)
+
+
+def test_stopped_office(place):
+    """kill -9 of the office at each of its calls that make, change or remove something of `now`"""
+    in_haste(place / COMPILED, 0.2)
+    calls = Stop(place, 0).run()
+    that(f"calls: {calls}", calls > 20)
+    with concurrent.futures.ThreadPoolExecutor(5) as pool:
+        list(pool.map(lambda number: Stop(place, number).run(), range(1, calls + 1)))
+
+
+def test_failed_disk():
+    """after `device` nothing is copied"""
+    with QuickRoom(every=0) as room:
+        room.edits_answers("s/stored 2/refused device/")
+        room.start()
+        desk = room.desk(1)
+        same("the answer", "stored 1", desk.send(RETURNS[0]))
+        room.shows(1)
+        desk.write(f"{RETURNS[1]}\n")
+        same("the status", 3, room.office.wait())
+        same("what `now` shows", ("now-1", ["now", "now-1"]), (link_of(room), names_of_now(room)))

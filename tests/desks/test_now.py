@@ -1,0 +1,162 @@
+"""Tests of what an office puts into its folder while it runs: the sheets, and `now`, with what follows from a copy of the disk."""
+import signal
+import stat
+import subprocess
+import time
+
+import pytest
+
+from now import CLOSINGS, NEVER, RETURNS, UNCONFIRMED, QuickRoom, compare, model, names_of_now, table_of
+from places import PROGRAM
+from room import same, that, until
+
+
+@pytest.fixture
+def room():
+    with QuickRoom() as room:
+        yield room
+
+
+# Sheets
+
+
+def verdict(room, sheet, held):
+    path = room.path / "verdict.sheet"
+    path.write_text(sheet)
+    words = [PROGRAM, "check", "--setup", room.setup, "--sheet", path, "--held", held]
+    return subprocess.run(words, capture_output=True, text=True).stdout
+
+
+def test_sheets():
+    """what a desk shows as a sheet, and the sheet in the folder, are the sheet of run, and check says the same of them"""
+    with QuickRoom(every=NEVER) as room:
+        room.start()
+        same("other answers have no desk", [f"stored {it}" for it in range(1, 10)] + ["shows 1 525", "refused notclosed 1"],
+             room.ask(2, *RETURNS, "show 1 1", "final").out)
+        held = room.path / "held.csv"
+        lines = [f"2 {it}" for it in RETURNS]
+        for desk, before, line, name in [(2, [], "sheet", "sheet-9"), (1, CLOSINGS, "final", "sheet-final-12")]:
+            lines += [f"{desk} {it}" for it in before]
+            held.write_text(model(room, lines)["held.csv"])
+            ran = subprocess.run([PROGRAM, "run", "--setup", room.setup, "--disk", room.path / "model.disk"], input=f"{desk} {line}\n",
+                                 capture_output=True, text=True).stdout
+            shown = room.ask(desk, *before, line).out[len(before):]
+            same(f"the first line of {line}", ran.split("\n")[0], shown[0])
+            same(f"the answer to {line}", ran, "".join(f"{it}\n" for it in shown))
+            until(name, (room.folder / name).exists)
+            same(name, ran, (room.folder / name).read_text())
+            same("its mode", "-rw-r-----", stat.filemode((room.folder / name).stat().st_mode))
+            that("it is right", "sheet ok" in verdict(room, ran, held))
+            same("the verdict", verdict(room, ran, held), verdict(room, (room.folder / name).read_text(), held))
+        same("the newest of each kind", {"sheet-9", "sheet-final-12"}, kept_sheets(room))
+        same("another one", "3 sheet provisional 12", room.ask(3, "sheet").out[0])
+        until("only the newest stays", lambda: kept_sheets(room) == {"sheet-12", "sheet-final-12"})
+        that("its desk", (room.folder / "sheet-12").read_text().startswith("3 sheet provisional 12\n"))
+        that("a new connection says it", "before: sheet: 3 sheet provisional 12" in room.ask(3, "show 1 1").said())
+        room.stop()
+        same("the protocol has it without its desk", "sheet provisional 12", room.of_desk(3)[0].answer.split("\n")[0])
+        room.check()
+
+
+def kept_sheets(room):
+    return {it.name for it in room.folder.iterdir() if it.name.startswith("sheet")}
+
+
+# What follows from a copy
+
+
+def test_files_of_a_copy(room):
+    """the files of `now` are those of the model after as many commands, and the group may read them"""
+    room.start()
+    compare(room, room.shows(0), [], "")
+    lines = [*RETURNS[:1], *RETURNS[3:4], "return 3 1 1 20001", "withdraw 1 2 1", "close 2"]
+    same("the answers", [f"stored {it}" for it in range(1, 6)], room.ask(1, *lines).out)
+    now = room.shows(5)
+    compare(room, now, [f"1 {it}" for it in lines],
+            "1,1,1,525,1,N,A\n1,2,1,withdrawn,1,N,B\n2,1,1,240,1,M,A\n3,1,1,20001,1,W,A\n")
+    that("some are implausible", "3,1,20001," in (now / "implausible").read_text())
+    same("only the newest stays", ["now", "now-5"], names_of_now(room))
+    same("the modes", {"drwxr-s---", "-rw-r-----"}, {stat.filemode(it.stat().st_mode) for it in (now, *now.iterdir())})
+    (room.folder / "witness").write_text("no witness since ..\n")
+    room.ask(1, "return 1 1 2 526")
+    same("what is said of the witness", "no witness since ..\n", (room.shows(6) / "witness").read_text())
+    room.stop()
+    same("the status of the end stays as it is", room.zhcount("status"), (room.folder / "status").read_text())
+    same("`now` stays", ["now", "now-6"], names_of_now(room))
+    room.check()
+
+
+def test_names_with_commas():
+    """names that need quotation marks have them"""
+    with QuickRoom() as room:
+        room.setup.write_text(room.setup.read_text().replace('name = "N"', 'name = "N, \\"n\\""'))
+        room.disk.unlink()
+        room.zhcount("format")
+        room.start()
+        same("the answer", ["stored 1"], room.ask(1, RETURNS[0]).out)
+        same("the row", UNCONFIRMED + '1,1,1,525,1,"N, ""n""",A\n', (room.shows(1) / "unconfirmed").read_text())
+        room.stop()
+
+
+# Who has entered what
+
+
+def test_unconfirmed_returns(room):
+    """what one desk alone has entered is unconfirmed, until another desk sends the same"""
+    loaded = room.path / "loaded.csv"
+    loaded.write_text("municipality,list,number,votes\n3,1,1,90\n3,2,1,60\n")
+    words = [PROGRAM, "load", "--setup", room.setup, "--disk", room.disk, "--csv", loaded]
+    same("what is loaded", "stored 1\n", subprocess.run(words, capture_output=True, text=True).stdout)
+    room.start()
+    desks = {it: room.desk(it) for it in range(1, 8)}
+    for desk, line, answer in [
+            (1, "return 1 1 1 525", "stored 2"), (1, "return 1 1 1 525", "same"),
+            (1, "return 1 2 1 300", "stored 3"), (2, "return 1 2 1 300", "same"),
+            (1, "return 1 3 1 175", "stored 4"), (2, "return 1 3 1 157", "refused conflict"),
+            (4, "open", "held 0"), (4, "row 2 1 1 240", "held 1"), (4, "row 2 2 1 330", "held 2"), (4, "commit", "stored 5"),
+            (5, "open", "held 0"), (5, "row 2 1 1 240", "held 1"), (5, "commit", "same"),
+            (6, "open", "held 0"), (6, "row 2 2 1 330", "held 1"),
+            (7, "open", "held 0"), (7, "row 2 2 1 330", "held 1"), (7, "drop", "dropped 1"),
+            (1, "withdraw 2 3 1", "stored 6"), (3, "return 3 1 1 90", "same")]:
+        same(f"{desk} {line}", answer, desks[desk].send(line))
+    rows = ["1,1,1,525,1,N,A\n", "1,3,1,175,1,N,C\n", "2,2,1,330,4,M,B\n", "2,3,1,withdrawn,1,M,C\n", "3,2,1,60,-,W,B\n"]
+    shows_unconfirmed(room, 6, rows)
+    for desk, line in [(2, "return 1 1 1 525"), (3, "return 3 2 1 60"), (4, "withdraw 2 3 1")]:
+        same(f"{desk} {line}", "same", desks[desk].send(line))
+    shows_unconfirmed(room, 6, rows[1:3])
+    same("a batch with one new row", ["held 2", "stored 7"], [desks[6].send(it) for it in ("row 1 1 2 530", "commit")])
+    shows_unconfirmed(room, 7, ["1,1,2,530,6,N,A\n", rows[1]])
+    same("a confirmed correction", "same", desks[2].send("return 1 1 2 530"))
+    shows_unconfirmed(room, 7, rows[1:2])
+    room.stop()
+
+
+def shows_unconfirmed(room, commands, rows):
+    text = UNCONFIRMED + "".join(rows)
+    try:
+        until("it is shown", lambda: room.shows(commands) and (room.folder / "now/unconfirmed").read_text() == text)
+    except AssertionError:
+        same("what is unconfirmed", text, (room.folder / "now/unconfirmed").read_text())
+
+
+def test_unconfirmed_after_a_stop(room):
+    """what a desk repeats after a stop, which had kept it, it has not confirmed itself"""
+    room.stands_in(f"[ $1 = run ] && exec '{PROGRAM}' \"$@\" > >(exec sed -u '/stored [13]/d')")
+    room.start()
+    desk = room.desk(1)
+    desk.write(f"{RETURNS[0]}\n")
+    until("it is stored", lambda: room.records("protocol")[-1].is_line())
+    time.sleep(0.3)
+    room.stop(signal.SIGKILL)
+    room.start()
+    same("the answer", "same", desk.answer())
+    same("the others", ["held 0", "held 1", "stored 2"], [desk.send(it) for it in ("open", "row 1 2 1 300", "commit")])
+    same("a batch", ["held 0", "held 1"], [desk.send(it) for it in ("open", "row 1 3 1 175")])
+    desk.write("commit\n")
+    until("it is stored", lambda: room.records("protocol")[-1].text == "commit")
+    time.sleep(0.3)
+    room.stop(signal.SIGKILL)
+    room.start()
+    same("the answer", "same", desk.answer())
+    shows_unconfirmed(room, 3, [table_of([it], 1) for it in RETURNS[:3]])
+    room.stop()

@@ -1,0 +1,421 @@
+"""Tests of an office with a witness: a second folder, reached by a command, which may be lost, stopped, slow or another office's."""
+import os
+import resource
+import shlex
+import shutil
+import signal
+import subprocess
+import sys
+import tempfile
+import time
+
+import pytest
+
+from dying import Dying
+from places import TOP
+from room import Process, Room, same, stays, that, until
+from witnessed import Canton, Chance, Witnessed, check_what_is_held, enter, leave, night_that_is_lost, wait_for_answers
+
+
+@pytest.fixture
+def room():
+    with Witnessed() as room:
+        yield room
+
+
+def test_mirrored(room):
+    """the witness has each record, before and after a stop of the office, and from it the disk can be made anew"""
+    room.start()
+    same("the answers", ["stored 1", "held 0", "held 1", "stored 2"],
+         room.ask(1, "return 1 1 1 525", "open", "row 2 1 1 240", "commit").out)
+    room.has_all()
+    room.stop(signal.SIGKILL)
+    room.start()
+    same("the answer", ["stored 3"], room.ask(2, "return 3 1 1 90").out)
+    same("the end", 0, room.stop())
+    same("what differs", [], room.differing())
+    same("the export", room.zhcount("export"), room.of(room.rebuilt(), "export"))
+    room.check()
+
+
+def test_nothing_before():
+    """no answer is shown before the witness has it, while other desks' lines are answered on the disk; a silent one is waited for"""
+    with Witnessed("--witness-required") as room:
+        room.start()
+        desks = [room.desk(1), room.desk(2)]
+        same("the answer", "none", desks[0].send("show 1 1"))
+        same("the answer", "none", desks[1].send("show 1 1"))
+        room.signal(signal.SIGSTOP)
+        desks[0].write("return 1 1 1 525\n")
+        desks[1].write("return 2 1 1 240\n")
+        until("both lines are noted", lambda: sum(it.text.startswith("return ") for it in room.records("protocol")) == 2)
+        stays("no answer is shown", lambda: len(room.of_desk(1)) == len(room.of_desk(2)) == 1 and len(desks[0].out) == len(desks[1].out) == 1)
+        room.signal(signal.SIGCONT)
+        same("the answers", ["stored 1", "stored 2"], sorted(it.answer() for it in desks))
+        room.has_all()
+        room.stop()
+        room.check()
+
+
+def test_goes_on_without(room):
+    """without its witness the office goes on, and says so; the witness then gets what it lacks"""
+    room.start()
+    desk = room.desk(1)
+    same("the answer", "stored 1", desk.send("return 1 1 1 525"))
+    room.lose_witness()
+    same("the answer", "stored 2", desk.send("return 1 1 2 530"))
+    until("the log says it", lambda: "no witness since" in room.office.said())
+    that("the folder says it", (room.folder / "witness").read_text().startswith("no witness since"))
+    same("the answer", "none", desk.send("show 2 1"))
+    until(f"the desk says it: {desk.said()}", lambda: "no witness since" in desk.said())
+    room.away.unlink()
+    room.has_all()
+    until("the log says it", lambda: room.office.said().count("the witness is there since") == 2)
+    same("the answer", "stored 3", desk.send("return 2 1 1 240"))
+    until(f"the desk says it: {desk.said()}", lambda: "the witness is there since" in desk.said())
+    room.stop()
+    same("what differs", [], room.differing())
+    room.check()
+
+
+def test_waits_for_it():
+    """where the witness is required no answer is shown while it is away"""
+    with Witnessed("--witness-required") as room:
+        room.start()
+        desk = room.desk(1)
+        same("the answer", "stored 1", desk.send("return 1 1 1 525"))
+        room.lose_witness()
+        until("the log says it", lambda: "waiting for the witness since" in room.office.said())
+        desk.write("return 1 1 2 530\n")
+        until("the line is noted", lambda: room.records("protocol")[-1].text == "return 1 1 2 530")
+        stays("no answer is shown", lambda: len(room.of_desk(1)) == 1 and len(desk.out) == 1)
+        until(f"the desk says it: {desk.said()}", lambda: "waiting for the witness since" in desk.said())
+        room.away.unlink()
+        same("the answer", "stored 2", desk.answer())
+        room.stop()
+        room.check()
+
+
+@pytest.mark.xdist_group("times")
+def test_silent_witness(room):
+    """a witness that says nothing for ten seconds is none, and the answer is shown without it"""
+    room.start()
+    desk = room.desk(1)
+    room.signal(signal.SIGSTOP)
+    begun = time.monotonic()
+    same("the answer", "stored 1", desk.send("return 1 1 1 525"))
+    that(f"after some ten seconds: {time.monotonic() - begun}", 5 < time.monotonic() - begun < 15)
+    until("the log says it", lambda: "no witness since" in room.office.said())
+    that(f"and why: {room.office.said()}", "it has said nothing for 10 seconds" in room.office.said())
+
+
+class DyingWithWitness(Dying, Witnessed):
+    """A room whose office has a witness, and is killed at a moment."""
+
+
+def alone(is_away):
+    """An office that is killed between the witness's acknowledgement and its own note of the answer."""
+    with DyingWithWitness("zhcount-office", ["self.folder.note_answer(record)"]) as room:
+        room.start()
+        desk = room.desk(1)
+        same("the answer", "stored 1", desk.send("return 1 1 1 525"))
+        room.arm(0)
+        desk.write("return 1 1 2 530\n")
+        same("the end of the office", -9, room.office.wait())
+        until("the witness has the answer", lambda: b"stored 2" in (room.copy / "protocol.1").read_bytes())
+        that("the office has it not", b"stored 2" not in (room.folder / "protocol.1").read_bytes())
+        if is_away:
+            room.away.touch()
+        room.start()
+        same("the answer", "same" if is_away else "stored 2", desk.answer())
+        same("what is noted", [("new", "unanswered"), ("again", "same")] if is_away else [("new", "stored 2")],
+             [(it.mark, it.answer) for it in room.of_desk(1)[1:]])
+        room.away.unlink(missing_ok=True)
+        room.has_all()
+        if is_away:
+            that("what was not shown is put aside", b"stored 2" in (room.copy / "protocol.1.aside").read_bytes())
+        room.stop()
+        same("the export", room.zhcount("export"), room.of(room.rebuilt(), "export"))
+        room.check()
+
+
+def test_answer_that_it_alone_has():
+    """an answer that the witness alone has is taken over by the next start"""
+    alone(False)
+
+
+def test_answer_that_nobody_saw():
+    """an answer that the witness alone has is put aside, where the next start did without the witness"""
+    alone(True)
+
+
+def test_another_office():
+    """a witness of another office is refused"""
+    with Witnessed() as first, Witnessed() as second:
+        first.start()
+        same("the answer", ["stored 1"], first.ask(1, "return 1 1 1 525").out)
+        first.stop()
+        second.options = first.options
+        second.start(is_awaited=False)
+        same("the end", 3, second.office.wait())
+        that(f"it says so: {second.office.said()}", "the witness has another protocol" in second.office.said())
+
+
+def test_torn_record(room):
+    """a torn record at the witness is cut off, and sent again"""
+    room.start()
+    desk = room.desk(1)
+    same("the answer", "stored 1", desk.send("return 1 1 1 525"))
+    room.lose_witness()
+    same("the answer", "stored 2", desk.send("return 1 1 2 530"))
+    torn = (room.folder / "protocol").read_bytes()[len((room.copy / "protocol").read_bytes()):][:40]
+    with open(room.copy / "protocol", "ab") as file:
+        file.write(torn or b"2026-11-28T0")
+    room.away.unlink()
+    room.has_all()
+    room.stop()
+
+
+TRACED = '''
+import os, runpy, sys
+real = {it: getattr(os, it) for it in ("fsync", "write")}
+def traced(name):
+    def call(fd, *more):
+        at = os.readlink(f"/proc/self/fd/{fd}")
+        found = real[name](fd, *more)
+        word = "said" if (name, fd) == ("write", 1) else name
+        real["write"](trace, f"{word} {os.path.basename(at)} {more[0][:30] if fd == 1 and more else ''}\\n".encode())
+        return found
+    return call
+trace = os.open(os.environ["TRACE"], os.O_WRONLY | os.O_CREAT | os.O_APPEND)
+for it in real:
+    setattr(os, it, traced(it))
+sys.argv = sys.argv[1:]
+runpy.run_path(sys.argv[0], run_name="__main__")
+'''
+
+
+def test_each_piece_is_synced(room):
+    """the witness acknowledges a piece once it has synced it"""
+    wrapper, trace = room.path / "traced.py", room.path / "trace"
+    wrapper.write_text(TRACED)
+    room.options = ["--witness", f"env TRACE={trace} {sys.executable} {wrapper} {room.scripts / 'zhcount-witness'} {room.copy}"]
+    room.start()
+    same("the answers", ["stored 1", "shows 1 525"], room.ask(1, "return 1 1 1 525", "show 1 1").out)
+    room.stop()
+    written, said = set(), 0
+    for line in trace.read_text().splitlines():
+        word, name, *more = line.split(" ")
+        if word == "write":
+            written.add(name)
+        elif word == "fsync":
+            written.discard(name)
+        elif "has" in more[0] and len(more) == 3:
+            said += 1
+            that(f"{more[1]} is synced when it is acknowledged", more[1] not in written)
+    that(f"pieces were acknowledged: {said}", said >= 4)
+
+
+def test_slow_witness(room):
+    """a witness that takes seconds for its start, and for an answer, is waited for"""
+    room.command.write_text(room.command.read_text().replace("exec", "sleep 3\nexec"))
+    room.start()
+    lines = room.office.error
+    that(f"it was there first: {lines}", "the witness is there since" in lines[0] and "desks can send lines" in lines[-1])
+    room.signal(signal.SIGSTOP)
+    desk = room.desk(1)
+    desk.write("return 1 1 1 525\n")
+    until("the line is noted", lambda: room.records("protocol")[-1].text == "return 1 1 1 525")
+    stays("no answer is shown", lambda: not desk.out, 3)
+    room.signal(signal.SIGCONT)
+    same("the answer", "stored 1", desk.answer())
+    that(f"it was there all the time: {room.office.said()}", "no witness" not in room.office.said())
+    room.stop()
+
+
+def test_full_volume(room):
+    """a witness without room ends, and says why; the office goes on, and says it too"""
+    room.start()
+    desk = room.desk(1)
+    same("the answer", "stored 1", desk.send("return 1 1 1 525"))
+    room.has_all()
+    size = (room.copy / "protocol").stat().st_size
+    resource.prlimit(room.witness(), resource.RLIMIT_FSIZE, (size + 30, resource.RLIM_INFINITY))
+    room.away.touch()
+    same("the answer", "stored 2", desk.send("return 1 1 2 530"))
+    until("the log says it", lambda: "no witness since" in room.office.said())
+    that(f"and why: {room.office.said()}", f": it has ended: zhcount-witness: {room.copy}: File too large" in room.office.said())
+    same("the size of its protocol", size, (room.copy / "protocol").stat().st_size)
+    room.away.unlink()
+    room.has_all()
+    room.stop()
+
+
+def test_no_such_command():
+    """where the command can't be started, or says something else, the office goes on, and says why; one without words is refused"""
+    for words, why in [("/nowhere/witness 'a b'", "/nowhere/witness can't be started: No such file or directory"),
+                       ("echo Welcome", "it said 'Welcome'"), ("sh -c 'echo no such key >&2; exit 255'", "it has ended: no such key"),
+                       ("head -c 100000 /dev/zero", "what it says is not what zhcount-witness says")]:
+        with Room() as room:
+            room.options = ["--witness", words]
+            room.start()
+            same("the answer", ["stored 1"], room.ask(1, "return 1 1 1 525").out)
+            until(f"it says why, {why}", lambda: any("no witness" in it and it.endswith(f": {why}") for it in room.office.error))
+            same("the end", 0, room.stop())
+            for nothing in ("", " ", "ssh 'other"):
+                ran = subprocess.run(room.script("zhcount-office", "--witness", nothing, room.setup, room.disk, room.folder), capture_output=True,
+                                     timeout=10)
+                same(f"the status with '{nothing}'", 2, ran.returncode)
+
+
+def test_folder_of_another_witness(room):
+    """a folder that another witness has is refused by a text; that one ends when it has heard nothing for 20 seconds"""
+    first = room.process(Process, room.script("zhcount-witness", room.copy))
+    until("it is ready", lambda: "ready" in first.out)
+    begun = time.monotonic()
+    ran = subprocess.run(room.script("zhcount-office", "--rebuild", room.copy, room.other / "new"), capture_output=True, text=True)
+    same("a rebuilding meanwhile", (1, f"not made: an office or a witness runs in {room.copy}: end it first\n"), (ran.returncode, ran.stdout))
+    room.start()
+    refused = f"it has ended: zhcount-witness: {room.copy}: another witness, or an office, has this folder"
+    until("it says so", lambda: refused in room.office.said())
+    same("the answer", ["stored 1"], room.ask(1, "return 1 1 1 525").out)
+    same(f"the status of the first: {first.said()}", 1, first.wait())
+    that(f"not before 15 seconds: {time.monotonic() - begun}", time.monotonic() - begun > 15)
+    same("what it says", f"zhcount-witness: {room.copy}: nothing has come for 20 seconds", first.said())
+    until("the other has the folder", lambda: "the witness is there since" in room.office.said())
+    room.stop()
+    same("what differs", [], room.differing())
+
+
+def test_refused_folder(room):
+    """a folder that others may use, or that can't be made, is refused by a text; so are words of no form"""
+    room.copy.mkdir(0o755)
+    for folder, text, said in [(room.copy, "", f"others may use {room.copy}: 'chmod 2750 {room.copy}' makes it right"),
+                               (room.other / "no/copy", "", "No such file or directory"),
+                               (room.other / "new", "append protocol x\n", "what came is of no form: append protocol x"),
+                               (room.other / "new", "add protocol 0\n", "what came is of no form: add"),
+                               (room.other / "new", "append lines.1 1\n\n", "what came is of no form: append lines.1 1")]:
+        refused = room.process(Process, room.script("zhcount-witness", folder))
+        same(f"the status: {refused.said()}", 1, refused.end(text))
+        that(f"it says so: {refused.said()}", refused.said().startswith(f"zhcount-witness: {folder}: {said}"))
+
+
+SLOW_LOCK = '''
+import fcntl, runpy, sys
+real = fcntl.flock
+def slow(*words):
+    open(sys.argv[1] + "/protocol", "a").write(RECORD)
+    return real(*words)
+fcntl.flock = slow
+sys.argv = sys.argv[1:]
+runpy.run_path(sys.argv[0], run_name="__main__")
+'''
+
+
+def test_lock_before_the_files(room):
+    """what a witness still wrote while the next one waited for the folder stays"""
+    record = "2026-11-29T18:00:00.000+01:00\t1\t1\t1\t1\tnew\tclose 1\t\n"
+    (room.other / "slow.py").write_text(SLOW_LOCK.replace("RECORD", repr(record)))
+    room.copy.mkdir(0o750)
+    words = [sys.executable, room.other / "slow.py", *room.script("zhcount-witness", room.copy)[-2:]]
+    ran = subprocess.run(words, stdin=subprocess.DEVNULL, capture_output=True, text=True)
+    same(f"what it has: {ran.stderr}", record, (room.copy / "protocol").read_text())
+    that(f"what it says: {ran.stdout}", f"has protocol {len(record)} " in ran.stdout)
+
+
+def test_start_waits_for_it():
+    """where the witness is required no desk sees anything of a start before the witness has that too"""
+    with Witnessed("--witness-required") as room:
+        room.away.touch()
+        room.start(is_awaited=False)
+        desk = room.desk(1)
+        desk.write("return 1 1 1 525\n")
+        until("the start is noted", lambda: (room.folder / "protocol").exists() and room.records("protocol")[-1:] and
+              room.records("protocol")[-1].mark == "state")
+        stays("no desk is let in", lambda: not (room.folder / "lines.1").exists() and "start 1" not in desk.said(), 2)
+        until(f"the desk says it: {desk.said()}", lambda: "waiting for the witness since" in desk.said())
+        same("the end of an office that waits", 0, room.stop())
+        room.start(is_awaited=False)
+        room.away.unlink()
+        same("the answer", "stored 1", desk.answer())
+        room.stop()
+        same("what differs", [], room.differing())
+        room.check()
+
+
+def test_spoilt_in_the_night(room):
+    """a witness that has something else in the middle of a night is none, and the office goes on"""
+    room.start()
+    desk = room.desk(1)
+    same("the answer", "stored 1", desk.send("return 1 1 1 525"))
+    room.has_all()
+    room.lose_witness()
+    same("the answer", "stored 2", desk.send("return 1 1 2 530"))
+    path = room.copy / "protocol.1"
+    path.write_bytes(path.read_bytes().replace(b"525", b"526"))
+    room.away.unlink()
+    until("the log says it", lambda: "still no witness: the witness has another protocol.1" in room.office.said())
+    same("the answer", "stored 3", desk.send("return 1 1 3 540"))
+    same("the end", 0, room.stop())
+
+
+def test_unanswered_at_the_end():
+    """an answer that the witness does not have at the end is shown to nobody, and given after the next start"""
+    with Witnessed("--witness-required") as room:
+        room.start()
+        desk = room.desk(1)
+        same("the answer", "stored 1", desk.send("return 1 1 1 525"))
+        room.lose_witness()
+        until("the log says it", lambda: "waiting for the witness since" in room.office.said())
+        desk.write("return 1 1 2 530\n")
+        until("the line is noted", lambda: room.records("protocol")[-1].text == "return 1 1 2 530")
+        same("the end", 0, room.stop())
+        that(f"it says so: {room.office.said()}", "unanswered, since the witness does not have it: desk 1: return 1 1 2 530" in room.office.error[-1])
+        same("what desk 1 was shown", ["stored 1"], desk.out)
+        room.away.unlink()
+        room.start()
+        same("the answer", "same", desk.answer())
+        room.stop()
+        same("what differs", [], room.differing())
+        room.check()
+
+
+def another_device():
+    """A folder on another device than the rooms."""
+    found = [it for it in (tempfile.gettempdir(), "/var/tmp", TOP) if os.stat(it).st_dev != os.stat(Room.shared()).st_dev]
+    if not found:
+        pytest.skip("there is one device alone")
+    return found[0]
+
+
+def test_machine_is_lost():
+    """whatever a desk was shown is held by the disk made anew from the witness on another device, whenever the office's machine was lost"""
+    that("answers were shown", sum(night_that_is_lost(seed, device=another_device()) for seed in range(4)) > 20)
+
+
+# What the witness says comes later.
+RELAYED = """#!/bin/sh
+{away}
+sh -c 'echo $$ > {pid}; exec {words}' | while IFS= read -r line; do sleep 0.05; echo "$line"; done
+"""
+
+
+def test_either_is_lost():
+    """the witness's machine is lost among lines of eight desks, and comes back with nothing, and then the office's is lost"""
+    canton = Canton(Chance(2027))
+    with Witnessed(setup=canton.setup(), device=another_device()) as room:
+        away, words = room.command.read_text().split("\n", 2)[1], [sys.executable, room.scripts / "zhcount-witness", room.copy]
+        room.command.write_text(RELAYED.format(away=away, pid=room.pid, words=shlex.join(map(str, words))))
+        room.start()
+        entering = enter(room, canton, 1)
+        wait_for_answers(room, entering, 100)
+        room.lose_witness()
+        shutil.rmtree(room.copy)
+        wait_for_answers(room, entering, 200)
+        until("the log says that there is none", lambda: "no witness since" in room.office.said())
+        room.away.unlink()
+        until("the log says that it is there", lambda: room.office.said().count("the witness is there since") == 2)
+        wait_for_answers(room, entering, 300)
+        room.lose_office()
+        leave(entering)
+        check_what_is_held(room, entering, room.rebuilt())

@@ -1,0 +1,122 @@
+"""What the pages cite: functions and clauses, files, edits, cases, crates, layers, and each other by links."""
+import os
+import re
+from itertools import zip_longest
+from pathlib import Path
+
+from pages.markdown import anchors_of, links_of, prose_of, rows_of, sections_of
+
+PROVED, ARCHITECTURE = "docs/PROVED.md", "docs/ARCHITECTURE.md"
+FUNCTION = re.compile(r"`([^`]+)`(?:,? and |, )?")
+CLAUSE = re.compile(r"(\w+)(?: \([^)]*\))?(?:, | and |$)")
+FILE = re.compile(r"(crates|docs|tests|scripts|bench|examples)(/[\w.*-]+)+")
+
+
+def matches(pattern, text):
+    """What the pattern finds from the text's start on, one after another, and the rest of the text."""
+    found = []
+    while one := pattern.match(text):
+        found.append(one[1])
+        text = text[one.end():]
+    return found, text
+
+
+def citations(tree, faults):
+    """Each function of PROVED's column `Carried by`: its line, the crates in the heading above, the type named last, its
+    name, and the clauses meant; none where all of them are. Entries are parted by ';', and have functions in backticks
+    and then names of clauses, a clause perhaps with fields in brackets."""
+    for section in sections_of(tree.read(PROVED)):
+        crates, owner = re.findall(r"`(zh\w*)`", section.title), None
+        rows = [(line, row["Carried by"]) for line, row in rows_of(section) if "Carried by" in row]
+        for line, entry in ((line, it.strip()) for line, cell in rows for it in cell.split(";")):
+            functions, rest = matches(FUNCTION, entry)
+            clauses, rest = matches(CLAUSE, rest.strip())
+            if rest or not functions:
+                faults.append(f"{PROVED}:{line}: can't be read: {entry}")
+                continue
+            for name in functions:
+                owner = name.split("::")[0] if "::" in name and " for " not in name else owner
+                yield line, crates, owner, name, clauses
+
+
+def is_called(function, name, owner):
+    """Whether a function goes by this name: `f`, `Type::f`, or `Trait for Type` for all of an impl. A name alone is one
+    of the type named last, or a function without a type."""
+    first, *others = function.split("::")
+    is_of_owner = owner and (first == owner or first.endswith(f"for {owner}"))
+    is_of_impl = "::" in name and function.partition(" for ")[2] == name
+    return function == name or others and first == name or is_of_impl or is_of_owner and function.split("::")[-1] == name
+
+
+def promised(tree):
+    """The clauses that PROVED names, and where it names none."""
+    found, faults, by_word = [], [], {}
+    for word, it in ((word, it) for it in tree.clauses for word in {*re.split("::| for ", it.function)}):
+        by_word.setdefault(word, []).append(it)
+    for line, crates, owner, name, clauses in citations(tree, faults):
+        called = [it for it in by_word.get(re.split("::| for ", name)[-1], []) if is_called(it.function, name, owner)]
+        meant = [it for it in called if it.crate in crates] or called * ("::" in name)
+        faults += [] if meant else [f"{PROVED}:{line}: there is no {name}"]
+        faults += [f"{PROVED}:{line}: {name} has no clause {it}" for it in clauses if meant and it not in {it.name for it in meant}]
+        found += [it for it in meant if not clauses or it.name in clauses]
+    return found, faults
+
+
+def things(tree):
+    """Files, edits, cases, crates and functions that a page names in backticks and that are not there."""
+    functions = {it.function.split("for ")[-1] for it in tree.clauses}
+    for page in tree.pages:
+        for number, line in enumerate(prose_of(tree.read(page)).splitlines(), 1):
+            for word in re.findall(r"`([^`\s]+)`", line):
+                if is_there(word, tree, functions) is False:
+                    yield f"{page}:{number}: there is no {word}"
+
+
+def is_there(word, tree, functions):
+    """Whether a thing is there; None if the word names nothing of the repository."""
+    if re.fullmatch(r"zh_\w+|zhcount", word):
+        return word in tree.crates
+    if re.fullmatch(r"[\w*]+\.(edit|case|antt|rt)", word):
+        return any(tree.top.glob(f"crates/*/**/{word}")) or any(tree.top.glob(f"tests/**/{word}"))
+    if FILE.fullmatch(word) and "/out/" not in word:
+        return any(tree.top.glob(word))
+    return word in functions if re.fullmatch(r"[A-Z]\w+::[a-z]\w+", word) else None
+
+
+def leads(page, link, folder):
+    """Whether a link of a page leads to a file of the folder, and to a heading of it where it names one."""
+    target, _, anchor = link.partition("#")
+    path = Path(os.path.normpath(page.parent / target)) if target else page
+    is_here = path.is_relative_to(folder) and path.exists()
+    return is_here and (not anchor or path.suffix == ".md" and anchor in anchors_of(path.read_text(encoding="utf-8")))
+
+
+def lost_links(folder, patterns=("**/*.md", "**/*.html")):
+    """The links of the pages in a folder that do not lead to a place in it."""
+    folder = Path(os.path.abspath(folder))
+    pages = sorted(path for pattern in patterns for path in folder.glob(pattern))
+    yield from [] if pages else [f"{folder} has no page"]
+    for page in pages:
+        for line, link in links_of(page.read_text(encoding="utf-8"), page.suffix == ".html"):
+            if not leads(page, link, folder):
+                yield f"{page.relative_to(folder)}:{line}: {link} leads nowhere"
+
+
+def layers(tree):
+    """Where ARCHITECTURE has not the layers of crates.txt, or says of a crate what its root file does not begin with."""
+    said = {}
+    for section in sections_of(tree.read(ARCHITECTURE)):
+        rows = [(line, *row.values()) for line, row in rows_of(section) if re.match("`zh", [*row.values()][0])]
+        for line, crate, sentence, *_ in ((line, crate.strip("`"), *others) for line, crate, *others in rows):
+            said.setdefault(section.title.lower(), []).append(crate)
+            if crate in tree.crates and not re.match(rf"{re.escape(sentence)}(?!\w)", head_of(tree, crate)):
+                yield f"{ARCHITECTURE}:{line}: the root file of {crate} does not begin with '{sentence}'"
+    for wanted, found in zip_longest(tree.layers.items(), said.items(), fillvalue=("end", [])):
+        if wanted != found:
+            yield f"{ARCHITECTURE}: it has {' '.join(found[1])} in '{found[0]}', crates.txt {' '.join(wanted[1])} in '{wanted[0]}'"
+
+
+def head_of(tree, crate):
+    """What the root file of a crate says of it, in one line."""
+    texts = [text for name in ("lib", "main") for *_, text in tree.files(f"src/{name}.rt", [crate])]
+    return " ".join(it.strip() for it in re.findall("^//!(.*)", "".join(texts[:1]), re.M))

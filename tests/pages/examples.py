@@ -1,0 +1,192 @@
+"""Runs the examples of the pages, and compares what they print.
+
+The blocks of a page are run in order, in one shell, and pages of one group in one folder. It has nothing but links to what is
+in the repository's top folder after `make build`, and the PATH has no zhcount: that is for the commands of the page. Where all
+is installed the folder is empty, the PATH has the commands, and what a page calls /usr/local is their place. A block says itself
+what is done with it:
+
+- A line begins with '$ ': a session at a terminal. Such a line is a command, and lines right below it that begin with '> '
+  continue it. What follows, up to the next command, is what it prints, on standard output and standard error. If it is zhcount
+  or make, without '<' or '|', lines as '1 show 1 1' among these were typed, and are its input (of zhcount-desk lines as 'show
+  1 1'). '..' stands for any lines, and at a line's end for any rest of it. The status is 0, or it is shown by 'echo $?'.
+- Every line is a line for the office and its reply, with two blanks or more between: a dialogue, in a rehearsal of its own.
+  After two more blanks there may be a remark.
+- Its fence names a file, as in '```toml setup.toml': the block is that file.
+- It is indented, or its fence says 'sh' or nothing: a script. Each of its commands has to succeed.
+
+Any other block is a fault, unless tests/pages/left_out has the reason why it is not run. ZHCOUNT names another built program
+than crates/zhcount/out/zhcount, and stands there then."""
+import contextlib
+import os
+import re
+import shlex
+import shutil
+import signal
+import subprocess
+import tempfile
+from collections import namedtuple
+from concurrent.futures import ThreadPoolExecutor
+from pathlib import Path
+
+from pages.markdown import blocks_of
+
+BUILT = Path(__file__).resolve().parents[2] / "crates" / "zhcount" / "out" / "zhcount"
+LEFT_OUT = "tests/pages/left_out"
+GROUPS = [["README.md"], ["docs/MANUAL.md", "docs/CHECKING.md", "docs/de/CHECKING.md"], ["docs/FAQ.md"],
+          ["docs/NIGHT.md"], ["docs/de/NIGHT.md"]]
+WHERE_INSTALLED = ("docs/NIGHT.md", "docs/de/NIGHT.md")
+TYPED_AT_DESK = re.compile(r"(return|show|last|withdraw|close|reopen|open|row|commit|drop|sheet|final)( \d+)*")
+TYPED = re.compile(rf"[1-8] {TYPED_AT_DESK.pattern}")
+REPLY = r"[0-8] (?:stored|same|held|dropped|none|shows|last|refused)\b.*?"
+TURN = re.compile(rf"(\d+ [a-z]+(?: \d+)*) {{2,}}({REPLY})(?: {{2,}}.*)?")
+SECONDS = 600  # of a page
+# What the shell itself says of a job that was killed.
+OF_A_JOB = re.compile(r"^bash: line \d+: +\d+ (Killed|Terminated).*\n", re.M)
+# Runs the command of each folder in turn, with its input, and keeps what it prints and its status; $? is that of the
+# command before. Of a script it keeps the status of its last command that failed; that of a wait is how a job ended,
+# which may be killed.
+LOOP = r"""
+status=0
+for room; do
+    text=$(< "$room/command") failed=0
+    if [ -s "$room/kind" ]; then
+        trap 'at=$?; [[ $BASH_COMMAND == wait* ]] || failed=$at' ERR
+        eval "$text" < "$room/input" > "$room/output" 2>&1
+        trap - ERR
+        status=$failed
+    else
+        (exit "$status")
+        eval "$text" < "$room/input" > "$room/output" 2>&1
+        status=$?
+    fi
+    echo "$status" > "$room/status"
+done
+"""
+
+# A command of a block: what is typed to it, what it is to print, if that is shown, whether it may fail, and whether it is a script.
+Step = namedtuple("Step", "command typed shown may_fail is_script", defaults=(None, False, False))
+
+
+def step_of(text, next_text):
+    """A command of a session with the lines below it; those that were typed to it are its input."""
+    lines = re.match(r".*(?:\n> .*)*", text)[0]
+    command, below = lines.replace("\n> ", "\n"), text[len(lines):].split("\n")[1:]
+    has_terminal = re.match(r"(zhcount|make)\b", command) and not re.search("[<|]", command)
+    form = TYPED_AT_DESK if command.startswith("zhcount-desk") else TYPED
+    typed = [line for line in below if has_terminal and form.fullmatch(line)]
+    return Step(command, typed, [line for line in below if line not in typed], next_text == "echo $?")
+
+
+def steps_of(block, folder):
+    """What is done with a block; nothing where no form fits."""
+    text, turns = "\n".join(block.lines), [TURN.fullmatch(line) for line in block.lines]
+    if block.first.startswith("$ "):
+        commands = re.split(r"(?:\A|\n)\$ ", text)[1:]
+        return [step_of(it, following.split("\n")[0]) for it, following in zip(commands, commands[1:] + [""])]
+    if all(turns):
+        return [Step("zhcount 2> /dev/null", [it[1] for it in turns], [it[2] for it in turns])]
+    if block.file and "/" not in block.file:
+        return [Step(f"(set -C; cat > {shlex.quote(str(folder / block.file))})", block.lines)]
+    return [Step(text, [], is_script=True)] if block.word in ("", "sh") else []
+
+
+def meets(output, shown):
+    """Whether the output is what is shown, where '..' stands for the rest."""
+    pattern = ""
+    for line in shown:
+        rest = r"[^\n]*" if line.endswith("..") else ""
+        pattern += r"(?:[^\n]*\n)*?" if line == ".." else re.escape(line.removesuffix("..")) + rest + r"\n"
+    return re.fullmatch(pattern, output + "\n" * (output != "" and not output.endswith("\n")))
+
+
+def fault_of(step, room, local):
+    """What is wrong about a step that was run, if anything is."""
+    output, status = (it.read_text(errors="replace") if it.exists() else "" for it in (room / "output", room / "status"))
+    output = OF_A_JOB.sub("", output).replace(local, "/usr/local")
+    if not status:
+        return f"it ended the shell, or had not ended after {SECONDS} seconds\n{output}"
+    if step.shown is not None and not meets(output, step.shown):
+        return "\n".join([f"the page: {it}" for it in step.shown] + [f"printed:  {it}" for it in output.splitlines()])
+    return f"its status is {status.strip()}, which the page does not show\n{output}" if status != "0\n" and not step.may_fail else ""
+
+
+def run(steps, rooms, folder, environment, local):
+    """Runs these steps in a shell of their own, each with a room."""
+    for step, room in zip(steps, rooms):
+        room.mkdir(parents=True)
+        (room / "command").write_text(step.command.replace("/usr/local", local) + "\n")
+        (room / "input").write_text("".join(f"{line}\n" for line in step.typed))
+        (room / "kind").write_text("script" * step.is_script)
+    words, none = ["bash", "--noprofile", "--norc", "-c", LOOP, "bash", *rooms], subprocess.DEVNULL
+    shell = subprocess.Popen(words, cwd=folder, env=environment, stdin=none, stdout=none, stderr=none, start_new_session=True)
+    with contextlib.suppress(subprocess.TimeoutExpired):
+        shell.wait(SECONDS)
+    with contextlib.suppress(ProcessLookupError):
+        os.killpg(shell.pid, signal.SIGKILL)
+    shell.wait()
+
+
+def run_page(tree, page, folder, environment, local="/usr/local"):
+    """Runs the blocks of a page that are not left out. The faults."""
+    blocks = [(it, steps_of(it, folder)) for it in blocks_of(tree.read(page)) if (page, it.first) not in left_out_of(tree)]
+    steps = [(f"{page}:{block.line}: {it.command}", it) for block, found in blocks for it in found]
+    rooms = [Path(environment["TMPDIR"], "rooms", page, str(number)) for number in range(len(steps))]
+    run([it for _, it in steps], rooms, folder, environment, local)
+    unread = [f"{page}:{it.line}: {it.first}: it is neither run nor left out for a reason" for it, found in blocks if not found]
+    found = [(command, fault_of(step, room, local)) for (command, step), room in zip(steps, rooms)]
+    return unread + [f"{command}\n{fault}".rstrip().replace("\n", "\n    ") for command, fault in found if fault]
+
+
+def furnish(top, folder, program):
+    """Links to what is in the repository's top folder; the built program is this one."""
+    built = folder / "crates" / "zhcount" / "out"
+    built.mkdir(parents=True)
+    (built / "zhcount").symlink_to(program)
+    for inside in ("", "crates", "crates/zhcount", "crates/zhcount/out"):
+        for it in (top / inside).glob("[!.]*"):
+            if not os.path.lexists(folder / inside / it.name):
+                (folder / inside / it.name).symlink_to(it)
+
+
+def environment_of_a_reader(temporary):
+    """The environment without what a reader has not: an installed program, and what a make gives to another."""
+    path = ":".join(it for it in os.environ["PATH"].split(":") if not list(Path(it).glob("zhcount*")))
+    kept = {name: it for name, it in os.environ.items() if name not in ("ZHCOUNT", "MAKEFLAGS", "MAKELEVEL", "MFLAGS")}
+    return {**kept, "PATH": path, "LC_ALL": "C", "TMPDIR": str(temporary)}
+
+
+def run_group(tree, group, program):
+    with tempfile.TemporaryDirectory(prefix="documents-", ignore_cleanup_errors=True) as made:
+        folder, temporary, local = places = [Path(made, name) for name in ("folder", "temporary", "local")]
+        for it in places:
+            it.mkdir()
+        environment = environment_of_a_reader(temporary)
+        if group[0] not in WHERE_INSTALLED:
+            furnish(tree.top, folder, program)
+            return [fault for page in group for fault in run_page(tree, page, folder, environment)]
+        words = [tree.top / "scripts/install", "", local]
+        subprocess.run(words, env={**os.environ, "ZHCOUNT": str(program)}, stdout=subprocess.DEVNULL, check=True)
+        return run_page(tree, group[0], folder, {**environment, "PATH": f"{local}/bin:{environment['PATH']}"}, str(local))
+
+
+def examples(tree, pages=()):
+    """What is not as these pages show it, or as any page does; the groups side by side."""
+    program = Path(os.environ.get("ZHCOUNT") or BUILT).resolve()
+    groups = [it for it in GROUPS if not pages or not set(it).isdisjoint(pages)]
+    if not groups or not os.access(program, os.X_OK):
+        return [f"there is no program {program}, or no example to be run on {' '.join(pages)}"]
+    with ThreadPoolExecutor() as pool:
+        return [fault for found in pool.map(lambda it: run_group(tree, it, program), groups) for fault in found]
+
+
+def left_out_of(tree):
+    """The blocks to be left out: page and first line, below a reason."""
+    return re.findall(r"^ +(\S+): (.+)", tree.read(LEFT_OUT), re.M)
+
+
+def left_out(tree):
+    """Blocks to be left out that are not there, or have no reason."""
+    yield from [f"{LEFT_OUT} begins without a reason"] * tree.read(LEFT_OUT).startswith(" ")
+    for page, first in left_out_of(tree):
+        if first not in [it.first for it in blocks_of(tree.read(page))]:
+            yield f"{LEFT_OUT}: {page} has no block '{first}'"

@@ -1,0 +1,194 @@
+"""The crates of a tree: the definitions of specs/, the contracts of src/, and which names each of them uses."""
+import re
+from collections import namedtuple
+from dataclasses import dataclass, field
+from functools import cached_property, lru_cache
+from itertools import takewhile
+from pathlib import Path
+
+NAME = re.compile(r"[^\W\d]\w*'*(?:\.[^\W\d]\w*'*)*")
+USE = re.compile(r"(?:ghost )?use Rattle\.([\w.]+?)(?:\.\{(.*)\})?(?: as (\w+))?;?$")
+HEAD = re.compile(r"^(?:unfoldable |abbrev |record |data |pub )+(\S+)")
+OF_SOURCE = re.compile(r"^(?P<indent> *)(?:pub(?:\(\w+\))? |unsafe )*(?P<head>(?:impl|trait)\b[^{;]*){|^(?P<end> *)}|\bfn (?P<function>\w+)"
+                       r"|\bensures(?: (?P<clause>\w+))? {", re.M)
+
+Definition = namedtuple("Definition", "key crate module name line comment text")
+Clause = namedtuple("Clause", "crate path function name text")
+
+
+@dataclass
+class Scope:
+    """What the names of a file stand for: full names below 'Rattle.', by the name or the alias that the file uses. And
+    the comment at the head of the file."""
+    names: dict = field(default_factory=dict)
+    modules: dict = field(default_factory=dict)
+    head: str = ""
+
+    def read(self, line):
+        """Takes in an import, if the line is one."""
+        found = USE.match(line.strip())
+        if not found:
+            return False
+        path, listed, alias = found.groups()
+        if listed is None:
+            self.modules[alias or path.rsplit(".", 1)[1]] = path
+        for item in filter(None, (it.strip() for it in (listed or "").split(","))):
+            name, _, other = item.partition(" as ")
+            self.names[other or name] = f"{path}.{name}"
+        return True
+
+    def full(self, word):
+        """The full name of a word, dots and all; None if it is no name from elsewhere."""
+        first, _, rest = word.partition(".")
+        if rest and first in self.modules:
+            return f"{self.modules[first]}.{rest.partition('.')[0]}"
+        return self.names.get(first)
+
+
+@lru_cache(None)
+def read_specs(crate, module, text):
+    """The definitions of a file of specs, in order, each with the comment above it, and its scope."""
+    lines, found, indent, above = text.splitlines(), [], "", []
+    scope = Scope(head=" ".join(it.removeprefix("--").strip() for it in takewhile(lambda it: it.startswith("--"), lines)))
+    for number, line in enumerate(lines, 1):
+        if line.startswith("use "):
+            scope.read(line)
+            continue
+        if line[:1].strip():
+            indent = "  " if line.startswith("module ") else indent if line.startswith("--") else ""
+        if line.startswith("module "):
+            continue
+        line = line.removeprefix(indent)
+        head = HEAD.match(line)
+        if head and head[1] != "mod" and not (found and head[1] == found[-1].name):
+            found.append(Definition(f"{crate}.specs.{module}.{head[1]}", crate, module, head[1], number, " ".join(above), []))
+        above = above + [line.removeprefix("--").strip()] if line.startswith("--") else []
+        code = re.sub(r"(^|\s)--.*", "", line)
+        if found and code.strip():
+            found[-1].text.append(code)
+    for it in found:
+        scope.names.setdefault(it.name, it.key)
+    return found, scope
+
+
+@lru_cache(None)
+def read_source(crate, path, text):
+    """The code of a file of src without its comments and imports, its scope, and its `ensures` clauses."""
+    scope = Scope()
+    lines = [re.sub(r"(^|\s)//.*", "", line) for line in text.splitlines()]
+    code = "\n".join("" if scope.read(line) else line for line in lines)
+    return code, scope, [Clause(crate, path, *it) for it in clauses_of(code)]
+
+
+def clauses_of(code):
+    """Function, name and text of each clause; of a function without any an empty one."""
+    owner, found = ("", ""), {}
+    for it in OF_SOURCE.finditer(code):
+        if it["head"]:
+            owner = it["indent"], f"{owner_of(it['head'])}::"
+        elif it["end"] is not None:
+            owner = ("", "") if it["end"] == owner[0] else owner
+        elif it["function"]:
+            last = found.setdefault((owner[1] + it["function"], it.start()), [])
+        else:
+            last.append((it["clause"] or "", block_at(code, it.end())))
+    return [(function, *it) for (function, _), clauses in found.items() for it in clauses or [("", "")]]
+
+
+def owner_of(head):
+    """The type of an impl, `Trait for Type` where it is one of a trait, or the trait's name."""
+    head = re.sub(r"^(impl|trait)(<[^{]*?>(?= ))?", "", " ".join(head.split())).strip()
+    head = re.sub(r"<[^<>]*>", "", re.sub(r"<[^<>]*>", "", head)).split(" where ")[0]
+    return (head if "::" in head else head.split(":")[0]).strip()
+
+
+def block_at(code, start):
+    """The text from a place after an opening brace to the brace that closes it."""
+    end, depth = start, 1
+    while depth:
+        depth += {"{": 1, "}": -1}.get(code[end], 0)
+        end += 1
+    return code[start:end - 1]
+
+
+class Tree:
+    """All pages and crates of a repository, as they stand when they are read."""
+
+    def __init__(self, top):
+        self.top = Path(top)
+        self.pages = ["README.md", *sorted(str(it.relative_to(top)) for it in (self.top / "docs").rglob("*.md"))]
+        layers = re.findall(r"^# (.+)\n((?:\w.+\n|\n)*)", self.read("crates.txt"), re.M)
+        self.layers = {title: re.findall(r"^\w+", crates, re.M) for title, crates in layers if crates.strip()}
+        self.crates = [it for crates in self.layers.values() for it in crates]
+
+    def read(self, path):
+        return (self.top / path).read_text(encoding="utf-8")
+
+    def files(self, pattern, crates=None):
+        """The files that a pattern finds below each crate: crate, path in the repository, and text."""
+        for crate in crates or self.crates:
+            for path in sorted((self.top / "crates" / crate).glob(pattern)):
+                yield crate, path.relative_to(self.top), path.read_text(encoding="utf-8")
+
+    @cached_property
+    def specs(self):
+        """The definitions of each file of specs, and its scope, by the name of its module."""
+        return {f"{crate}.specs.{path.stem}": read_specs(crate, path.stem, text)
+                for crate, path, text in self.files("specs/**/*.antt")}
+
+    @cached_property
+    def definitions(self):
+        return {it.key: it for found, _ in self.specs.values() for it in found}
+
+    @cached_property
+    def sources(self):
+        return {path: read_source(crate, path, text) for crate, path, text in self.files("src/**/*.rt")}
+
+    @cached_property
+    def clauses(self):
+        return [it for *_, clauses in self.sources.values() for it in clauses]
+
+    def used_by(self, text, scope):
+        """The full names that a text uses, of operators those of our own."""
+        operators = {full for name, full in scope.names.items()
+                     if "◌" in name and full in self.definitions and name.strip("◌") in text}
+        return operators | {full for word in NAME.findall(text) if (full := scope.full(word))}
+
+    def closure(self, clauses):
+        """The definitions that these clauses rest on, and the other names that they use: types and words of the kit."""
+        return self.followed(set().union(*[self.used_by(it.text, self.sources[it.path][1]) for it in clauses]))
+
+    def unreached(self):
+        """The definitions on which no clause, law or ghost field of the sources rests, in order."""
+        reached, _ = self.followed(set().union(*[self.used_by(*it[:2]) for it in self.sources.values()]))
+        return [key for key in self.definitions if key not in reached]
+
+    def followed(self, names):
+        """The definitions that these names lead to, and the other names that they use."""
+        reached, others, todo = set(), set(), set(names)
+        while todo:
+            key = todo.pop()
+            it = self.definitions.get(key)
+            if it and key not in reached:
+                reached.add(key)
+                todo |= self.used_by("\n".join(it.text), self.specs[f"{it.crate}.specs.{it.module}"][1]) - {key}
+            elif not it:
+                others.add(key)
+        return reached, others
+
+    def in_order(self, crate):
+        """The definitions of a crate, files that use no other first."""
+        done = []
+
+        def place(module):
+            scope = self.specs[module][1]
+            for full in [*scope.names.values(), *scope.modules.values()]:
+                other = ".".join(full.split(".")[:3])
+                if other.startswith(f"{crate}.") and other in self.specs and other not in (module, *done):
+                    place(other)
+            done.append(module)
+
+        for module in self.specs:
+            if module.startswith(f"{crate}.") and module not in done:
+                place(module)
+        return [it.key for module in done for it in self.specs[module][0]]

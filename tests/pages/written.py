@@ -1,0 +1,99 @@
+"""What is written into pages from the sources: the definitions of the headline, its fields, and the evidence in numbers."""
+import re
+from itertools import groupby, zip_longest
+
+from pages.markdown import wrapped
+
+
+def reached_by_headline(tree):
+    return tree.closure([it for it in tree.clauses if (it.function, it.name) == ("program", "headline")])[0]
+
+
+def definitions(tree):
+    """The files of the definitions that the headline reaches, by layer, each with the comment at its head and the names."""
+    reached, lines = reached_by_headline(tree), []
+    for title, crates in tree.layers.items():
+        found = [tree.definitions[key] for crate in crates for key in tree.in_order(crate) if key in reached]
+        lines += [f"### {title[0].upper()}{title[1:]}", ""] if found else []
+        for (crate, module), inside in groupby(found, lambda it: (it.crate, it.module)):
+            link = f"- [`{crate}/{module}`](../crates/{crate}/specs/{module}.antt):"
+            names = ", ".join(f"`{it.name.strip('◌')}`" for it in inside)
+            lines.append(wrapped(" ".join(filter(None, [link, tree.specs[f"{crate}.specs.{module}"][1].head, names]))))
+        lines += [""] if found else []
+    return "\n".join(lines) + "\n"
+
+
+def theorem(tree):
+    """The fields of the record `Headline`, those below one comment together, as items of a list."""
+    text = next(text for *_, text in tree.files("specs/Headline.antt")).partition("\npub record Headline ")[2]
+    items = []
+    for comment, fields in re.findall(r"((?:  -- .*\n)+)((?:  (?!--).*\n)+)", text):
+        names = ", ".join(f"`{it}`" for it in re.findall(r"^  pub (\w+) :", fields, re.M))
+        items.append(wrapped(f"- {names}: {' '.join(comment.replace('  -- ', '').split())}."))
+    return "\n".join(items) + "\n\n"
+
+
+def numbers(tree):
+    """What is counted, how much of it there is, and how that is seen."""
+    def files(pattern):
+        return len(list(tree.top.glob(pattern)))
+
+    def found(pattern, text):
+        return sum(len(re.findall(text, path.read_text(encoding="utf-8"), re.M)) for path in tree.top.glob(pattern))
+
+    def lines(folder):
+        number = found(f"crates/*/{folder}", r"^.*\S")
+        return f"about {round(number, 2 - len(str(number))):,}"
+
+    cases, turns = map(int, re.search(r"^all: (\d+) cases, (\d+) turns", tree.read("crates/zh_cases/stdout"), re.M).groups())
+    gravest, others = files("crates/*/must-fail/*.edit"), files("tests/wrong_bodies/*/*.edit")
+    rows = [
+        ("crates", len(tree.crates), "`crates.txt`"),
+        ("lines of code", lines("src/**/*.rt"), "with their contracts; all are proved, tests too"),
+        ("lines of definitions", lines("specs/**/*.antt"), "to be read and believed, as far as a clause reaches them"),
+        ("lines of proofs", lines("proofs/**/*.antt"), "nobody has to believe them: the toolchain checks them"),
+        ("definitions", f"{len(tree.definitions):,}", f"`headline` reaches {len(reached_by_headline(tree))} of them"),
+        ("clauses that promise something", f"{sum(bool(it.text) for it in tree.clauses):,}",
+         "each `ensures` of a function or a trait"),
+        ("wrong bodies", f"{gravest + others:,}", f"`rt ci` tries the {gravest} gravest each time, and `make wrong-bodies` all; "
+         "`tests/edits --differ` says which crates owe a trial"),
+        ("cases", f"{cases:,}, with {turns:,} turns", "run by the proved program `zh_cases`, as LLVM builds it and as Rattle does"),
+        ("tests in code", found("crates/*/src/**/*.rt", "^ *#.test."), "proved like any function, and run"),
+        ("wrong lines of the scripts of `desks/`", files("tests/desks/plants/*.edit"), "each is seen by a test: `make desk-bodies`"),
+        ("tests of the page", found("tests/page/test_*.py", "^ *def test_"), "in Chromium, some in Firefox too: `make test-page`"),
+        ("wrong lines of the page", files("tests/page/plants/*.edit"), "each is seen by the test that it names"),
+    ]
+    head = ["| What | How many | How it is seen |", "|---|---|---|"]
+    return "\n".join(head + [f"| {' | '.join(map(str, it))} |" for it in rows]) + "\n"
+
+
+# Each part that is written: its page, and where it stands there.
+PARTS = {
+    definitions: ("docs/DEFINITIONS.md", re.compile(r"\n## The headline\n(?:(?!##? ).*\n)*?(?=### )((?:(?!##? ).*\n)*)")),
+    theorem: ("docs/PROVED.md", re.compile(r"\n### What `Headline` says\n\n((?:(?!#).*\n)*)(?=#)")),
+    numbers: ("docs/PROVED.md", re.compile(r"\n## The evidence in numbers\n\n((?:\|.*\n)+)")),
+}
+
+
+def rewritten(part, tree):
+    """The page of a part, its text, and its text with what is written there."""
+    page, place = PARTS[part]
+    text = tree.read(page)
+    found = place.search(text)
+    start, end = found.span(1) if found else (len(text), len(text))
+    return page, text, text[:start] + part(tree) + text[end:]
+
+
+def differences(part, tree):
+    """The first line of a page that is not as it is written."""
+    page, text, wanted = rewritten(part, tree)
+    for number, (line, new) in enumerate(zip_longest(text.splitlines(), wanted.splitlines()), 1):
+        if line != new:
+            return [f"{page}:{number}: `python3 tests/pages write` writes '{new}' here"]
+    return []
+
+
+def write(tree):
+    for part in PARTS:
+        page, _, wanted = rewritten(part, tree)
+        (tree.top / page).write_text(wanted, encoding="utf-8")

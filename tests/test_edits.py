@@ -1,0 +1,222 @@
+"""tests/edits on a small tree of its own, tests/edited/small: of a wrong body of each kind it says what it is, and it tries the crates that
+changed. Then the tool itself is given faults, each of which one of these texts shows."""
+import shutil
+import subprocess
+
+import pytest
+
+from places import TOP
+
+CHANGED = "crates that changed since their wrong bodies were tried"
+# Wrong bodies, each with its lines.
+REFUSED = {
+    "zh_low/next.adds_two": ("old:     n + 1", "new:     n + 2"),
+    "zh_low/next.adds_nothing": ("old:     n + 1", "new:     n + 0"),
+    "zh_low/second.first_is_of_the_half": ("old: let first = next(n);", "new: let first = next(n / 2);"),
+    "zh_low/step_of_three": ("# refused at: stepped", "old: STEP: u64 = 1;", "new: STEP: u64 = 3;"),
+    "zh_high/after.is_of_the_half": ("old: next(n)", "new: next(n / 2)"),
+}
+PROVED = {"zh_low/at_most.always_zero": ("old: let most = n;", "new: let most = 0;")}
+GONE = {"zh_low/third.adds_one": ("old: let third = next(n);", "new: let third = n;")}
+OF_A_CALLER = {"zh_low/step_of_two": ("old: STEP: u64 = 1;", "new: STEP: u64 = 2;")}
+# Each kind beside those that are refused, and what is said of it.
+OTHERS = {
+    "still proved": PROVED,
+    "no longer applies: src/lib.rt has an 'old:' text 0 times": GONE,
+    "no longer applies: there is no function stepping": {
+        "zh_low/step_of_four": ("# refused at: stepping", "old: STEP: u64 = 1;", "new: STEP: u64 = 4;")},
+    "no longer applies": {"zh_low/second.is_cut_off": ("old: let first = next(n);", "new: let first = next(n;")},
+    "refused only elsewhere: it changes no function": OF_A_CALLER,
+    "refused only because a name in a proof is gone": {"zh_low/count.sum_is_called_total": (
+        "old: let mut sum = 0;", "new: let mut total = 0;", "old: sum = next(place);", "new: total = next(place);", "old:     sum",
+        "new:     total")},
+}
+pytestmark = [pytest.mark.beside, pytest.mark.xdist_group("prover")]
+
+
+class Small:
+    """The small tree in a folder, and what tests/edits says of it."""
+
+    def __init__(self, top, edits=(), of=TOP / "tests/edited/small"):
+        # rt takes no source that no crate of this repository lists: there each file's name ends in .small.
+        self.top = shutil.copytree(of, top, copy_function=lambda here, there: shutil.copy(here, there.removesuffix(".small")))
+        self.tool, self.low = TOP / "tests/edits", top / "crates/zh_low/src/lib.rt"
+        self.put(edits)
+
+    def put(self, edits):
+        for name, lines in dict(edits).items():
+            path = self.top / "tests/wrong_bodies" / f"{name}.edit"
+            path.parent.mkdir(parents=True, exist_ok=True)
+            path.write_text("\n".join(["file: src/lib.rt", *lines, ""]))
+
+    def run(self, *words):
+        ran = subprocess.run([self.tool, "--top", self.top, *words], stdin=subprocess.DEVNULL, stdout=subprocess.PIPE,
+                             stderr=subprocess.STDOUT, text=True)
+        return ran.returncode, ran.stdout
+
+    def says(self, status, *texts, words=("--all",)):
+        found, said = self.run(*words)
+        assert found == status, said
+        for text in texts:
+            assert text in said
+
+    def differs(self, which):
+        self.says(0, f"{CHANGED}: {which}", words=["--differ"])
+
+    def change(self, path, old, new):
+        path = self.top / path
+        assert old in path.read_text()
+        path.write_text(path.read_text().replace(old, new))
+
+    def change_next(self):
+        """Other sources, to which the wrong bodies apply still."""
+        self.change(self.low, "    n + 1", "    1 + n")
+        self.put({"zh_low/next.adds_two": ("old:     1 + n", "new:     2 + n"), "zh_low/next.adds_nothing": ("old:     1 + n", "new:     0 + n")})
+
+    def git(self, *words):
+        subprocess.run(["git", "-c", "user.name=test", "-c", "user.email=test@test", *words], cwd=self.top, check=True, capture_output=True)
+
+    def commit(self, *words):
+        self.git("add", "-A")
+        self.git("commit", "-q", "--allow-empty", "-m", "a change", *words)
+
+    def add_crate(self, name):
+        (self.top / f"crates/{name}/src").mkdir(parents=True)
+        self.change("crates.txt", "zh_high: zh_low\n", f"zh_high: zh_low\n{name}:\n")
+        self.put({f"{name}/nothing": ()})
+
+    def spoil(self, folder, file, old, new):
+        """Has the tool in this folder, with a fault."""
+        folder.mkdir()
+        shutil.copy(self.tool, folder / "edits")
+        shutil.copytree(self.tool.parent / "edited", folder / "edited", ignore=shutil.ignore_patterns("small", "__pycache__"))
+        self.tool = folder / "edits"
+        self.change(folder / "edited" / file, old, new)
+
+
+@pytest.fixture(scope="module")
+def tried(tmp_path_factory):
+    """The small tree after a run that refused its wrong bodies, and a commit."""
+    tree = Small(tmp_path_factory.mktemp("tried") / "tree", REFUSED)
+    tree.says(0, "5 passed, 0 failed", "zh_low: 4 of 4 refused at a goal of their own")
+    (tree.top / ".gitignore").write_text("out/\n")
+    tree.git("init", "-q", ".")
+    tree.commit()
+    return tree.top
+
+
+@pytest.fixture
+def tree(tried, tmp_path):
+    return Small(tmp_path / "tree", of=tried)
+
+
+def test_libraries(tree):
+    """Libraries that somebody has just built are taken where the sources are as they were before."""
+    note = tree.top / "crates/zh_low/out/rlib/sources"
+    note.unlink()
+    tree.says(0, "the sources changed meanwhile", words=["--proved", "0"])
+    assert not note.exists()
+    tree.says(0, words=["--proved", tree.run("--sum")[1].strip()])
+    assert note.exists()
+
+
+def test_nothing_changed(tree):
+    """The one in turn is tried, and the one with the fewest."""
+    tree.differs("none; others: zh_high")
+    (tree.top / "crates/zh_low/must-fail").mkdir()
+    shutil.move(tree.top / "tests/wrong_bodies/zh_low/step_of_three.edit", tree.top / "crates/zh_low/must-fail")
+    tree.differs("none")
+
+
+@pytest.mark.parametrize("path, old, new, which", [
+    ("src/lib.rt", "    n + 1", "    1 + n", "zh_low; others"),
+    ("specs/Next.antt", "{ℕ, ", "{ℤ, ℕ, ", "zh_low zh_high; others"),
+    ("src/lib.rt", "n ≤ 90", "n ≤ 91", "zh_low zh_high; others"),
+    ("src/lib.rt", "fn stepped(n: u64) -> u64\n    requires { n ≤ 100 }", "fn stepped(n: u64) -> u64\n    requires { n ≤ 101 }",
+     "zh_low; others"),
+    ("src/lib.rt", "    n + 1", "    // one more\n    n + 1", "none; others"),
+], ids=["a body", "a spec", "a public clause", "a private clause", "a comment"])
+def test_changed(tree, path, old, new, which):
+    tree.change(f"crates/zh_low/{path}", old, new)
+    tree.differs(which)
+
+
+def test_in_turn(tree):
+    """One more commit: the last crate that was touched, and the first in turn."""
+    tree.change(tree.low, "    n + 1", "    1 + n")
+    tree.commit()
+    tree.differs("zh_low; others: none")
+
+
+def test_many_changed(tree):
+    """Six that changed are tried, and seven owe a trial."""
+    tree.change(tree.low, "    n + 1", "    1 + n")
+    for name in ("zh_5", "zh_4", "zh_3", "zh_2", "zh_1"):
+        tree.add_crate(name)
+    tree.differs("zh_low zh_1 zh_2 zh_3 zh_4 zh_5; others")
+    tree.add_crate("zh_0")
+    tree.differs("too many to try here; others")
+    tree.says(0, "7 crates owe a trial", 'make wrong-bodies CRATES="zh_low zh_0 zh_1 zh_2 zh_3 zh_4 zh_5"', words=["--differ"])
+
+
+def test_part_of_a_crate(tree, tmp_path):
+    """Of a crate with more wrong bodies than are tried at once half are tried in each turn."""
+    tree.spoil(tmp_path / "tool", "tree.py", "MOST_OF_A_CRATE = 30", "MOST_OF_A_CRATE = 3")
+    refused = tree.top / "crates/zh_low/out/refused"
+    refused.unlink()
+    (tree.top / "crates/zh_low/note").touch()
+    tree.commit()
+    tree.says(0, "zh_low: 2 of 2 refused at a goal of their own", f"{CHANGED}: none; others: zh_low (2 of 4)", words=[])
+    tree.commit()
+    tree.commit()
+    tree.says(0, words=[])
+    assert len(refused.read_text().split()) == 4
+
+
+def test_others(tmp_path):
+    """Wrong bodies that are not refused, each with what is said of it."""
+    tree = Small(tmp_path / "tree", {name: lines for of in OTHERS.values() for name, lines in of.items()})
+    tree.says(1, "0 passed, 6 failed", *(f"{next(iter(of))}.edit: {said}" for said, of in OTHERS.items()), words=["--all", "zh_low"])
+
+
+def test_rest(tree):
+    """Going on after a run that was cut off, or that found one still proved."""
+    tree.put(PROVED)
+    tree.says(1, "5 passed, 1 failed")
+    tree.put({"zh_low/at_most.always_zero": ("old: let most = n;", "new: let most = n + 1;")})
+    tree.says(0, "zh_low: 5 of 5 refused at a goal of their own, in 2 checks", words=["--rest"])
+    tree.says(0, "0 passed, 0 failed", words=["--rest"])
+    (tree.top / "tests/edits.passed").unlink()
+    tree.says(0, "zh_low: 5 of 5 refused at a goal of their own, in 0 checks", words=["--rest", "zh_low"])
+    tree.change_next()
+    tree.says(0, "zh_low: 5 of 5 refused at a goal of their own, in 4 checks", words=["--rest", "zh_low"])
+
+
+# Faults of the tool itself: with each it says something else than it does above.
+
+
+@pytest.mark.parametrize("old, new, edits", [
+    ("return PROVED,", "return REFUSED,", PROVED),
+    ("return ELSEWHERE,", "return REFUSED,", OF_A_CALLER),
+    ("outcomes[edit.path] = GONE,", "outcomes[edit.path] = REFUSED,", GONE),
+], ids=["an edit that changes nothing passes", "a refusal of a caller counts", "a skipped edit is counted as refused"])
+def test_fault_in_what_is_said(old, new, edits, tmp_path):
+    tree = Small(tmp_path / "tree", edits)
+    tree.spoil(tmp_path / "tool", "trial.py", old, new)
+    tree.says(0, "1 passed, 0 failed", words=["--all", "zh_low"])
+
+
+def test_fault_in_sums(tree, tmp_path):
+    """The sum forgets the specs below."""
+    tree.spoil(tmp_path / "tool", "tree.py", 'return [*self.without_comments(crate, "specs"), *lemmas', "return [*lemmas")
+    tree.says(0)
+    tree.change("crates/zh_low/specs/Next.antt", "{ℕ, ", "{ℤ, ℕ, ")
+    tree.differs("zh_low; others")
+
+
+def test_fault_in_what_is_kept(tree, tmp_path):
+    """What was refused is kept over other sources."""
+    tree.spoil(tmp_path / "tool", "tree.py", "(self.rest + edit.text)", "edit.text")
+    tree.says(0, words=["--all", "zh_low"])
+    tree.change_next()
+    tree.says(0, "zh_low: 4 of 4 refused at a goal of their own, in 3 checks", words=["--rest", "zh_low"])

@@ -1,0 +1,146 @@
+"""make run and make build: which program is run, and called proved, and which crate is refused. A small copy of the repository with a
+stand-in for the toolchain is enough, so nothing is proved, and each test takes seconds."""
+import os
+import pathlib
+import re
+import shutil
+import subprocess
+
+import pytest
+
+TOP = pathlib.Path(__file__).resolve().parents[1]
+# `rt run` makes a program that says what text it was built from; `rt try` compiles one and runs it: try -- list --setup FILE --of groups.
+RT = r"""#!/usr/bin/env bash
+case "$1" in
+    version) echo "${VERSION:-kit of the test}" ;;
+    lib) [ ! -e "$ROOM/refused" ] && sleep "${PAUSE:-0}" ;;
+    run)
+        mkdir -p out
+        printf '#!/bin/sh\nsed "s/^/proved %s: /"\n' "$(cat ../zh_low/src/lib.rt)" > out/zhcount
+        chmod +x out/zhcount
+        ;;
+    try)
+        sleep 1
+        [ ! -e "$ROOM/uncompiled" ] || { echo 'error: no such function'; exit 2; }
+        [ ! -e "$ROOM/changed" ] || cp "$ROOM/changed" "$ROOM/$LOW"
+        mkdir "$TMPDIR/native"
+        echo 'x' >> "$ROOM/compiled"
+        printf '#!/bin/sh\nsed "s/^/unproved: /"\n' > "$TMPDIR/native/program"
+        chmod +x "$TMPDIR/native/program"
+        cat "$5" > /dev/null
+        echo 'run=ended status=1 proved=no' >&2
+        ;;
+esac
+"""
+PROVED, UNPROVED = "proved text of zh_low: 1 open\n", "unproved: 1 open\n"
+RUN = "echo 1 open | make -s run"
+CHANGE = "echo changed text > $LOW"
+CHANGE_BACK = "echo text of zh_low > $LOW"
+AT_WORK = "until grep -q ' of ' log 2> /dev/null; do sleep 0.1; done"
+
+
+@pytest.fixture
+def sh(tmp_path):
+    """Runs commands in the small copy: what they say, what they complain of, and their status."""
+    for crate in ("zh_low", "zh_test", "zhcount"):
+        (tmp_path / "crates" / crate / "src").mkdir(parents=True)
+        (tmp_path / "crates" / crate / "src/lib.rt").write_text(f"text of {crate}\n")
+    (tmp_path / "crates.txt").write_text("zh_low: thiserror\nzhcount: zh_low\nzh_test: zhcount\n")
+    shutil.copytree(TOP / "scripts", tmp_path / "scripts")
+    shutil.copy(TOP / "Makefile", tmp_path)
+    (tmp_path / "bin").mkdir()
+    (tmp_path / "bin/rt").write_text(RT)
+    (tmp_path / "bin/rt").chmod(0o755)
+    environment = {**os.environ, "ROOM": str(tmp_path), "LOW": "crates/zh_low/src/lib.rt", "PATH": f"{tmp_path}/bin:{os.environ['PATH']}"}
+    environment.pop("ZHCOUNT", None)
+
+    def ran(command):
+        it = subprocess.run(["bash", "-c", command], cwd=tmp_path, stdin=subprocess.DEVNULL, stdout=subprocess.PIPE, stderr=subprocess.PIPE,
+                            text=True, timeout=60, env=environment)
+        return it.stdout, it.stderr, it.returncode
+
+    return ran
+
+
+@pytest.fixture
+def built(sh):
+    """The same after make build."""
+    said = sh("make -s build")[0]
+    assert "zh_low proved, " in said and said.endswith("the program is crates/zhcount/out/zhcount\n"), said
+    return sh
+
+
+@pytest.mark.parametrize("target", ["install", "dist"])
+def test_where_nothing_is_built_it_is_said_what_comes_first(sh, target):
+    assert "run 'make build' first" in sh(f"make -s {target}")[1]
+
+
+def test_what_is_not_proved_runs_unproved_and_is_compiled_once(sh):
+    for is_at_work in (True, False):
+        said, errors, _ = sh(RUN)
+        assert said == UNPROVED and "make build" in errors and "proved=no" not in errors
+        assert bool(re.search(r"^\.+$", errors, re.M)) == is_at_work
+    for change, times in ((":", 1), (CHANGE, 2), ("echo exit 1 >> crates/zhcount/out/unproved/zhcount", 3)):
+        sh(change)
+        assert sh(RUN)[0] == UNPROVED and sh("cat compiled")[0] == "x\n" * times
+
+
+@pytest.mark.parametrize("command, answers", [
+    ("(echo 1 open; sleep 3; echo 1 drop) | make -s run", "unproved: 1 open\nunproved: 1 drop\n"),
+    # At a terminal, where it ends with Ctrl-D.
+    (r"(sleep 1; printf '1 open\n\004'; sleep 4) | script -qc 'make -s run' /dev/null | tr -d '\r' | grep unproved:", "unproved: 1 open\n"),
+])
+def test_a_slow_input_is_whole(sh, command, answers):
+    assert sh(command)[0] == answers
+
+
+@pytest.mark.parametrize("change, reason", [
+    ("touch uncompiled", "error: no such function"), ("echo new text > changed", "the sources changed meanwhile"),
+])
+def test_what_is_not_compiled_from_these_sources_is_not_run_and_the_reason_is_shown(sh, change, reason):
+    said, errors, status = sh(f"{change}; {RUN}")
+    assert said == "" and reason in errors and status
+
+
+def test_what_was_built_runs_and_nothing_is_said_of_it(built):
+    assert built(RUN) == (PROVED, "", 0)
+
+
+@pytest.mark.parametrize("change, answer", [
+    (CHANGE, UNPROVED),
+    (f"{CHANGE}; {RUN}; {CHANGE_BACK}", PROVED),
+    ("touch -d '+1 hour' $LOW", PROVED),
+    ("echo changed text > crates/zh_test/src/lib.rt", PROVED),  # zhcount does not stand on it
+    ("mkdir crates/zh_low/proofs; touch crates/zh_low/proofs/New.antt", UNPROVED),
+    ("echo '# a remark' >> crates.txt", UNPROVED),
+    ("sed -i 's/kit of/other &/' bin/rt", UNPROVED),  # another toolchain
+    (f"{CHANGE}; (cd crates/zhcount && rt run); {CHANGE_BACK}", UNPROVED),  # another program
+    (f"{CHANGE}; PAUSE=5 make -s build > log & {AT_WORK}; kill $!; wait", UNPROVED),
+])
+def test_only_the_program_of_these_sources_is_called_proved(built, change, answer):
+    built(change)
+    assert built(RUN)[0] == answer
+
+
+def test_a_build_that_is_refused_names_its_crate(built):
+    said, _, status = built(f"touch refused; {CHANGE}; make -s build")
+    assert status and "zh_low is NOT proved" in said
+    assert built(RUN)[0] == UNPROVED
+
+
+def test_sources_that_change_under_a_build_are_not_proved(built):
+    _, errors, status = built(f"{CHANGE}; PAUSE=5 make -s build > log & {AT_WORK}; echo new text > $LOW; wait $!")
+    assert status and "the sources changed meanwhile" in errors
+    assert built(RUN)[0] == UNPROVED
+    assert built(f"make -s build > log; {RUN}") == ("proved new text: 1 open\n", "", 0)
+
+
+@pytest.mark.parametrize("command", ["scripts/build zhcuont", "scripts/sources below zhcuont"])
+def test_a_crate_that_is_not_there_is_refused(sh, command):
+    said, errors, status = sh(command)
+    assert status == 2 and "no crate 'zhcuont'" in errors and "proved" not in said + errors
+    assert sh("ls crates")[0] == "zh_low\nzh_test\nzhcount\n"
+
+
+def test_the_crates_below_one(sh):
+    assert sh("scripts/sources below zhcount")[0] == "zh_low\nzhcount\n"
