@@ -5,7 +5,6 @@ import tempfile
 from pathlib import Path
 
 import pytest
-from pages.language import Note
 from pages.rules import RULES, planted
 from pages.sources import Tree
 
@@ -16,7 +15,7 @@ each_rule = pytest.mark.parametrize(
 
 
 def faults_of(rule, top):
-    return [it for it in rule.faults(Tree(top)) if not isinstance(it, Note)]
+    return list(rule.faults(Tree(top)))
 
 
 @pytest.fixture(scope="module")

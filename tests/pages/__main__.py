@@ -1,8 +1,7 @@
 """Holds pages and sources against each other. `python3 tests/pages COMMAND`:
 
   rules              what is held: each rule by its name
-  check [RULE]..     whether these rules hold, or all but the examples, which need the built program and a minute; of these
-                     rules also what they find in pages that are still to be written anew
+  check [RULE]..     whether these rules hold, or all but the examples, which need the built program and a minute
   run [PAGE]..       whether the examples of these pages, or of all, do what they show
   write              writes what pages have from the sources: the definitions of the headline, its fields, the evidence
   reach [CLAUSE]..   the definitions that clauses rest on, as they can be read one after another, and the names of the
@@ -18,7 +17,6 @@ sys.path.insert(0, str(Path(__file__).resolve().parents[1]))
 
 from pages.cited import lost_links, promised
 from pages.examples import examples
-from pages.language import Note
 from pages.owed import words
 from pages.rules import RULES
 from pages.sources import Tree
@@ -26,18 +24,17 @@ from pages.written import write
 
 
 def told(found):
-    """Prints what was found, and how much of it is wrong. The status."""
+    """Prints what was found, and how much that is. The status."""
     found = list(found)
-    wrong = sum(not isinstance(it, Note) for it in found)
-    print(*found, f"{wrong} wrong", sep="\n")
-    return min(wrong, 1)
+    print(*found, f"{len(found)} wrong", sep="\n")
+    return min(len(found), 1)
 
 
 def check(tree, *names):
     asked = [it for it in RULES if it.name in names or not names and it.faults is not examples]
     if len(asked) < len(names):
         sys.exit(f"The rules are: {', '.join(it.name for it in RULES)}.")
-    return told(it for rule in asked for it in rule.faults(tree) if names or not isinstance(it, Note))
+    return told(it for rule in asked for it in rule.faults(tree))
 
 
 def reach(tree, *names):

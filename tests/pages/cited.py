@@ -5,11 +5,15 @@ from itertools import zip_longest
 from pathlib import Path
 
 from pages.markdown import anchors_of, links_of, prose_of, rows_of, sections_of
+from pages.shape import TYPE
 
 PROVED, ARCHITECTURE = "docs/PROVED.md", "docs/ARCHITECTURE.md"
 FUNCTION = re.compile(r"`([^`]+)`(?:,? and |, )?")
 CLAUSE = re.compile(r"(\w+)(?: \([^)]*\))?(?:, | and |$)")
-FILE = re.compile(r"(crates|docs|tests|scripts|bench|examples)(/[\w.*-]+)+")
+FILE = re.compile(r"(crates|docs|tests|scripts|bench|examples|page|desks)(/[\w.*-]+)+")
+OF_CRATE = re.compile(r"(zh_\w+/)?(src|specs|proofs|data)(/\w+)+\.\w+")
+NAME = re.compile(r"[a-z0-9]+(_[a-z0-9]+)+|([A-Z][a-z0-9]+){2,}")
+LINKED = re.compile(r"\[`([\w:]+)`\]\(([^()\s#]+\.(?:rt|antt))\)")
 
 
 def matches(pattern, text):
@@ -63,12 +67,15 @@ def promised(tree):
 
 
 def things(tree):
-    """Files, edits, cases, crates and functions that a page names in backticks and that are not there."""
+    """Files, edits, cases, crates and functions that a page names in backticks and that are not there; and names of two words
+    on the page of the crates that stand in none."""
     functions = {it.function.split("for ")[-1] for it in tree.clauses}
+    crates = "\n".join(text for folder in ("src", "specs", "proofs") for *_, text in tree.files(f"{folder}/**/*.*t"))
     for page in tree.pages:
         for number, line in enumerate(prose_of(tree.read(page)).splitlines(), 1):
             for word in re.findall(r"`([^`\s]+)`", line):
-                if is_there(word, tree, functions) is False:
+                there = is_there(word, tree, functions)
+                if there is False or there is None and page == ARCHITECTURE and NAME.fullmatch(word) and word not in crates:
                     yield f"{page}:{number}: there is no {word}"
 
 
@@ -78,9 +85,25 @@ def is_there(word, tree, functions):
         return word in tree.crates
     if re.fullmatch(r"[\w*]+\.(edit|case|antt|rt)", word):
         return any(tree.top.glob(f"crates/*/**/{word}")) or any(tree.top.glob(f"tests/**/{word}"))
+    if OF_CRATE.fullmatch(word):
+        return any(tree.top.glob(f"crates/{word if word.startswith('zh_') else f'*/{word}'}"))
     if FILE.fullmatch(word) and "/out/" not in word:
         return any(tree.top.glob(word))
     return word in functions if re.fullmatch(r"[A-Z]\w+::[a-z]\w+", word) else None
+
+
+def places(tree):
+    """Functions, types and definitions that a link of a page names, and that do not stand in its file."""
+    functions = [(str(it.path), it.function.split(" for ")[-1]) for it in tree.clauses]
+    standing = {(path, name) for path, function in functions for name in (function, *function.split("::"))}
+    standing |= {(str(path), name) for path, (code, *_) in tree.sources.items() for name in TYPE.findall(code)}
+    standing |= {(f"crates/{it.crate}/specs/{it.module}.antt", it.name) for it in tree.definitions.values()}
+    for page in tree.pages:
+        for number, line in enumerate(tree.read(page).splitlines(), 1):
+            for name, link in LINKED.findall(line):
+                path = os.path.normpath(f"{os.path.dirname(page)}/{link}")
+                if (path, name) not in standing:
+                    yield f"{page}:{number}: {name} does not stand in {path}"
 
 
 def leads(page, link, folder):

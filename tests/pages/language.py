@@ -3,9 +3,9 @@ import os
 import re
 from collections import Counter
 
-from pages.markdown import CODE, LIST_ITEM, blocks_of, links_of, part_of, prose_of, sections_of
+from pages.markdown import CODE, LIST_ITEM, blocks_of, links_of, part_of, prose_of, rows_of, sections_of
 
-# Pages for people, which may have no fault; the others are to be written anew.
+# Pages for people, who meet a word of the glossary only after a link to it.
 FOR_PEOPLE = ("README.md", "docs/BRIEF.md", "docs/NIGHT.md", "docs/OPERATING.md", "docs/CHECKING.md", "docs/FAQ.md",
               "docs/MANUAL.md", "docs/STATUTE.md", "docs/CONTRIBUTING.md", "docs/de/")
 DEFINITIONS, GERMAN = "docs/DEFINITIONS.md", "docs/de/"
@@ -16,18 +16,14 @@ ORDINARY = {"moment", "history", "record", "accepted", "follow", "clean", "hande
 NUMBER = re.compile(r"\d[\d,.'’]*\d|\d")
 
 
-class Note(str):
-    """What is told, and is no fault."""
-
-
 def texts_of(page):
-    """Paragraphs, items of lists, and cells of tables, each with the number of its first line."""
-    found, is_open = [], False
-    for number, line in enumerate(prose_of(page).split("\n"), 1):
+    """Cells of tables but those that only cite, paragraphs, and items of lists, each with the number of its first line."""
+    prose, is_open = prose_of(page), False
+    found = [(number, cell) for section in sections_of(prose) for number, row in rows_of(section)
+             for title, cell in row.items() if title != "Carried by"]
+    for number, line in enumerate(prose.split("\n"), 1):
         is_text = bool(line.strip()) and not line.startswith(("|", "#"))
-        if line.startswith("|"):
-            found += [(number, it) for it in line.strip("|").split("|")]
-        elif is_text and is_open and not LIST_ITEM.match(line):
+        if is_text and is_open and not LIST_ITEM.match(line):
             found[-1] = found[-1][0], f"{found[-1][1]} {line.strip()}"
         elif is_text:
             found.append((number, LIST_ITEM.sub("", line, count=1)))
@@ -51,11 +47,9 @@ def long_lines(page):
             yield number, f"{len(line)} characters: {line}"
 
 
-def read_by(find, tree):
-    """What this finds in the pages: faults in those for people, notes in the others."""
-    for page in tree.pages:
-        kind = str if page.startswith(FOR_PEOPLE) else Note
-        yield from (kind(f"{page}:{number}: {what}") for number, what in find(tree.read(page)))
+def on_each(find, tree):
+    """What this finds in the pages."""
+    return [f"{page}:{number}: {what}" for page in tree.pages for number, what in find(tree.read(page))]
 
 
 def terms(tree):

@@ -24,12 +24,14 @@ def definitions(tree):
 
 
 def theorem(tree):
-    """The fields of the record `Headline`, those below one comment together, as items of a list."""
+    """The fields of the record `Headline`, those below one comment together, as items of a list; what a semicolon parts is a
+    sentence there."""
     text = next(text for *_, text in tree.files("specs/Headline.antt")).partition("\npub record Headline ")[2]
     items = []
     for comment, fields in re.findall(r"((?:  -- .*\n)+)((?:  (?!--).*\n)+)", text):
         names = ", ".join(f"`{it}`" for it in re.findall(r"^  pub (\w+) :", fields, re.M))
-        items.append(wrapped(f"- {names}: {' '.join(comment.replace('  -- ', '').split())}."))
+        says = re.sub(r"; (\w)", lambda it: f". {it[1].upper()}", " ".join(comment.replace("  -- ", "").split()))
+        items.append(wrapped(f"- {names}: {says}."))
     return "\n".join(items) + "\n\n"
 
 
