@@ -1,6 +1,6 @@
 //! What an accepted command does to the count.
 
-ghost use Rattle.std.specs.Prelude.{◌≡◌, ◌-◌, ◌≤◌, ◌<◌, ◌^◌, map};
+ghost use Rattle.std.specs.Prelude.{◌≡◌, ◌-◌, ◌<◌, ◌^◌, map};
 ghost use Rattle.std.specs.FinMap as map_of;
 ghost use Rattle.zh_returns.specs.declared.judgement.Verdict.TheVariants.{Accept};
 ghost use Rattle.zh_returns.specs.Judgement.{judge, judge_row, of_all};

@@ -26,7 +26,7 @@ use Rattle.zh_returns.specs.declared.entry.Origin.{Origin}
 use Rattle.zh_returns.specs.Origin.{IsOriginOf}
 use Rattle.zh_returns.specs.Tally.{Tally, held}
 use Rattle.zh_returns.specs.Keys.{key_cmp}
-use Rattle.zh_returns.proofs.CallerLemmas.{passes, row_held, row_unrefused, rows_kept, IsHeld, IsTally-insert, entry_said, origin_named, rows_more, upto, held_still, next_row, passed_row}
+use Rattle.zh_returns.proofs.CallerLemmas.{passes, row_held, row_unrefused, rows_may_stand, IsHeld, IsTally-insert, entry_said, origin_named, rows_more, upto, held_still, next_row, passed_row}
 use Rattle.zh_districts.proofs.CallerLemmas.{placed}
 use Rattle.zh_returns.proofs.CallerLemmas.{keys_total, keys_equal}
 use Rattle.zh_totals.specs.declared.totals.Change.{Change}
@@ -81,7 +81,7 @@ IsTally-upto origin tally rows (suc i) named limits batch accepted within =
           let speakable : IsSpeakableRow row = subst IsSpeakableRow found.3 (All-get_or IsSpeakableRow rows i row found.1 batch.are_rows.speakable) in
           rw next (
           more_limits origin tally rows i row (is_accept (judge_row tally row)) refl found.2 named speakable
-          (rows_kept tally rows i row batch accepted found.2) (IsTally-upto origin tally rows i named limits batch accepted (omega arith)))
+          (rows_may_stand tally rows i row batch accepted found.2) (IsTally-upto origin tally rows i named limits batch accepted (omega arith)))
       | inr past ↦ absurd (omega arith)
     ]
 
@@ -119,7 +119,7 @@ pub row_taken : (origin : Origin) (tally : Tally) (rows : List Row) (i : ℕ) (r
 row_taken origin tally rows i row named limits batch accepted is =
     let within = slice_get_within rows i row is in
     let before = IsTally-upto origin tally rows i named limits batch accepted (omega arith) in
-    let may = rows_kept tally rows i row batch accepted is in
+    let may = rows_may_stand tally rows i row batch accepted is in
     let there = placed tally.canton row.municipality row.list may.place in
     rw (sym (row_change_still origin tally rows i row batch is)) (record {
       can = votes_can (upto origin tally rows i) row.municipality row.list row.votes before there.0 there.1 may.votes;

@@ -1,5 +1,5 @@
 //! A count that keeps its totals.
-ghost use Rattle.std.specs.Prelude.{◌≡◌, ◌-◌, ◌≤◌, ◌<◌, ◌^◌, IfOk, None};
+ghost use Rattle.std.specs.Prelude.{◌≡◌, ◌-◌, ◌<◌, ◌^◌, IfOk, None};
 ghost use Rattle.zh_districts.specs.Misplaced.{misplaced};
 ghost use Rattle.zh_returns.specs.Judgement.{judge};
 ghost use Rattle.zh_returns.specs.Origin.{IsOriginOf, origin_of};

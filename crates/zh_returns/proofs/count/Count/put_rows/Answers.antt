@@ -1,14 +1,14 @@
 use Rattle.std.proofs.Common.{◌≡◌, ◌∙◌, sym, ap}
 use Rattle.zh_returns.specs.Judgement.{is_accept, judge_row}
 use Rattle.zh_returns.specs.Tally.{Tally}
-use Rattle.zh_returns.proofs.JudgementLemmas.{rows_kept}
+use Rattle.zh_returns.proofs.JudgementLemmas.{rows_may_stand}
 use Rattle.zh_returns.proofs.BatchLemmas.{judged_still, next_row, passed_row}
 use Rattle.zh_returns.proofs.count.Count.put_rows.Goals as goal
 use Rattle.zh_returns.proofs.count.Count.put_rows.Goals.{then-accepts, else-accepts}
 
 pub put_row-requires-clause-stand : goal.put_row-requires-clause-stand
 put_row-requires-clause-stand c =
-    rw c.loop-i.invariant (rows_kept c.args.self.now c.args.rows.now c.loop-i.i c.get-row.result c.len-i-end.ensures.batch c.requires.accept c.get-row.ensures)
+    rw c.loop-i.invariant (rows_may_stand c.args.self.now c.args.rows.now c.loop-i.i c.get-row.result c.len-i-end.ensures.batch c.requires.accept c.get-row.ensures)
 
 pub loop-i-preserved : goal.loop-i-preserved
 loop-i-preserved c =

@@ -3,7 +3,7 @@ use Rattle.std.proofs.lemmas.List.{take_all}
 use Rattle.zh_returns.specs.Judgement.{judge}
 use Rattle.zh_returns.specs.Origin.{origin_of}
 use Rattle.zh_returns.specs.Step.{entry_of}
-use Rattle.zh_returns.proofs.CallerLemmas.{rows_kept}
+use Rattle.zh_returns.proofs.CallerLemmas.{rows_may_stand}
 use Rattle.zh_totals.proofs.CommandLemmas.{taken, row_taken}
 use Rattle.zh_totals.proofs.totals.Totals.note_command.Goals as goal
 
@@ -21,7 +21,7 @@ note_votes-requires-in-Withdraw-clause-change c =
 
 pub note_votes-requires-in-loop-i-clause-place : goal.note_votes-requires-in-loop-i-clause-place
 note_votes-requires-in-loop-i-clause-place c =
-    (rows_kept c.args.count.now c.in-Batch.rows c.loop-i.i c.get-row.result c.len-i-end.ensures.batch
+    (rows_may_stand c.args.count.now c.in-Batch.rows c.loop-i.i c.get-row.result c.len-i-end.ensures.batch
     (ap (judge c.args.count.now) (sym c.in-Batch.is) ∙ c.requires.accept) c.get-row.ensures).place
 
 pub note_votes-requires-in-loop-i-clause-change : goal.note_votes-requires-in-loop-i-clause-change
