@@ -21,7 +21,7 @@ use Rattle.zh_snapshot.specs.Calls.{StoreAppends}
 use Rattle.zh_snapshot.specs.Store.{State, StoreAdds, StoreAddsOrNot, longer}
 use Rattle.zh_snapshot.specs.declared.fault.AppendFault.{AppendFault}
 use Rattle.zh_ledger.specs.Ledger.{Ledger, has_room}
-use Rattle.zh_ledger.specs.Kept.{ledger_of}
+use Rattle.zh_ledger.specs.Ledger.{ledger_of}
 use Rattle.zh_ledger.specs.Stands.{AreAccepted, Replays, StandsFor, Holds, HoldsLedger}
 use Rattle.zh_ledger.specs.Images.{KeepsOrSteps, Stores, KeepsCommand, SameOutsideSlots}
 use Rattle.zh_ledger.specs.declared.outcome.Outcome.TheVariants.{Stored, Device}

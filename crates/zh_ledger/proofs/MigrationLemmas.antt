@@ -14,7 +14,7 @@ use Rattle.zh_snapshot.specs.Calls.{StoreSwitch}
 use Rattle.zh_snapshot.specs.Store.{State, Settles, StoreSwitches, StoreSwitchesOrNot, switched}
 use Rattle.zh_snapshot.specs.declared.fault.SwitchFault.{SwitchFault}
 use Rattle.zh_snapshot.proofs.CallerLemmas.{framed_alike}
-use Rattle.zh_ledger.specs.Kept.{ledger_in, ledger_of}
+use Rattle.zh_ledger.specs.Ledger.{ledger_in, ledger_of}
 use Rattle.zh_ledger.specs.Opened.{HoldsLedgerFramed}
 use Rattle.zh_ledger.specs.Opening.{IsAtRest, MayLeave, Migrates, MigratesFrom}
 use Rattle.zh_ledger.specs.Stands.{Holds}

@@ -16,7 +16,7 @@ use Rattle.zh_snapshot.specs.Store.{State, Fits, Settles}
 use Rattle.zh_snapshot.specs.declared.fault.OpenFault as store
 use Rattle.zh_snapshot.specs.declared.fault.OpenFault.TheVariants as of_store
 use Rattle.zh_ledger.specs.Faults.{fault_of_store, open_fails}
-use Rattle.zh_ledger.specs.Kept.{ledger_in}
+use Rattle.zh_ledger.specs.Ledger.{ledger_in}
 use Rattle.zh_ledger.specs.Ledger.{Ledger}
 use Rattle.zh_ledger.specs.Opened.{AwaitsReplay, Differs, IsDamaged, IsReady, IsWrong, HoldsLedgerFramed}
 use Rattle.zh_ledger.specs.Opening.{IsAtRest, IsCause, MayLeave, MigratesFrom, Opening, Opens, ReadsCount}

@@ -16,7 +16,7 @@ use Rattle.zh_snapshot.specs.Layout.{other}
 use Rattle.zh_snapshot.specs.Store.{State, StoreSwitches, StoreSwitchesOrNot, switched}
 use Rattle.zh_snapshot.specs.declared.fault.SwitchFault.{SwitchFault}
 use Rattle.zh_ledger.specs.Ledger.{Ledger, has_room}
-use Rattle.zh_ledger.specs.Kept.{ledger_in, ledger_of}
+use Rattle.zh_ledger.specs.Ledger.{ledger_in, ledger_of}
 use Rattle.zh_ledger.specs.Opened.{HoldsLedgerFramed}
 use Rattle.zh_ledger.specs.Stands.{StandsFor, HoldsLedger}
 use Rattle.zh_ledger.specs.Images.{Keeps, Readies, MakesRoom, SameOutsideSlots}

@@ -21,6 +21,14 @@ pub record Ledger : Type 0 where
   pub store : store.State
   pub format : Format
 
+-- the ledger of a count and its store, in a format
+abbrev pub ledger_in : Format → Tally → store.State → Ledger
+ledger_in format tally state = record { tally = tally; store = state; format = format }
+
+-- the same in format Two
+abbrev pub ledger_of : Tally → store.State → Ledger
+ledger_of = ledger_in Two
+
 -- the pages that the record of a command takes
 abbrev pub pages_for : Command → ℕ
 pages_for command = pages_of (length (command_spelling Two command))

@@ -1,6 +1,5 @@
 pub mod Faults
 pub mod Ledger
-pub mod Kept
 pub mod Code
 pub mod Stands
 pub mod Opened

@@ -19,7 +19,7 @@ use Rattle.zh_snapshot.specs.Format.{Formats, IsFormatted}
 use Rattle.zh_snapshot.specs.Store.{State, Settles}
 use Rattle.zh_snapshot.specs.declared.fault.FormatFault.{FormatFault}
 use Rattle.zh_ledger.specs.Faults.{open_fails}
-use Rattle.zh_ledger.specs.Kept.{ledger_in}
+use Rattle.zh_ledger.specs.Ledger.{ledger_in}
 use Rattle.zh_ledger.specs.Ledger.{Ledger}
 use Rattle.zh_ledger.specs.Opened.{IsNew, IsReady, HoldsLedgerFramed, IsOpened, Differs, IsDamaged, AwaitsReplay, IsWrong}
 use Rattle.zh_ledger.specs.Stands.{HoldsFramed, StandsFor}

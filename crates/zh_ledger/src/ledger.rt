@@ -1,16 +1,22 @@
 //! The ledger: the count, and the disk that keeps it.
 
-ghost use Rattle.std.specs.Prelude.{◌≡◌, false};
+ghost use Rattle.std.specs.Prelude.{◌≡◌, IfOk, IsErrOf, false, length};
+ghost use Rattle.zh_disk.specs.History.{Call};
+ghost use Rattle.zh_snapshot.specs.Faults.{store_format_fails};
 ghost use Rattle.zh_totals.specs.Counting.{totals_of};
 ghost use Rattle.zh_returns.specs.Spelling.{HasNumbers};
 ghost use Rattle.zh_ledger.specs.Faults.{may_write};
+ghost use Rattle.zh_ledger.specs.Opening.{MakesNew};
 ghost use Rattle.zh_ledger.specs.Submissions.{Submission, on_disk};
 
-use crate::outcome::{Outcome, keep};
+use crate::outcome::Outcome;
+use crate::storage::keep;
+use std::alloc::{AllocError, Global};
 use std::marker::Model;
 use zh_disk::Disk;
-use zh_returns::{Command, Count, Format, Verdict};
-use zh_snapshot::Store;
+use zh_districts::{Setup, setup_bytes};
+use zh_returns::{Command, Count, Format, PAYLOAD_LENGTH, Verdict};
+use zh_snapshot::{FormatFault, Store};
 use zh_totals::{RunningCount, Totals};
 
 /// The count of an election on a disk.
@@ -43,7 +49,28 @@ impl<'s> Model for Ledger<'s> {
     ghost invariant = { λ ledger. length ledger.buffer.items ≡ SNAPSHOT_LENGTH };
 }
 
+/// Room for a snapshot or a record.
+pub(crate) fn buffer(alloc: Global) -> Result<Vec<u8>, AllocError>
+    ensures { IfOk result (λ buffer. length buffer.items ≡ PAYLOAD_LENGTH) }
+{
+    vec![in alloc; 0; PAYLOAD_LENGTH]
+}
+
 impl<'s> Ledger<'s> {
+    /// Makes a disk one on which nothing has been returned yet, whatever stands there. Memory is taken before the
+    /// first call of the device.
+    pub fn format<D: Disk>(alloc: Global, setup: &Setup, disk: &mut D) -> Result<(), FormatFault>
+        // While the disk is honest this also says what each image is at each moment since the call began.
+        ensures call { Call store_format_fails (MakesNew setup.now) (D.history disk.old) (D.history disk.new) result }
+
+        ensures untouched { IsErrOf result FormatFault.Memory → disk.new ≡ disk.old }
+    {
+        let bytes = setup_bytes(alloc, setup)?;
+        let mut first = buffer(alloc)?;
+        Count::new(alloc, setup)?.encode(&mut first);
+        Store::format(alloc, disk, &bytes, &first)
+    }
+
     /// The count as it is now.
     pub fn count(&self) -> &Count<'s>
         ensures { result.now ≡ self.now.tally }

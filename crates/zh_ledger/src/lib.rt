@@ -8,6 +8,7 @@ mod laws;
 mod ledger;
 mod opening;
 mod outcome;
+mod storage;
 
 pub use laws::{nights, one_count, submissions};
 pub use ledger::Ledger;

@@ -1,29 +1,28 @@
-//! Formatting a disk, and opening the ledger that stands there.
+//! Opening the ledger that stands on a disk.
 
 ghost use Rattle.std.specs.Prelude.{◌≡◌, ◌≢◌, ◌≤◌, ◌-◌, ◌^◌, false, length, IfOk, OnOk, IsErrOf, is_err, ◌<◌, ℕ, ◌∷◌, true, List, []};
 ghost use Rattle.zh_disk.specs.Disk.{Asks};
 ghost use Rattle.zh_disk.specs.History.{Call};
 ghost use Rattle.zh_districts.specs.Spelling.{setup_spelling};
 ghost use Rattle.zh_returns.specs.Tally.{empty, Tally};
-ghost use Rattle.zh_snapshot.specs.Faults.{store_format_fails};
 ghost use Rattle.zh_ledger.specs.Faults.{open_fails};
-ghost use Rattle.zh_ledger.specs.Kept.{ledger_in};
-ghost use Rattle.zh_ledger.specs.Opening.{MakesNew, MigratesFrom, Opening, ReadsCount};
+ghost use Rattle.zh_ledger.specs.Ledger.{ledger_in};
+ghost use Rattle.zh_ledger.specs.Opening.{MigratesFrom, Opening, ReadsCount};
 ghost use Rattle.zh_journal.specs.Pages.{Frames};
 ghost use Rattle.zh_journal.specs.declared.page.TheConstants.{LONGEST_PAYLOAD};
 ghost use Rattle.zh_returns.specs.Judgement.{judge};
 ghost use Rattle.zh_returns.specs.Spelling.{IsSpeakable, command_spelling};
 ghost use Rattle.zh_ledger.specs.Stands.{Replays};
 
-use crate::ledger::Ledger;
-use crate::outcome::switch;
+use crate::ledger::{Ledger, buffer};
+use crate::storage::switch;
 use std::alloc::{AllocError, Global};
 use thiserror::Error;
 use zh_disk::{Disk, DiskFault};
 use zh_districts::{Setup, setup_bytes};
 use zh_journal::Reader;
-use zh_returns::{Command, Count, Format, PAYLOAD_LENGTH, Verdict, decode_command, payload_format};
-use zh_snapshot::{FormatFault, Store, StoreFault, SwitchFault};
+use zh_returns::{Command, Format, PAYLOAD_LENGTH, Verdict, decode_command, payload_format};
+use zh_snapshot::{Store, StoreFault, SwitchFault};
 use zh_totals::RunningCount;
 
 /// Why the ledger on a disk is not opened.
@@ -82,28 +81,7 @@ impl From<zh_snapshot::OpenFault> for OpenFault {
     }
 }
 
-/// Room for a snapshot or a record.
-fn buffer(alloc: Global) -> Result<Vec<u8>, AllocError>
-    ensures { IfOk result (λ buffer. length buffer.items ≡ PAYLOAD_LENGTH) }
-{
-    vec![in alloc; 0; PAYLOAD_LENGTH]
-}
-
 impl<'s> Ledger<'s> {
-    /// Makes a disk one on which nothing has been returned yet, whatever stands there. Memory is taken before the
-    /// first call of the device.
-    pub fn format<D: Disk>(alloc: Global, setup: &Setup, disk: &mut D) -> Result<(), FormatFault>
-        // While the disk is honest this also says what each image is at each moment since the call began.
-        ensures call { Call store_format_fails (MakesNew setup.now) (D.history disk.old) (D.history disk.new) result }
-
-        ensures untouched { IsErrOf result FormatFault.Memory → disk.new ≡ disk.old }
-    {
-        let bytes = setup_bytes(alloc, setup)?;
-        let mut first = buffer(alloc)?;
-        Count::new(alloc, setup)?.encode(&mut first);
-        Store::format(alloc, disk, &bytes, &first)
-    }
-
     /// Opens the ledger that a disk holds: a sync, then reads alone, and where the slot in use is of format One a switch to
     /// the same count in format Two, if a generation is left for it. Memory is taken before the first of them.
     ///

@@ -67,11 +67,6 @@ judged_still origin tally rows i row batch is =
     cond (too_many (Some row.votes)) (Refused reasons.Votes) (cond (set.contains tally.closed row.municipality) (Refused reasons.Closed) (against entry row.number (Some row.votes))))) (
     held_still origin tally rows i row batch is)
 
-accepted_before : (origin : Origin) (before now : Tally) (rows : List Row) (i : ℕ) (row : Row) (accepted : Bool) → IsBatch rows → slice_get rows i
-    ≡ Some row → now ≡ upto origin before rows i → accepted ≡ is_accept (judge_row now row) → is_accept (judge_row before row) ≡ accepted
-accepted_before origin before now rows i row accepted batch is so_far judged =
-    ap is_accept (sym (judged_still origin before rows i row batch is) ∙ ap (λ (t : Tally). judge_row t row) (sym so_far)) ∙ sym judged
-
 -- one row more that is accepted is one entry more
 more_rows : (tally : Tally) (rows : List Row) (i : ℕ) (row : Row) → slice_get rows i ≡ Some row → accepted_rows tally (take (i + 1) rows)
     ≡ accepted_rows tally (take i rows) ++ cond (is_accept (judge_row tally row)) (row ∷ []) []
@@ -94,16 +89,3 @@ next_row origin tally rows i row is accepted = with_more origin tally rows (row 
 pub passed_row : (origin : Origin) (tally : Tally) (rows : List Row) (i : ℕ) (row : Row) → slice_get rows i ≡ Some row
     → is_accept (judge_row tally row) ≡ false → upto origin tally rows (i + 1) ≡ upto origin tally rows i
 passed_row origin tally rows i row is passed = with_more origin tally rows [] i row is (ap (λ b. cond b (row ∷ []) []) passed)
-
--- so a count that has the rows before this one has this one too after it is put, if it is accepted
-pub row_put : (origin : Origin) (before now after : Tally) (rows : List Row) (i : ℕ) (row : Row) (accepted : Bool) → IsBatch rows
-    → slice_get rows i ≡ Some row → now ≡ upto origin before rows i → accepted ≡ is_accept (judge_row now row) → accepted ≡ true → after
-    ≡ with_row origin now row → after ≡ upto origin before rows (i + 1)
-row_put origin before now after rows i row accepted batch is so_far judged accepts put =
-    put ∙ ap (λ (t : Tally). with_row origin t row) so_far ∙ sym (next_row origin before rows i row is (accepted_before origin before now rows i row accepted batch is so_far judged ∙ accepts))
-
--- and else as it is
-pub row_passed : (origin : Origin) (before now : Tally) (rows : List Row) (i : ℕ) (row : Row) (accepted : Bool) → IsBatch rows → slice_get rows i
-    ≡ Some row → now ≡ upto origin before rows i → accepted ≡ is_accept (judge_row now row) → accepted ≡ false → now ≡ upto origin before rows (i + 1)
-row_passed origin before now rows i row accepted batch is so_far judged passes =
-    so_far ∙ sym (passed_row origin before rows i row is (accepted_before origin before now rows i row accepted batch is so_far judged ∙ passes))

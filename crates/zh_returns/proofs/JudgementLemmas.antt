@@ -39,8 +39,8 @@ passes tally municipality list number content is =
     record { place = t.0; enough = t.1 }
 
 -- so a row that is not refused may stand in the count
-pub row_kept : (tally : Tally) (row : Row) → 1 ≤ row.number → is_refusal (judge_row tally row) ≡ false → MayStand tally.canton row
-row_kept tally row number is =
+pub row_may_stand : (tally : Tally) (row : Row) → 1 ≤ row.number → is_refusal (judge_row tally row) ≡ false → MayStand tally.canton row
+row_may_stand tally row number is =
     let p = passes tally row.municipality row.list row.number (Some row.votes) is in
     record { place = p.place; number = number; votes = ltb-false 1000000000 row.votes p.enough }
 
@@ -109,8 +109,8 @@ row_unrefused tally rows i row accepted is =
     ∙ All-get_or (λ v. is_refusal v ≡ false) (map (judge_row tally) rows) i Accept (omega (arith, length-map rows (judge_row tally))) (none_refused (map (judge_row tally) rows) accepted)
 
 -- so its rows may stand in the count
-pub rows_kept : (tally : Tally) (rows : List Row) (i : ℕ) (row : Row) → IsBatch rows → of_all (map (judge_row tally) rows) ≡ Accept → slice_get rows i ≡ Some row → MayStand tally.canton row
-rows_kept tally rows i row batch accepted is =
+pub rows_may_stand : (tally : Tally) (rows : List Row) (i : ℕ) (row : Row) → IsBatch rows → of_all (map (judge_row tally) rows) ≡ Accept → slice_get rows i ≡ Some row → MayStand tally.canton row
+rows_may_stand tally rows i row batch accepted is =
     let here = get_or_from_slice_get rows i row row is in
     let speakable : IsSpeakableRow row = subst IsSpeakableRow here (All-get_or IsSpeakableRow rows i row (slice_get_within rows i row is) batch.are_rows.speakable) in
-    row_kept tally row speakable.number.0 (row_unrefused tally rows i row accepted is)
+    row_may_stand tally row speakable.number.0 (row_unrefused tally rows i row accepted is)

@@ -1,5 +1,5 @@
 -- The batches of the desks.
-use Rattle.std.specs.Prelude.{◌≡◌, ℕ, ◌-◌, List, All}
+use Rattle.std.specs.Prelude.{◌≡◌, ℕ, List, All}
 use Rattle.zh_returns.specs.declared.row.Row.{Row}
 use Rattle.zh_returns.specs.Rows.{row_key}
 

@@ -1,4 +1,4 @@
--- Why a row is not held, memory aside.
+-- Why a batch does not take a row, memory aside.
 use Rattle.std.specs.Prelude.{ℕ, nat_le, nat_lt, if◌then◌else◌, List, length, Option, Some, None}
 use Rattle.zh_districts.specs.Canton.{Canton}
 use Rattle.zh_districts.specs.Misplaced.{misplaced}

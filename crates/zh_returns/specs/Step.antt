@@ -72,12 +72,6 @@ pub record Steps (old : Tally) (command : Command) (new : Tally) : Type 0 where
   pub step : new ≡ step old command
   pub changed : new ≡ changed old command
 
--- these entries are put, and who follows the count follows it on
-pub record PutsFollowed (R : Canton → map.FinMap key_cmp Entry → Type 0) (entries : map.FinMap key_cmp Entry)
-    (old new : Tally) : Type 0 where
-  pub put : new ≡ record old { entries = entries }
-  pub follows : R new.canton new.entries
-
 -- the count after these commands, in order
 abbrev pub after : Tally → List Command → Tally
 after tally [] = tally

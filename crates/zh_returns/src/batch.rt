@@ -10,7 +10,7 @@ use indexmap::IndexMap;
 use std::alloc::{AllocError, Global};
 use std::marker::Model;
 
-/// The rows that a desk holds until it commits them, in the order in which they came: at most 1,000, no two of one
+/// The rows that a desk puts together until it commits them, in the order in which they came: at most 1,000, no two of one
 /// municipality and list.
 #[derive(Drop)]
 pub struct Batch {
@@ -41,7 +41,7 @@ impl Batch {
         }
     }
 
-    /// How many rows are held.
+    /// How many rows there are.
     pub fn len(&self) -> usize
         ensures count { result ≡ length self.now }
         ensures limits { AreRows self.now }
@@ -49,7 +49,7 @@ impl Batch {
         self.rows.len()
     }
 
-    /// Whether a row of this municipality and list is held. It takes the same time however many rows there are.
+    /// Whether there is a row of this municipality and list. It takes the same time however many rows there are.
     pub fn has_key(&self, municipality: u32, list: u32) -> bool
         ensures { result ≡ has_key self.now (municipality, list) }
     {

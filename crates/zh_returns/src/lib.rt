@@ -6,7 +6,6 @@ mod command;
 mod command_bytes;
 mod count;
 mod entry;
-mod follower;
 mod judgement;
 mod laws;
 mod payload;
@@ -20,7 +19,6 @@ pub use command::{Command, Format, LAST_DESK};
 pub use command_bytes::{decode_command, encode_command};
 pub use count::{Count, MOST_VOTES};
 pub use entry::{Entry, Origin};
-pub use follower::Follower;
 pub use judgement::{Reason, Verdict};
 pub use laws::{
     accepted_fits, accepted_is_speakable, batch_is_held, one_command, one_payload, speakable_fits,

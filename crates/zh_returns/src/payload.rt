@@ -1,6 +1,6 @@
 //! The bytes of a count, part by part.
 ghost use Rattle.std.specs.List.{flat_map, list_all};
-ghost use Rattle.std.specs.Prelude.{◌≡◌, ◌≢◌, ◌+◌, ◌∷◌, ◌++◌, ◌≤◌, ◌<◌, ◌^◌, length, drop, slice_get, Some, IfSome, IfNone, ◌*◌, Option};
+ghost use Rattle.std.specs.Prelude.{◌≡◌, ◌≢◌, ◌+◌, ◌∷◌, ◌++◌, ◌≤◌, ◌<◌, length, drop, slice_get, Some, IfSome, IfNone, ◌*◌, Option};
 ghost use Rattle.std.specs.Prelude.{List, false, true, ℕ, ◌/◌, ◌%◌, not, take, get_or, slice_index, ◌==◌};
 ghost use Rattle.zh_districts.specs.Canton.{Canton};
 ghost use Rattle.zh_districts.specs.Spelling.{mask_of};

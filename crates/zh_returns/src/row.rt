@@ -1,4 +1,4 @@
-//! A row: a return of one list in one municipality, why it is not held, and its bytes.
+//! A row: a return of one list in one municipality, why a batch does not take it, and its bytes.
 ghost use Rattle.std.specs.Prelude.{◌≡◌, IfNone, length};
 ghost use Rattle.zh_returns.specs.Decoding.{Decodes};
 ghost use Rattle.zh_returns.specs.RowBytes.{row_from};

@@ -5,9 +5,9 @@
 
 mod fault;
 mod format;
+mod heads;
 mod laws;
 mod layout;
-mod opening;
 mod refill;
 mod store;
 

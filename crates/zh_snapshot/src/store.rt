@@ -13,8 +13,8 @@ ghost use Rattle.zh_snapshot.specs.Slots.{IsInUse};
 ghost use Rattle.zh_snapshot.specs.Store.{longer};
 
 use crate::fault::{AppendFault, OpenFault, StoreFault};
+use crate::heads::{find_slot, open_header};
 use crate::layout::{SETUP, SNAPSHOT_LENGTH, Slot};
-use crate::opening::{find_slot, open_header};
 use crate::refill::zeros;
 use std::alloc::Global;
 use std::marker::Model;
@@ -219,14 +219,14 @@ pub(crate) fn stand_at<D: Disk>(disk: &mut D, at: u64, bytes: &[u8]) -> Result<b
         (D.history disk.old) (D.history disk.new) result }
 {
     let mut buffer = [0; 256];
-    let mut done = 0;
-    while done < bytes.len() {
-        let n = (bytes.len() - done).min(256);
-        let stored = lend(disk, at + done as u64, n, &mut buffer)?;
-        if stored != &bytes[done..done + n] {
+    let mut compared = 0;
+    while compared < bytes.len() {
+        let n = (bytes.len() - compared).min(256);
+        let stored = lend(disk, at + compared as u64, n, &mut buffer)?;
+        if stored != &bytes[compared..compared + n] {
             return Ok(false);
         }
-        done += n;
+        compared += n;
     }
     Ok(true)
 }

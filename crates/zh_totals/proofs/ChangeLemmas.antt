@@ -1,7 +1,6 @@
 -- What totals of a count can take, and what they are after it.
-use Rattle.std.proofs.Common.{◌≡◌, ◌∙◌, ℕ, ◌+◌, ◌≤◌, true, None, Some, IfSome, sym, ap, subst, arith}
+use Rattle.std.proofs.Common.{◌≡◌, ◌∙◌, ℕ, ◌+◌, ◌≤◌, true, Some, IfSome, sym, ap, subst, arith}
 use Rattle.zh_districts.specs.Canton.{has_municipality, stands, constituency_of}
-use Rattle.zh_districts.specs.Misplaced.{misplaced}
 use Rattle.zh_returns.specs.declared.command.Format.TheVariants.{Two}
 use Rattle.zh_returns.specs.declared.row.Row.{Row}
 use Rattle.zh_returns.specs.declared.entry.Entry.{Entry}
@@ -10,9 +9,9 @@ use Rattle.zh_returns.specs.Origin.{no_desk}
 use Rattle.zh_returns.specs.Step.{entry_of}
 use Rattle.zh_returns.specs.Tally.{Tally, held}
 use Rattle.zh_returns.proofs.CallerLemmas.{IsTally-insert, entry_said, no_desk_said}
-use Rattle.zh_districts.proofs.CallerLemmas.{list_within, placed}
+use Rattle.zh_districts.proofs.CallerLemmas.{list_within}
 use Rattle.zh_totals.specs.declared.totals.Change.{Change}
-use Rattle.zh_totals.specs.Totals.{VoteTotals, all_votes}
+use Rattle.zh_totals.specs.Totals.{all_votes}
 use Rattle.zh_totals.specs.Counting.{votes_of, totals_of}
 use Rattle.zh_totals.specs.Changes.{IsChange, noted, change_to}
 use Rattle.zh_totals.specs.Parts.{held_before}
@@ -42,22 +41,6 @@ votes_can tally m l votes limits there standing enough =
 pub entry_noted : (tally : Tally) (m l : ℕ) (entry : Entry) → IsTally tally → has_municipality tally.canton m ≡ true → stands tally.canton (constituency_of tally.canton m) l ≡ true →
     totals_of (with_entry tally m l entry) ≡ noted (totals_of tally) (change_to tally m l (votes_of entry))
 entry_noted tally m l entry limits there standing = noted_entry tally m l entry (standing_there tally m l limits there standing)
-
--- so totals that follow a count can take the change of an entry that is put next, and follow it after that
-pub record IsFollowed (tally : Tally) (totals : VoteTotals) (m l : ℕ) (entry : Entry) (change : Change) : Type 0 where
-  pub can : IsChange totals change
-  pub after : noted totals change ≡ totals_of (with_entry tally m l entry)
-
-pub followed : (tally : Tally) (totals : VoteTotals) (m l : ℕ) (entry : Entry) (change : Change) → IsTally tally
-    → misplaced tally.canton m l ≡ None → IsEntry entry → totals ≡ totals_of tally → change ≡ change_to tally m l (votes_of entry) →
-    IsFollowed tally totals m l entry change
-followed tally totals m l entry change limits place entry_limits so_far is =
-    let there = placed tally.canton m l place in
-    let can = votes_can tally m l (votes_of entry) limits there.0 there.1 (few entry.votes entry_limits.votes) in
-    record {
-      can = subst (IsChange totals) (sym is) (subst (λ (t : VoteTotals). IsChange t (change_to tally m l (votes_of entry))) (sym so_far) can);
-      after = ap (noted totals) is ∙ ap (λ (t : VoteTotals). noted t (change_to tally m l (votes_of entry))) so_far ∙ sym (entry_noted tally m l entry limits there.0 there.1);
-    }
 
 -- an entry that is noted in the totals of those before it
 abbrev pub first_change : Tally → ℕ → ℕ → ℕ → Change

@@ -1,19 +1,21 @@
 //! A count that keeps its totals.
-ghost use Rattle.std.specs.Prelude.{◌≡◌, ◌-◌, ◌≤◌, ◌<◌, ◌^◌, IfOk};
+ghost use Rattle.std.specs.Prelude.{◌≡◌, ◌-◌, ◌<◌, ◌^◌, IfOk, None};
+ghost use Rattle.zh_districts.specs.Misplaced.{misplaced};
 ghost use Rattle.zh_returns.specs.Judgement.{judge};
 ghost use Rattle.zh_returns.specs.Origin.{IsOriginOf, origin_of};
 ghost use Rattle.zh_returns.specs.Payload.{TakesPayload};
-ghost use Rattle.zh_returns.specs.Step.{step};
+ghost use Rattle.zh_returns.specs.Step.{changed, step};
 ghost use Rattle.zh_returns.specs.Tally.{Tally, empty};
 ghost use Rattle.zh_returns.specs.declared.command.Format.{Format};
 ghost use Rattle.zh_returns.specs.declared.judgement.Verdict.TheVariants.{Accept};
+ghost use Rattle.zh_totals.specs.Changes.{IsChange, change_to, noted};
 ghost use Rattle.zh_totals.specs.Counting.{totals_of};
 
 use crate::totals::{Change, Totals};
 use std::alloc::{AllocError, Global};
 use std::marker::Model;
 use zh_districts::Setup;
-use zh_returns::{Command, Count, Entry, Follower};
+use zh_returns::{Command, Count};
 
 /// A count, and its totals, which each change of it brings up to date. The memory is taken in `new`, and no other call
 /// takes any.
@@ -85,16 +87,48 @@ impl<'s> RunningCount<'s> {
         requires room { self.old.accepted < 2 ^ 64 - 1 }
         ensures { self.new ≡ step self.old command.now }
     {
-        self.count.apply_followed(command, &mut self.totals);
+        self.totals.note_command(&self.count, command);
+        self.count.apply(command);
     }
 }
 
-impl<'s> Follower for Totals<'s> {
-    ghost follows = { λ totals canton entries. totals ≡ totals_of (record (empty canton) { entries = entries }) };
-
-    fn follow(&mut self, count: &Count<'_>, municipality: u32, list: u32, entry: Entry) {
+impl<'s> Totals<'s> {
+    /// Notes what a command that the count accepts changes there, before it is applied to the count.
+    fn note_command(&mut self, count: &Count<'_>, command: &Command<'_>)
+        requires origin { IsOriginOf Format.Two (origin_of command.now) }
+        requires accept { judge count.now command.now ≡ Accept }
+        requires totals { self.old ≡ totals_of count.now }
+        ensures { self.new ≡ totals_of (changed count.now command.now) }
+    {
         // A count is within its limits, however many commands it accepted.
         count.accepted();
+        match command {
+            Command::Return { row, .. } => {
+                self.note_votes(count, row.municipality, row.list, row.votes);
+            }
+            Command::Withdraw {
+                municipality,
+                list,
+                ..
+            } => self.note_votes(count, *municipality, *list, 0),
+            Command::Close { .. } => {}
+            Command::Reopen { .. } => {}
+            // Each row has a key of its own, so what the count holds there is what was held before the batch.
+            Command::Batch { rows, .. } => {
+                for i in 0..rows.len() {
+                    let row = rows.get(i);
+                    self.note_votes(count, row.municipality, row.list, row.votes);
+                }
+            }
+        }
+    }
+
+    /// Notes votes that replace those that the count holds under a key.
+    fn note_votes(&mut self, count: &Count<'_>, municipality: u32, list: u32, votes: u32)
+        requires place { misplaced count.now.canton municipality list ≡ None }
+        requires change { IsChange self.old (change_to count.now municipality list votes) }
+        ensures { self.new ≡ noted self.old (change_to count.now municipality list votes) }
+    {
         let before = match count.entry(municipality, list) {
             Some(held) => held.votes.unwrap_or(0),
             None => 0,
@@ -103,7 +137,7 @@ impl<'s> Follower for Totals<'s> {
             constituency: count.setup().constituency_of(municipality),
             list,
             before,
-            after: entry.votes.unwrap_or(0),
+            after: votes,
         });
     }
 }

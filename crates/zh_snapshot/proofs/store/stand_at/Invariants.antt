@@ -5,12 +5,12 @@ use Rattle.zh_disk.specs.Disk.{Asks}
 use Rattle.zh_disk.specs.History.{Call}
 use Rattle.zh_snapshot.proofs.store.stand_at.Given as goal
 
-abbrev pub invariant-loop-done : goal.invariant-loop-done
-invariant-loop-done g l = record {
-  inside : l.done ≤ length l.bytes;
-  so_far : Call {A = Result (Unit {0}) DiskFault} is_err (Asks (λ stored answer. slice_range stored l.at (l.at + l.done) ≡ take l.done l.bytes))
+abbrev pub invariant-loop-compared : goal.invariant-loop-compared
+invariant-loop-compared g l = record {
+  inside : l.compared ≤ length l.bytes;
+  so_far : Call {A = Result (Unit {0}) DiskFault} is_err (Asks (λ stored answer. slice_range stored l.at (l.at + l.compared) ≡ take l.compared l.bytes))
       (g.D.Disk.history l.initial.disk) (g.D.Disk.history l.disk) (Ok tt);
 }
 
-abbrev pub decreases-loop-done : goal.decreases-loop-done
-decreases-loop-done g l = length l.bytes - l.done
+abbrev pub decreases-loop-compared : goal.decreases-loop-compared
+decreases-loop-compared g l = length l.bytes - l.compared

@@ -5,7 +5,7 @@ use Rattle.zh_districts.specs.Spelling.{setup_spelling}
 use Rattle.zh_returns.specs.Tally.{Tally, empty}
 use Rattle.zh_ledger.specs.declared.opening.OpenFault.{OpenFault}
 use Rattle.zh_ledger.specs.declared.opening.OpenFault.TheVariants as faults
-use Rattle.zh_ledger.specs.Kept.{ledger_in}
+use Rattle.zh_ledger.specs.Ledger.{ledger_in}
 use Rattle.zh_ledger.specs.Opened.{IsReady}
 use Rattle.zh_ledger.proofs.OpenedLemmas.{err_of}
 use Rattle.zh_ledger.proofs.OpeningLemmas.{opening_fails, memory_refused, fails_as, store_refused, count_refused, opened_well, migration_failed}

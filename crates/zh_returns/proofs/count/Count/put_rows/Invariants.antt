@@ -4,7 +4,4 @@ use Rattle.zh_returns.proofs.BatchLemmas.{upto}
 use Rattle.zh_returns.proofs.count.Count.put_rows.Given as goal
 
 abbrev pub invariant-loop-i : goal.invariant-loop-i
-invariant-loop-i g l = record {
-  put : ◌≡◌ {A = Tally} l.self (upto l.origin l.initial.self l.rows l.i);
-  follows : g.F.Follower.follows l.follower l.self.canton l.self.entries;
-}
+invariant-loop-i l = ◌≡◌ {A = Tally} l.self (upto l.origin l.initial.self l.rows l.i)

@@ -8,7 +8,7 @@ use Rattle.zh_journal.specs.Records.{records_of}
 use Rattle.zh_snapshot.specs.Store.{State}
 use Rattle.zh_snapshot.specs.declared.fault.OpenFault.{OpenFault}
 use Rattle.zh_snapshot.specs.declared.fault.OpenFault.TheVariants.{Device, Blank, Damaged}
-use Rattle.zh_snapshot.specs.declared.opening.InUse.{InUse}
+use Rattle.zh_snapshot.specs.declared.heads.InUse.{InUse}
 use Rattle.zh_snapshot.specs.Calls.{ReadsStore, FindsHeader}
 use Rattle.zh_snapshot.specs.Image.{Content, IsFramed, IsBlank}
 use Rattle.zh_journal.specs.Faults.{area_open_fails}

@@ -5,11 +5,11 @@ use Rattle.zh_returns.specs.Limits.{IsTally}
 use Rattle.zh_returns.proofs.CallerLemmas.{speakable}
 use Rattle.zh_ledger.specs.Ledger.{Ledger, Becomes, has_room}
 use Rattle.zh_ledger.specs.Images.{KeepsCommand}
-use Rattle.zh_ledger.specs.Kept.{ledger_of}
+use Rattle.zh_ledger.specs.Ledger.{ledger_of}
 use Rattle.zh_ledger.proofs.RoomLemmas.{room_ready}
 use Rattle.zh_ledger.proofs.ReadyLemmas.{becomes_ready, keeps_once_ready, not_made_ready}
 use Rattle.zh_ledger.proofs.OutsideLemmas.{outside_untouched}
-use Rattle.zh_ledger.proofs.outcome.keep.Goals as goal
+use Rattle.zh_ledger.proofs.storage.keep.Goals as goal
 
 pub make_room-requires-clause-speakable : goal.make_room-requires-clause-speakable
 make_room-requires-clause-speakable g c = speakable c.args.count.now c.args.command.now (subst IsTally c.count.ensures c.accepted.ensures.limits) c.requires.numbers c.requires.accept

@@ -6,8 +6,8 @@ use Rattle.zh_returns.specs.Payload.{payload_spelling}
 use Rattle.zh_snapshot.specs.Calls.{StoreSwitch}
 use Rattle.zh_snapshot.specs.Faults.{store_switch_fails}
 use Rattle.zh_ledger.proofs.SwitchLemmas.{whole_payload}
-use Rattle.zh_ledger.proofs.outcome.switch.Given.{Over}
-use Rattle.zh_ledger.proofs.outcome.switch.Goals as goal
+use Rattle.zh_ledger.proofs.storage.switch.Given.{Over}
+use Rattle.zh_ledger.proofs.storage.switch.Goals as goal
 
 -- the payload of the snapshot is that of the count
 payload_is : (g : Over) (c : goal.After-switch g) → c.encode.new.out ≡ payload_spelling Two c.args.count.now

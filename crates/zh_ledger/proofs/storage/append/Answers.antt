@@ -8,7 +8,7 @@ use Rattle.zh_returns.proofs.CallerLemmas.{short}
 use Rattle.zh_snapshot.specs.Store.{State}
 use Rattle.zh_ledger.specs.declared.outcome.Outcome.TheVariants.{Stored}
 use Rattle.zh_ledger.proofs.KeptLemmas.{appended, append_failed}
-use Rattle.zh_ledger.proofs.outcome.append.Goals as goal
+use Rattle.zh_ledger.proofs.storage.append.Goals as goal
 
 pub append-requires-clause-most : goal.append-requires-clause-most
 append-requires-clause-most g c = omega (arith, short Two c.args.command.now c.requires.speakable, ap length c.requires.spelled)

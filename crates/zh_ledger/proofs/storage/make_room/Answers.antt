@@ -7,10 +7,10 @@ use Rattle.zh_journal.specs.Place.{pages_left}
 use Rattle.zh_returns.specs.declared.command.Format.TheVariants.{Two}
 use Rattle.zh_returns.proofs.CallerLemmas.{short, speakable_fit}
 use Rattle.zh_ledger.specs.Ledger.{has_room, pages_for}
-use Rattle.zh_ledger.specs.Kept.{ledger_of}
+use Rattle.zh_ledger.specs.Ledger.{ledger_of}
 use Rattle.zh_ledger.proofs.ReadyLemmas.{has_made_room}
 use Rattle.zh_ledger.proofs.SwitchLemmas.{makes_room, makes_no_room}
-use Rattle.zh_ledger.proofs.outcome.make_room.Goals as goal
+use Rattle.zh_ledger.proofs.storage.make_room.Goals as goal
 
 -- what was written to the front is there
 in_front : (n : ℕ) (spelling rest out : List ℕ) → out ≡ spelling ++ rest → n ≡ length spelling → take n out ≡ spelling
