@@ -25,8 +25,8 @@ LIMITS = {
     MANUAL: """zh_commands LONGEST, zh_office BLOCK, zh_returns LAST_DESK, zh_returns MOST_ROWS, zh_returns MOST_VOTES,
         zh_tables MOST_LOADED""",
     FORMATS: """zh_csv MOST_BYTES, zh_csv MOST_HELD, zh_disk DISK_LENGTH, zh_journal AREA_PAGES, zh_journal PAGE_LENGTH,
-        zh_journal LONGEST_PAYLOAD, zh_page LONGEST, zh_returns COMMAND_LENGTH, zh_returns LISTS, zh_returns MUNICIPALITIES,
-        zh_returns PAYLOAD_LENGTH, zh_setups LONGEST, zh_sheet_text ROOM, zh_snapshot SETUP_LIMIT""",
+        zh_journal LONGEST_PAYLOAD, zh_returns COMMAND_LENGTH, zh_returns LISTS, zh_returns MUNICIPALITIES,
+        zh_returns PAYLOAD_LENGTH, zh_setups LONGEST, zh_sheet_text ROOM, zh_snapshot SETUP_LIMIT, zh_verdicts SHEET_FRONT""",
 }
 OF_SETUP = "limits_text setup_of quorum_of constituency_from"
 

@@ -1,10 +1,10 @@
 //! The sums of an export, row by row, and why one is not held.
 ghost use Rattle.std.specs.Ordering.{eq_by_cmp};
-ghost use Rattle.std.specs.Prelude.{◌≡◌, Some, IsErrOf, true, ◌≢◌, ◌++◌, ◌∷◌, [], ◌||◌, ℕ, List, MatchResult, IfOk, false, ◌<◌, ◌^◌};
+ghost use Rattle.std.specs.Prelude.{◌≡◌, Some, IsErrOf, true, ◌≢◌, ◌++◌, ◌∷◌, [], ◌||◌, ℕ, List, MatchResult, IfOk, false, ◌<◌, ◌≤◌, ◌^◌};
 ghost use Rattle.std.specs.Prelude.{Option, IfSome, MatchOption, length};
 ghost use Rattle.csv.specs.Records.{fields_of};
 ghost use Rattle.zh_csv.specs.Export.{votes_field};
-ghost use Rattle.zh_csv.specs.Faults.{named};
+ghost use Rattle.zh_csv.specs.Faults.{held_name, named};
 ghost use Rattle.zh_csv.specs.Held.{IsHolding, row_fault};
 ghost use Rattle.zh_csv.specs.Noted.{has_failed, inner_reader};
 ghost use Rattle.zh_csv.specs.Reading.{IsUnread};
@@ -221,6 +221,21 @@ impl HeldFault {
             LoadFault::Judged(_) => Some(HeldFault::Votes),
             LoadFault::Row(_) => Some(HeldFault::Twice),
             LoadFault::Memory | LoadFault::Read => None,
+        }
+    }
+
+    /// Its name, as reports spell it.
+    pub fn name(self) -> &'static str
+        ensures name { result.now ≡ held_name self }
+        ensures short { length result.now ≤ 17 }
+    {
+        match self {
+            HeldFault::Csv => "held csv",
+            HeldFault::Syntax => "held syntax",
+            HeldFault::Municipality => "held municipality",
+            HeldFault::List => "held list",
+            HeldFault::Votes => "held votes",
+            HeldFault::Twice => "held twice",
         }
     }
 }

@@ -1,5 +1,5 @@
--- Which answers are a fault of the device, and which may leave the disk changed.
-use Rattle.std.specs.Prelude.{Bool, true, false, Result, Ok, Err}
+-- Which answers are a fault of the device, and which may leave the disk changed; the names of the faults of an opening.
+use Rattle.std.specs.Prelude.{ℕ, Bool, true, false, List, Result, Ok, Err, codes}
 use Rattle.zh_snapshot.specs.declared.fault.OpenFault as store
 use Rattle.zh_snapshot.specs.declared.fault.OpenFault.TheVariants as of_store
 use Rattle.zh_ledger.specs.declared.opening.OpenFault.{OpenFault}
@@ -38,3 +38,11 @@ fault_of_store of_store.Device = faults.Device
 fault_of_store of_store.Blank = faults.Blank
 fault_of_store of_store.Damaged = faults.Damaged
 fault_of_store of_store.Memory = faults.Memory
+
+-- the name of a fault, as reports spell it
+abbrev pub opening_name : OpenFault → List ℕ
+opening_name faults.Memory = codes "memory"
+opening_name faults.Device = codes "disk device"
+opening_name faults.Blank = codes "disk blank"
+opening_name faults.Damaged = codes "disk damaged"
+opening_name faults.SetupDiffers = codes "disk differs"

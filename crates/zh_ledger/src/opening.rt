@@ -27,20 +27,34 @@ use zh_totals::RunningCount;
 
 /// Why the ledger on a disk is not opened.
 #[derive(Clone, Copy, Debug, PartialEq, Eq, Error)]
+#[error("{}", self.name())]
 pub enum OpenFault {
-    #[error("memory")]
     Memory,
-    #[error("disk device")]
     Device,
     /// The disk gate is closed: nothing was formatted there.
-    #[error("disk blank")]
     Blank,
     /// What stands on the disk breaks a rule of the format.
-    #[error("disk damaged")]
     Damaged,
     /// The disk was formatted for another set-up.
-    #[error("disk differs")]
     SetupDiffers,
+}
+
+impl OpenFault {
+    ghost use Rattle.zh_ledger.specs.Faults.{opening_name};
+
+    /// Its name, as reports spell it.
+    pub fn name(self) -> &'static str
+        ensures name { result.now ≡ opening_name self }
+        ensures short { length result.now ≤ 12 }
+    {
+        match self {
+            OpenFault::Memory => "memory",
+            OpenFault::Device => "disk device",
+            OpenFault::Blank => "disk blank",
+            OpenFault::Damaged => "disk damaged",
+            OpenFault::SetupDiffers => "disk differs",
+        }
+    }
 }
 
 impl From<AllocError> for OpenFault {

@@ -20,7 +20,7 @@ use Rattle.zh_office.specs.declared.judgement.JudgementFault.TheVariants as faul
 use Rattle.zh_office.specs.declared.judgement.Forecast.{Forecast}
 use Rattle.zh_office.specs.declared.judgement.Judgement.{Judgement}
 use Rattle.zh_office.specs.declared.judgement.Judgement.TheVariants.{Stores, Same, Refused}
-use Rattle.zh_office.specs.declared.judgement_text.Progress.{Progress}
+use Rattle.zh_office.specs.declared.judging.Progress.{Progress}
 use Rattle.zh_office.proofs.FindingLemmas.{begun_push, counts_push, findings_push, lines_push, next_finding, rows_push}
 use Rattle.zh_office.proofs.FrontLemmas.{all_written, front_after}
 

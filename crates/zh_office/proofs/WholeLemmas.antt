@@ -15,7 +15,7 @@ use Rattle.zh_office.specs.Judged.{WritesUpTo, BreaksOffLine, bytes_left, record
 use Rattle.zh_office.specs.JudgementText.{forecast_text, judgement_text, line_of, finding_lines}
 use Rattle.zh_office.specs.declared.judgement.JudgementFault.{JudgementFault}
 use Rattle.zh_office.specs.declared.judgement.Forecast.{Forecast}
-use Rattle.zh_office.specs.declared.judgement_text.Progress.{Progress}
+use Rattle.zh_office.specs.declared.judging.Progress.{Progress}
 use Rattle.zh_office.proofs.FrontLemmas.{front_after, front_more}
 use Rattle.zh_office.proofs.JudgedLemmas.{other_lines}
 

@@ -9,7 +9,7 @@ use Rattle.zh_office.specs.JudgementText.{finding_lines, judgement_text}
 use Rattle.zh_office.specs.declared.judgement.JudgementFault.{JudgementFault}
 use Rattle.zh_office.specs.declared.judgement.JudgementFault.TheVariants as faults
 use Rattle.zh_office.specs.declared.judgement.Forecast.{Forecast}
-use Rattle.zh_office.specs.declared.judgement_text.Progress.{Progress}
+use Rattle.zh_office.specs.declared.judging.Progress.{Progress}
 
 -- what is kept after the first records of a text
 pub record IsAfter (tally : Tally) (records : List Record) (progress : Progress) : Type 0 where

@@ -1,5 +1,6 @@
 -- What was served of a reader's bytes.
 use Rattle.std.specs.Prelude.{◌≡◌, ◌<◌, ◌≤◌, ◌⊎◌, ◌+◌, ◌-◌, ◌*◌, ◌^◌, ℕ, List, [], ◌∷◌, ◌++◌, take, min, length, IsTrue, Option, Some}
+use Rattle.std.specs.Prelude.{codes}
 use Rattle.std.specs.Io.KnownBytes.{Appends, Consumes, IsAtEnd}
 use Rattle.zh_disk.specs.History.{History}
 use Rattle.zh_film.specs.Frames.{Frame, HasEnded, now_at, reads_in}
@@ -10,6 +11,14 @@ use Rattle.zh_office.specs.Text.{lines_of, ended_lines}
 use Rattle.zh_office.specs.Office.{Office}
 use Rattle.zh_office.specs.Order.{Step, IsInOrder}
 use Rattle.zh_office.specs.Runs.{Runs, Turn, its_ledger, text_after}
+use Rattle.zh_office.specs.declared.service.ServeFault.{ServeFault}
+use Rattle.zh_office.specs.declared.service.ServeFault.TheVariants as faults
+
+-- why serving ended before the end of the input, as reports spell it
+abbrev pub serving_name : ServeFault → List ℕ
+serving_name faults.Read = codes "read"
+serving_name faults.Write = codes "write"
+serving_name faults.Turns = codes "turns"
 
 -- an office on its disk, what is written of its answers, and what its input has left, if that is known; and what a film shows,
 -- the latest first

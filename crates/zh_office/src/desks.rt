@@ -91,7 +91,7 @@ impl Desks {
         requires speakable { IsSpeakableRow row }
         ensures pushed { (rows : List Row) → rows_of self.old desk ≡ Some rows
             → OnOk result (self.new ≡ with_batch self.old desk (Some (rows ++ row ∷ []))) }
-        ensures kept { OnErr result (self.new ≡ self.old) }
+        ensures unchanged { OnErr result (self.new ≡ self.old) }
     {
         match &mut self.batches[desk.number as usize - 1] {
             Some(batch) => batch.push(row),

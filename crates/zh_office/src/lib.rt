@@ -5,15 +5,18 @@
 mod answer;
 mod desks;
 mod judgement;
-mod judgement_text;
+mod judgement_lines;
+mod judging;
 mod laws;
+mod line_cutter;
+mod load;
 mod office;
 mod queries;
 mod service;
 
 pub use answer::Answer;
 pub use judgement::{Forecast, JudgementFault};
-pub use judgement_text::write_judgement;
+pub use judging::write_judgement;
 pub use laws::{
     each_is_judged_after_those_before, forecast_is_kept, law_nights, stretches, undisturbed,
 };

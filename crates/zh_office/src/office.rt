@@ -1,6 +1,6 @@
 //! The office.
 
-ghost use Rattle.std.specs.Prelude.{◌≡◌, ◌≢◌, false, length, IfOk, IsErrOf, ℕ, true, Bool, List, Option, Ok};
+ghost use Rattle.std.specs.Prelude.{◌≡◌, ◌≢◌, false, length, IfOk, IsErrOf};
 ghost use Rattle.std.specs.Io.KnownBytes.{Appends};
 ghost use Rattle.zh_commands.specs.Lines.{desk_of};
 ghost use Rattle.zh_csv.specs.Export.{export_text};
@@ -11,26 +11,22 @@ ghost use Rattle.zh_ledger.specs.Opening.{MakesNew, Opening};
 ghost use Rattle.zh_ledger.specs.Submissions.{on_disk};
 ghost use Rattle.zh_office.specs.Opened.{ledger_of_opened};
 ghost use Rattle.zh_office.specs.Requests.{answer_may_write};
-ghost use Rattle.zh_office.specs.Runs.{Turn, Continues};
+ghost use Rattle.zh_office.specs.Runs.{Turn};
 ghost use Rattle.zh_snapshot.specs.Faults.{store_format_fails};
 ghost use Rattle.zh_totals.specs.Counting.{totals_of};
-ghost use Rattle.zh_csv.specs.Load.{LoadsFrom};
-ghost use Rattle.zh_csv.specs.Noted.{has_failed, inner_reader};
-ghost use Rattle.zh_office.specs.Load.{LoadTurn, load_refusal};
-ghost use Rattle.zh_office.specs.declared.answer.Answer.TheVariants as answers;
 
-use crate::answer::{Answer, submit_rows};
+use crate::answer::Answer;
 use crate::desks::Desks;
 use std::alloc::{AllocError, Global};
-use std::io::{Read, Write};
+use std::io::Write;
 use std::marker::Model;
 use zh_commands::{LineFault, Refusal, Reply, parse_line};
-use zh_csv::{LoadFault, NotedReader, read_batch, write_count};
+use zh_csv::write_count;
 use zh_disk::Disk;
 use zh_districts::Setup;
 use zh_ledger::{FormatFault, Ledger, OpenFault};
 use zh_record_text::RecordFault;
-use zh_returns::{Batch, Count};
+use zh_returns::Count;
 use zh_totals::Totals;
 
 /// The bytes of the rows of a batch: 1,000 of 11 bytes.
@@ -153,60 +149,5 @@ impl<'s> Office<'s> {
         ensures { IfOk result (λ after. Appends (W.contents writer) (W.contents after) (export_text self.now.ledger.tally)) }
     {
         write_count(self.count(), writer)
-    }
-}
-
-/// The desk of what no desk sent.
-const NO_DESK: u8 = 0;
-
-/// The name under which a text is refused.
-pub(crate) fn load_refusal(fault: LoadFault) -> Refusal
-    ensures { result ≡ load_refusal fault }
-{
-    match fault {
-        LoadFault::Csv | LoadFault::Read => Refusal::Csv,
-        LoadFault::Syntax => Refusal::Syntax,
-        LoadFault::Judged(reason) => Refusal::Judged(reason),
-        LoadFault::Row(fault) => Refusal::Row(fault),
-        LoadFault::Memory => Refusal::Memory,
-    }
-}
-
-impl<'s> Office<'s> {
-    /// Loads the returns of a comma-separated text as one batch, under no desk: it is stored whole, or not at all.
-    ///
-    /// The text is read record by record, and no further than up to the record that decides, but for what the crate `csv`
-    /// reads ahead. After a fault of the device nothing is read.
-    pub fn load<R: Read, D: Disk>(&mut self, disk: &mut D, reader: &mut NotedReader<R>) -> Reply
-        // While the disk is honest the turn also says what each image holds at each moment since the call began.
-        ensures turn { LoadTurn (on_disk self.old (D.history disk.old))
-            (R.remaining (inner_reader reader.old)) (has_failed reader.new) result
-            (on_disk self.new (D.history disk.new)) }
-
-        ensures disk { Continues (on_disk self.old.ledger (D.history disk.old)) (on_disk self.new.ledger (D.history disk.new)) }
-        ensures untouched { answer_may_write (answers.Reply result) ≡ false → disk.new ≡ disk.old }
-        ensures unread { self.old.ledger.store.broken ≡ true → reader.new ≡ reader.old }
-    {
-        if self.faulted() {
-            return Reply::Refused(Refusal::ReopenDisk);
-        }
-        match read_batch(self.alloc, self.count().setup(), reader) {
-            Ok(batch) => self.store(disk, &batch),
-            Err(fault) => Reply::Refused(load_refusal(fault)),
-        }
-    }
-
-    /// Stores the rows of a text, if it has any.
-    fn store<D: Disk>(&mut self, disk: &mut D, batch: &Batch) -> Reply
-        requires whole { self.old.ledger.store.broken ≡ false }
-        ensures turn { (text : Option (List ℕ)) (failed : Bool) → LoadsFrom self.old.ledger.tally.canton text failed (Ok batch.now)
-            → LoadTurn (on_disk self.old (D.history disk.old)) text failed result (on_disk self.new (D.history disk.new)) }
-        ensures disk { Continues (on_disk self.old.ledger (D.history disk.old)) (on_disk self.new.ledger (D.history disk.new)) }
-        ensures untouched { answer_may_write (answers.Reply result) ≡ false → disk.new ≡ disk.old }
-    {
-        if batch.len() == 0 {
-            return Reply::Same;
-        }
-        submit_rows(&mut self.ledger, disk, NO_DESK, batch, &mut self.rows)
     }
 }

@@ -1,19 +1,19 @@
 //! Serving the lines of a reader.
 
-ghost use Rattle.std.specs.Prelude.{◌≡◌, ◌++◌, ◌∷◌, MatchOption, ◌↔◌, [], length, MatchResult, IfOk, IsErrOf, OnOk};
-ghost use Rattle.zh_office.specs.Text.{truncated, HasNoEnd, ended_lines, last_line};
+ghost use Rattle.std.specs.Prelude.{◌≡◌, ◌≤◌, ◌++◌, ◌↔◌, [], length, MatchResult, IfOk, IsErrOf, OnOk};
+ghost use Rattle.zh_office.specs.Text.{HasNoEnd, ended_lines, last_line};
 ghost use Rattle.zh_film.specs.Frames.{frames};
 ghost use Rattle.zh_film.specs.Scenes.{scenes};
 ghost use Rattle.zh_ledger.specs.Submissions.{on_disk};
 ghost use Rattle.zh_office.specs.Filmed.{FilmsAll, FilmsFront, TakesBlock, WritesAnswer, WritesText};
 ghost use Rattle.zh_office.specs.Runs.{Continues, answer_text};
 ghost use Rattle.zh_office.specs.Served.{session, HasFailedRead, EndsWithinReads, MakesAllReads, MakesReadsUpTo, ServesAll, ServesEnded};
-ghost use Rattle.zh_office.specs.Served.{ServesFront};
+ghost use Rattle.zh_office.specs.Served.{ServesFront, serving_name};
+ghost use Rattle.zh_office.specs.declared.service.ServeFault.TheVariants as faults;
 
 use crate::answer::Answer;
+use crate::line_cutter::{PartialLine, extend_line, split_line};
 use crate::office::Office;
-use arrayvec::ArrayVec;
-use memchr::memchr;
 use std::io::{Read, Write};
 use thiserror::Error;
 use zh_commands::{desk_of, write_reply};
@@ -22,32 +22,36 @@ use zh_film::Film;
 use zh_sheet_text::write_sheet;
 use zh_text::{WriteFault, put};
 
-/// How many bytes of a line count: one more than a line may have, so that a longer one is noticed.
-const LINE_BYTES: usize = 121;
-
-/// The bytes that count of a line that isn't ended yet.
-type PartialLine = ArrayVec<u8, LINE_BYTES>;
-
 /// How many bytes a read asks for at most.
 const BLOCK: usize = 8192;
 
 /// Why serving ended before the end of the input.
 #[derive(Clone, Copy, Debug, PartialEq, Eq, Error)]
+#[error("{}", self.name())]
 pub enum ServeFault {
     /// The reader failed.
-    #[error("read")]
     Read,
     /// The writer failed, or took no byte.
-    #[error("write")]
     Write,
     /// The allowed number of reads was made before the input ended.
-    #[error("turns")]
     Turns,
 }
 
-impl From<WriteFault> for ServeFault {
-    ghost use Rattle.zh_office.specs.declared.service.ServeFault.TheVariants as faults;
+impl ServeFault {
+    /// Its name, as reports spell it.
+    pub fn name(self) -> &'static str
+        ensures name { result.now ≡ serving_name self }
+        ensures short { length result.now ≤ 5 }
+    {
+        match self {
+            ServeFault::Read => "read",
+            ServeFault::Write => "write",
+            ServeFault::Turns => "turns",
+        }
+    }
+}
 
+impl From<WriteFault> for ServeFault {
     ghost from_gives = { λ _ e. e ≡ faults.Write };
 
     fn from(_: WriteFault) -> Self {
@@ -243,21 +247,4 @@ impl<'s> Office<'s> {
 /// Room for a read.
 fn blank_block() -> [u8; BLOCK] {
     [0; BLOCK]
-}
-
-/// Takes more bytes of a line.
-fn extend_line(line: &mut PartialLine, more: &[u8])
-    ensures { line.new.items ≡ truncated (line.old.items ++ more.now) }
-{
-    let count = more.len().min(line.remaining_capacity());
-    line.try_extend_from_slice(&more[..count]).unwrap();
-}
-
-/// The bytes before the first LF, and those after it.
-fn split_line(bytes: &[u8]) -> Option<(&[u8], &[u8])>
-    ensures { MatchOption result (HasNoEnd bytes.now)
-        (λ parts. HasNoEnd parts.0.now × (bytes.now ≡ parts.0.now ++ 10 ∷ parts.1.now)) }
-{
-    let end = memchr(b'\n', bytes)?;
-    Some((&bytes[..end], &bytes[end + 1..]))
 }

@@ -1,9 +1,6 @@
 -- What a page is answered on the texts that it hands in.
-use Rattle.std.specs.Prelude.{◌≡◌, ◌≢◌, ◌≤◌, ◌<◌, ℕ, List, [], length, take, Option, Some, None, Result, Ok, Err}
-use Rattle.zh_check.specs.declared.checked.RightSheet.{RightSheet}
-use Rattle.zh_check.specs.declared.checked.SheetVerdict.{SheetVerdict}
-use Rattle.zh_check.specs.declared.checked.SheetVerdict.TheVariants as verdicts
-use Rattle.zh_verdicts.specs.Checks.{ComesTo, Inputs, SaysWrong, check_text}
+use Rattle.std.specs.Prelude.{◌≡◌, ◌≢◌, ◌≤◌, ◌<◌, ℕ, List, [], length, take, true, false, Option, Some, None, Result, Ok, Err}
+use Rattle.zh_verdicts.specs.Checks.{Inputs, IsVerdict}
 use Rattle.zh_verdicts.specs.Reports.{rows_report, setup_report}
 use Rattle.zh_csv.specs.declared.batch_reader.LoadFault.{LoadFault}
 use Rattle.zh_districts.specs.Canton.{Canton}
@@ -41,10 +38,8 @@ pub record AreTextsOf (texts : Texts) (inputs : Inputs) : Type 0 where
 
 -- the text is the verdict on a sheet that is right, or wrong, exactly if it is
 abbrev pub IsVerdictOn : Inputs → PageStatus → List ℕ → Type 0
-IsVerdictOn inputs Right text =
-    (right : RightSheet) × ComesTo inputs (verdicts.Right right) × (text ≡ check_text inputs (verdicts.Right right))
-IsVerdictOn inputs Wrong text =
-    (verdict : SheetVerdict) × ComesTo inputs verdict × SaysWrong verdict × (text ≡ check_text inputs verdict)
+IsVerdictOn inputs Right text = IsVerdict inputs true text
+IsVerdictOn inputs Wrong text = IsVerdict inputs false text
 IsVerdictOn inputs Memory text = text ≡ []
 IsVerdictOn inputs status text = ⊥
 

@@ -9,19 +9,16 @@ use std::alloc::Global;
 use zh_csv::{HeldFault, HeldSums, LoadFault, NotedReader, read_held};
 use zh_districts::Setup;
 use zh_setups::{SetupFault, SetupRefusal, read_setup};
-use zh_verdicts::{rows_report, setup_report, write_check};
-
-/// The most bytes of a sheet that are looked at: one more than the longest has, as of a sheet's file.
-const LONGEST: usize = 280_065;
+use zh_verdicts::{SHEET_FRONT, SpelledVerdict, rows_report, setup_report, spelled_verdict};
 
 /// As much of a sheet as is looked at.
 fn front_of(sheet: &[u8]) -> &[u8]
     ensures { result.now ≡ take 280065 sheet.now }
 {
-    if sheet.len() <= LONGEST {
+    if sheet.len() <= SHEET_FRONT {
         return sheet;
     }
-    &sheet[..LONGEST]
+    &sheet[..SHEET_FRONT]
 }
 
 /// The sums of an export, where there is one.
@@ -89,13 +86,22 @@ fn verdict_on(alloc: Global, setup: &Setup, sheet: &[u8], held: Option<&HeldSums
     ensures { IsVerdictOn (record { canton = setup.now; sheet = take 280065 sheet.now; held = option_copied held.entry })
         result.status result.text.items }
 {
-    let mut text = Vec::new(alloc);
-    match write_check(alloc, setup, front_of(sheet), held, &mut text) {
-        Ok(true) => PageAnswer {
+    match spelled_verdict(alloc, setup, front_of(sheet), held) {
+        Ok(
+            SpelledVerdict {
+                is_right: true,
+                text,
+            },
+        ) => PageAnswer {
             status: PageStatus::Right,
             text,
         },
-        Ok(false) => PageAnswer {
+        Ok(
+            SpelledVerdict {
+                is_right: false,
+                text,
+            },
+        ) => PageAnswer {
             status: PageStatus::Wrong,
             text,
         },

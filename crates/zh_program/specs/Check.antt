@@ -12,8 +12,6 @@ use Rattle.zh_districts.specs.Canton.{Canton}
 use Rattle.zh_csv.specs.Faults.{named}
 use Rattle.zh_csv.specs.Held.{IsHolding}
 use Rattle.zh_csv.specs.declared.held_sums.HeldSums.{HeldSums}
-use Rattle.zh_verdicts.specs.declared.verdict.VerdictFault.{VerdictFault}
-use Rattle.zh_verdicts.specs.declared.verdict.VerdictFault.TheVariants as of_verdict
 use Rattle.zh_file.specs.declared.files.Files.{Ghosts as Files}
 use Rattle.zh_file.specs.declared.fault.FileFault.{FileFault}
 use Rattle.zh_file.specs.declared.fault.FileFault.TheVariants as of_files
@@ -23,11 +21,6 @@ use Rattle.zh_program.specs.World.{Known, WorldOf}
 use Rattle.zh_program.specs.declared.place.TaskFile.TheVariants as files
 use Rattle.zh_program.specs.declared.fault.TaskFault.{TaskFault}
 use Rattle.zh_program.specs.declared.fault.TaskFault.TheVariants as faults
-
--- the fault of a verdict that is not written, as the task's
-abbrev pub VerdictFaultAs : VerdictFault → TaskFault → Type 0
-VerdictFaultAs of_verdict.Memory e = e ≡ faults.Memory
-VerdictFaultAs of_verdict.Write e = e ≡ faults.Write
 
 -- these are the first bytes of a sheet, one more than the longest has, where that is known
 abbrev pub IsSheetAt : Option (List ℕ) → List ℕ → Type 0

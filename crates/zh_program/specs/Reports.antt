@@ -1,16 +1,16 @@
 -- What is reported of a fault, in bytes: 10 is LF, 32 the space.
 use Rattle.std.specs.Prelude.{ℕ, List, [], ◌∷◌, ◌++◌, Option, Some, None, codes, decimal}
-use Rattle.zh_verdicts.specs.Reports.{held_name, setup_name, setup_place}
+use Rattle.zh_csv.specs.Faults.{held_name}
+use Rattle.zh_verdicts.specs.Reports.{setup_place}
 use Rattle.zh_disk.specs.Disk.{disk_length}
 use Rattle.zh_districts.specs.declared.shares.SeatFault.{SeatFault}
 use Rattle.zh_districts.specs.declared.shares.SeatFault.TheVariants as of_seats
-use Rattle.zh_ledger.specs.declared.opening.OpenFault.{OpenFault}
-use Rattle.zh_ledger.specs.declared.opening.OpenFault.TheVariants as of_opening
-use Rattle.zh_office.specs.declared.service.ServeFault.{ServeFault}
-use Rattle.zh_office.specs.declared.service.ServeFault.TheVariants as of_serving
+use Rattle.zh_ledger.specs.Faults.{opening_name}
+use Rattle.zh_office.specs.Served.{serving_name}
 use Rattle.zh_program.specs.Places.{named_place}
 use Rattle.zh_program.specs.declared.fault.TaskFault.{TaskFault}
 use Rattle.zh_program.specs.declared.fault.TaskFault.TheVariants as faults
+use Rattle.zh_setups.specs.Names.{setup_name}
 use Rattle.zh_setups.specs.declared.place.FaultPlace.{FaultPlace}
 use Rattle.zh_setups.specs.declared.place.FaultPlace.TheVariants as of_text
 use Rattle.zh_setups.specs.declared.place.Key.TheVariants as keys
@@ -21,25 +21,11 @@ use Rattle.zh_program.specs.Paths.{shown_path}
 use Rattle.zh_program.specs.declared.place.TaskPlace.{TaskPlace}
 use Rattle.zh_program.specs.declared.place.TaskPlace.TheVariants as places
 
--- the name of a fault of the opening of an office
-abbrev pub opening_name : OpenFault → List ℕ
-opening_name of_opening.Memory = codes "memory"
-opening_name of_opening.Device = codes "disk device"
-opening_name of_opening.Blank = codes "disk blank"
-opening_name of_opening.Damaged = codes "disk damaged"
-opening_name of_opening.SetupDiffers = codes "disk differs"
-
--- of the seats of the constituencies
+-- the name of a fault of the seats of the constituencies
 abbrev pub seats_name : SeatFault → List ℕ
 seats_name of_seats.Memory = codes "memory"
 seats_name of_seats.Tied = codes "tied seats"
 seats_name (of_seats.NoSeat constituency) = codes "noseat " ++ decimal constituency
-
--- of the answering of lines
-abbrev pub serving_name : ServeFault → List ℕ
-serving_name of_serving.Read = codes "read"
-serving_name of_serving.Write = codes "write"
-serving_name of_serving.Turns = codes "turns"
 
 -- of a file that was not opened, or not read
 abbrev pub file_name : TaskFile → List ℕ

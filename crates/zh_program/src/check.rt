@@ -7,14 +7,16 @@ ghost use Rattle.zh_program.specs.World.{AreCalls, IsMetAt, known};
 
 use crate::fault::TaskFault;
 use crate::place::TaskFile;
-use crate::texts::{open_text, setup_at, sheet_at};
+use crate::sheet_front::sheet_at;
+use crate::texts::{open_text, setup_at};
 use std::alloc::Global;
 use std::io::{Read, Write};
 use zh_arguments::CheckPaths;
 use zh_csv::{HeldFault, HeldSums, LoadFault, NotedReader, read_held};
 use zh_districts::Setup;
 use zh_file::{Files, World};
-use zh_verdicts::write_check;
+use zh_text::put;
+use zh_verdicts::spelled_verdict;
 
 /// The fault of an export, as the task's.
 fn held_fault(fault: LoadFault) -> TaskFault
@@ -75,8 +77,9 @@ fn answer<O: Write>(
     ensures { Answers (out.new ≡ out.old) (O.contents out.old) (O.contents out.new)
         (record { canton = setup.now; sheet = sheet.now; held = option_copied held.entry }) result }
 {
-    let is_right = write_check(alloc, setup, sheet, held, out)?;
-    if is_right {
+    let verdict = spelled_verdict(alloc, setup, sheet, held)?;
+    put(out, &verdict.text)?;
+    if verdict.is_right {
         Ok(())
     } else {
         Err(TaskFault::Refused)

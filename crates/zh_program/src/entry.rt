@@ -20,12 +20,13 @@ ghost use Rattle.zh_program.specs.Reports.{report_text};
 
 use crate::check::check_files;
 use crate::fault::TaskFault;
+use crate::list::list_at;
 use crate::on_disk::{Used, Work, on_disk};
-use crate::place::fault_path;
+use crate::paths::fault_path;
 use crate::report::report;
 use crate::run::rehearse;
 use crate::sheet_seats::{SheetPaths, sheet_seats};
-use crate::shown::{list_at, write_version};
+use crate::shown::write_version;
 use clap::Error;
 use clap::error::ErrorKind;
 use std::alloc::Global;

@@ -1,5 +1,12 @@
 //! Why a task was not done.
 
+ghost use Rattle.std.specs.Prelude.{◌≡◌};
+ghost use Rattle.zh_program.specs.Format.{FormattedAs};
+ghost use Rattle.zh_program.specs.List.{RefusedAs};
+ghost use Rattle.zh_program.specs.OnDisk.{FoundAs};
+ghost use Rattle.zh_program.specs.Places.{named_place, role_of};
+ghost use Rattle.zh_program.specs.declared.fault.TaskFault.TheVariants as faults;
+
 use crate::place::{TaskFile, TaskPlace};
 use std::alloc::AllocError;
 use zh_csv::HeldFault;
@@ -10,7 +17,6 @@ use zh_record_text::RecordFault;
 use zh_setups::{SetupFault, SetupRefusal};
 use zh_tables::ListFault;
 use zh_text::WriteFault;
-use zh_verdicts::VerdictFault;
 
 /// The fault of a task, in the order of the manual.
 #[derive(Clone, Copy)]
@@ -49,9 +55,6 @@ pub enum TaskFault {
 }
 
 impl TaskFault {
-    ghost use Rattle.std.specs.Prelude.{◌≡◌};
-    ghost use Rattle.zh_program.specs.Places.{named_place, role_of};
-
     /// Where it was met, or why, as far as that is known.
     pub fn place(&self) -> Option<TaskPlace>
         ensures { result ≡ named_place self.now }
@@ -91,9 +94,6 @@ impl TaskFault {
 }
 
 impl From<AllocError> for TaskFault {
-    ghost use Rattle.std.specs.Prelude.{◌≡◌};
-    ghost use Rattle.zh_program.specs.declared.fault.TaskFault.TheVariants as faults;
-
     ghost from_gives = { λ _ e. e ≡ faults.Memory };
 
     fn from(_: AllocError) -> Self {
@@ -102,8 +102,6 @@ impl From<AllocError> for TaskFault {
 }
 
 impl From<FileFault> for TaskFault {
-    ghost use Rattle.zh_program.specs.OnDisk.{FoundAs};
-
     ghost from_gives = { FoundAs };
 
     fn from(fault: FileFault) -> Self {
@@ -117,8 +115,6 @@ impl From<FileFault> for TaskFault {
 }
 
 impl From<zh_snapshot::FormatFault> for TaskFault {
-    ghost use Rattle.zh_program.specs.Format.{FormattedAs};
-
     ghost from_gives = { FormattedAs };
 
     fn from(fault: zh_snapshot::FormatFault) -> Self {
@@ -130,9 +126,6 @@ impl From<zh_snapshot::FormatFault> for TaskFault {
 }
 
 impl From<OpenFault> for TaskFault {
-    ghost use Rattle.std.specs.Prelude.{◌≡◌};
-    ghost use Rattle.zh_program.specs.declared.fault.TaskFault.TheVariants as faults;
-
     ghost from_gives = { λ fault e. e ≡ faults.Open fault };
 
     fn from(fault: OpenFault) -> Self {
@@ -141,9 +134,6 @@ impl From<OpenFault> for TaskFault {
 }
 
 impl From<ServeFault> for TaskFault {
-    ghost use Rattle.std.specs.Prelude.{◌≡◌};
-    ghost use Rattle.zh_program.specs.declared.fault.TaskFault.TheVariants as faults;
-
     ghost from_gives = { λ fault e. e ≡ faults.Serve fault };
 
     fn from(fault: ServeFault) -> Self {
@@ -152,9 +142,6 @@ impl From<ServeFault> for TaskFault {
 }
 
 impl From<RecordFault> for TaskFault {
-    ghost use Rattle.std.specs.Prelude.{◌≡◌};
-    ghost use Rattle.zh_program.specs.declared.fault.TaskFault.TheVariants as faults;
-
     // The text is made in memory, where nothing else can fail.
     ghost from_gives = { λ _ e. e ≡ faults.Memory };
 
@@ -164,9 +151,6 @@ impl From<RecordFault> for TaskFault {
 }
 
 impl From<WriteFault> for TaskFault {
-    ghost use Rattle.std.specs.Prelude.{◌≡◌};
-    ghost use Rattle.zh_program.specs.declared.fault.TaskFault.TheVariants as faults;
-
     ghost from_gives = { λ _ e. e ≡ faults.Write };
 
     fn from(_: WriteFault) -> Self {
@@ -175,8 +159,6 @@ impl From<WriteFault> for TaskFault {
 }
 
 impl From<ListFault> for TaskFault {
-    ghost use Rattle.zh_program.specs.List.{RefusedAs};
-
     ghost from_gives = { RefusedAs };
 
     fn from(fault: ListFault) -> Self {
@@ -186,19 +168,6 @@ impl From<ListFault> for TaskFault {
             ListFault::NoConstituency(number) => TaskFault::NoConstituency(number),
             // The text is made in memory, where nothing else can fail.
             ListFault::Memory | ListFault::Write => TaskFault::Memory,
-        }
-    }
-}
-
-impl From<VerdictFault> for TaskFault {
-    ghost use Rattle.zh_program.specs.Check.{VerdictFaultAs};
-
-    ghost from_gives = { VerdictFaultAs };
-
-    fn from(fault: VerdictFault) -> Self {
-        match fault {
-            VerdictFault::Memory => TaskFault::Memory,
-            VerdictFault::Write => TaskFault::Write,
         }
     }
 }

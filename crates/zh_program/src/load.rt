@@ -12,7 +12,7 @@ ghost use Rattle.zh_program.specs.Opened.{IsThis, LeavesDisk};
 ghost use Rattle.zh_program.specs.Run.{streams};
 ghost use Rattle.zh_program.specs.World.{AreCalls, IsMetAt, known};
 ghost use Rattle.zh_office.specs.Judged.{Judges};
-ghost use Rattle.zh_program.specs.DryRun.{JudgesText, MakesDryRun};
+ghost use Rattle.zh_program.specs.DryRun.{JudgedAs, JudgesText, MakesDryRun};
 
 use crate::fault::TaskFault;
 use crate::on_disk::Filmed;
@@ -118,8 +118,6 @@ pub(crate) fn load_from<I: Read, O: Write, E: Write, F: Files>(
 }
 
 impl From<JudgementFault> for TaskFault {
-    ghost use Rattle.zh_program.specs.DryRun.{JudgedAs};
-
     ghost from_gives = { JudgedAs };
 
     fn from(fault: JudgementFault) -> Self {

@@ -1,14 +1,15 @@
-//! The file that a fault is of, its path, and the place in it.
+//! The file that a fault is of, and the place in it.
 
-ghost use Rattle.std.specs.Prelude.{◌≡◌, ◌+◌, ◌≤◌, ◌++◌, None, Some, MatchOption, length};
-ghost use Rattle.zh_program.specs.Paths.{fault_path, file_path, path_among, path_stated, shown_path};
+ghost use Rattle.std.specs.Prelude.{◌≡◌, ◌≤◌, length};
+ghost use Rattle.zh_program.specs.Reports.{file_name, limits_text, place_text};
 
-use crate::fault::TaskFault;
 use arrayvec::ArrayVec;
-use zh_arguments::{Paths, Task};
+use zh_disk::DISK_LENGTH;
 use zh_file::FileCause;
-use zh_setups::FaultPlace;
-use zh_verdicts::push_shown;
+use zh_office::OpenFault;
+use zh_setups::{FaultPlace, Key};
+use zh_text::{push, push_bytes, push_numeral};
+use zh_verdicts::shown_place;
 
 /// A file that a task is given.
 #[derive(Clone, Copy)]
@@ -20,6 +21,22 @@ pub enum TaskFile {
     Sheet,
     /// The rows held.
     Held,
+}
+
+impl TaskFile {
+    /// The name of the fault that it can't be used.
+    pub(crate) fn name(self) -> &'static str
+        ensures name { result.now ≡ file_name self }
+        ensures short { length result.now ≤ 11 }
+    {
+        match self {
+            TaskFile::Setup => "setup file",
+            TaskFile::Disk => OpenFault::Device.name(),
+            TaskFile::Csv => "csv file",
+            TaskFile::Sheet => "sheet file",
+            TaskFile::Held => "held file",
+        }
+    }
 }
 
 /// Where a task met its fault, or why.
@@ -35,73 +52,52 @@ pub enum TaskPlace {
     Length(u64),
 }
 
-/// How many bytes of a path are shown at most: no file has a longer one.
-const LONGEST_SHOWN: usize = 4_096;
+/// A place or a cause as it is shown: at most 115 bytes.
+pub(crate) type PlaceWords = ArrayVec<u8, 128>;
 
-/// The lines of a report, which have at most 4,262 bytes.
-pub(crate) type Report = ArrayVec<u8, 4352>;
-
-/// The path of a set-up or a disk.
-fn path_among<'a>(paths: Paths<'a>, file: TaskFile) -> Option<&'a str>
-    ensures { MatchOption result (path_among paths.entry file ≡ None) (λ path. path_among paths.entry file ≡ Some path.now) }
+/// The limits of the value at a place of a set-up.
+fn limits_of(place: &FaultPlace) -> &'static str
+    ensures limits { result.now ≡ limits_text place.now }
+    ensures short { length result.now ≤ 35 }
 {
-    match file {
-        TaskFile::Setup => Some(paths.setup),
-        TaskFile::Disk => Some(paths.disk),
-        _ => None,
-    }
-}
-
-/// That of a set-up or a sheet.
-fn path_stated<'a>(setup: &'a str, sheet: &'a str, file: TaskFile) -> Option<&'a str>
-    ensures { MatchOption result (path_stated setup.now sheet.now file ≡ None)
-        (λ path. path_stated setup.now sheet.now file ≡ Some path.now) }
-{
-    match file {
-        TaskFile::Setup => Some(setup),
-        TaskFile::Sheet => Some(sheet),
-        _ => None,
-    }
-}
-
-/// The path of a file of a task, if it is given one.
-fn file_path<'a>(task: Task<'a>, file: TaskFile) -> Option<&'a str>
-    ensures { MatchOption result (file_path task.entry file ≡ None) (λ path. file_path task.entry file ≡ Some path.now) }
-{
-    match task {
-        Task::Rehearse | Task::Version => None,
-        Task::Format(paths) | Task::Run(paths) | Task::Show(paths, _) => path_among(paths, file),
-        Task::Load { paths, csv } | Task::DryRun { paths, csv } => match file {
-            TaskFile::Csv => Some(csv),
-            _ => path_among(paths, file),
+    match place {
+        FaultPlace::Top(key) => match key {
+            Key::Version => ": 1 or 2",
+            Key::House => ": 1 to 400",
+            Key::CantonQuorum => ": 1 to 49",
+            Key::Constituency | Key::Group => ": 1 to 32 tables",
+            Key::Municipality => ": 1 to 512 tables",
+            _ => "",
         },
-        Task::List { setup, .. } => match file {
-            TaskFile::Setup => Some(setup),
-            _ => None,
+        FaultPlace::Table { key, .. } => match key {
+            Key::Name => ": 1 to 40 bytes, no space at an end",
+            Key::Persons => ": 1 to 10000000",
+            Key::Constituency => ": the number of a constituency",
+            Key::Stands => ": numbers of constituencies",
+            _ => "",
         },
-        Task::Check(paths) => match file {
-            TaskFile::Held => paths.held,
-            _ => path_stated(paths.setup, paths.sheet, file),
-        },
-        Task::SheetSeats { setup, sheet, .. } => path_stated(setup, sheet, file),
+        FaultPlace::At(_) => "",
     }
 }
 
-/// The path of the file that a fault of a task is of.
-pub(crate) fn fault_path<'a>(task: Task<'a>, fault: &TaskFault) -> Option<&'a str>
-    ensures { MatchOption result (fault_path task.entry fault.now ≡ None) (λ path. fault_path task.entry fault.now ≡ Some path.now) }
+/// A place, or a cause.
+pub(crate) fn place_words(place: &TaskPlace) -> PlaceWords
+    ensures place { result.items ≡ place_text place.now }
+    ensures short { length result.items ≤ 115 }
 {
-    match fault.file() {
-        Some(file) => file_path(task, file),
-        None => None,
+    let mut words = PlaceWords::new();
+    match place {
+        TaskPlace::Cause(cause) => push(&mut words, cause.as_str()),
+        TaskPlace::Setup(place) => push_bytes(&mut words, shown_place(place).as_slice()),
+        TaskPlace::Range(place) => {
+            push_bytes(&mut words, shown_place(place).as_slice());
+            push(&mut words, limits_of(place));
+        }
+        TaskPlace::Length(found) => {
+            push_numeral(&mut words, *found);
+            push(&mut words, " bytes instead of ");
+            push_numeral(&mut words, DISK_LENGTH);
+        }
     }
-}
-
-/// Writes a path as it is shown.
-pub(crate) fn push_path(report: &mut Report, path: &str)
-    requires { length report.old.items ≤ 128 }
-    ensures shown { report.new.items ≡ report.old.items ++ shown_path path.now }
-    ensures short { length report.new.items ≤ length report.old.items + 4096 }
-{
-    push_shown(report, path.as_bytes(), path.len().min(LONGEST_SHOWN));
+    words
 }

@@ -8,8 +8,9 @@ ghost use Rattle.zh_check.specs.Verdicts.{IsRight};
 ghost use Rattle.zh_program.specs.Results.{IsNoSheetOf};
 
 use crate::fault::TaskFault;
+use crate::sheet_front::sheet_at;
 use crate::shown::{Shown, shown_reason, text_of, write_shown};
-use crate::texts::{setup_at, sheet_at};
+use crate::texts::setup_at;
 use std::alloc::Global;
 use std::io::{Read, Write};
 use zh_arguments::Layout;

@@ -6,4 +6,4 @@ pub mod Rehearsal
 pub mod Positions
 pub mod Places
 pub mod Refusals
-pub mod PlaceNames
+pub mod Names

@@ -7,7 +7,7 @@ use Rattle.toml.specs.Data.{Data, Members, as_table, get, get_member}
 use Rattle.zh_setups.specs.Keys.{first_other, known_keys, knows_keys, knows_keys_of, own_keys, tables_at}
 use Rattle.zh_setups.specs.Document.{◌>>=◌, name_of, number_within, quorum_of, repeats, same_name, same_number, stands_in}
 use Rattle.zh_setups.specs.Document.{values_at, values_of}
-use Rattle.zh_setups.specs.PlaceNames.{kept_key, key_name}
+use Rattle.zh_setups.specs.Names.{cut_key, key_name}
 use Rattle.zh_setups.specs.declared.text.SetupFault.{SetupFault}
 use Rattle.zh_setups.specs.declared.text.SetupFault.TheVariants as faults
 use Rattle.zh_setups.specs.declared.place.Key.{Key}
@@ -24,7 +24,7 @@ first_failing (check ∷ checks) = if check.1 then first_failing checks else Som
 
 -- the key by which one that is not known is named
 abbrev pub other_key : Option (List ℕ) → Key
-other_key found = keys.Other (kept_key (unwrap_or found []))
+other_key found = keys.Other (cut_key (unwrap_or found []))
 
 -- whether the value at a key at the top is a number within its limits
 abbrev pub number_at_top : List ℕ → ℕ → ℕ → Members → Bool

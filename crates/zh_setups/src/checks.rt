@@ -1,15 +1,16 @@
 //! The checks of a set-up text, key by key: the first that fails names the place of a fault.
 
-ghost use Rattle.std.specs.Prelude.{◌≡◌, map, is_some, option_and_then, option_copied, codes};
-ghost use Rattle.toml.specs.Data.{as_table, get, get_member};
+ghost use Rattle.std.specs.Prelude.{◌≡◌, map, is_some, option_copied, codes};
+ghost use Rattle.toml.specs.Data.{get, get_member};
 ghost use Rattle.toml.specs.View.{view, table_view};
 ghost use Rattle.zh_setups.specs.Document.{quorum_of};
-ghost use Rattle.zh_setups.specs.Keys.{first_other, knows_keys_of, own_keys};
 ghost use Rattle.zh_setups.specs.Places.{are_within, double_checks, first_failing, missing_check, number_at_top};
 ghost use Rattle.zh_setups.specs.Places.{other_key, range_check, stands_within, table_checks, top_checks};
 
 use crate::doubles::{repeats_number, stands_in};
-use crate::keys::{first_other, known_keys, knows_document_keys, knows_keys};
+use crate::keys::{
+    first_other, first_other_of, known_keys, knows_document_keys, knows_keys_of, own_keys,
+};
 use crate::place::{Key, Kind, OtherKey};
 use crate::table::{name, number, number_at, value_at, value_of, values, values_at};
 use crate::text::SetupFault;
@@ -128,37 +129,6 @@ pub(crate) fn top_key(document: &Table, fault: SetupFault) -> Option<Key>
         ]),
         SetupFault::Unknown => other_key_at_top(document),
         _ => None,
-    }
-}
-
-/// Whether a value, if it is a table, has no other keys than these.
-fn knows_keys_of(value: &Value, keys: &[&str]) -> bool
-    ensures { result ≡ knows_keys_of (map (λ k. k.now) keys.now) (view value.now) }
-{
-    match value.as_table() {
-        Some(table) => knows_keys(table, keys),
-        None => true,
-    }
-}
-
-/// The keys of a table.
-fn own_keys(kind: Kind) -> &'static [&'static str]
-    ensures { map (λ k. k.now) result.now ≡ own_keys kind }
-{
-    match kind {
-        Kind::Constituency => &["name", "persons"],
-        Kind::Municipality => &["name", "constituency"],
-        Kind::Group => &["name", "stands"],
-    }
-}
-
-/// The first key of a value, if it is a table, that is not one of these.
-fn first_other_of<'a>(value: &'a Value, keys: &[&str]) -> Option<&'a str>
-    ensures { option_copied result ≡ option_and_then (first_other (map (λ k. k.now) keys.now)) (as_table (view value.now)) }
-{
-    match value.as_table() {
-        Some(table) => first_other(table, keys),
-        None => None,
     }
 }
 

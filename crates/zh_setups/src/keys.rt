@@ -1,15 +1,45 @@
 //! The keys of a document: which are missing, and which should not be there.
 
-ghost use Rattle.std.specs.Prelude.{◌≡◌, map, option_copied};
+ghost use Rattle.std.specs.Prelude.{◌≡◌, map, option_and_then, option_copied};
 ghost use Rattle.std.specs.List.{list_all, list_any};
 ghost use Rattle.std.specs.Str.{bytes_eq};
-ghost use Rattle.toml.specs.Data.{table};
+ghost use Rattle.toml.specs.Data.{as_table, table};
 ghost use Rattle.toml.specs.View.{view, table_view};
-ghost use Rattle.zh_setups.specs.Keys.{first_other, has_keys, has_other_key, is_version_2, known_keys, knows_keys, knows_keys_of};
-ghost use Rattle.zh_setups.specs.Keys.{misses_key, tables_at};
+ghost use Rattle.zh_setups.specs.Keys.{document_keys, first_other, has_keys, has_other_key, is_version_2, known_keys, knows_keys};
+ghost use Rattle.zh_setups.specs.Keys.{knows_keys_of, misses_key, own_keys, tables_at};
+ghost use Rattle.zh_setups.specs.Names.{kind_name};
 
+use crate::place::Kind;
 use crate::table::{tables_at, value_at, value_of};
 use toml::{Table, Value};
+
+/// The keys that may stand at the top. The first does so with version 2 alone, and each other must.
+const TOP_KEYS: [&str; 6] = [
+    "canton_quorum",
+    "version",
+    "house",
+    "constituency",
+    "municipality",
+    "group",
+];
+
+/// The keys that stand at the top.
+fn document_keys() -> &'static [&'static str]
+    ensures { map (λ k. k.now) result.now ≡ document_keys }
+{
+    &TOP_KEYS[1..]
+}
+
+/// The keys of a table.
+pub(crate) fn own_keys(kind: Kind) -> &'static [&'static str]
+    ensures { map (λ k. k.now) result.now ≡ own_keys kind }
+{
+    match kind {
+        Kind::Constituency => &["name", "persons"],
+        Kind::Municipality => &["name", "constituency"],
+        Kind::Group => &["name", "stands"],
+    }
+}
 
 fn has_keys(value: &Value, keys: &[&str]) -> bool
     ensures { result ≡ has_keys (map (λ k. k.now) keys.now) (view value.now) }
@@ -33,10 +63,10 @@ fn each_has_keys(values: &[Value], keys: &[&str]) -> bool
     true
 }
 
-fn tables_have_keys(document: &Table, kind: &str, keys: &[&str]) -> bool
-    ensures { result ≡ list_all (has_keys (map (λ k. k.now) keys.now)) (tables_at kind.now (table_view document.now)) }
+fn tables_have_keys(document: &Table, kind: Kind) -> bool
+    ensures { result ≡ list_all (has_keys (own_keys kind)) (tables_at (kind_name kind) (table_view document.now)) }
 {
-    each_has_keys(tables_at(document, kind), keys)
+    each_has_keys(tables_at(document, kind.as_str()), own_keys(kind))
 }
 
 fn has_members(document: &Table, keys: &[&str]) -> bool
@@ -54,19 +84,10 @@ fn has_members(document: &Table, keys: &[&str]) -> bool
 pub(crate) fn misses_key(document: &Table) -> bool
     ensures { result ≡ misses_key (table_view document.now) }
 {
-    if !has_members(
-        document,
-        &["version", "house", "constituency", "municipality", "group"],
-    ) {
-        return true;
-    }
-    if !tables_have_keys(document, "constituency", &["name", "persons"]) {
-        return true;
-    }
-    if !tables_have_keys(document, "municipality", &["name", "constituency"]) {
-        return true;
-    }
-    !tables_have_keys(document, "group", &["name", "stands"])
+    !(has_members(document, document_keys())
+        && tables_have_keys(document, Kind::Constituency)
+        && tables_have_keys(document, Kind::Municipality)
+        && tables_have_keys(document, Kind::Group))
 }
 
 fn is_among(key: &str, keys: &[&str]) -> bool
@@ -80,7 +101,7 @@ fn is_among(key: &str, keys: &[&str]) -> bool
     false
 }
 
-pub(crate) fn knows_keys(table: &Table, keys: &[&str]) -> bool
+fn knows_keys(table: &Table, keys: &[&str]) -> bool
     ensures { result ≡ knows_keys (map (λ k. k.now) keys.now) (table_view table.now) }
 {
     for (key, _) in table {
@@ -103,23 +124,41 @@ pub(crate) fn first_other<'a>(table: &'a Table, keys: &[&str]) -> Option<&'a str
     None
 }
 
+/// Whether a value, if it is a table, has no other keys than these.
+pub(crate) fn knows_keys_of(value: &Value, keys: &[&str]) -> bool
+    ensures { result ≡ knows_keys_of (map (λ k. k.now) keys.now) (view value.now) }
+{
+    match value.as_table() {
+        Some(table) => knows_keys(table, keys),
+        None => true,
+    }
+}
+
+/// The first key of a value, if it is a table, that is not one of these.
+pub(crate) fn first_other_of<'a>(value: &'a Value, keys: &[&str]) -> Option<&'a str>
+    ensures { option_copied result ≡ option_and_then (first_other (map (λ k. k.now) keys.now)) (as_table (view value.now)) }
+{
+    match value.as_table() {
+        Some(table) => first_other(table, keys),
+        None => None,
+    }
+}
+
 fn each_knows_keys(values: &[Value], keys: &[&str]) -> bool
     ensures { result ≡ list_all (knows_keys_of (map (λ k. k.now) keys.now)) (map view values.now) }
 {
     for value in values {
-        if let Some(table) = value.as_table()
-            && !knows_keys(table, keys)
-        {
+        if !knows_keys_of(value, keys) {
             return false;
         }
     }
     true
 }
 
-fn tables_know_keys(document: &Table, kind: &str, keys: &[&str]) -> bool
-    ensures { result ≡ list_all (knows_keys_of (map (λ k. k.now) keys.now)) (tables_at kind.now (table_view document.now)) }
+fn tables_know_keys(document: &Table, kind: Kind) -> bool
+    ensures { result ≡ list_all (knows_keys_of (own_keys kind)) (tables_at (kind_name kind) (table_view document.now)) }
 {
-    each_knows_keys(tables_at(document, kind), keys)
+    each_knows_keys(tables_at(document, kind.as_str()), own_keys(kind))
 }
 
 /// Whether the version is the whole number 2.
@@ -137,16 +176,9 @@ pub(crate) fn known_keys(document: &Table) -> &'static [&'static str]
     ensures { map (λ k. k.now) result.now ≡ known_keys (table_view document.now) }
 {
     if is_version_2(document) {
-        &[
-            "canton_quorum",
-            "version",
-            "house",
-            "constituency",
-            "municipality",
-            "group",
-        ]
+        &TOP_KEYS
     } else {
-        &["version", "house", "constituency", "municipality", "group"]
+        document_keys()
     }
 }
 
@@ -161,14 +193,8 @@ pub(crate) fn knows_document_keys(document: &Table) -> bool
 pub(crate) fn has_other_key(document: &Table) -> bool
     ensures { result ≡ has_other_key (table_view document.now) }
 {
-    if !knows_document_keys(document) {
-        return true;
-    }
-    if !tables_know_keys(document, "constituency", &["name", "persons"]) {
-        return true;
-    }
-    if !tables_know_keys(document, "municipality", &["name", "constituency"]) {
-        return true;
-    }
-    !tables_know_keys(document, "group", &["name", "stands"])
+    !(knows_document_keys(document)
+        && tables_know_keys(document, Kind::Constituency)
+        && tables_know_keys(document, Kind::Municipality)
+        && tables_know_keys(document, Kind::Group))
 }

@@ -3,7 +3,7 @@ ghost use Rattle.std.specs.List.{list_any};
 ghost use Rattle.std.specs.Prelude.{◌≡◌, ◌≤◌, length, take, [], map};
 ghost use Rattle.toml.specs.View.{view, table_view};
 ghost use Rattle.zh_setups.specs.Document.{same_name};
-ghost use Rattle.zh_setups.specs.PlaceNames.{key_name, kind_name, kept_key};
+ghost use Rattle.zh_setups.specs.Names.{key_name, kind_name, cut_key};
 ghost use Rattle.zh_setups.specs.Places.{constituencies_in, first_failing, first_namesake, first_of, first_table, looked_into, namesake_of};
 ghost use Rattle.zh_setups.specs.Places.{fault_place, table_checks, values_under};
 
@@ -26,7 +26,7 @@ pub struct OtherKey {
 
 impl OtherKey {
     pub(crate) fn new(key: &str) -> OtherKey
-        ensures { result ≡ kept_key key.now }
+        ensures { result ≡ cut_key key.now }
     {
         let cut = InlineText::<LONGEST>::new().and_str(key, LONGEST);
         let kept = cut.as_str().as_bytes();

@@ -96,6 +96,25 @@ pub enum SetupFault {
     Double,
 }
 
+impl SetupFault {
+    ghost use Rattle.zh_setups.specs.Names.{setup_name};
+
+    /// Its name, as reports spell it.
+    pub fn name(self) -> &'static str
+        ensures name { result.now ≡ setup_name self }
+        ensures short { length result.now ≤ 13 }
+    {
+        match self {
+            SetupFault::Memory => "memory",
+            SetupFault::Text => "setup text",
+            SetupFault::Missing => "setup missing",
+            SetupFault::Unknown => "setup unknown",
+            SetupFault::Range => "setup range",
+            SetupFault::Double => "setup double",
+        }
+    }
+}
+
 /// The fault of a set-up text, and where the text has it, as far as that is known.
 #[derive(Clone, Copy, Debug, PartialEq, Eq)]
 pub struct SetupRefusal {

@@ -1,3 +1,2 @@
 mod PutLemmas
 mod ShownLemmas
-mod WriteLemmas

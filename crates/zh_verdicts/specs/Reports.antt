@@ -3,11 +3,9 @@ use Rattle.std.specs.Prelude.{ℕ, Bool, ◌==◌, ◌||◌, ◌&&◌, nat_lt, i
 use Rattle.std.specs.Prelude.{Option, Some, None, codes, decimal}
 use Rattle.std.specs.Char.{is_ascii_alphanumeric}
 use Rattle.std.specs.List.{list_all}
+use Rattle.zh_csv.specs.Faults.{held_name}
 use Rattle.zh_csv.specs.declared.held_sums.HeldFault.{HeldFault}
-use Rattle.zh_csv.specs.declared.held_sums.HeldFault.TheVariants as of_held
-use Rattle.zh_setups.specs.PlaceNames.{key_name, kind_name}
-use Rattle.zh_setups.specs.declared.text.SetupFault.{SetupFault}
-use Rattle.zh_setups.specs.declared.text.SetupFault.TheVariants as of_setup
+use Rattle.zh_setups.specs.Names.{key_name, kind_name, setup_name}
 use Rattle.zh_setups.specs.declared.text.SetupRefusal.{SetupRefusal}
 use Rattle.zh_setups.specs.declared.place.FaultPlace.{FaultPlace}
 use Rattle.zh_setups.specs.declared.place.FaultPlace.TheVariants as places
@@ -15,24 +13,6 @@ use Rattle.zh_setups.specs.declared.place.Key.{Key}
 use Rattle.zh_text.specs.Each.{each_to}
 use Rattle.zh_text.specs.Shown.{shown_at}
 use Rattle.zh_text.specs.declared.shown.ShownNames.TheVariants as names
-
--- the name of a fault of a set-up
-abbrev pub setup_name : SetupFault → List ℕ
-setup_name of_setup.Memory = codes "memory"
-setup_name of_setup.Text = codes "setup text"
-setup_name of_setup.Missing = codes "setup missing"
-setup_name of_setup.Unknown = codes "setup unknown"
-setup_name of_setup.Range = codes "setup range"
-setup_name of_setup.Double = codes "setup double"
-
--- of a record of an export
-abbrev pub held_name : HeldFault → List ℕ
-held_name of_held.Csv = codes "held csv"
-held_name of_held.Syntax = codes "held syntax"
-held_name of_held.Municipality = codes "held municipality"
-held_name of_held.List = codes "held list"
-held_name of_held.Votes = codes "held votes"
-held_name of_held.Twice = codes "held twice"
 
 -- the byte of this number, from 1, as it is shown: a byte order mark and each control as a question mark
 abbrev pub safe_byte : List ℕ → ℕ → List ℕ

@@ -1,11 +1,13 @@
 //! The check of two texts, a sheet and an export, and the text of its verdict.
 #![tactic(auto)]
 
+mod check;
+mod quotient;
 mod reports;
 mod right;
-mod verdict;
-mod wrong;
+mod verdict_text;
+mod wrong_line;
 
-pub use reports::{name_of_held, name_of_setup, push_shown, rows_report, setup_report, shown_key};
+pub use check::{SHEET_FRONT, SpelledVerdict, spelled_verdict};
+pub use reports::{push_shown, rows_report, setup_report, shown_place};
 pub use right::unchecked_line;
-pub use verdict::{VerdictFault, write_check, write_verdict};

@@ -1,77 +1,25 @@
 //! What is reported where the text of a set-up or of an export gives none: the name of the fault in a line, and then its place, if
 //! that is known.
 ghost use Rattle.std.specs.List.{list_all};
-ghost use Rattle.std.specs.Prelude.{◌≡◌, ◌≤◌, ◌++◌, OnOk, IfOk, length, ◌+◌, [], ◌∷◌};
+ghost use Rattle.std.specs.Prelude.{◌≡◌, ◌≤◌, ◌++◌, IfOk, length, ◌+◌, [], ◌∷◌};
 ghost use Rattle.zh_text.specs.Each.{each_to};
-ghost use Rattle.zh_verdicts.specs.Reports.{held_name, rows_report, setup_name, setup_place, setup_report, is_bare, safe_byte, shown_key};
+ghost use Rattle.zh_verdicts.specs.Reports.{rows_report, setup_place, setup_report, is_bare, safe_byte, shown_key};
 
 use arrayvec::ArrayVec;
 use std::alloc::{AllocError, Global};
 use zh_csv::HeldFault;
-use zh_setups::{FaultPlace, Key, SetupFault, SetupRefusal};
-use zh_text::{ShownNames, push_number, shown_at};
-
-/// The name of the fault of a set-up text.
-pub fn name_of_setup(fault: SetupFault) -> &'static str
-    ensures name { result.now ≡ setup_name fault }
-    ensures short { length result.now ≤ 13 }
-{
-    match fault {
-        SetupFault::Memory => "memory",
-        SetupFault::Text => "setup text",
-        SetupFault::Missing => "setup missing",
-        SetupFault::Unknown => "setup unknown",
-        SetupFault::Range => "setup range",
-        SetupFault::Double => "setup double",
-    }
-}
-
-/// The name of what is wrong with a record of an export.
-pub fn name_of_held(fault: HeldFault) -> &'static str
-    ensures name { result.now ≡ held_name fault }
-    ensures short { length result.now ≤ 17 }
-{
-    match fault {
-        HeldFault::Csv => "held csv",
-        HeldFault::Syntax => "held syntax",
-        HeldFault::Municipality => "held municipality",
-        HeldFault::List => "held list",
-        HeldFault::Votes => "held votes",
-        HeldFault::Twice => "held twice",
-    }
-}
-
-/// Puts a place at the end.
-fn push_place(text: &mut Vec<u8>, place: &FaultPlace) -> Result<(), AllocError>
-    ensures { OnOk result (text.new.items ≡ text.old.items ++ setup_place place.now) }
-{
-    match place {
-        FaultPlace::At(position) => {
-            text.extend_from_slice(b"line ")?;
-            push_number(text, position.line)?;
-            text.extend_from_slice(b", column ")?;
-            push_number(text, position.column)
-        }
-        FaultPlace::Top(key) => text.extend_from_slice(shown_key(key).as_slice()),
-        FaultPlace::Table { kind, number, key } => {
-            text.extend_from_slice(kind.as_str().as_bytes())?;
-            text.extend_from_slice(b" ")?;
-            push_number(text, *number)?;
-            text.extend_from_slice(b", ")?;
-            text.extend_from_slice(shown_key(key).as_slice())
-        }
-    }
-}
+use zh_setups::{FaultPlace, Key, SetupRefusal};
+use zh_text::{ShownNames, push, push_bytes, push_numeral, shown_at};
 
 /// The report of the fault of a set-up text.
 pub fn setup_report(alloc: Global, refusal: &SetupRefusal) -> Result<Vec<u8>, AllocError>
     ensures { IfOk result (λ text. text.items ≡ setup_report refusal.now) }
 {
     let mut text = Vec::new(alloc);
-    text.extend_from_slice(name_of_setup(refusal.fault).as_bytes())?;
+    text.extend_from_slice(refusal.fault.name().as_bytes())?;
     text.extend_from_slice(b"\n")?;
     if let Some(place) = &refusal.place {
-        push_place(&mut text, place)?;
+        text.extend_from_slice(shown_place(place).as_slice())?;
         text.extend_from_slice(b"\n")?;
     }
     Ok(text)
@@ -82,13 +30,13 @@ pub fn rows_report(alloc: Global, fault: HeldFault) -> Result<Vec<u8>, AllocErro
     ensures { IfOk result (λ text. text.items ≡ rows_report fault) }
 {
     let mut text = Vec::new(alloc);
-    text.extend_from_slice(name_of_held(fault).as_bytes())?;
+    text.extend_from_slice(fault.name().as_bytes())?;
     text.extend_from_slice(b"\n")?;
     Ok(text)
 }
 
 /// A key as it is shown: at most 40 bytes, and quotes.
-pub type ShownKey = ArrayVec<u8, 42>;
+type ShownKey = ArrayVec<u8, 42>;
 
 /// Writes so many bytes of a text as they are shown.
 pub fn push_shown<const N: usize>(shown: &mut ArrayVec<u8, N>, text: &[u8], count: usize)
@@ -134,7 +82,7 @@ fn quoted(name: &[u8]) -> ShownKey
 }
 
 /// A key as it is shown: in quotes, if it is empty or has any other byte than letters, digits, `_` and `-`.
-pub fn shown_key(key: &Key) -> ShownKey
+fn shown_key(key: &Key) -> ShownKey
     ensures shown { result.items ≡ shown_key key.now }
     ensures short { length result.items ≤ 42 }
 {
@@ -145,4 +93,32 @@ pub fn shown_key(key: &Key) -> ShownKey
         return shown;
     }
     quoted(name)
+}
+
+/// A place as it is shown.
+pub type ShownPlace = ArrayVec<u8, 80>;
+
+/// A place in the text of a set-up as it is shown: a position, or a key at the top or in a table.
+pub fn shown_place(place: &FaultPlace) -> ShownPlace
+    ensures place { result.items ≡ setup_place place.now }
+    ensures short { length result.items ≤ 80 }
+{
+    let mut shown = ShownPlace::new();
+    match place {
+        FaultPlace::At(position) => {
+            push(&mut shown, "line ");
+            push_numeral(&mut shown, position.line as u64);
+            push(&mut shown, ", column ");
+            push_numeral(&mut shown, position.column as u64);
+        }
+        FaultPlace::Top(key) => push_bytes(&mut shown, shown_key(key).as_slice()),
+        FaultPlace::Table { kind, number, key } => {
+            push(&mut shown, kind.as_str());
+            push(&mut shown, " ");
+            push_numeral(&mut shown, *number as u64);
+            push(&mut shown, ", ");
+            push_bytes(&mut shown, shown_key(key).as_slice());
+        }
+    }
+    shown
 }

@@ -1,4 +1,0 @@
-use Rattle.zh_office.proofs.judgement_text.write_judgement.Goals as goal
-
-pub returns-in-Err-Read-clause-judges : goal.returns-in-Err-Read-clause-judges
-returns-in-Err-Read-clause-judges g c = rw c.in-Err-Read.field-0-is at c.in-Err-Read.ensures

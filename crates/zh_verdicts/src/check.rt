@@ -1,0 +1,67 @@
+//! The check of a sheet, and its verdict as it is spelled.
+ghost use Rattle.std.specs.Option.{option_copied};
+ghost use Rattle.std.specs.Prelude.{◌≡◌, IfOk, option_map};
+ghost use Rattle.zh_tables.specs.HeldRows.{rows_held};
+ghost use Rattle.zh_verdicts.specs.Checks.{IsVerdict};
+
+use crate::verdict_text::verdict_text;
+use std::alloc::{AllocError, Global};
+use zh_check::{SheetVerdict, check};
+use zh_csv::HeldSums;
+use zh_districts::Setup;
+use zh_tables::HeldRows;
+use zh_totals::Totals;
+
+/// How many bytes of a sheet are looked at at most: one more than the longest has, so that a longer one is noticed.
+pub const SHEET_FRONT: usize = 280_065;
+
+/// The sums of an export, where there is one.
+fn totals_in<'a, 's>(held: Option<&'a HeldSums<'s>>) -> Option<&'a Totals<'s>>
+    ensures { option_copied result ≡ option_map (λ sums. sums.totals) (option_copied held.entry) }
+{
+    match held {
+        Some(sums) => Some(&sums.totals),
+        None => None,
+    }
+}
+
+/// How many rows it has, of those that can be held.
+fn rows_in(setup: &Setup, held: Option<&HeldSums<'_>>) -> Option<HeldRows>
+    ensures { result ≡ option_map (λ sums. rows_held setup.now sums.rows) (option_copied held.entry) }
+{
+    match held {
+        Some(sums) => Some(HeldRows::new(setup, sums.rows)),
+        None => None,
+    }
+}
+
+/// The text of a verdict, and whether it says that the sheet is right.
+#[derive(Drop)]
+pub struct SpelledVerdict {
+    pub is_right: bool,
+    pub text: Vec<u8>,
+}
+
+/// Checks a sheet by a set-up and the sums of an export, if there is one, and spells the verdict on it.
+pub fn spelled_verdict(
+    alloc: Global,
+    setup: &Setup,
+    sheet: &[u8],
+    held: Option<&HeldSums<'_>>,
+) -> Result<SpelledVerdict, AllocError>
+    ensures { IfOk result (λ spelled. IsVerdict
+        (record { canton = setup.now; sheet = sheet.now; held = option_copied held.entry }) spelled.is_right spelled.text.items) }
+{
+    let verdict = check(alloc, setup, sheet, totals_in(held))?;
+    let text = verdict_text(alloc, &verdict, rows_in(setup, held))?;
+    match verdict {
+        SheetVerdict::Right(_) => Ok(SpelledVerdict {
+            is_right: true,
+            text,
+        }),
+        _ => Ok(SpelledVerdict {
+            is_right: false,
+            text,
+        }),
+    }
+}
