@@ -63,20 +63,20 @@ pub enum Task<'a> {
     Version,
 }
 
-/// The path of the set-up that was given. Each command requires it, so it is not left out.
-pub(crate) fn setup_in<'a>(given: &ArgMatches<'a>) -> &'a str
-    ensures { result.now ≡ path_in (codes "setup") (rows_of (found_of given.now)) }
+/// The path that was given after `--name`. Where a command requires it, it is not left out.
+pub(crate) fn path_in<'a>(given: &ArgMatches<'a>, name: &str) -> &'a str
+    ensures { result.now ≡ path_in name.now (rows_of (found_of given.now)) }
 {
-    given.get_str("setup").unwrap_or("")
+    given.get_str(name).unwrap_or("")
 }
 
-/// The paths that were given. The command requires both, so none of them is left out.
+/// The paths that were given. The command requires both.
 pub(crate) fn paths_in<'a>(given: &ArgMatches<'a>) -> Paths<'a>
     ensures { ArePaths (rows_of (found_of given.now)) result }
 {
     Paths {
-        setup: setup_in(given),
-        disk: given.get_str("disk").unwrap_or(""),
+        setup: path_in(given, "setup"),
+        disk: path_in(given, "disk"),
     }
 }
 

@@ -6,7 +6,7 @@ ghost use Rattle.zh_arguments.specs.Commands.{AreCheckPaths, rules_of};
 ghost use Rattle.zh_arguments.specs.Rules.{IsCommand, command_taking};
 ghost use Rattle.zh_arguments.specs.declared.commands.CommandName.TheVariants as names;
 
-use crate::arguments::setup_in;
+use crate::arguments::path_in;
 use crate::rules::{argument, option, with_setup};
 use clap::{ArgMatches, Command};
 use std::alloc::{AllocError, Global};
@@ -42,8 +42,8 @@ pub(crate) fn check_paths_in<'a>(given: &ArgMatches<'a>) -> CheckPaths<'a>
     ensures { AreCheckPaths (rows_of (found_of given.now)) result }
 {
     CheckPaths {
-        setup: setup_in(given),
-        sheet: given.get_str("sheet").unwrap_or(""),
+        setup: path_in(given, "setup"),
+        sheet: path_in(given, "sheet"),
         held: given.get_str("held"),
     }
 }

@@ -5,7 +5,7 @@ ghost use Rattle.clap.specs.Words.{app_of, found_of, rows_of};
 ghost use Rattle.zh_arguments.specs.Commands.{AsksWith, app_for, command_named, misuse_of, word_of, zhcount};
 ghost use Rattle.zh_arguments.specs.Rules.{IsCommand};
 
-use crate::arguments::{Misuse, Task, paths_in, setup_in};
+use crate::arguments::{Misuse, Task, path_in, paths_in};
 use crate::check::{check_command, check_paths_in};
 use crate::load::{load_command, load_in};
 use crate::rules::{bare, with_disk};
@@ -112,7 +112,7 @@ impl CommandName {
             CommandName::Load => load_in(given),
             CommandName::Export => Task::Show(paths_in(given), Query::Export),
             CommandName::List => Task::List {
-                setup: setup_in(given),
+                setup: path_in(given, "setup"),
                 table: table_in(given).ok_or(Misuse::Table)?,
             },
             CommandName::Status => Task::Show(

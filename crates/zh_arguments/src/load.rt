@@ -1,13 +1,12 @@
 //! The arguments of a load.
 
-ghost use Rattle.std.specs.Prelude.{◌≡◌, IfOk, codes};
+ghost use Rattle.std.specs.Prelude.{IfOk};
 ghost use Rattle.clap.specs.Words.{found_of, rows_of};
 ghost use Rattle.zh_arguments.specs.Commands.{AsksWith, rules_of};
 ghost use Rattle.zh_arguments.specs.Rules.{IsCommand, command_taking};
-ghost use Rattle.zh_arguments.specs.Table.{path_in};
 ghost use Rattle.zh_arguments.specs.declared.commands.CommandName.TheVariants as names;
 
-use crate::arguments::{Task, paths_in};
+use crate::arguments::{Task, path_in, paths_in};
 use crate::rules::{argument, flag, with_disk};
 use crate::view::has_flag;
 use clap::{ArgMatches, Command};
@@ -35,19 +34,12 @@ pub(crate) fn load_command<'a>(
         ))
 }
 
-/// The path of the CSV file, which the command requires.
-fn csv_in<'a>(given: &ArgMatches<'a>) -> &'a str
-    ensures { result.now ≡ path_in (codes "csv") (rows_of (found_of given.now)) }
-{
-    given.get_str("csv").unwrap_or("")
-}
-
 /// The task of a load, or of a dry run.
 pub(crate) fn load_in<'a>(given: &ArgMatches<'a>) -> Task<'a>
     ensures { AsksWith names.Load (rows_of (found_of given.now)) result }
 {
     let paths = paths_in(given);
-    let csv = csv_in(given);
+    let csv = path_in(given, "csv");
     if has_flag(given, "dry-run") {
         Task::DryRun { paths, csv }
     } else {

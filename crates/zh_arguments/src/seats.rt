@@ -1,14 +1,13 @@
 //! The arguments of a table of the seats.
 
-ghost use Rattle.std.specs.Prelude.{◌≡◌, IfOk, MatchOption, codes};
+ghost use Rattle.std.specs.Prelude.{◌≡◌, IfOk, MatchOption};
 ghost use Rattle.clap.specs.Words.{found_of, rows_of};
 ghost use Rattle.zh_arguments.specs.Commands.{AsksWith, rules_of};
 ghost use Rattle.zh_arguments.specs.Rules.{IsCommand, command_taking};
 ghost use Rattle.zh_arguments.specs.Seats.{is_given, layout_in, source_in, source_of};
-ghost use Rattle.zh_arguments.specs.Table.{path_in};
 ghost use Rattle.zh_arguments.specs.declared.commands.CommandName.TheVariants as names;
 
-use crate::arguments::{Task, paths_in, setup_in};
+use crate::arguments::{Task, path_in, paths_in};
 use crate::commands::Query;
 use crate::rules::{flag, option, with_setup};
 use crate::view::has_flag;
@@ -97,13 +96,6 @@ fn layout_in(given: &ArgMatches<'_>) -> Layout
     }
 }
 
-/// The path of the sheet. It is read only where one was given.
-fn sheet_in<'a>(given: &ArgMatches<'a>) -> &'a str
-    ensures { result.now ≡ path_in (codes "sheet") (rows_of (found_of given.now)) }
-{
-    given.get_str("sheet").unwrap_or("")
-}
-
 /// The task that shows seats from this source.
 fn task_from<'a>(source: Source, given: &ArgMatches<'a>) -> Task<'a>
     ensures { source_in (rows_of (found_of given.now)) ≡ Some source
@@ -115,8 +107,8 @@ fn task_from<'a>(source: Source, given: &ArgMatches<'a>) -> Task<'a>
             Task::Show(paths_in(given), Query::Seats { is_final, layout })
         }
         Source::Sheet => Task::SheetSeats {
-            setup: setup_in(given),
-            sheet: sheet_in(given),
+            setup: path_in(given, "setup"),
+            sheet: path_in(given, "sheet"),
             layout,
         },
     }

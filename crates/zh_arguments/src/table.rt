@@ -7,6 +7,7 @@ ghost use Rattle.zh_arguments.specs.Rules.{IsCommand, command_taking};
 ghost use Rattle.zh_arguments.specs.Table.{number_in, part_of, table_in, table_named};
 ghost use Rattle.zh_arguments.specs.declared.commands.CommandName.TheVariants as names;
 
+use crate::arguments::path_in;
 use crate::rules::{argument, option, with_setup};
 use clap::{ArgMatches, Command};
 use std::alloc::{AllocError, Global};
@@ -71,5 +72,5 @@ pub(crate) fn table_in(given: &ArgMatches<'_>) -> Option<Table>
     ensures { result ≡ table_in (rows_of (found_of given.now)) }
 {
     let part = part_of(given.get_str("municipality"), given.get_str("constituency"))?;
-    table_named(given.get_str("of").unwrap_or(""), part)
+    table_named(path_in(given, "of"), part)
 }

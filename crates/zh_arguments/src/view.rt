@@ -7,6 +7,7 @@ ghost use Rattle.zh_arguments.specs.Rules.{IsCommand, command_taking};
 ghost use Rattle.zh_arguments.specs.View.{has_flag, view_in, view_of};
 ghost use Rattle.zh_arguments.specs.declared.commands.CommandName.TheVariants as names;
 
+use crate::arguments::path_in;
 use crate::rules::{flag, with_disk};
 use clap::{ArgMatches, Command};
 use std::alloc::{AllocError, Global};
@@ -34,7 +35,7 @@ pub(crate) fn status_command<'a>(
 pub(crate) fn has_flag(given: &ArgMatches<'_>, name: &str) -> bool
     ensures { result ≡ has_flag name.now (rows_of (found_of given.now)) }
 {
-    given.get_str(name).unwrap_or("") == "true"
+    path_in(given, name) == "true"
 }
 
 /// The view that these flags ask for, if not more than one is given.

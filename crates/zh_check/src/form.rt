@@ -12,9 +12,8 @@ use crate::recomputed::MOST_SEATS;
 use itoa::Buffer;
 use std::alloc::{AllocError, Global};
 use zh_districts::Setup;
-use zh_sheet_text::{
-    LineParts, SheetPart, is_divisor_text, label_text, line_at, line_count, mark_after,
-};
+use zh_sheet_text::{LineParts, SheetPart, label_text, line_at, line_count, mark_after};
+use zh_text::{millionths_text, push_number};
 
 /// A text in the form of a sheet: its own words where they may stand, and else what the set-up says, or dots.
 fn formed(alloc: Global, setup: &Setup, text: &[u8]) -> Result<Vec<u8>, AllocError>
@@ -79,9 +78,7 @@ fn push_part(
 {
     match part {
         SheetPart::Fixed(label) => text.extend_from_slice(label_text(label)),
-        SheetPart::Number(number) => text.extend_from_slice(
-            Buffer::new().format(number).as_bytes(),
-        ),
+        SheetPart::Number(number) => push_number(text, number),
         SheetPart::ConstituencyName(d) => text.extend_from_slice(
             setup.constituency_name(d).as_bytes(),
         ),
@@ -146,7 +143,7 @@ fn is_number_from(low: u64, high: u64, word: &[u8]) -> bool
 fn is_divisor(word: &[u8]) -> bool
     ensures { result ≡ is_divisor word.now }
 {
-    is_divisor_text(number_of_word(word), word)
+    word == millionths_text(u128::from(number_of_word(word))).as_slice()
 }
 
 /// Whether a byte is a digit, or this one.

@@ -9,6 +9,6 @@ mod replies;
 pub use laws::{one_desk, one_reading, one_reply, one_spelling};
 pub use lines::{BatchStep, DeskCommand, DeskQuery, Line, LineFault, Request};
 pub use parser::{desk_of, parse_line};
-pub use replies::{Refusal, Reply, write_answer, write_reply};
+pub use replies::{Refusal, Reply, ReplyLine, answer_line, write_reply};
 pub use zh_sheet::SheetRefusal;
 pub use zh_text::{WriteFault, put};

@@ -60,8 +60,8 @@ pub enum Refusal {
     Sheet(SheetRefusal),
 }
 
-// The bytes of a reply.
-type ReplyText = ArrayVec<u8, 64>;
+/// A line of at most 64 bytes, as that of a reply.
+pub type ReplyLine = ArrayVec<u8, 64>;
 
 /// Writes a reply at the front of `out`, as `docs/FORMATS.md`, "Replies", has it, and gives the number of its bytes.
 ///
@@ -70,44 +70,27 @@ pub fn write_reply(desk: u8, reply: &Reply, out: &mut [u8; 64]) -> usize
     ensures text { take result out.new ≡ reply_text desk reply.now }
     ensures short { result ≤ 64 }
 {
-    let mut text = ReplyText::new();
+    let mut text = ReplyLine::new();
     push_numeral(&mut text, u64::from(desk));
     push(&mut text, " ");
-    push_line(&mut text, reply);
-    copy_to(&text, out)
+    push_answer(&mut text, reply);
+    push(&mut text, "\n");
+    out[..text.len()].copy_from_slice(&text);
+    text.len()
 }
 
-/// Writes the same without the desk: what the reply says, and the end of the line.
-pub fn write_answer(reply: &Reply, out: &mut [u8; 64]) -> usize
-    ensures text { take result out.new ≡ answer reply.now ++ 10 ∷ [] }
-    ensures short { result ≤ 64 }
+/// The same line without the desk.
+pub fn answer_line(reply: &Reply) -> ReplyLine
+    ensures { result.items ≡ answer reply.now ++ 10 ∷ [] }
 {
-    let mut text = ReplyText::new();
-    push_line(&mut text, reply);
-    copy_to(&text, out)
-}
-
-// Copies a text to the front of `out`, and gives its length.
-fn copy_to(text: &ReplyText, out: &mut [u8; 64]) -> usize
-    ensures text { take result out.new ≡ text.now.items }
-    ensures short { result ≤ 64 }
-{
-    let length = text.len();
-    out[..length].copy_from_slice(text);
-    length
-}
-
-// What the reply says after the desk, and the end of the line.
-fn push_line(text: &mut ReplyText, reply: &Reply)
-    requires { length text.old.items ≤ 4 }
-    ensures { text.new.items ≡ text.old.items ++ answer reply.now ++ 10 ∷ [] }
-{
-    push_answer(text, reply);
-    push(text, "\n");
+    let mut line = ReplyLine::new();
+    push_answer(&mut line, reply);
+    push(&mut line, "\n");
+    line
 }
 
 // What the reply says after the desk.
-fn push_answer(text: &mut ReplyText, reply: &Reply)
+fn push_answer(text: &mut ReplyLine, reply: &Reply)
     requires { length text.old.items ≤ 4 }
     ensures answer { text.new.items ≡ text.old.items ++ answer reply.now }
     ensures short { length text.new.items ≤ 63 }
@@ -138,7 +121,7 @@ fn push_answer(text: &mut ReplyText, reply: &Reply)
 }
 
 // The name of the refusal.
-fn push_name(text: &mut ReplyText, refusal: &Refusal)
+fn push_name(text: &mut ReplyLine, refusal: &Refusal)
     requires { length text.old.items ≤ 12 }
     ensures name { text.new.items ≡ text.old.items ++ name refusal.now }
     ensures short { length text.new.items ≤ 63 }

@@ -3,7 +3,7 @@
 ghost use Rattle.std.specs.Prelude.{◌≡◌, OnOk, IfOk};
 ghost use Rattle.std.specs.Io.KnownBytes.{Appends};
 ghost use Rattle.zh_record_text.specs.Records.{IsBetweenRecords, PutsText};
-ghost use Rattle.zh_csv.specs.Export.{line, record_of, entry_text, export_text, votes_field};
+ghost use Rattle.zh_csv.specs.Export.{line, record_of, export_text, votes_field};
 
 use csv::Writer;
 use itoa::Buffer;
@@ -44,22 +44,6 @@ fn write_entry<W: Write + Drop>(
     write_record(writer, &fields)
 }
 
-/// Writes the record of what is held under a key, if anything is.
-fn write_held<W: Write + Drop>(
-    writer: &mut Writer<W>,
-    municipality: u32,
-    list: u32,
-    held: Option<Entry>,
-) -> Result<(), RecordFault>
-    requires { IsBetweenRecords writer.old }
-    ensures { OnOk result (PutsText W.contents (entry_text municipality list held) writer.old writer.new) }
-{
-    match held {
-        Some(entry) => write_entry(writer, municipality, list, entry),
-        None => Ok(()),
-    }
-}
-
 /// What is held in a municipality.
 #[derive(Drop)]
 struct HeldIn<'c> {
@@ -82,8 +66,10 @@ impl<'c, W: Write + Drop> NumberedRows<W> for HeldIn<'c> {
     }
 
     fn write_row(&self, writer: &mut Writer<W>, list: u32) -> Result<(), RecordFault> {
-        let held = self.count.entry(self.municipality, list);
-        write_held(writer, self.municipality, list, held)
+        match self.count.entry(self.municipality, list) {
+            Some(entry) => write_entry(writer, self.municipality, list, entry),
+            None => Ok(()),
+        }
     }
 }
 

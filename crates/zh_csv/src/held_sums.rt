@@ -136,7 +136,7 @@ impl<'s> Takes for RunningSums<'s> {
         let setup = self.totals.setup();
         let is_small = setup.municipalities() <= 512 && setup.groups() <= 32;
         prove!(is_small);
-        self.note(&row_of(record)?)
+        self.note(&held_row_of(record)?)
     }
 }
 
@@ -164,7 +164,7 @@ fn votes_in(field: &[u8]) -> Option<Option<u32>>
 }
 
 /// The row that four fields say.
-fn row_in(record: &ByteRecord) -> Option<HeldRow>
+fn held_row_in(record: &ByteRecord) -> Option<HeldRow>
     requires { length (fields_of «record».now) ≡ 4 }
     ensures { MatchOption result
         ((row : HeldRow) → IsHeldRow row → fields_of «record».now ≢ held_fields row)
@@ -180,7 +180,7 @@ fn row_in(record: &ByteRecord) -> Option<HeldRow>
 }
 
 /// The row of a record.
-pub(crate) fn row_of(record: &ByteRecord) -> Result<HeldRow, LoadFault>
+fn held_row_of(record: &ByteRecord) -> Result<HeldRow, LoadFault>
     ensures { MatchResult result
         (λ row. IsHeldRow row × (fields_of «record».now ≡ held_fields row))
         (IsUnread held_fields IsHeldRow (fields_of «record».now)) }
@@ -188,7 +188,7 @@ pub(crate) fn row_of(record: &ByteRecord) -> Result<HeldRow, LoadFault>
     if !may_be_row(record) {
         return Err(LoadFault::Csv);
     }
-    row_in(record).ok_or(LoadFault::Syntax)
+    held_row_in(record).ok_or(LoadFault::Syntax)
 }
 
 /// What is wrong with a record.

@@ -10,7 +10,7 @@ ghost use Rattle.zh_office.specs.JudgementText.{refused_line, refused_text, show
 use crate::judgement::Forecast;
 use csv::ByteRecord;
 use std::alloc::{AllocError, Global};
-use zh_commands::{Refusal, Reply, write_answer};
+use zh_commands::{Refusal, Reply, answer_line};
 use zh_csv::field;
 use zh_text::{ShownNames, push_number, push_shown};
 
@@ -48,10 +48,8 @@ fn push_fields(line: &mut Vec<u8>, record: &ByteRecord) -> Result<(), AllocError
 fn push_refusal(line: &mut Vec<u8>, refusal: Refusal) -> Result<(), AllocError>
     ensures { OnOk result (line.new.items ≡ line.old.items ++ 32 ∷ answer (Reply.Refused refusal) ++ 10 ∷ []) }
 {
-    let mut text = [0; 64];
-    let length = write_answer(&Reply::Refused(refusal), &mut text);
     line.push(b' ')?;
-    line.extend_from_slice(&text[..length])
+    line.extend_from_slice(&answer_line(&Reply::Refused(refusal)))
 }
 
 /// Whether a record is the names of the columns with semicolons between them.

@@ -6,9 +6,6 @@ use Rattle.std.specs.Result.{is_err}
 use Rattle.std.specs.Io.Buffered.{reader_buffer, reader_capacity, reader_inner, reader_remaining}
 use Rattle.std.specs.Io.KnownBytes.{Appends, Keeps, prepend_known}
 use Rattle.std.specs.declared.io.buffered.BufReader.{BufReader}
-use Rattle.std.proofs.lemmas.Fmt.{decimal_digit}
-use Rattle.std.proofs.lemmas.List.{drop-take, length-take}
-use Rattle.zh_commands.specs.Replies.{answer, reply_text}
 use Rattle.zh_commands.specs.declared.replies.Reply.{Reply}
 use Rattle.zh_office.specs.Load.{LoadTurn}
 use Rattle.zh_ledger.specs.Submissions.{OnDisk}
@@ -23,22 +20,6 @@ use Rattle.zh_program.specs.declared.place.TaskFile.TheVariants as files
 use Rattle.zh_program.specs.declared.fault.TaskFault.{TaskFault}
 use Rattle.zh_program.specs.declared.fault.TaskFault.TheVariants as faults
 use Rattle.zh_program.proofs.KeptLemmas.{load_is_logged}
-
--- a reply is its desk, a space, and then as it is printed
-text_at : (desk : ℕ) (reply : Reply) (numeral : List ℕ) → decimal desk ≡ numeral → reply_text desk reply ≡ numeral ++ 32 ∷ printed reply
-text_at desk reply numeral is = append_assoc (decimal desk) (32 ∷ answer reply) (10 ∷ []) ∙ ap (λ (l : List ℕ). l ++ 32 ∷ printed reply) is
-
-text_of : (reply : Reply) → reply_text 0 reply ≡ 48 ∷ 32 ∷ printed reply
-text_of reply = text_at 0 reply (48 ∷ []) (decimal_digit 0 (omega arith))
-
-reply_long : (out : List ℕ) (len : ℕ) (reply : Reply) → take len out ≡ reply_text 0 reply → 2 ≤ len
-reply_long out len reply is = omega (arith, length-take len out, ap length (is ∙ text_of reply))
-
--- what is left of it without them
-pub printed_part : (out : List ℕ) (len : ℕ) (reply : Reply) → take len out ≡ reply_text 0 reply → take (len - 2) (drop 2 out) ≡ printed reply
-printed_part out len reply is =
-    let all : 2 + (len - 2) ≡ len = omega (arith, reply_long out len reply is) in
-    sym (drop-take 2 (len - 2) out) ∙ ap (λ (n : ℕ). drop 2 (take n out)) all ∙ ap (drop 2) (is ∙ text_of reply)
 
 pub writes_front : (w w' : Option (List ℕ)) (text text' : List ℕ) → text ≡ text' → (n : ℕ) × (n < length text) × Appends w w' (take n text) → WritesPart w w' text'
 writes_front w w' text text' is (n, part, written) = subst (λ (t : List ℕ). WritesPart w w' t) is (record { front = n; part = part; written = written })

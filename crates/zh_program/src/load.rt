@@ -20,7 +20,7 @@ use crate::place::TaskFile;
 use crate::texts::open_text;
 use std::alloc::Global;
 use std::io::{BufRead, BufReader, Read, Write};
-use zh_commands::{Reply, write_reply};
+use zh_commands::{Reply, answer_line};
 use zh_disk::Disk;
 use zh_districts::Setup;
 use zh_file::{Files, World};
@@ -54,9 +54,7 @@ fn print_reply<O: Write>(reply: &Reply, out: &mut O) -> Result<(), WriteFault>
     ensures all { OnOk result (Appends (O.contents out.old) (O.contents out.new) (printed reply.now)) }
     ensures front { OnErr result (WritesPart (O.contents out.old) (O.contents out.new) (printed reply.now)) }
 {
-    let mut text = [0; 64];
-    let length = write_reply(0, reply, &mut text);
-    put(out, &text[2..length])
+    put(out, &answer_line(reply))
 }
 
 /// Gives an office a text, and writes the reply. The film notes that the reply comes last.

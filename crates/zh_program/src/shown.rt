@@ -62,7 +62,7 @@ pub(crate) fn text_of(
 {
     match layout {
         Layout::Records => {
-            let text = write_seats(alloc, &seats.sheet, seats.mark, Vec::new(alloc))?;
+            let text = write_seats(&seats.sheet, seats.mark, Vec::new(alloc))?;
             Ok(text)
         }
         Layout::Table => {

@@ -1,9 +1,8 @@
 pub mod CallerLemmas
-mod DivisorLemmas
 mod EachLemmas
 mod LayoutLemmas
 mod LongestLemmas
-mod PageLemmas
+mod PartLemmas
 mod PrintingLemmas
 mod TextLemmas
 mod WidthLemmas

@@ -30,7 +30,7 @@ use Rattle.zh_sheet_text.specs.declared.line.SheetPart.TheVariants.{Fixed, Numbe
 use Rattle.zh_sheet_text.specs.declared.line.SheetPart.TheVariants.{ConstituencySeats, ConstituencyVotes, ConstituencyDivisor, ConstituencyName}
 use Rattle.zh_sheet_text.specs.declared.line.SheetPart.TheVariants.{TakesPart, GroupVoters, GroupSeats, GroupDivisor, GroupName}
 use Rattle.zh_sheet_text.specs.declared.line.SheetPart.TheVariants.{ListVotes, ListVoters, ListSeats}
-use Rattle.zh_sheet_text.proofs.DivisorLemmas.{digits, divisor}
+use Rattle.zh_text.proofs.CallerLemmas.{digits, divisor}
 use Rattle.zh_sheet_text.proofs.EachLemmas.{Each, each_more}
 use Rattle.zh_sheet_text.proofs.LayoutLemmas.{IsLineOf, all_lines, few_lines, most, most_of}
 

@@ -1,6 +1,6 @@
 -- The seats of the lists as comma-separated text. Each list that stands has a record, also where its group takes no part: so
 -- the votes of a constituency are there whole.
-use Rattle.std.specs.Prelude.{◌≡◌, ℕ, ◌-◌, Option, Some, None, option_map, List, [], ◌∷◌, ◌++◌, length, slice_index}
+use Rattle.std.specs.Prelude.{ℕ, ◌-◌, Option, Some, None, option_map, List, [], ◌∷◌, ◌++◌, length, slice_index}
 use Rattle.std.specs.Prelude.{if◌then◌else◌, codes, decimal}
 use Rattle.std.specs.Option.{option_map_or}
 use Rattle.zh_districts.specs.Canton.{stands}
@@ -13,7 +13,6 @@ use Rattle.zh_record_text.specs.Names.{name_of_constituency, name_of_group}
 use Rattle.zh_record_text.specs.Records.{TableRecord, record_text}
 use Rattle.zh_sheet_text.specs.SheetText.{divisor_text}
 use Rattle.zh_sheet_text.specs.Quotients.{quotient}
-use Rattle.zh_sheet_text.specs.declared.seats.Texts.{Texts}
 use Rattle.zh_sheet_text.specs.declared.mark.Mark.{Mark}
 use Rattle.zh_sheet_text.specs.declared.mark.Source.{Source}
 use Rattle.zh_sheet_text.specs.declared.mark.Source.TheVariants.{Count, Sheet}
@@ -33,13 +32,6 @@ group_divisor x g = option_map_or (λ k. Some (slice_index x.lower.divisors.of_c
 -- the quotient of a list, in millionths, if its group has seats
 abbrev pub list_quotient : Distribution → ℕ → ℕ → Option ℕ
 list_quotient x d g = option_map (quotient (votes_in x.totals d g) (constituency_divisor x d)) (group_divisor x g)
-
--- the texts of numbers, nothing where there is no number
-pub record AreTexts (x : Distribution) (d g : ℕ) (texts : Texts) : Type 0 where
-  pub voters : texts.voters.items ≡ option_map_or decimal (list_voters x d g) []
-  pub constituency : texts.constituency_divisor.items ≡ divisor_text (constituency_divisor x d)
-  pub group : texts.group_divisor.items ≡ option_map_or divisor_text (group_divisor x g) []
-  pub quotient : texts.quotient.items ≡ option_map_or divisor_text (list_quotient x d g) []
 
 -- whether the seats are final, in a word
 abbrev pub finality : Mark → List ℕ

@@ -1,18 +1,8 @@
--- Text on its way to a writer, of which some waits on a page.
-use Rattle.std.specs.Prelude.{◌≡◌, ℕ, ◌+◌, ◌<◌, ◌≤◌, List, ◌++◌, Option, Some, None, Result, OnErr, OnOk, codes, length, take}
+-- Text on its way to a writer, of which some waits in a buffer.
+use Rattle.std.specs.Prelude.{◌≡◌, ℕ, ◌+◌, ◌<◌, ◌≤◌, List, ◌++◌, Option, Result, OnErr, OnOk, length, take}
 use Rattle.std.specs.Io.KnownBytes.{Appends}
 use Rattle.zh_text.specs.declared.output.WriteFault.{WriteFault}
-use Rattle.zh_sheet_text.specs.declared.page.TheConstants.{LINE, ROOM}
-
--- a dash where there is no number
-abbrev pub or_dash : (ℕ → List ℕ) → Option ℕ → List ℕ
-or_dash text None = codes "-"
-or_dash text (Some number) = text number
-
--- the page is what it was and then these words, at most so many bytes
-pub record Puts (most : ℕ) (words old new : List ℕ) : Type 0 where
-  pub text : new ≡ old ++ words
-  pub short : length new ≤ length old + most
+use Rattle.zh_sheet_text.specs.declared.write_buffer.TheConstants.{LINE, ROOM}
 
 -- the text follows what waited: the writer got the front of both, and the rest waits
 pub record Prints (before : Option (List ℕ)) (waiting : List ℕ) (after : Option (List ℕ)) (left text : List ℕ) : Type 0 where

@@ -1,12 +1,15 @@
 //! A line of a sheet: its parts, and how they are spelled.
-ghost use Rattle.std.specs.Prelude.{◌≡◌, ◌≤◌, length, ◌∷◌, [], if◌then◌else◌, ◌+◌, All, codes};
+ghost use Rattle.std.specs.Prelude.{◌≡◌, ◌≤◌, length, ◌∷◌, ◌++◌, [], if◌then◌else◌, ◌+◌, All, codes};
 ghost use Rattle.zh_sheet_text.specs.Layout.{SheetLine, label_text, IsPartOf};
-ghost use Rattle.zh_sheet_text.specs.Printing.{Puts};
 ghost use Rattle.zh_sheet_text.specs.SheetText.{part_text, joined_parts};
 
-use crate::page::{LINE, PART, Page, ROOM};
+use crate::write_buffer::{LINE, PART, ROOM, WriteBuffer};
 use std::marker::Model;
 use zh_sheet::Sheet;
+use zh_text::{
+    push, push_bytes, push_divisor, push_divisor_or_dash, push_fraction, push_numeral,
+    push_numeral_or_dash,
+};
 
 /// The most parts that a line has.
 pub(crate) const MOST_PARTS: usize = 11;
@@ -149,8 +152,8 @@ pub struct Head {
 }
 
 /// Whether a sheet is final, in a word.
-fn kind(is_final: bool) -> &'static str
-    ensures kind { result.now ≡ (if is_final then codes "final" else codes "provisional") }
+pub(crate) fn finality(is_final: bool) -> &'static str
+    ensures word { result.now ≡ (if is_final then codes "final" else codes "provisional") }
     ensures short { length result.now ≤ 11 }
 {
     if is_final { "final" } else { "provisional" }
@@ -163,44 +166,49 @@ fn yes_or_no(yes: bool) -> &'static str
     if yes { "yes" } else { "no" }
 }
 
-/// Puts what stands at a part at the end of a page.
-fn push_part(page: &mut Page, sheet: &Sheet<'_>, head: Head, part: SheetPart)
+/// Writes what stands at a part.
+fn push_part(text: &mut WriteBuffer, sheet: &Sheet<'_>, head: Head, part: SheetPart)
     requires there { IsPartOf sheet.now.totals.canton part }
-    requires room { length page.old + PART ≤ ROOM }
-    ensures { Puts PART (part_text sheet.now head part) page.old page.new }
+    requires room { length text.old.items + PART ≤ ROOM }
+    ensures text { text.new.items ≡ text.old.items ++ part_text sheet.now head part }
+    ensures short { length text.new.items ≤ length text.old.items + PART }
 {
     match part {
-        SheetPart::Fixed(label) => page.push(label_text(label)),
-        SheetPart::Number(number) => page.push_number(u64::from(number)),
-        SheetPart::Desk => page.push_number(u64::from(head.desk)),
-        SheetPart::Kind => page.push(kind(head.is_final).as_bytes()),
-        SheetPart::Accepted => page.push_number(head.accepted),
-        SheetPart::SeatsKey => page.push_fraction(sheet.seats().num(), sheet.seats().den()),
-        SheetPart::UpperKey => page.push_fraction(sheet.upper().num(), sheet.upper().den()),
-        SheetPart::ConstituencySeats(d) => page.push_number(u64::from(sheet.constituency_seats(d))),
-        SheetPart::ConstituencyVotes(d) => page.push_number(sheet.totals().constituency(d)),
-        SheetPart::ConstituencyDivisor(d) => page.push_divisor(sheet.constituency_divisor(d)),
-        SheetPart::ConstituencyName(d) => page.push(sheet.constituency_name(d).as_bytes()),
-        SheetPart::TakesPart(g) => page.push(yes_or_no(sheet.takes_part(g)).as_bytes()),
-        SheetPart::GroupVoters(g) => page.push_number_or_dash(sheet.voters(g)),
-        SheetPart::GroupSeats(g) => page.push_number(u64::from(sheet.group_seats(g))),
-        SheetPart::GroupDivisor(g) => page.push_divisor_or_dash(sheet.group_divisor(g)),
-        SheetPart::GroupName(g) => page.push(sheet.group_name(g).as_bytes()),
-        SheetPart::ListVotes(d, g) => page.push_number(sheet.totals().votes(d, g)),
-        SheetPart::ListVoters(d, g) => page.push_number_or_dash(sheet.list_voters(d, g)),
-        SheetPart::ListSeats(d, g) => page.push_number(u64::from(sheet.list_seats(d, g))),
+        SheetPart::Fixed(label) => push_bytes(text, label_text(label)),
+        SheetPart::Number(number) => push_numeral(text, u64::from(number)),
+        SheetPart::Desk => push_numeral(text, u64::from(head.desk)),
+        SheetPart::Kind => push(text, finality(head.is_final)),
+        SheetPart::Accepted => push_numeral(text, head.accepted),
+        SheetPart::SeatsKey => push_fraction(text, sheet.seats().num(), sheet.seats().den()),
+        SheetPart::UpperKey => push_fraction(text, sheet.upper().num(), sheet.upper().den()),
+        SheetPart::ConstituencySeats(d) => push_numeral(
+            text,
+            u64::from(sheet.constituency_seats(d)),
+        ),
+        SheetPart::ConstituencyVotes(d) => push_numeral(text, sheet.totals().constituency(d)),
+        SheetPart::ConstituencyDivisor(d) => push_divisor(text, sheet.constituency_divisor(d)),
+        SheetPart::ConstituencyName(d) => push(text, sheet.constituency_name(d)),
+        SheetPart::TakesPart(g) => push(text, yes_or_no(sheet.takes_part(g))),
+        SheetPart::GroupVoters(g) => push_numeral_or_dash(text, sheet.voters(g)),
+        SheetPart::GroupSeats(g) => push_numeral(text, u64::from(sheet.group_seats(g))),
+        SheetPart::GroupDivisor(g) => push_divisor_or_dash(text, sheet.group_divisor(g)),
+        SheetPart::GroupName(g) => push(text, sheet.group_name(g)),
+        SheetPart::ListVotes(d, g) => push_numeral(text, sheet.totals().votes(d, g)),
+        SheetPart::ListVoters(d, g) => push_numeral_or_dash(text, sheet.list_voters(d, g)),
+        SheetPart::ListSeats(d, g) => push_numeral(text, u64::from(sheet.list_seats(d, g))),
     }
 }
 
-/// Puts the parts of a line at the end of a page.
-pub(crate) fn push_parts(page: &mut Page, sheet: &Sheet<'_>, head: Head, parts: &[SheetPart])
+/// Writes the parts of a line.
+pub(crate) fn push_parts(text: &mut WriteBuffer, sheet: &Sheet<'_>, head: Head, parts: &[SheetPart])
     requires there { All (IsPartOf sheet.now.totals.canton) parts.now }
     requires few { length parts.now ≤ MOST_PARTS }
-    requires room { length page.old + LINE ≤ ROOM }
-    ensures { Puts LINE (joined_parts (part_text sheet.now head) parts.now) page.old page.new }
+    requires room { length text.old.items + LINE ≤ ROOM }
+    ensures text { text.new.items ≡ text.old.items ++ joined_parts (part_text sheet.now head) parts.now }
+    ensures short { length text.new.items ≤ length text.old.items + LINE }
 {
     for place in 0..parts.len() {
-        push_part(page, sheet, head, parts[place]);
-        page.push(mark_after(place + 1 == parts.len()));
+        push_part(text, sheet, head, parts[place]);
+        push_bytes(text, mark_after(place + 1 == parts.len()));
     }
 }

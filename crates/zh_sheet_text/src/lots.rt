@@ -1,12 +1,11 @@
 //! What the lot decides, as text.
 
-ghost use Rattle.std.specs.Prelude.{◌≡◌, ◌<◌, ◌≤◌, ◌++◌, OnOk, false, length, slice_index, slice_index_or};
+ghost use Rattle.std.specs.Prelude.{◌≡◌, ◌≤◌, ◌++◌, OnOk, false, length, slice_index, slice_index_or};
 ghost use Rattle.zh_text.specs.Each.{each_to};
 ghost use Rattle.zh_sheet_text.specs.Lots.{lines_in, list_lines, lot_text, range_line, range_of};
 ghost use Rattle.zh_sheet_text.specs.Lots.{tied_constituency_line, tied_group_line, tied_list_line};
-ghost use Rattle.zh_sheet_text.specs.declared.lots.Listed.TheVariants.{Differing};
 
-use crate::refusals::{push_list, push_spaced};
+use crate::refusals::{push_line, push_list, push_spaced};
 use std::alloc::AllocError;
 use zh_districts::Setup;
 use zh_sheet::{ListRanges, Lot, SeatRanges};
@@ -73,10 +72,7 @@ fn push_range(out: &mut Vec<u8>, group: u32, least: u32, most: u32) -> Result<()
     ensures { OnOk result (out.new.items ≡ out.old.items ++ range_line group least most) }
 {
     if least < most {
-        out.push(b'\n')?;
-        push_number(out, group)?;
-        push_spaced(out, least)?;
-        push_spaced(out, most)
+        push_line(out, group, least, most)
     } else {
         Ok(())
     }
@@ -94,24 +90,15 @@ fn push_groups(out: &mut Vec<u8>, setup: &Setup, ranges: &SeatRanges) -> Result<
     Ok(())
 }
 
-/// Puts the line of a list whose seats differ at the end.
-fn push_differing(out: &mut Vec<u8>, list: ListRange) -> Result<(), AllocError>
-    requires { list.least < list.most }
-    ensures { OnOk result (out.new.items ≡ out.old.items ++ tied_list_line Differing list) }
-{
-    out.push(b'\n')?;
-    push_number(out, list.constituency)?;
-    push_spaced(out, list.group)?;
-    push_spaced(out, list.least)?;
-    push_spaced(out, list.most)
-}
-
 /// Puts the line of a list at the end, if it has one.
 fn push_listed(out: &mut Vec<u8>, listed: Listed, list: ListRange) -> Result<(), AllocError>
     ensures { OnOk result (out.new.items ≡ out.old.items ++ tied_list_line listed list) }
 {
     match listed {
-        Listed::Differing if list.least < list.most => push_differing(out, list),
+        Listed::Differing if list.least < list.most => {
+            push_line(out, list.constituency, list.group, list.least)?;
+            push_spaced(out, list.most)
+        }
         Listed::Same if list.least >= list.most => {
             push_list(out, list.constituency, list.group, list.least)
         }

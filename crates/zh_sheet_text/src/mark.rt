@@ -1,6 +1,6 @@
 //! What a sheet is marked as.
 ghost use Rattle.std.specs.Prelude.{◌≡◌};
-ghost use Rattle.zh_sheet_text.specs.Lists.{finality, kind};
+ghost use Rattle.zh_sheet_text.specs.Lists.{kind};
 ghost use Rattle.zh_sheet_text.specs.Table.{whose};
 
 use zh_commands::Refusal;
@@ -36,18 +36,7 @@ pub struct Mark {
 }
 
 impl Mark {
-    /// Whether they are final, in a word.
-    pub(crate) fn finality(&self) -> &'static str
-        ensures { result.now ≡ finality self.now }
-    {
-        if self.is_final {
-            "final"
-        } else {
-            "provisional"
-        }
-    }
-
-    /// The same for a record, with a word before it if a sheet states it.
+    /// Whether they are final, in a word, with one before it if a sheet states it.
     pub(crate) fn kind(&self) -> &str
         ensures { result.now ≡ kind self.now }
     {

@@ -8,7 +8,7 @@ ghost use Rattle.zh_sheet_text.specs.Refusals.{number_if_among, only_seats_text,
 use crate::lots::push_lot;
 use crate::mark::NoSeats;
 use std::alloc::{AllocError, Global};
-use zh_commands::{Refusal, Reply, write_answer};
+use zh_commands::{Refusal, Reply, answer_line};
 use zh_decided::MarkedRows;
 use zh_districts::Setup;
 use zh_sheet::{ExhaustedReason, ListSeats, SheetRefusal};
@@ -18,10 +18,8 @@ use zh_text::push_number;
 fn push_refusal(out: &mut Vec<u8>, refusal: Refusal) -> Result<(), AllocError>
     ensures { OnOk result (out.new.items ≡ out.old.items ++ refusal_line refusal) }
 {
-    let mut answer = [0; 64];
-    let length = write_answer(&Reply::Refused(refusal), &mut answer);
     out.extend_from_slice(b"zhcount: ")?;
-    out.extend_from_slice(&answer[..length])
+    out.extend_from_slice(&answer_line(&Reply::Refused(refusal)))
 }
 
 /// Puts a space and a number at the end.
@@ -71,14 +69,13 @@ fn push_near_tie(out: &mut Vec<u8>, constituency: u32, group: u32) -> Result<(),
 }
 
 /// Puts a line with three numbers at the end, beginning with the end of the line before.
-fn push_line(out: &mut Vec<u8>, constituency: u32, group: u32, seats: u32) -> Result<(), AllocError>
-    ensures { OnOk result (out.new.items
-        ≡ out.old.items ++ (10 ∷ decimal constituency ++ 32 ∷ decimal group ++ 32 ∷ decimal seats)) }
+pub(crate) fn push_line(out: &mut Vec<u8>, one: u32, two: u32, three: u32) -> Result<(), AllocError>
+    ensures { OnOk result (out.new.items ≡ out.old.items ++ (10 ∷ decimal one ++ 32 ∷ decimal two ++ 32 ∷ decimal three)) }
 {
     out.push(b'\n')?;
-    push_number(out, constituency)?;
-    push_spaced(out, group)?;
-    push_spaced(out, seats)
+    push_number(out, one)?;
+    push_spaced(out, two)?;
+    push_spaced(out, three)
 }
 
 /// Puts the line of a list at the end, if it has seats.

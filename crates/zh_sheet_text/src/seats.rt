@@ -3,23 +3,22 @@ ghost use Rattle.std.specs.Io.KnownBytes.{Appends};
 ghost use Rattle.std.specs.Option.{option_map_or};
 ghost use Rattle.std.specs.Prelude.{IfOk, ◌≤◌, OnOk, length, ◌≡◌, ◌^◌, [], decimal};
 ghost use Rattle.zh_record_text.specs.Records.{IsBetweenRecords, PutsText};
-ghost use Rattle.zh_sheet_text.specs.Lists.{seats_text, AreTexts, seats_row, standing_row, list_quotient};
+ghost use Rattle.zh_sheet_text.specs.Lists.{seats_text, seats_row, list_quotient};
 ghost use Rattle.zh_sheet_text.specs.Quotients.{quotient};
 ghost use Rattle.zh_sheet_text.specs.SheetText.{divisor_text};
 
 use crate::mark::Mark;
+use arrayvec::ArrayVec;
 use csv::Writer;
 use itoa::Buffer;
-use std::alloc::{AllocError, Global};
 use std::io::Write;
 use zh_record_text::{NumberedRows, RecordFault, write_each, write_record, write_table};
 use zh_sheet::Sheet;
-use zh_text::{millionths_text, push_number};
+use zh_text::{DecimalText, millionths_text, push_numeral};
 
 /// The lists that stand in a constituency.
 #[derive(Drop)]
 struct StandingIn<'a, 's> {
-    alloc: Global,
     sheet: &'a Sheet<'s>,
     mark: Mark,
     constituency: u32,
@@ -41,21 +40,16 @@ impl<'a, 's, W: Write + Drop> NumberedRows<W> for StandingIn<'a, 's> {
     }
 
     fn write_row(&self, writer: &mut Writer<W>, group: u32) -> Result<(), RecordFault> {
-        write_standing(
-            self.alloc,
-            writer,
-            self.sheet,
-            self.mark,
-            self.constituency,
-            group,
-        )
+        if !self.sheet.setup().stands(self.constituency, group) {
+            return Ok(());
+        }
+        write_list(writer, self.sheet, self.mark, self.constituency, group)
     }
 }
 
 /// The lists that stand, constituency by constituency.
 #[derive(Drop)]
 struct Standing<'a, 's> {
-    alloc: Global,
     sheet: &'a Sheet<'s>,
     mark: Mark,
 }
@@ -76,7 +70,6 @@ impl<'a, 's, W: Write + Drop> NumberedRows<W> for Standing<'a, 's> {
 
     fn write_row(&self, writer: &mut Writer<W>, constituency: u32) -> Result<(), RecordFault> {
         let standing = StandingIn {
-            alloc: self.alloc,
             sheet: self.sheet,
             mark: self.mark,
             constituency,
@@ -88,7 +81,6 @@ impl<'a, 's, W: Write + Drop> NumberedRows<W> for Standing<'a, 's> {
 /// Writes the seats of a sheet, marked so: the names of the columns, and then a record for each list that stands, by
 /// constituency and then group. It gives the writer back. After an error a front of the text may be written.
 pub fn write_seats<W: Write + Drop>(
-    alloc: Global,
     sheet: &Sheet<'_>,
     mark: Mark,
     writer: W,
@@ -109,59 +101,28 @@ pub fn write_seats<W: Write + Drop>(
         "constituency_name",
         "group_name",
     ];
-    write_table(&columns, &Standing { alloc, sheet, mark }, writer)
+    write_table(&columns, &Standing { sheet, mark }, writer)
 }
 
-/// The numbers of a list that there may not be, and those with digits after the dot, as text.
-#[derive(Drop)]
-struct Texts {
-    voters: Vec<u8>,
-    constituency_divisor: Vec<u8>,
-    group_divisor: Vec<u8>,
-    quotient: Vec<u8>,
-}
-
-/// These texts of a list.
-fn texts_of(
-    alloc: Global,
-    sheet: &Sheet<'_>,
-    constituency: u32,
-    group: u32,
-) -> Result<Texts, AllocError>
-    requires from_one { 1 ≤ constituency }
-    requires there { constituency ≤ length sheet.now.totals.canton.constituencies }
-    requires group_from_one { 1 ≤ group }
-    requires group_there { group ≤ length sheet.now.totals.canton.groups }
-    ensures { IfOk result (AreTexts sheet.now constituency group) }
-{
-    let of_constituency = u128::from(sheet.constituency_divisor(constituency));
-    let of_group = sheet.group_divisor(group).map(u128::from);
-    let quotient = list_quotient(sheet, constituency, group);
-    Ok(Texts {
-        voters: number_or_nothing(alloc, sheet.list_voters(constituency, group))?,
-        constituency_divisor: millionths_or_nothing(alloc, Some(of_constituency))?,
-        group_divisor: millionths_or_nothing(alloc, of_group)?,
-        quotient: millionths_or_nothing(alloc, quotient)?,
-    })
-}
-
-/// Writes the record of a list with these texts.
+/// Writes the record of a list.
 fn write_list<W: Write + Drop>(
     writer: &mut Writer<W>,
     sheet: &Sheet<'_>,
     mark: Mark,
     constituency: u32,
     group: u32,
-    texts: Texts,
 ) -> Result<(), RecordFault>
     requires ready { IsBetweenRecords writer.old }
     requires from_one { 1 ≤ constituency }
     requires there { constituency ≤ length sheet.now.totals.canton.constituencies }
     requires group_from_one { 1 ≤ group }
     requires group_there { group ≤ length sheet.now.totals.canton.groups }
-    requires texts { AreTexts sheet.now constituency group texts }
     ensures { OnOk result (PutsText W.contents (seats_row sheet.now mark constituency group) writer.old writer.new) }
 {
+    let voters = number_or_nothing(sheet.list_voters(constituency, group));
+    let of_constituency = millionths_text(u128::from(sheet.constituency_divisor(constituency)));
+    let of_group = millionths_or_nothing(sheet.group_divisor(group).map(u128::from));
+    let quotient = millionths_or_nothing(list_quotient(sheet, constituency, group));
     let mut constituency_numeral = Buffer::new();
     let mut group_numeral = Buffer::new();
     let mut votes = Buffer::new();
@@ -173,44 +134,19 @@ fn write_list<W: Write + Drop>(
         votes
             .format(sheet.totals().votes(constituency, group))
             .as_bytes(),
-        texts.voters.as_slice(),
+        voters.as_slice(),
         seats
             .format(sheet.list_seats(constituency, group))
             .as_bytes(),
-        texts.constituency_divisor.as_slice(),
-        texts.group_divisor.as_slice(),
-        texts.quotient.as_slice(),
+        of_constituency.as_slice(),
+        of_group.as_slice(),
+        quotient.as_slice(),
         mark.kind().as_bytes(),
         accepted.format(mark.accepted).as_bytes(),
         sheet.constituency_name(constituency).as_bytes(),
         sheet.group_name(group).as_bytes(),
     ];
     write_record(writer, &fields)
-}
-
-/// Writes the record of a list, if it stands.
-pub(crate) fn write_standing<W: Write + Drop>(
-    alloc: Global,
-    writer: &mut Writer<W>,
-    sheet: &Sheet<'_>,
-    mark: Mark,
-    constituency: u32,
-    group: u32,
-) -> Result<(), RecordFault>
-    requires ready { IsBetweenRecords writer.old }
-    requires from_one { 1 ≤ constituency }
-    requires there { constituency ≤ length sheet.now.totals.canton.constituencies }
-    requires group_from_one { 1 ≤ group }
-    requires group_there { group ≤ length sheet.now.totals.canton.groups }
-    ensures { OnOk result (PutsText W.contents (standing_row sheet.now mark constituency group) writer.old writer.new) }
-{
-    if !sheet.setup().stands(constituency, group) {
-        return Ok(());
-    }
-    match texts_of(alloc, sheet, constituency, group) {
-        Ok(texts) => write_list(writer, sheet, mark, constituency, group, texts),
-        Err(_) => Err(RecordFault::Memory),
-    }
 }
 
 /// Votes over the product of the divisors of their constituency and group, which are in millionths: so many whole millionths.
@@ -225,7 +161,7 @@ fn quotient(votes: u64, of_constituency: u64, of_group: u64) -> u128
 }
 
 /// The quotient of a list, if its group has seats.
-pub(crate) fn list_quotient(sheet: &Sheet<'_>, constituency: u32, group: u32) -> Option<u128>
+fn list_quotient(sheet: &Sheet<'_>, constituency: u32, group: u32) -> Option<u128>
     requires from_one { 1 ≤ constituency }
     requires there { constituency ≤ length sheet.now.totals.canton.constituencies }
     requires group_from_one { 1 ≤ group }
@@ -240,25 +176,22 @@ pub(crate) fn list_quotient(sheet: &Sheet<'_>, constituency: u32, group: u32) ->
 }
 
 /// A number of millionths that there may be, with six digits after the dot.
-pub(crate) fn millionths_or_nothing(
-    alloc: Global,
-    millionths: Option<u128>,
-) -> Result<Vec<u8>, AllocError>
-    ensures { IfOk result (λ text. text.items ≡ option_map_or divisor_text millionths []) }
+fn millionths_or_nothing(millionths: Option<u128>) -> DecimalText
+    ensures { result.items ≡ option_map_or divisor_text millionths [] }
 {
     match millionths {
-        Some(millionths) => Vec::from_slice(alloc, millionths_text(millionths).as_slice()),
-        None => Ok(Vec::new(alloc)),
+        Some(millionths) => millionths_text(millionths),
+        None => DecimalText::new(),
     }
 }
 
 /// A number that there may be.
-pub(crate) fn number_or_nothing(alloc: Global, number: Option<u64>) -> Result<Vec<u8>, AllocError>
-    ensures { IfOk result (λ text. text.items ≡ option_map_or decimal number []) }
+fn number_or_nothing(number: Option<u64>) -> ArrayVec<u8, 20>
+    ensures { result.items ≡ option_map_or decimal number [] }
 {
-    let mut text = Vec::new(alloc);
+    let mut text = ArrayVec::new();
     if let Some(number) = number {
-        push_number(&mut text, number)?;
+        push_numeral(&mut text, number);
     }
-    Ok(text)
+    text
 }

@@ -1,4 +1,4 @@
-//! The lines of a sheet, in their order (docs/FORMATS.md, "The sheet"), and its text, written through a page.
+//! The lines of a sheet, in their order (docs/FORMATS.md, "The sheet"), and its text, written through a buffer.
 ghost use Rattle.std.specs.Io.KnownBytes.{Appends};
 ghost use Rattle.std.specs.Prelude.{◌≡◌, ◌≤◌, length, slice_index_or, ◌+◌, ◌<◌, ℕ, All, OnErr, OnOk, take};
 ghost use Rattle.zh_districts.specs.Canton.{IsCanton};
@@ -8,7 +8,7 @@ ghost use Rattle.zh_sheet_text.specs.Printing.{PrintsAll};
 ghost use Rattle.zh_sheet_text.specs.SheetText.{line_text, part_text, sheet_text};
 
 use crate::line::{Head, Label, LineParts, SheetPart, push_parts};
-use crate::page::{LINE, Page, ROOM};
+use crate::write_buffer::{LINE, ROOM, WriteBuffer, make_room, send};
 use std::io::Write;
 use zh_districts::Setup;
 use zh_sheet::Sheet;
@@ -184,23 +184,24 @@ pub fn line_at(setup: &Setup, place: u32) -> LineParts
     }
 }
 
-/// Puts a line on the page, where it is there, and makes room for the next.
+/// Writes a line, where it is there, and makes room for the next.
 fn print_line<W: Write>(
-    page: &mut Page,
+    buffer: &mut WriteBuffer,
     out: &mut W,
     sheet: &Sheet<'_>,
     head: Head,
     line: &LineParts,
 ) -> Result<(), WriteFault>
     requires parts { All (IsPartOf sheet.now.totals.canton) line.now.parts }
-    requires room { length page.old + LINE ≤ ROOM }
-    ensures { PrintsAll (line_text (part_text sheet.now head) line.now) result (W.contents out.old) page.old (W.contents out.new) page.new }
+    requires room { length buffer.old.items + LINE ≤ ROOM }
+    ensures { PrintsAll (line_text (part_text sheet.now head) line.now) result
+        (W.contents out.old) buffer.old.items (W.contents out.new) buffer.new.items }
 {
     if !line.is_there() {
         return Ok(());
     }
-    push_parts(page, sheet, head, line.parts());
-    page.make_room(out)
+    push_parts(buffer, sheet, head, line.parts());
+    make_room(buffer, out)
 }
 
 /// Writes the text of a sheet for a desk, as final or provisional, after so many accepted commands
@@ -224,9 +225,9 @@ pub fn write_sheet<W: Write>(
         accepted,
     };
     let setup = sheet.setup();
-    let mut page = Page::new();
+    let mut buffer = WriteBuffer::new();
     for place in 0..line_count(setup) {
-        print_line(&mut page, out, sheet, head, &line_at(setup, place))?;
+        print_line(&mut buffer, out, sheet, head, &line_at(setup, place))?;
     }
-    page.send(out)
+    send(&mut buffer, out)
 }

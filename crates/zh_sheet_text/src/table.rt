@@ -5,6 +5,7 @@ ghost use Rattle.zh_sheet_text.specs.Table.{wide_table, cell_in, last_in, label_
 ghost use Rattle.zh_sheet_text.specs.Table.{characters, on_left};
 ghost use Rattle.zh_text.specs.Each.{each_to};
 
+use crate::line::finality;
 use crate::mark::Mark;
 use itoa::Buffer;
 use std::alloc::{AllocError, Global};
@@ -95,7 +96,7 @@ fn push_title(out: &mut Vec<u8>, mark: Mark) -> Result<(), AllocError>
     ensures { OnOk result (out.new.items ≡ out.old.items ++ title mark) }
 {
     let whose = mark.source.whose().as_bytes();
-    out.extend_from_slice(mark.finality().as_bytes())?;
+    out.extend_from_slice(finality(mark.is_final).as_bytes())?;
     out.extend_from_slice(whose)?;
     out.extend_from_slice(b", ")?;
     push_number(out, mark.accepted)?;

@@ -1,19 +1,48 @@
-//! Votes that are hardly true, written row by row.
+//! Votes that are hardly true, written row by row, and why they are not compared with persons.
 
-ghost use Rattle.std.specs.Prelude.{◌≡◌, ◌≤◌, OnOk, length};
+ghost use Rattle.std.specs.Prelude.{◌≡◌, ◌≤◌, IfOk, OnOk, length, string_bytes};
 ghost use Rattle.zh_record_text.specs.Records.{IsBetweenRecords, PutsText};
-ghost use Rattle.zh_tables.specs.Implausible.{IsSeated, exceeding_in, exceeding_row, implausible_row, most_in, outweighing_row, outweighs};
+ghost use Rattle.zh_tables.specs.Implausible.{AreFound, IsSeated, exceeding_in, found_note, implausible_row, most_in, outweighing_row};
+ghost use Rattle.zh_tables.specs.Implausible.{outweighs};
 ghost use Rattle.zh_tables.specs.Progress.{AreFew};
 
 use crate::progress::{Progress, Region, entry_votes, progress_of, progress_within};
-use crate::rows::Found;
 use csv::Writer;
 use itoa::Buffer;
+use std::alloc::{AllocError, Global};
 use std::io::Write;
-use zh_districts::Setup;
+use zh_districts::{SeatFault, Setup, seats};
 use zh_divisors::Shares;
 use zh_record_text::{NumberedRows, RecordFault, write_each, write_record};
 use zh_returns::Count;
+
+/// The seats of the constituencies, or why they get none. Memory is not among the reasons.
+pub(crate) type Found = Result<Shares, SeatFault>;
+
+/// The seats of the constituencies of a set-up, or why they get none.
+pub(crate) fn found_seats(alloc: Global, setup: &Setup) -> Result<Found, AllocError>
+    ensures { IfOk result (AreFound setup.now) }
+{
+    match seats(alloc, setup) {
+        Err(SeatFault::Memory) => Err(AllocError),
+        found => Ok(found),
+    }
+}
+
+/// Why votes are not compared with persons, in a line, if they are not.
+pub(crate) fn found_note(alloc: Global, found: &Found) -> Result<String, AllocError>
+    ensures { IfOk result (λ note. string_bytes note ≡ found_note found.now) }
+{
+    match found {
+        Err(SeatFault::Tied) => {
+            format!(in alloc; "tied seats: votes are not compared with persons\n")
+        }
+        Err(SeatFault::NoSeat(constituency)) => {
+            format!(in alloc; "noseat {constituency}: votes are not compared with persons\n")
+        }
+        Err(SeatFault::Memory) | Ok(_) => Ok(String::new(alloc)),
+    }
+}
 
 /// Votes, and what they are more than.
 #[derive(Clone, Copy)]
@@ -59,40 +88,6 @@ fn most_in(setup: &Setup, seats: &[u32], constituency: u32) -> u64
     u64::from(setup.persons(constituency)) * u64::from(seats[(constituency - 1) as usize])
 }
 
-/// Writes the record of a return, if it has more votes than there can be.
-fn write_exceeding<W: Write + Drop>(
-    writer: &mut Writer<W>,
-    count: &Count<'_>,
-    seats: &[u32],
-    municipality: u32,
-    list: u32,
-) -> Result<(), RecordFault>
-    requires ready { IsBetweenRecords writer.old }
-    requires each { length seats.now ≡ length count.now.canton.constituencies }
-    requires from_one { 1 ≤ municipality }
-    requires there { municipality ≤ length count.now.canton.municipalities }
-    requires list_from_one { 1 ≤ list }
-    requires list_there { list ≤ length count.now.canton.groups }
-    ensures { OnOk result
-        (PutsText W.contents (exceeding_row count.now seats.now municipality list) writer.old writer.new) }
-{
-    let setup = count.setup();
-    let limit = most_in(setup, seats, setup.constituency_of(municipality));
-    let votes = entry_votes(count.entry(municipality, list));
-    if votes <= limit {
-        return Ok(());
-    }
-    let mut numeral = Buffer::new();
-    write_implausible(
-        writer,
-        municipality,
-        numeral.format(list).as_bytes(),
-        Excess { votes, limit },
-        setup.municipality_name(municipality),
-        setup.group_name(list),
-    )
-}
-
 /// The returns of a municipality that have more votes than there can be.
 #[derive(Drop)]
 struct ExceedingIn<'c> {
@@ -116,7 +111,21 @@ impl<'c, W: Write + Drop> NumberedRows<W> for ExceedingIn<'c> {
     }
 
     fn write_row(&self, writer: &mut Writer<W>, list: u32) -> Result<(), RecordFault> {
-        write_exceeding(writer, self.count, self.seats, self.municipality, list)
+        let setup = self.count.setup();
+        let limit = most_in(setup, self.seats, setup.constituency_of(self.municipality));
+        let votes = entry_votes(self.count.entry(self.municipality, list));
+        if votes <= limit {
+            return Ok(());
+        }
+        let mut numeral = Buffer::new();
+        write_implausible(
+            writer,
+            self.municipality,
+            numeral.format(list).as_bytes(),
+            Excess { votes, limit },
+            setup.municipality_name(self.municipality),
+            setup.group_name(list),
+        )
     }
 }
 

@@ -9,7 +9,6 @@ mod held_rows;
 mod implausible;
 mod problems;
 mod progress;
-mod rows;
 mod status;
 mod tables;
 mod view;

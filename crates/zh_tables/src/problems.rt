@@ -5,7 +5,7 @@ ghost use Rattle.std.specs.Prelude.{◌≡◌, ◌≤◌, ◌↔◌, IfOk, IsTru
 ghost use Rattle.zh_districts.specs.Claims.{Tell};
 ghost use Rattle.zh_record_text.specs.Records.{IsBetweenRecords, PutsText, record_text};
 ghost use Rattle.zh_tables.specs.Problems.{HasFewMarks, AreProblems, LacksList, LacksMunicipality, problem_count, problems_line};
-ghost use Rattle.zh_tables.specs.Tables.{header, marked_rows, problem_row, problem_rows};
+ghost use Rattle.zh_tables.specs.Tables.{header, marked_rows, problem_rows};
 ghost use Rattle.zh_tables.specs.declared.tables.Table.TheVariants.{Problems};
 
 use csv::Writer;
@@ -122,33 +122,6 @@ pub fn problems_line(alloc: Global, problems: &SetupProblems) -> Result<String, 
     format!(in alloc; "zhcount: problems of the set-up: {count}, named by list --of problems\n")
 }
 
-/// Writes the record of this problem of a constituency, if it is marked.
-fn write_problem<W: Write + Drop>(
-    writer: &mut Writer<W>,
-    setup: &Setup,
-    problem: &[u8],
-    marks: &[bool],
-    constituency: u32,
-) -> Result<(), RecordFault>
-    requires ready { IsBetweenRecords writer.old }
-    requires each { length marks.now ≡ length setup.now.constituencies }
-    requires from_one { 1 ≤ constituency }
-    requires there { constituency ≤ length setup.now.constituencies }
-    ensures { OnOk result (PutsText W.contents (problem_row setup.now problem.now marks.now constituency) writer.old writer.new) }
-{
-    if !marks[(constituency - 1) as usize] {
-        return Ok(());
-    }
-    let mut number = Buffer::new();
-    let name = setup.constituency_name(constituency);
-    let fields = [
-        problem,
-        number.format(constituency).as_bytes(),
-        name.as_bytes(),
-    ];
-    write_record(writer, &fields)
-}
-
 /// A problem, and the constituencies that have it.
 #[derive(Drop)]
 struct MarkedRows<'a> {
@@ -172,7 +145,16 @@ impl<'a, W: Write + Drop> NumberedRows<W> for MarkedRows<'a> {
     }
 
     fn write_row(&self, writer: &mut Writer<W>, constituency: u32) -> Result<(), RecordFault> {
-        write_problem(writer, self.setup, self.problem, self.marks, constituency)
+        if !self.marks[(constituency - 1) as usize] {
+            return Ok(());
+        }
+        let mut number = Buffer::new();
+        let fields = [
+            self.problem,
+            number.format(constituency).as_bytes(),
+            self.setup.constituency_name(constituency).as_bytes(),
+        ];
+        write_record(writer, &fields)
     }
 }
 

@@ -1,12 +1,11 @@
 //! The views, written row by row.
 ghost use Rattle.std.specs.Io.KnownBytes.{Appends};
-ghost use Rattle.std.specs.Prelude.{List, IfOk, ℕ, ◌≡◌, ◌≤◌, OnOk, length};
+ghost use Rattle.std.specs.Prelude.{List, IfOk, ℕ, ◌≡◌, OnOk};
 ghost use Rattle.zh_record_text.specs.Records.{IsBetweenRecords, PutsText};
-ghost use Rattle.zh_tables.specs.Status.{IsStatusText, missing_row, progress_row, state_of};
+ghost use Rattle.zh_tables.specs.Status.{IsStatusText, progress_row, state_of};
 
-use crate::implausible::ImplausibleRows;
+use crate::implausible::{ImplausibleRows, found_seats};
 use crate::progress::{Progress, Region, is_missing, progress_of, progress_within};
-use crate::rows::found_seats;
 use crate::view::View;
 use csv::Writer;
 use itoa::Buffer;
@@ -91,7 +90,19 @@ impl<'c, W: Write + Drop> NumberedRows<W> for MissingIn<'c> {
     }
 
     fn write_row(&self, writer: &mut Writer<W>, list: u32) -> Result<(), RecordFault> {
-        write_missing(writer, self.count, self.municipality, list)
+        if !is_missing(self.count, self.municipality, list) {
+            return Ok(());
+        }
+        let setup = self.count.setup();
+        let mut municipality = Buffer::new();
+        let mut numeral = Buffer::new();
+        let fields = [
+            municipality.format(self.municipality).as_bytes(),
+            numeral.format(list).as_bytes(),
+            setup.municipality_name(self.municipality).as_bytes(),
+            setup.group_name(list).as_bytes(),
+        ];
+        write_record(writer, &fields)
     }
 }
 
@@ -198,35 +209,6 @@ pub(crate) fn write_progress<W: Write + Drop>(
         state_of(&progress).as_bytes(),
         votes.format(progress.votes).as_bytes(),
         name.as_bytes(),
-    ];
-    write_record(writer, &fields)
-}
-
-/// Writes the record of a return, if it is due and not there.
-pub(crate) fn write_missing<W: Write + Drop>(
-    writer: &mut Writer<W>,
-    count: &Count<'_>,
-    municipality: u32,
-    list: u32,
-) -> Result<(), RecordFault>
-    requires ready { IsBetweenRecords writer.old }
-    requires from_one { 1 ≤ municipality }
-    requires there { municipality ≤ length count.now.canton.municipalities }
-    requires list_from_one { 1 ≤ list }
-    requires list_there { list ≤ length count.now.canton.groups }
-    ensures { OnOk result (PutsText W.contents (missing_row count.now municipality list) writer.old writer.new) }
-{
-    if !is_missing(count, municipality, list) {
-        return Ok(());
-    }
-    let setup = count.setup();
-    let mut municipality_numeral = Buffer::new();
-    let mut list_numeral = Buffer::new();
-    let fields = [
-        municipality_numeral.format(municipality).as_bytes(),
-        list_numeral.format(list).as_bytes(),
-        setup.municipality_name(municipality).as_bytes(),
-        setup.group_name(list).as_bytes(),
     ];
     write_record(writer, &fields)
 }

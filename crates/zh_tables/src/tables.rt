@@ -7,12 +7,12 @@ ghost use Rattle.zh_tables.specs.declared.tables.Table.TheVariants.{Constituenci
 use crate::due::{returns_due, write_returns};
 use crate::fault::ListFault;
 use crate::problems::{setup_problems, write_problems};
-use crate::rows::{write_constituency, write_group, write_list_in, write_municipality};
 use csv::Writer;
+use itoa::Buffer;
 use std::alloc::Global;
 use std::io::Write;
 use zh_districts::{Setup, seats};
-use zh_record_text::{NumberedRows, RecordFault, write_each, write_table};
+use zh_record_text::{NumberedRows, RecordFault, write_each, write_record, write_table};
 
 /// The part of a set-up that a table is of.
 #[derive(Clone, Copy, Debug, PartialEq, Eq)]
@@ -64,8 +64,17 @@ impl<'a, W: Write + Drop> NumberedRows<W> for ConstituencyRows<'a> {
     }
 
     fn write_row(&self, writer: &mut Writer<W>, constituency: u32) -> Result<(), RecordFault> {
+        let mut number = Buffer::new();
+        let mut persons = Buffer::new();
+        let mut numeral = Buffer::new();
         let seats = self.seats[(constituency - 1) as usize];
-        write_constituency(writer, self.setup, constituency, seats)
+        let fields = [
+            number.format(constituency).as_bytes(),
+            self.setup.constituency_name(constituency).as_bytes(),
+            persons.format(self.setup.persons(constituency)).as_bytes(),
+            numeral.format(seats).as_bytes(),
+        ];
+        write_record(writer, &fields)
     }
 }
 
@@ -90,7 +99,15 @@ impl<'a, W: Write + Drop> NumberedRows<W> for MunicipalityRows<'a> {
     }
 
     fn write_row(&self, writer: &mut Writer<W>, municipality: u32) -> Result<(), RecordFault> {
-        write_municipality(writer, self.setup, municipality)
+        let mut number = Buffer::new();
+        let mut constituency = Buffer::new();
+        let home = self.setup.constituency_of(municipality);
+        let fields = [
+            number.format(municipality).as_bytes(),
+            self.setup.municipality_name(municipality).as_bytes(),
+            constituency.format(home).as_bytes(),
+        ];
+        write_record(writer, &fields)
     }
 }
 
@@ -115,7 +132,12 @@ impl<'a, W: Write + Drop> NumberedRows<W> for GroupRows<'a> {
     }
 
     fn write_row(&self, writer: &mut Writer<W>, group: u32) -> Result<(), RecordFault> {
-        write_group(writer, self.setup, group)
+        let mut number = Buffer::new();
+        let fields = [
+            number.format(group).as_bytes(),
+            self.setup.group_name(group).as_bytes(),
+        ];
+        write_record(writer, &fields)
     }
 }
 
@@ -141,7 +163,18 @@ impl<'a, W: Write + Drop> NumberedRows<W> for ListsIn<'a> {
     }
 
     fn write_row(&self, writer: &mut Writer<W>, group: u32) -> Result<(), RecordFault> {
-        write_list_in(writer, self.setup, self.constituency, group)
+        if !self.setup.stands(self.constituency, group) {
+            return Ok(());
+        }
+        let mut constituency = Buffer::new();
+        let mut list = Buffer::new();
+        let fields = [
+            constituency.format(self.constituency).as_bytes(),
+            list.format(group).as_bytes(),
+            self.setup.constituency_name(self.constituency).as_bytes(),
+            self.setup.group_name(group).as_bytes(),
+        ];
+        write_record(writer, &fields)
     }
 }
 

@@ -2,8 +2,8 @@
 ghost use Rattle.std.specs.Prelude.{◌≡◌, IfOk, string_bytes};
 ghost use Rattle.zh_tables.specs.Status.{IsSaidOf, summary, would_be};
 
+use crate::implausible::{found_note, found_seats};
 use crate::progress::{Progress, Region, progress_within};
-use crate::rows::{found_note, found_seats};
 use std::alloc::{AllocError, Global};
 use zh_returns::Count;
 

@@ -1,7 +1,9 @@
 //! Bytes that are put together in an array of fixed length, with no memory: each call writes after what is there.
 
-ghost use Rattle.std.specs.Prelude.{◌≡◌, ◌+◌, ◌≤◌, ◌++◌, length, decimal};
+ghost use Rattle.std.specs.Prelude.{◌≡◌, ◌+◌, ◌≤◌, ◌++◌, codes, length, decimal};
+ghost use Rattle.zh_text.specs.Numbers.{millionths_text, or_dash};
 
+use crate::numbers::millionths_text;
 use arrayvec::ArrayVec;
 use itoa::Buffer;
 
@@ -38,4 +40,47 @@ pub fn push_numbered<const N: usize>(text: &mut ArrayVec<u8, N>, words: &str, nu
 {
     push(text, words);
     push_numeral(text, u64::from(number));
+}
+
+/// Writes a numeral, or a dash where there is no number.
+pub fn push_numeral_or_dash<const N: usize>(text: &mut ArrayVec<u8, N>, number: Option<u64>)
+    requires { length text.old.items + 20 ≤ N }
+    ensures text { text.new.items ≡ text.old.items ++ or_dash decimal number }
+    ensures short { length text.new.items ≤ length text.old.items + 20 }
+{
+    match number {
+        Some(number) => push_numeral(text, number),
+        None => push(text, "-"),
+    }
+}
+
+/// Writes a fraction, which has at most 41 bytes.
+pub fn push_fraction<const N: usize>(text: &mut ArrayVec<u8, N>, num: u64, den: u32)
+    requires { length text.old.items + 41 ≤ N }
+    ensures text { text.new.items ≡ text.old.items ++ (decimal num ++ (codes "/" ++ decimal den)) }
+    ensures short { length text.new.items ≤ length text.old.items + 41 }
+{
+    push_numeral(text, num);
+    push_numbered(text, "/", den);
+}
+
+/// Writes a divisor in millionths, with six digits after the dot, which has at most 27 bytes.
+pub fn push_divisor<const N: usize>(text: &mut ArrayVec<u8, N>, millionths: u64)
+    requires { length text.old.items + 27 ≤ N }
+    ensures text { text.new.items ≡ text.old.items ++ millionths_text millionths }
+    ensures short { length text.new.items ≤ length text.old.items + 27 }
+{
+    push_bytes(text, &millionths_text(u128::from(millionths)));
+}
+
+/// Writes a divisor in millionths, or a dash where there is none.
+pub fn push_divisor_or_dash<const N: usize>(text: &mut ArrayVec<u8, N>, millionths: Option<u64>)
+    requires { length text.old.items + 27 ≤ N }
+    ensures text { text.new.items ≡ text.old.items ++ or_dash millionths_text millionths }
+    ensures short { length text.new.items ≤ length text.old.items + 27 }
+{
+    match millionths {
+        Some(millionths) => push_divisor(text, millionths),
+        None => push(text, "-"),
+    }
 }

@@ -3,6 +3,7 @@ ghost use Rattle.std.specs.Int.{IsInRange};
 ghost use Rattle.std.specs.Prelude.{◌≡◌, ◌<◌, ◌≤◌, ◌^◌, ◌++◌, OnOk, length, ◌≢◌, ◌↔◌, ℕ, slice_index, decimal, IsTrue, MatchOption};
 ghost use Rattle.zh_text.specs.Numbers.{millionths_text, padded};
 
+use crate::fixed_text::{push, push_bytes};
 use arrayvec::ArrayVec;
 use itoa::{Buffer, Integer};
 use std::alloc::AllocError;
@@ -28,10 +29,10 @@ pub fn padded(number: u32, digits: usize) -> Padded
 {
     let zeros = [b'0'; 6];
     let mut buffer = Buffer::new();
-    let written = buffer.format(number).as_bytes();
+    let written = buffer.format(number);
     let mut text = Padded::new();
-    let _zeros_fit = text.try_extend_from_slice(&zeros[..digits - written.len()]);
-    let _digits_fit = text.try_extend_from_slice(written);
+    push_bytes(&mut text, &zeros[..digits - written.len()]);
+    push(&mut text, written);
     text
 }
 
@@ -42,13 +43,10 @@ pub type DecimalText = ArrayVec<u8, 47>;
 pub fn millionths_text(millionths: u128) -> DecimalText
     ensures { result.items ≡ millionths_text millionths }
 {
-    let mut buffer = Buffer::new();
-    let whole = buffer.format(millionths / 1_000_000).as_bytes();
-    let rest = padded((millionths % 1_000_000) as u32, 6);
     let mut text = DecimalText::new();
-    let _whole_fits = text.try_extend_from_slice(whole);
-    text.push(b'.');
-    let _rest_fits = text.try_extend_from_slice(rest.as_slice());
+    push(&mut text, Buffer::new().format(millionths / 1_000_000));
+    push(&mut text, ".");
+    push_bytes(&mut text, &padded((millionths % 1_000_000) as u32, 6));
     text
 }
 

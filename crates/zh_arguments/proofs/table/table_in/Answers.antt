@@ -1,7 +1,6 @@
-use Rattle.std.proofs.Common.{◌∙◌, refl, codes}
+use Rattle.std.proofs.Common.{◌∙◌, codes}
 use Rattle.clap.specs.Words.{found_of, rows_of}
 use Rattle.clap.proofs.WalkLemmas.{first_value-rows}
-use Rattle.zh_arguments.proofs.ArgumentLemmas.{path_found}
 use Rattle.zh_arguments.proofs.TableLemmas.{no_part, table_read}
 use Rattle.zh_arguments.proofs.table.table_in.Goals as goal
 
@@ -14,7 +13,6 @@ returns-in_err-part c =
 pub returns : goal.returns
 returns c =
     let found = found_of c.args.given.now in
-    let name = path_found c.get_str-3.result _ c.unwrap_or.result found (codes "of") c.get_str-3.ensures refl c.unwrap_or.ensures in
-    table_read (rows_of found) _ _ c.unwrap_or.result.now c.in_ok-part.part c.table_named.result
+    table_read (rows_of found) _ _ c.path_in.result.now c.in_ok-part.part c.table_named.result
     (c.get_str.ensures ∙ first_value-rows found (codes "municipality"))
-    (c.get_str-2.ensures ∙ first_value-rows found (codes "constituency")) name c.in_ok-part.ensures c.table_named.ensures
+    (c.get_str-2.ensures ∙ first_value-rows found (codes "constituency")) c.path_in.ensures c.in_ok-part.ensures c.table_named.ensures

@@ -4,8 +4,8 @@ use Rattle.std.proofs.lemmas.Fmt.{length-decimal-le}
 use Rattle.zh_commands.proofs.replies.write_reply.Goals as goal
 
 -- a desk has at most three digits
-pub push_line-requires : goal.push_line-requires
-push_line-requires c =
+pub push_answer-requires : goal.push_answer-requires
+push_answer-requires c =
     let digits = length-decimal-le 3 c.args.desk (omega arith) (omega (arith, c.ranges.desk.fits)) (omega (arith, c.ranges.desk.fits)) in
     let text : c.push.new.text.items ≡ decimal c.args.desk ++ 32 ∷ [] =
     c.push.ensures ∙ ap (λ l. l ++ 32 ∷ []) (c.push_numeral.ensures.text ∙ ap (λ l. l ++ decimal c.from.result) c.new-text.ensures ∙ ap decimal c.from.ensures) in

@@ -5,6 +5,6 @@ use Rattle.zh_sheet_text.proofs.line.push_parts.Given as goal
 -- what was put so far, and the parts that are left
 abbrev pub invariant-loop-place : goal.invariant-loop-place
 invariant-loop-place l = record {
-  text : l.page ++ joined_parts (part_text l.sheet l.head) (drop l.place l.parts) ≡ l.fn.page ++ joined_parts (part_text l.sheet l.head) l.parts;
-  short : length l.page ≤ length l.fn.page + 42 * l.place;
+  text : l.text.items ++ joined_parts (part_text l.sheet l.head) (drop l.place l.parts) ≡ l.fn.text.items ++ joined_parts (part_text l.sheet l.head) l.parts;
+  short : length l.text.items ≤ length l.fn.text.items + 42 * l.place;
 }

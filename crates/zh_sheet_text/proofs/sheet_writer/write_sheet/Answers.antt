@@ -6,7 +6,7 @@ use Rattle.zh_sheet_text.proofs.PrintingLemmas.{Prints-put, at_error, lines_all,
 use Rattle.zh_sheet_text.proofs.sheet_writer.write_sheet.Goals as goal
 
 pub loop-place-init : goal.loop-place-init
-loop-place-init g c = (Prints-put _ _ _ _ c.new-page.ensures, omega (arith, ap length c.new-page.ensures))
+loop-place-init g c = (Prints-put _ _ _ _ c.new-buffer.ensures, omega (arith, ap length c.new-buffer.ensures))
 
 pub print_line-requires-clause-parts : goal.print_line-requires-clause-parts
 print_line-requires-clause-parts g c =

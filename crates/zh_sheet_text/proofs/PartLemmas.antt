@@ -1,12 +1,10 @@
--- Parts that are put on a page one after another.
-use Rattle.std.proofs.Common.{◌≡◌, ℕ, zero, suc, ◌+◌, ◌<◌, Bool, true, false, if◌then◌else◌, Option, Some, None}
-use Rattle.std.proofs.Common.{List, [], ◌∷◌, ◌++◌, length, drop, codes, decimal, refl, ap, sym, ◌∙◌, inl, inr, arith, append_assoc}
-use Rattle.std.specs.Option.{option_map_or}
+-- Parts that are written one after another.
+use Rattle.std.proofs.Common.{◌≡◌, ℕ, zero, suc, ◌+◌, ◌<◌, Bool, true, false, if◌then◌else◌}
+use Rattle.std.proofs.Common.{List, [], ◌∷◌, ◌++◌, length, drop, refl, ap, sym, ◌∙◌, inl, inr, arith, append_assoc}
 use Rattle.std.specs.Prelude.{◌==◌}
 use Rattle.std.proofs.lemmas.Bool.{cases_lt, eq-eqb, ne_eqb}
 use Rattle.std.proofs.lemmas.List.{drop_all}
 use Rattle.zh_sheet_text.specs.Layout.{mark_before}
-use Rattle.zh_sheet_text.specs.Printing.{or_dash}
 use Rattle.zh_sheet_text.specs.declared.line.SheetPart.{SheetPart}
 
 -- a part and the mark after it, of what is still to be put
@@ -30,14 +28,3 @@ last_of parts k lt = elim (cases_lt (k + 1) (length parts)) [
   | inr past ↦
       ap (λ b. if b then 10 else 32) (eq-eqb (k + 1) (length parts) (omega (arith, lt, past))) ∙ sym (ap mark_before (drop_all (k + 1) parts past))
 ]
-
--- a dash for what is left out
-pub dash_unless : (there : Bool) (n : ℕ) → or_dash decimal (if there then Some n else None) ≡ (if there then decimal n else codes "-")
-dash_unless true n = refl
-dash_unless false n = refl
-
--- a dash for what isn't found
-pub dash_unless_found : (text : ℕ → List ℕ) (f : ℕ → ℕ) (found : Option ℕ) →
-    or_dash text (option_map_or (λ k. Some (f k)) found None) ≡ option_map_or (λ k. text (f k)) found (codes "-")
-dash_unless_found text f None = refl
-dash_unless_found text f (Some k) = refl

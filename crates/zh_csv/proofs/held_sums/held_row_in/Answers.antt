@@ -2,7 +2,7 @@ use Rattle.std.proofs.Common.{rules, ◌≡◌, ◌∙◌, refl, sym, arith}
 use Rattle.csv.specs.Records.{fields_of}
 use Rattle.zh_csv.proofs.FieldLemmas.{one_numeral}
 use Rattle.zh_csv.specs.Rows.{held_fields}
-use Rattle.zh_csv.proofs.held_sums.row_in.Goals as goal
+use Rattle.zh_csv.proofs.held_sums.held_row_in.Goals as goal
 
 pub returns-then-row-eq0 : goal.returns-then-row-eq0
 returns-then-row-eq0 c row is e =
