@@ -1,18 +1,15 @@
 -- What a check reads, and what it answers.
-use Rattle.std.proofs.Common.{◌≡◌, ◌≤◌, ℕ, Bool, true, false, List, length, take, Option, Some, None, Result, Ok, Err, IfErr, sym, subst, arith}
+use Rattle.std.proofs.Common.{◌≡◌, ◌≤◌, ℕ, List, length, take, Option, Some, None, Result, Ok, Err, IfErr, sym, subst, arith}
 use Rattle.std.proofs.lemmas.List.{length-take, take_all}
-use Rattle.zh_check.specs.declared.checked.SheetVerdict.TheVariants.{Right}
-use Rattle.zh_verdicts.specs.Checks.{Inputs, IsVerdict}
 use Rattle.zh_districts.specs.Canton.{Canton}
 use Rattle.zh_csv.specs.declared.held_sums.HeldSums.{HeldSums}
 use Rattle.zh_file.specs.declared.files.Files.{Ghosts as Files}
 use Rattle.zh_program.specs.World.{AreCalls}
-use Rattle.zh_program.specs.Check.{Answers, IsOfSheet, LacksSheetFile, ReadsHeld}
+use Rattle.zh_program.specs.Check.{IsOfSheet, LacksSheetFile, ReadsHeld}
 use Rattle.zh_file.specs.declared.fault.FileFault.{FileFault}
 use Rattle.zh_program.specs.declared.fault.TaskFault.{TaskFault}
 use Rattle.zh_program.specs.declared.fault.TaskFault.TheVariants as faults
 use Rattle.zh_program.specs.declared.place.TaskFile.TheVariants as files
-use Rattle.zh_program.specs.Load.{WritesPart}
 use Rattle.zh_program.proofs.TextLemmas.{no_calls}
 
 -- a file that was opened gives no sheet
@@ -24,12 +21,6 @@ opened_lacks Met fault is = absurd is
 pub opened_result : {X : Type 0} (Met : FileFault → Type 0) (result : Result X TaskFault) → IfErr result IsOfSheet → IfErr result (LacksSheetFile Met)
 opened_result Met (Ok text) is = tt
 opened_result Met (Err fault) is = opened_lacks Met fault is
-
--- a verdict that is not written to its end
-pub cut_off : (U : Type 0) (w w' : Option (List ℕ)) (inputs : Inputs) (is_right : Bool) (text : List ℕ)
-    → IsVerdict inputs is_right text → WritesPart w w' text → Answers U w w' inputs (Err faults.Write)
-cut_off U w w' inputs true text (right, comes, is) part = (Right right, comes, subst (λ (t : List ℕ). WritesPart w w' t) is part)
-cut_off U w w' inputs false text (verdict, comes, wrong, is) part = (verdict, comes, subst (λ (t : List ℕ). WritesPart w w' t) is part)
 
 -- an export is read in one call at most
 pub held_calls : {F T D R : Type 0} (files : Files F T D R) (canton : Canton) (path : Option (List ℕ)) (old new : F) (result : Result (Option HeldSums) TaskFault)

@@ -1,6 +1,6 @@
 //! What is reported of a fault, and what a task says beside its answer.
 
-ghost use Rattle.std.specs.Prelude.{◌≡◌, ◌+◌, ◌≤◌, ◌++◌, ◌∷◌, [], codes, length, option_map, decimal};
+ghost use Rattle.std.specs.Prelude.{◌≡◌, ◌+◌, ◌≤◌, ◌++◌, length, option_map};
 ghost use Rattle.zh_program.specs.Paths.{shown_path};
 ghost use Rattle.zh_program.specs.Remarks.{BecameOf};
 ghost use Rattle.zh_program.specs.Reports.{fault_text, report_text, second_line};
