@@ -9,7 +9,7 @@ use crate::tally::Tally;
 use std::alloc::{AllocError, Global};
 use zh_decided::{Decision, DecisionRoom, are_balanced, decide};
 use zh_divisors::{ShareFault, Shares, Weights, apportion};
-use zh_lower::{LowerFault, Matrix, NoLower, find, find_or_tie, lot};
+use zh_lower::{LowerFault, Matrix, NoLower, find, find_or_reason, lot};
 use zh_matrices::Question;
 
 #[derive(Drop)]
@@ -226,7 +226,7 @@ fn run_lot(
     requires column_totals { AreSeatTotals matrix.now.columns column_totals.now }
     requires votes { EachColumnHasVotes (question matrix.now row_totals.now column_totals.now) }
 {
-    match find_or_tie(alloc, matrix, row_totals, column_totals) {
+    match find_or_reason(alloc, matrix, row_totals, column_totals) {
         Err(NoLower::Tied(tie)) => {
             let question = matrix.question(row_totals, column_totals);
             let ranges = lot(alloc, &question, &tie)?;

@@ -8,7 +8,7 @@ use crate::question::{Written, are_totals, are_votes, each_column_has_votes};
 use std::alloc::{AllocError, Global};
 use zh_case_text::{CaseFault, push_number, with_numbers};
 use zh_decided::{Decision, DecisionRoom, Findings, MarkedRows, are_balanced, decide};
-use zh_lower::{Lower, LowerFault, Matrix, NoLower, Ranges, find, find_or_tie, lot};
+use zh_lower::{Lower, LowerFault, Matrix, NoLower, Ranges, find, find_or_reason, lot};
 use zh_matrices::Question;
 
 /// Who is asked.
@@ -84,7 +84,7 @@ fn drawn(
     requires column_totals { AreSeatTotals matrix.now.columns column_totals.now }
     requires votes { EachColumnHasVotes (question matrix.now row_totals.now column_totals.now) }
 {
-    match find_or_tie(alloc, matrix, row_totals, column_totals) {
+    match find_or_reason(alloc, matrix, row_totals, column_totals) {
         Err(NoLower::Tied(tie)) => {
             let question = matrix.question(row_totals, column_totals);
             ranges(alloc, &lot(alloc, &question, &tie)?, question.columns)

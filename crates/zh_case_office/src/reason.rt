@@ -6,7 +6,7 @@ use std::alloc::{AllocError, Global};
 use std::fs::File;
 use zh_case_text::{CaseFault, with_numbers};
 use zh_returns::Count;
-use zh_sheet::{ExhaustedReason, ListSeats, explain};
+use zh_sheet::{ExhaustedReason, ListSeats, NoSheet, SheetFault, make_or_reason};
 use zh_totals::Totals;
 
 /// The answer where memory was refused.
@@ -45,6 +45,24 @@ fn with_lists(alloc: Global, word: &str, lists: &ListSeats) -> Result<String, Al
     Ok(text)
 }
 
+/// The reason of an exhausted search, in so many constituencies.
+fn exhausted(
+    alloc: Global,
+    reason: &ExhaustedReason,
+    constituencies: u32,
+) -> Result<String, AllocError>
+    requires { constituencies ≤ 32 }
+{
+    match reason {
+        ExhaustedReason::Impossible(marked) => impossible(alloc, marked, constituencies),
+        ExhaustedReason::NearlyTied(constituency, group) => {
+            let numbers = [u64::from(*constituency), u64::from(*group)];
+            with_numbers(alloc, "nearly tied", &numbers)
+        }
+        ExhaustedReason::Beyond(lists) => with_lists(alloc, "beyond", lists),
+    }
+}
+
 /// Why the seats of the lists of a count are exhausted, or the fault before. `mark` stands round the calls.
 pub fn reason_of(
     alloc: Global,
@@ -55,18 +73,18 @@ pub fn reason_of(
         drop(mark);
         return memory(alloc);
     };
-    let explained = explain(alloc, &totals);
+    let made = make_or_reason(alloc, &totals);
     drop(mark);
-    match explained {
-        Ok(ExhaustedReason::Impossible(marked)) => {
-            Ok(impossible(alloc, &marked, totals.setup().constituencies())?)
+    match made {
+        Ok(_) => Ok(String::from_str(alloc, "a sheet")?),
+        Err(NoSheet::Exhausted(reason)) => Ok(exhausted(
+            alloc,
+            &reason,
+            totals.setup().constituencies(),
+        )?),
+        Err(none) => {
+            let fault = SheetFault::from(none);
+            Ok(format!(in alloc; "{fault}")?)
         }
-        Ok(ExhaustedReason::NearlyTied(constituency, group)) => {
-            let numbers = [u64::from(constituency), u64::from(group)];
-            Ok(with_numbers(alloc, "nearly tied", &numbers)?)
-        }
-        Ok(ExhaustedReason::Beyond(lists)) => Ok(with_lists(alloc, "beyond", &lists)?),
-        Ok(ExhaustedReason::Missed(lists)) => Ok(with_lists(alloc, "missed", &lists)?),
-        Err(fault) => Ok(format!(in alloc; "{fault}")?),
     }
 }

@@ -7,8 +7,8 @@ mod QuotientLemmas
 mod ReachedLemmas
 mod StateLemmas
 mod TieLemmas
-mod DecidedLemmas
 mod ExtremeLemmas
+mod FallbackLemmas
 mod LotLemmas
 mod MiddleLemmas
 mod RoundLemmas

@@ -3,7 +3,8 @@ use Rattle.std.proofs.Common.{◌≡◌, ℕ, ◌-◌, ◌<◌, ◌≤◌, List,
 use Rattle.std.proofs.lemmas.Bool.{cases_lt}
 use Rattle.std.specs.Prelude.{IsErrOf}
 use Rattle.zh_matrices.specs.Divisors.{AreWithinLimits, Divisors, millionths}
-use Rattle.zh_lower.specs.Outcomes.{ComesToTie, IsProper}
+use Rattle.zh_lower.specs.Outcomes.{ComesToTie, IsProper, NoneBefore}
+use Rattle.zh_lower.specs.Reasons.{HandsOver, HasReason, fault_of}
 use Rattle.zh_lower.specs.SearchRooms.{divisors_of}
 use Rattle.zh_divisors.proofs.CallerLemmas.{term-le-sum_to}
 use Rattle.zh_matrices.specs.Question.{AreSeatTotals, IsFirstWithoutVotes, Question, cell, row_votes}
@@ -11,17 +12,20 @@ use Rattle.zh_matrices.specs.SeatMatrix.{IsStrict, IsWeak, SeatMatrix}
 use Rattle.zh_lower.specs.Seating.{LowerOutcome, NoneFound}
 use Rattle.zh_lower.specs.Shown.{IsShown}
 use Rattle.zh_lower.specs.declared.lower.LowerFault.{LowerFault}
-use Rattle.zh_lower.specs.Ties.{HandsOver, IsLowerTie}
+use Rattle.zh_lower.specs.States.{state}
+use Rattle.zh_lower.specs.Ties.{IsLowerTie}
+use Rattle.zh_lower.specs.declared.fallback.Decided.{Decided}
 use Rattle.zh_lower.specs.declared.lower.LowerFault.TheVariants as faults
-use Rattle.zh_lower.specs.declared.tie.NoLower.{NoLower}
-use Rattle.zh_lower.specs.declared.tie.NoLower.TheVariants.{Exhausted, NoVotes, Tied}
+use Rattle.zh_lower.specs.declared.lower.NoLower.{NoLower}
+use Rattle.zh_lower.specs.declared.lower.NoLower.TheVariants.{Exhausted, NoVotes, Tied, Unbalanced}
 use Rattle.zh_lower.specs.declared.tie.Tie.{Tie}
-use Rattle.zh_matrices.proofs.CallerLemmas.{no_seats, only_seats, positive_place}
+use Rattle.zh_matrices.proofs.CallerLemmas.{no_seats, only_seats, positive_place, weakened}
+use Rattle.zh_decided.specs.Decisions.{LeavesNone}
+use Rattle.zh_decided.specs.Rooms.{found}
+use Rattle.zh_decided.specs.Ways.{AreBalanced}
 use Rattle.zh_decided.proofs.CallerLemmas.{fits-weak}
+use Rattle.zh_lower.proofs.FallbackLemmas.{balanced, none_given}
 use Rattle.zh_lower.proofs.TieLemmas.{same-tie, tie-is-end}
-
-tied_is : (result : Result SeatMatrix NoLower) (one other : Tie) → result ≡ Err (Tied one) → IsErrOf result (Tied other) → one ≡ other
-tied_is result one other is same = cc
 
 votes_there : (q : Question) → IsProper q → (d : ℕ) → ¬ IsFirstWithoutVotes q d
 votes_there q proper d first = first.none (proper.row_votes (d - 1) (omega (arith, first.from_1, first.there)))
@@ -32,16 +36,38 @@ tied-none q d g is =
     no_seats q is.divisors is.tied.seats is.tied.others ways.one_way ways.other_way ways.differ
 
 -- no state has seats, nor the decision
-pub exhausted : (q : Question) → IsProper q → NoneFound q → HandsOver q (Err Exhausted)
-exhausted q proper none = record {
-  outcome = record {
+none_found : (q : Question) (reason : NoLower) → IsProper q → NoneFound q → fault_of reason ≡ faults.Exhausted → HasReason q reason →
+    HandsOver q (Err reason)
+none_found q reason proper none name is = record {
+  outcome = rw name (record {
     seats = tt;
     fault = none;
     no_votes = λ d first. absurd (votes_there q proper d first);
     tied = λ d g comes. absurd (tie-is-end q d g comes none.none_before);
-  };
-  tie = λ tie is. cc;
+  });
+  reason = is;
 }
+
+pub exhausted : (q : Question) (decided : Decided) → IsProper q → NoneBefore q 2001 → LeavesNone q decided.decision →
+    HasReason q (Exhausted decided) → HandsOver q (Err (Exhausted decided))
+exhausted q decided proper none leaves is =
+    none_found q (Exhausted decided) proper (record {
+      none_before = none;
+      none_given = none_given q (found decided.findings) decided.decision leaves is.1;
+      in_vain = inr (record { findings = found decided.findings; decision = decided.decision; decides = is.0; tried = is.1 });
+    }) refl is
+
+-- rows and columns are to get different numbers of seats
+pub unbalanced : (q : Question) → IsProper q → ¬ AreBalanced q → HandsOver q (Err Unbalanced)
+unbalanced q proper fails =
+    none_found q Unbalanced proper (record {
+      none_before = λ k lt. record {
+        none = λ seats strict. fails (balanced q (state q k) seats (weakened q (state q k) seats strict));
+        not_tied = λ seats others ways. fails (balanced q (state q k) seats ways.one_way);
+      };
+      none_given = λ rows columns seats given. fails (balanced q (millionths rows columns) seats (weakened q (millionths rows columns) seats given.strict));
+      in_vain = inl fails;
+    }) refl fails
 
 -- the search comes to a tie
 tied_there : (q : Question) (d g e f : ℕ) → ComesToTie q d g → ComesToTie q e f → faults.Tied d g ≡ faults.Tied e f
@@ -57,7 +83,7 @@ tied q tie is =
         no_votes = λ d first. absurd (votes_there q is.proper d first);
         tied = λ d g other. inl (ap (λ fault. Err fault) (tied_there q tie.row tie.column d g comes other));
       };
-      tie = λ other same. rw (tied_is (Err (Tied tie)) tie other refl same) at is;
+      reason = is;
     }
 
 -- a row without votes is none in which a matrix has seats
@@ -93,7 +119,7 @@ without_votes q d totals first = record {
         inl (ap (λ row. Err (faults.NoVotes row)) same);
     tied = λ e g comes. absurd (no_weak q d comes.divisors comes.tied.seats totals first comes.tied.ways.one_way);
   };
-  tie = λ tie is. cc;
+  reason = tt;
 }
 
 -- the seats and divisors at hand
@@ -107,7 +133,7 @@ seated q lower seats of_rows of_columns proper is strict limits shown = record {
     no_votes = λ d first. absurd (votes_there q proper d first);
     tied = λ d g comes. absurd (tied-none q d g comes (millionths of_rows of_columns) seats strict);
   };
-  tie = λ tie is. cc;
+  reason = tt;
 }
 
 -- memory can be refused before a row is looked at

@@ -4,11 +4,12 @@ pub mod Quotients
 pub mod SearchRooms
 pub mod SeatBounds
 pub mod States
-pub mod Decided
 pub mod Extremes
+pub mod Reasons
 pub mod Rooms
 pub mod Seating
 pub mod Second
 pub mod Shown
 pub mod Tables
 pub mod Ties
+pub mod Tried

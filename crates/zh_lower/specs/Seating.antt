@@ -5,7 +5,7 @@ use Rattle.zh_lower.specs.Outcomes.{ComesToTie, NoneBefore}
 use Rattle.zh_matrices.specs.Question.{IsFirstWithoutVotes, Question}
 use Rattle.zh_matrices.specs.SeatMatrix.{IsStrict, SeatMatrix}
 use Rattle.zh_decided.specs.Boxes.{NoneGiven}
-use Rattle.zh_lower.specs.Decided.{IsInVain}
+use Rattle.zh_lower.specs.Tried.{IsInVain}
 use Rattle.zh_lower.specs.Shown.{IsShown}
 use Rattle.zh_lower.specs.declared.lower.LowerFault.{LowerFault}
 use Rattle.zh_lower.specs.declared.lower.LowerFault.TheVariants.{Exhausted, Memory, NoVotes, Tied}

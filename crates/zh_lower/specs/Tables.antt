@@ -3,7 +3,7 @@ use Rattle.zh_decided.specs.Rooms.{IsDecisionRoom}
 use Rattle.zh_matrices.specs.Question.{Question}
 use Rattle.zh_lower.specs.SearchRooms.{IsSearchRoom, IsBeforeStart}
 use Rattle.zh_lower.specs.Rooms.{IsDivisorRoom}
-use Rattle.zh_lower.specs.declared.divisors.Tables.{Tables}
+use Rattle.zh_lower.specs.declared.apportionment.Tables.{Tables}
 
 -- tables of any content
 pub record AreTables (q : Question) (tables : Tables) : Type 0 where

@@ -1,29 +1,13 @@
--- A tie that is handed over, and the bounds within which the lot decides.
-use Rattle.std.specs.Prelude.{ℕ, ◌+◌, ◌*◌, ◌/◌, ◌%◌, ◌<◌, ◌≤◌, List, Result, Ok, Err, IsErrOf, slice_index}
+-- A tie to which the search comes, and the bounds within which the lot decides.
+use Rattle.std.specs.Prelude.{ℕ, ◌+◌, ◌*◌, ◌/◌, ◌%◌, ◌<◌, ◌≤◌, List, slice_index}
 use Rattle.zh_matrices.specs.Divisors.{AreWithinLimits}
 use Rattle.zh_matrices.specs.Lots.{HasRange, MayBeDrawn}
 use Rattle.zh_matrices.specs.Question.{Question}
-use Rattle.zh_matrices.specs.SeatMatrix.{IsWeak, SeatMatrix}
+use Rattle.zh_matrices.specs.SeatMatrix.{IsWeak}
 use Rattle.zh_decided.specs.Bounds.{CellBounds, IsWithin}
 use Rattle.zh_lower.specs.Outcomes.{IsProper, IsReached, IsTiedAt}
 use Rattle.zh_lower.specs.SearchRooms.{divisors_of}
-use Rattle.zh_lower.specs.Seating.{LowerOutcome}
-use Rattle.zh_lower.specs.declared.lower.LowerFault.{LowerFault}
-use Rattle.zh_lower.specs.declared.lower.LowerFault.TheVariants as faults
-use Rattle.zh_lower.specs.declared.tie.NoLower.{NoLower}
-use Rattle.zh_lower.specs.declared.tie.NoLower.TheVariants.{Exhausted, Memory, NoVotes, Tied}
 use Rattle.zh_lower.specs.declared.tie.Tie.{Tie}
-
--- the fault for which no seats are found, without the tie's divisors and seats
-abbrev pub fault_of : NoLower → LowerFault
-fault_of Memory = faults.Memory
-fault_of (NoVotes d) = faults.NoVotes d
-fault_of (Tied tie) = faults.Tied tie.row tie.column
-fault_of Exhausted = faults.Exhausted
-
-abbrev pub without_tie : Result SeatMatrix NoLower → Result SeatMatrix LowerFault
-without_tie (Ok lower) = Ok lower
-without_tie (Err reason) = Err (fault_of reason)
 
 -- the search comes to these divisors, which are tied, and the seats follow from them
 pub record IsLowerTie (q : Question) (tie : Tie) : Type 0 where
@@ -32,11 +16,6 @@ pub record IsLowerTie (q : Question) (tie : Tie) : Type 0 where
   pub reached : IsReached q (divisors_of tie.divisors)
   pub tied : IsTiedAt q (divisors_of tie.divisors) tie.row tie.column
   pub weak : IsWeak q (divisors_of tie.divisors) tie.seats.items
-
--- an answer as `find` gives it, and a tie that is one
-pub record HandsOver (q : Question) (result : Result SeatMatrix NoLower) : Type 0 where
-  pub outcome : LowerOutcome q (without_tie result)
-  pub tie : (tie : Tie) → IsErrOf result (Tied tie) → IsLowerTie q tie
 
 -- the matrices within these bounds are those that may be drawn, and a cell has one number of seats or two that follow each other
 pub record EncloseDraws (q : Question) (bounds : CellBounds) : Type 0 where

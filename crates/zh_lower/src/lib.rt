@@ -6,22 +6,23 @@
 #![tactic(auto)]
 
 mod alternating_scaling;
-mod decided;
+mod apportionment;
 mod divisors;
 mod end_test;
 mod extremes;
+mod fallback;
 mod half_step;
 mod laws;
 mod lower;
-mod outcome;
 mod quotient;
 mod tie;
 
 pub use alternating_scaling::{SearchRoom, SearchState, search};
+pub use apportionment::{find, find_or_reason};
 pub use end_test::Ending;
+pub use fallback::Decided;
 pub use half_step::{middle_columns, middle_rows};
 pub use laws::{one_answer, seats_within_bounds};
-pub use lower::{Lower, LowerFault};
-pub use outcome::{find, find_or_tie};
-pub use tie::{NoLower, Ranges, Tie, bound_cells, lot};
+pub use lower::{Lower, LowerFault, NoLower};
+pub use tie::{Ranges, Tie, bound_cells, lot};
 pub use zh_matrices::{Matrix, is_strict};

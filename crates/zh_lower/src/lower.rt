@@ -1,9 +1,12 @@
 //! The seats that were found, with their divisors, or why none were.
 ghost use Rattle.std.specs.Prelude.{◌≡◌, ◌-◌, ◌*◌, ◌≤◌, length, slice_index};
+ghost use Rattle.zh_lower.specs.Reasons.{fault_of};
 ghost use Rattle.zh_lower.specs.declared.lower.LowerFault.TheVariants.{Memory};
 ghost use Rattle.zh_matrices.specs.Divisors.{millionths};
 ghost use Rattle.zh_matrices.specs.SeatMatrix.{seats_of};
 
+use crate::fallback::Decided;
+use crate::tie::Tie;
 use std::alloc::AllocError;
 use std::marker::Model;
 
@@ -91,5 +94,43 @@ impl From<AllocError> for LowerFault {
 
     fn from(_error: AllocError) -> LowerFault {
         LowerFault::Memory
+    }
+}
+
+/// Why a lower apportionment gives no seats, with all that was found of it.
+#[derive(Drop)]
+pub enum NoLower {
+    /// Memory ran out.
+    Memory,
+    /// This row, counted from 1, is the first without a vote.
+    NoVotes(u32),
+    /// Rows and columns are to get different numbers of seats.
+    Unbalanced,
+    /// The search came to this tie.
+    Tied(Tie),
+    /// The search came to its end, and what was decided then gives no seats that can be shown.
+    Exhausted(Decided),
+}
+
+impl From<AllocError> for NoLower {
+    ghost use Rattle.zh_lower.specs.declared.lower.NoLower.TheVariants.{Memory};
+
+    ghost from_gives = { λ _ reason. reason ≡ Memory };
+
+    fn from(_error: AllocError) -> NoLower {
+        NoLower::Memory
+    }
+}
+
+impl From<NoLower> for LowerFault {
+    ghost from_gives = { λ reason fault. fault ≡ fault_of reason };
+
+    fn from(reason: NoLower) -> LowerFault {
+        match reason {
+            NoLower::Memory => LowerFault::Memory,
+            NoLower::NoVotes(row) => LowerFault::NoVotes(row),
+            NoLower::Tied(tie) => LowerFault::Tied(tie.row, tie.column),
+            NoLower::Unbalanced | NoLower::Exhausted(_) => LowerFault::Exhausted,
+        }
     }
 }

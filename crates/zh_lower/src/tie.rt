@@ -3,14 +3,13 @@ ghost use Rattle.std.specs.Bool.{OnFalse, OnTrue};
 ghost use Rattle.std.specs.Prelude.{◌≡◌, ℕ, ◌*◌, ◌<◌, IfOk, length, slice_index, min};
 ghost use Rattle.zh_decided.specs.Bounds.{IsAnotherAt, IsFixedAt, IsWithin, asked_in, bounds_of};
 ghost use Rattle.zh_lower.specs.SearchRooms.{IsSearchRoom, divisors_of};
-ghost use Rattle.zh_lower.specs.Ties.{fault_of, EncloseDraws, HasRangeAt, IsLowerTie};
+ghost use Rattle.zh_lower.specs.Ties.{EncloseDraws, HasRangeAt, IsLowerTie};
 ghost use Rattle.zh_matrices.specs.Asked.{asked};
 ghost use Rattle.zh_matrices.specs.Divisors.{AreWithinLimits};
 ghost use Rattle.zh_matrices.specs.Lots.{AreRanges};
 ghost use Rattle.zh_lower.specs.SeatBounds as words;
 
 use crate::alternating_scaling::{SearchRoom, SearchState};
-use crate::lower::LowerFault;
 use crate::quotient::{half_down, product_at, quotient_at};
 use std::alloc::{AllocError, Global};
 use zh_decided::{CellBounds, differ_at};
@@ -24,41 +23,6 @@ pub struct Tie {
     pub column: u32,
     pub divisors: SearchState,
     pub seats: Vec<u32>,
-}
-
-/// Why a lower apportionment gives no seats, with the tie where that is why.
-#[derive(Drop)]
-pub enum NoLower {
-    /// Memory ran out.
-    Memory,
-    /// This row, counted from 1, is the first without a vote.
-    NoVotes(u32),
-    Tied(Tie),
-    /// The search came to its end, and the decision leaves no seats.
-    Exhausted,
-}
-
-impl From<AllocError> for NoLower {
-    ghost use Rattle.zh_lower.specs.declared.tie.NoLower.TheVariants.{Memory};
-
-    ghost from_gives = { λ _ reason. reason ≡ Memory };
-
-    fn from(_error: AllocError) -> NoLower {
-        NoLower::Memory
-    }
-}
-
-impl From<NoLower> for LowerFault {
-    ghost from_gives = { λ reason fault. fault ≡ fault_of reason };
-
-    fn from(reason: NoLower) -> LowerFault {
-        match reason {
-            NoLower::Memory => LowerFault::Memory,
-            NoLower::NoVotes(row) => LowerFault::NoVotes(row),
-            NoLower::Tied(tie) => LowerFault::Tied(tie.row, tie.column),
-            NoLower::Exhausted => LowerFault::Exhausted,
-        }
-    }
 }
 
 /// The fewest and the most seats of each cell in all matrices that may be drawn, row by row.

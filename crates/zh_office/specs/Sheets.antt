@@ -7,6 +7,7 @@ use Rattle.zh_totals.specs.Counting.{totals_of}
 use Rattle.zh_totals.specs.Totals.{VoteTotals}
 use Rattle.zh_sheet.specs.Distribution.{Distribution}
 use Rattle.zh_sheet.specs.Made.{IsMade}
+use Rattle.zh_sheet.specs.Reasons.{HaveNoSheet, sheet_fault}
 use Rattle.zh_sheet.specs.declared.fault.SheetFault.{SheetFault}
 use Rattle.zh_sheet.specs.declared.fault.SheetFault.TheVariants as faults
 use Rattle.zh_commands.specs.declared.replies.Reply.TheVariants.{Refused}
@@ -14,6 +15,8 @@ use Rattle.zh_commands.specs.declared.replies.Refusal.{Refusal}
 use Rattle.zh_commands.specs.declared.replies.Refusal.TheVariants as refusals
 use Rattle.zh_office.specs.declared.answer.Answer.{Answer}
 use Rattle.zh_office.specs.declared.answer.Answer.TheVariants as answers
+use Rattle.zh_office.specs.declared.queries.NotGiven.{NotGiven}
+use Rattle.zh_office.specs.declared.queries.NotGiven.TheVariants.{NoSheet, NotClosed}
 
 -- the name under which a sheet is refused
 abbrev pub sheet_refusal : SheetFault → Refusal
@@ -55,7 +58,17 @@ abbrev pub MayAnswerSheet : Tally → Bool → Answer → Type 0
 MayAnswerSheet tally false answer = MayGive tally false answer
 MayAnswerSheet tally true answer = MayAnswerFinal tally answer
 
+-- the name under which a sheet that is not given is refused
+abbrev pub refusal_of : NotGiven → Refusal
+refusal_of (NotClosed m) = refusals.Judged (reasons.NotClosed m)
+refusal_of (NoSheet none) = sheet_refusal (sheet_fault none)
+
 -- the answer that gives this sheet, or says why there is none
-abbrev pub sheet_answer : Bool → Result Distribution Refusal → Answer
+abbrev pub sheet_answer : Bool → Result Distribution NotGiven → Answer
 sheet_answer is_final (Ok sheet) = answers.Sheet sheet is_final
-sheet_answer is_final (Err refusal) = answers.Reply (Refused refusal)
+sheet_answer is_final (Err why) = answers.Reply (Refused (refusal_of why))
+
+-- where the totals have none, all that was found of it is so
+abbrev pub IsWhy : Tally → NotGiven → Type 0
+IsWhy tally (NotClosed m) = Unit {0}
+IsWhy tally (NoSheet none) = HaveNoSheet (totals_of tally) none

@@ -21,6 +21,7 @@ pub use laws::{
     each_is_judged_after_those_before, forecast_is_kept, law_nights, stretches, undisturbed,
 };
 pub use office::Office;
+pub use queries::NotGiven;
 pub use service::ServeFault;
 pub use zh_csv::NotedReader;
 pub use zh_ledger::{FormatFault, OpenFault};

@@ -1,14 +1,14 @@
 //! Answers to what a desk asks about the count.
 
-ghost use Rattle.std.specs.Prelude.{◌≡◌, MatchOption};
+ghost use Rattle.std.specs.Prelude.{◌≡◌, IfErr, MatchOption};
 ghost use Rattle.zh_office.specs.Answers.{MayAnswerQuery, shown, answer_to_show, answer_to_last};
-ghost use Rattle.zh_office.specs.Sheets.{sheet_refusal, sheet_answer, MayAnswerSheet, AreClosed, IsFirstOpen};
+ghost use Rattle.zh_office.specs.Sheets.{sheet_refusal, sheet_answer, refusal_of, MayAnswerSheet, AreClosed, IsFirstOpen, IsWhy};
 
 use crate::answer::Answer;
 use crate::office::Office;
 use zh_commands::{DeskQuery, Refusal, Reply};
 use zh_returns::{Count, Entry, Reason};
-use zh_sheet::{Sheet, SheetFault, make};
+use zh_sheet::{NoSheet, Sheet, SheetFault, make_or_reason};
 
 impl<'s> Office<'s> {
     /// Answers a query from the count and its totals.
@@ -33,14 +33,15 @@ impl<'s> Office<'s> {
     {
         match self.sheet(is_final) {
             Ok(sheet) => Answer::Sheet(sheet, is_final),
-            Err(refusal) => Answer::Reply(Reply::Refused(refusal)),
+            Err(why) => Answer::Reply(Reply::Refused(refusal_of(why))),
         }
     }
 
     /// The sheet of the count as it is now, or why there is none. The final one is given only where every municipality is
     /// closed.
-    pub fn sheet(&self, is_final: bool) -> Result<Sheet<'s>, Refusal>
-        ensures { MayAnswerSheet self.now.ledger.tally is_final (sheet_answer is_final result) }
+    pub fn sheet(&self, is_final: bool) -> Result<Sheet<'s>, NotGiven>
+        ensures answer { MayAnswerSheet self.now.ledger.tally is_final (sheet_answer is_final result) }
+        ensures why { IfErr result (IsWhy self.now.ledger.tally) }
     {
         let open = if is_final {
             first_open(self.count())
@@ -48,12 +49,31 @@ impl<'s> Office<'s> {
             None
         };
         if let Some(municipality) = open {
-            return Err(Refusal::Judged(Reason::NotClosed(municipality)));
+            return Err(NotGiven::NotClosed(municipality));
         }
-        match make(self.alloc, self.totals()) {
+        match make_or_reason(self.alloc, self.totals()) {
             Ok(sheet) => Ok(sheet),
-            Err(fault) => Err(sheet_refusal(fault)),
+            Err(none) => Err(NotGiven::NoSheet(none)),
         }
+    }
+}
+
+/// Why an office gives no sheet.
+#[derive(Drop)]
+pub enum NotGiven {
+    /// The final sheet waits for this municipality, the lowest that is open.
+    NotClosed(u32),
+    /// There is none of these votes.
+    NoSheet(NoSheet),
+}
+
+/// The refusal of the line that asks for it.
+fn refusal_of(why: NotGiven) -> Refusal
+    ensures { result ≡ refusal_of why }
+{
+    match why {
+        NotGiven::NotClosed(municipality) => Refusal::Judged(Reason::NotClosed(municipality)),
+        NotGiven::NoSheet(none) => sheet_refusal(SheetFault::from(none)),
     }
 }
 

@@ -5,7 +5,7 @@ mod TaskFrontLemmas
 mod KeptLemmas
 mod ListLemmas
 mod LoadLemmas
-mod NoMemoryLemmas
+mod NoSheetLemmas
 mod TaskOrderLemmas
 mod ReadingFaults
 mod ReadingLemmas

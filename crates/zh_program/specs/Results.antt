@@ -1,11 +1,14 @@
 -- The seats by a count or by a published sheet, or why there are none.
-use Rattle.std.specs.Prelude.{ℕ, Result, Ok, Err, None, List}
+use Rattle.std.specs.Prelude.{ℕ, Option, Some, None, Result, Ok, Err, List}
 use Rattle.zh_districts.specs.Canton.{Canton}
 use Rattle.zh_totals.specs.Totals.{VoteTotals}
 use Rattle.zh_sheet.specs.Lots.{IsForTheLot, IsLotOf}
 use Rattle.zh_sheet.specs.Reasons.{IsReason}
+use Rattle.zh_sheet.specs.declared.fault.SheetFault.{SheetFault}
+use Rattle.zh_sheet.specs.declared.fault.SheetFault.TheVariants as faults
 use Rattle.zh_sheet.specs.declared.fault.SheetRefusal.{SheetRefusal}
 use Rattle.zh_sheet.specs.declared.fault.SheetRefusal.TheVariants as sheets
+use Rattle.zh_sheet.specs.declared.lot.Lot.{Lot}
 use Rattle.zh_commands.specs.declared.replies.Reply.TheVariants as replies
 use Rattle.zh_commands.specs.declared.replies.Refusal.TheVariants as refusals
 use Rattle.zh_office.specs.declared.answer.Answer.{Answer}
@@ -26,6 +29,12 @@ refusal_answer Wrong = answers.Reply replies.Nothing
 abbrev pub answer_of : Result MarkedSheet NoSeats → Answer
 answer_of (Ok seats) = answers.Sheet seats.sheet seats.mark.is_final
 answer_of (Err why) = refusal_answer why
+
+-- the refusal for a fault, with what the lot decides, if it does
+abbrev pub told : SheetFault → Option Lot → NoSeats
+told faults.Memory lot = Refused refusals.Memory
+told (faults.Refused refusal) (Some lot) = Tied refusal lot
+told (faults.Refused refusal) None = Refused (refusals.Sheet refusal)
 
 -- a refusal that says all: neither of an exhausted search nor of tied seats
 abbrev pub SaysAll : SheetRefusal → Type 0

@@ -1,47 +1,52 @@
 //! The seats by a count.
 
-ghost use Rattle.std.specs.Prelude.{◌≡◌, ◌≢◌, Bool, IfErr, IfOk};
+ghost use Rattle.std.specs.Prelude.{◌≡◌, Bool, IfErr, IfOk};
 ghost use Rattle.zh_office.specs.Sheets.{MayAnswerSheet, MayGiveFor};
 ghost use Rattle.zh_totals.specs.Counting.{totals_of};
-ghost use Rattle.zh_sheet.specs.Made.{IsMade};
-ghost use Rattle.zh_sheet.specs.declared.fault.SheetFault.TheVariants.{Refused};
+ghost use Rattle.zh_sheet.specs.Reasons.{HaveNoSheet};
 ghost use Rattle.zh_sheet_text.specs.declared.mark.Source.TheVariants as sources;
-ghost use Rattle.zh_program.specs.Results.{IsReasonFor, answer_of, refusal_answer};
+ghost use Rattle.zh_program.specs.Results.{IsReasonFor, answer_of, refusal_answer, told};
 
 use std::alloc::Global;
 use zh_commands::Refusal;
-use zh_office::Office;
-use zh_sheet::{SheetRefusal, explain, explain_tie};
+use zh_office::{NotGiven, Office};
+use zh_returns::Reason;
+use zh_sheet::{Lot, NoSheet, SheetFault, SheetRefusal, explain_tie};
 use zh_sheet_text::{Mark, MarkedSheet, NoSeats, Source};
 use zh_totals::Totals;
 
-/// Why there is no sheet of these totals, which was refused for this, but not because a search was exhausted: with what the
-/// lot decides, where seats are tied.
-fn why_refused(alloc: Global, totals: &Totals<'_>, refusal: SheetRefusal) -> NoSeats
-    requires made { IsMade totals.now (Err (Refused refusal)) }
-    requires searched { refusal ≢ SheetRefusal.Exhausted }
-    ensures answer { (is_final : Bool) → MayGiveFor totals.now is_final (refusal_answer result) }
-    ensures reason { IsReasonFor totals.now result }
+/// The refusal for a fault, with what the lot decides, if it does.
+fn told(fault: SheetFault, lot: Option<Lot>) -> NoSeats
+    ensures { result ≡ told fault lot }
 {
-    match explain_tie(alloc, totals, refusal) {
-        Ok(Some(lot)) => NoSeats::Tied(refusal, lot),
-        Ok(None) => NoSeats::Refused(Refusal::Sheet(refusal)),
-        Err(_) => NoSeats::Refused(Refusal::Memory),
+    match fault {
+        SheetFault::Memory => NoSeats::Refused(Refusal::Memory),
+        SheetFault::Refused(refusal) => match lot {
+            Some(lot) => NoSeats::Tied(refusal, lot),
+            None => NoSeats::Refused(Refusal::Sheet(refusal)),
+        },
     }
 }
 
-/// Why there is no sheet of these totals, which was refused for this.
-fn why_none(alloc: Global, totals: &Totals<'_>, refusal: SheetRefusal) -> NoSeats
-    requires { IsMade totals.now (Err (Refused refusal)) }
+/// Why there are no seats where these totals have no sheet: with what the lot decides where seats are tied, and the reason of
+/// an exhausted search.
+fn why_none(alloc: Global, totals: &Totals<'_>, none: NoSheet) -> NoSeats
+    requires { HaveNoSheet totals.now none }
     ensures answer { (is_final : Bool) → MayGiveFor totals.now is_final (refusal_answer result) }
     ensures reason { IsReasonFor totals.now result }
 {
-    match refusal {
-        SheetRefusal::Exhausted => match explain(alloc, totals) {
-            Ok(reason) => NoSeats::Exhausted(reason),
-            Err(_) => NoSeats::Refused(Refusal::Memory),
-        },
-        refusal => why_refused(alloc, totals, refusal),
+    let Ok(lot) = explain_tie(alloc, totals, &none) else {
+        return NoSeats::Refused(Refusal::Memory);
+    };
+    match none {
+        NoSheet::Exhausted(reason) => NoSeats::Exhausted(reason),
+        NoSheet::Fault(fault) => told(fault, lot),
+        NoSheet::Tied(constituency, group, _tie) => {
+            told(
+                SheetFault::Refused(SheetRefusal::TiedLower(constituency, group)),
+                lot,
+            )
+        }
     }
 }
 
@@ -66,7 +71,9 @@ pub(crate) fn seats_by_count<'s>(
             };
             Ok(MarkedSheet { sheet, mark })
         }
-        Err(Refusal::Sheet(refusal)) => Err(why_none(alloc, office.totals(), refusal)),
-        Err(refusal) => Err(NoSeats::Refused(refusal)),
+        Err(NotGiven::NotClosed(municipality)) => {
+            Err(NoSeats::Refused(Refusal::Judged(Reason::NotClosed(municipality))))
+        }
+        Err(NotGiven::NoSheet(none)) => Err(why_none(alloc, office.totals(), none)),
     }
 }

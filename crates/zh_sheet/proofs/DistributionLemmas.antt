@@ -18,7 +18,10 @@ use Rattle.zh_upper.specs.declared.fault.UpperFault.{UpperFault}
 use Rattle.zh_upper.specs.declared.fault.UpperFault.TheVariants as upper_faults
 use Rattle.zh_sheet.specs.Distribution.{Targets, lower_question, seated_groups}
 use Rattle.zh_sheet.specs.Refusals.{IsAnswer, IsBeforeLists, IsBeforeSearch, NoneOf}
-use Rattle.zh_sheet.specs.Stages.{HasColumn, StandAbove, of_lower, of_seats, of_upper}
+use Rattle.zh_sheet.specs.Stages.{StandAbove, of_seats, of_upper}
+use Rattle.zh_sheet.specs.declared.above.Above.{Above}
+use Rattle.zh_sheet.specs.declared.fault.SheetFault.{SheetFault}
+use Rattle.zh_sheet.specs.declared.fault.SheetFault.TheVariants.{Memory, Refused}
 use Rattle.zh_sheet.specs.declared.fault.SheetRefusal.TheVariants as refusals
 use Rattle.zh_sheet.proofs.RefusalLemmas.{given_answer, memory_answer, none_above_lists, none_before_search, none_first, none_seated, none_untied, refused_answer}
 use Rattle.zh_sheet.proofs.TargetLemmas.{IsBasis, not_tied, reason_above, same_question}
@@ -66,13 +69,12 @@ upper_given t seats taking voters is u refused =
     )
 
 -- the seats of the constituencies and of the groups, as targets
-abbrev pub targets_above : (t : VoteTotals) (seats : Apportionment) (taking : List Bool) (voters : List ℕ) (upper : Apportionment) →
-    StandAbove t seats taking voters upper → Targets t
-targets_above t seats taking voters upper is = record {
-  seats = seats.seats;
-  taking = taking;
-  voters = voters;
-  upper = upper.seats;
+abbrev pub targets_above : (t : VoteTotals) (above : Above) → StandAbove t above → Targets t
+targets_above t above is = record {
+  seats = above.seats.seats;
+  taking = above.taking.items;
+  voters = above.voters.items;
+  upper = above.upper.seats;
   constituencies = is.constituencies;
   participation = is.participation;
   sums = is.sums;
@@ -84,6 +86,13 @@ none_of_rows : (t : VoteTotals) (a : Targets t) → NoneOf IsBeforeLists t → (
     NoneOf IsBeforeSearch t
 none_of_rows t a before rows =
     none_before_search t before (λ d without. rows d (subst (λ q. IsFirstWithoutVotes q d) (same_question t a without.targets) without.first))
+
+-- the fault of a sheet for that of the lists, whose columns, from 1, are the seated groups
+abbrev pub of_lower : LowerFault → List ℕ → SheetFault
+of_lower lower_faults.Memory seated = Memory
+of_lower (lower_faults.NoVotes d) seated = Refused (refusals.NoVotes d)
+of_lower (lower_faults.Tied d column) seated = Refused (refusals.TiedLower d (get_or seated (column - 1) 0))
+of_lower lower_faults.Exhausted seated = Refused refusals.Exhausted
 
 -- the seats of the lists are refused
 pub lower_refused : {Sheet : Type 0} (t : VoteTotals) (a : Targets t) → NoneOf IsBeforeLists t → (e : LowerFault) →
@@ -117,10 +126,3 @@ pub lower_given : {Sheet : Type 0} (t : VoteTotals) (a : Targets t) → NoneOf I
     LowerOutcome (lower_question t a.seats a.upper) (Ok lower) → IsAnswer t (Ok sheet)
 lower_given t a before lower sheet found =
     given_answer t sheet (none_of_rows t a before (λ c first. elim (found.no_votes c first) [ inl e ↦ absurd (cc) | inr e ↦ absurd (cc) ]))
-
--- a tie is found in one of the columns
-pub column_there : (t : VoteTotals) (a : Targets t) → (e : LowerFault) → LowerOutcome (lower_question t a.seats a.upper) (Err e) → HasColumn e (seated_groups a.upper)
-column_there t a lower_faults.Memory found = tt
-column_there t a (lower_faults.NoVotes d) found = tt
-column_there t a (lower_faults.Tied d column) found = let first = found.fault.tied.first in (first.column_from_1, first.column)
-column_there t a lower_faults.Exhausted found = tt

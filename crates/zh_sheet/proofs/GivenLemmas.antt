@@ -1,6 +1,5 @@
 -- A distribution with given lists: where it is open, no refusal before the lists holds, and it is the only one.
-use Rattle.std.proofs.Common.{◌≡◌, ◌≢◌, ℕ, ◌+◌, ◌*◌, ◌/◌, ◌%◌, ◌<◌, ◌≤◌, List, get_or, Option, Ok, Err, Some, None, refl, inl, inr, ap, sym, ◌∙◌, subst, arith}
-use Rattle.zh_divisors.specs.Shares.{Apportionment}
+use Rattle.std.proofs.Common.{◌≡◌, ◌≢◌, ℕ, ◌+◌, ◌*◌, ◌/◌, ◌%◌, ◌<◌, ◌≤◌, get_or, Option, Ok, Err, Some, None, refl, inl, inr, ap, sym, ◌∙◌, subst, arith}
 use Rattle.zh_divisors.proofs.CallerLemmas.{term-le-sum_to}
 use Rattle.std.specs.Prelude.{◌↔◌, Bool, IsTrue, false}
 use Rattle.std.proofs.lemmas.List.Elements.{All-from_get_or}
@@ -16,7 +15,8 @@ use Rattle.zh_totals.specs.Totals.{VoteTotals}
 use Rattle.zh_sheet.specs.Distribution.{Distribution, HaveSeats, IsDistribution, Targets, lower_question, question_of}
 use Rattle.zh_sheet.specs.Given.{DoFit, DoFollow, HaveSameSeats, IsGiven, IsPublished}
 use Rattle.zh_sheet.specs.Refusals.{IfRefused, IsAnswer, IsBeforeLists, IsCaseOf, NoneOf}
-use Rattle.zh_sheet.specs.Stages.{StandAbove}
+use Rattle.zh_sheet.specs.Stages.{StandAbove, distribution_with}
+use Rattle.zh_sheet.specs.declared.above.Above.{Above}
 use Rattle.zh_sheet.specs.declared.fault.SheetFault.{SheetFault}
 use Rattle.zh_sheet.specs.declared.fault.SheetFault.TheVariants.{Memory, Refused}
 use Rattle.zh_sheet.specs.declared.fault.SheetRefusal.TheVariants as refusals
@@ -77,28 +77,17 @@ none_above totals lists (Refused refusal) answer early other = record {
 }
 
 -- the distribution of the seats above and the lists
-abbrev pub distribution_with : VoteTotals → Apportionment → List Bool → List ℕ → Apportionment → SeatMatrix → Distribution
-distribution_with totals seats taking voters upper lists = record {
-  totals = totals;
-  seats = seats;
-  taking = taking;
-  voters = voters;
-  upper = upper;
-  lower = lists;
-}
-
-pub meets_with : (totals : VoteTotals) (seats : Apportionment) (taking : List Bool) (voters : List ℕ) (upper : Apportionment) (lists : SeatMatrix) →
-    sums.AreTotals totals → StandAbove totals seats taking voters upper → DoFollow (lower_question totals seats.seats upper.seats) lists →
-    lists.divisors ≡ millionths lists.divisors.of_rows lists.divisors.of_columns →
-    IsDistribution (distribution_with totals seats taking voters upper lists)
-meets_with totals seats taking voters upper lists limits above follow in_millionths = record {
+pub meets_with : (totals : VoteTotals) (above : Above) (lists : SeatMatrix) → sums.AreTotals totals → StandAbove totals above →
+    DoFollow (lower_question totals above.seats.seats above.upper.seats) lists →
+    lists.divisors ≡ millionths lists.divisors.of_rows lists.divisors.of_columns → IsDistribution (distribution_with totals above lists)
+meets_with totals above lists limits stand follow in_millionths = record {
   totals = limits;
-  seats = above.constituencies;
-  seats_key = above.seats_key;
-  participation = above.participation;
-  voters = above.sums;
-  upper = above.groups;
-  upper_key = above.upper_key;
+  seats = stand.constituencies;
+  seats_key = stand.seats_key;
+  participation = stand.participation;
+  voters = stand.sums;
+  upper = stand.groups;
+  upper_key = stand.upper_key;
   lower = follow.strict;
   divisors = in_millionths;
   limits = follow.limits;

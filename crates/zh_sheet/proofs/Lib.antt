@@ -5,6 +5,7 @@ mod DistributionLemmas
 mod GivenLemmas
 mod NameLemmas
 mod OneSheetLemmas
+mod QuestionLemmas
 mod ReasonLemmas
 mod RefusalLemmas
 mod SeatedLemmas

@@ -1,5 +1,5 @@
 -- Why an exhausted search found no seats, in the numbers of the set-up.
-use Rattle.std.proofs.Common.{◌≡◌, ℕ, Bool, List, Err, Ok, refl, sym, subst, arith}
+use Rattle.std.proofs.Common.{ℕ, Bool, List, sym, subst}
 use Rattle.zh_matrices.specs.NearlyTied.{IsClear}
 use Rattle.zh_matrices.specs.Question.{Question}
 use Rattle.zh_matrices.specs.SeatMatrix.{IsWeak}
@@ -8,56 +8,12 @@ use Rattle.zh_decided.specs.Impossible.{HasTooFewSeats}
 use Rattle.zh_decided.proofs.CallerLemmas.{no_divisors, no_clear}
 use Rattle.zh_decided.specs.Boxes.{NoneInRange}
 use Rattle.zh_totals.specs.Totals.{VoteTotals}
-use Rattle.zh_sheet.specs.Distribution.{Distribution, Targets, seated_groups}
+use Rattle.zh_sheet.specs.Distribution.{Targets, seated_groups}
 use Rattle.zh_sheet.specs.ListSeats.{SeatsOfLists}
-use Rattle.zh_sheet.specs.Reasons.{AreOnlySeats, AreSeatsAmong, AreShowable, IsExplained, IsReason, IsReasonAmong, IsTieAmong, NoneMissed, asked_below}
-use Rattle.zh_sheet.specs.Refusals.{IfRefused, IsAnswer, IsBeforeLists, IsFirstCase}
-use Rattle.zh_sheet.specs.declared.fault.SheetFault.{SheetFault}
-use Rattle.zh_sheet.specs.declared.fault.SheetFault.TheVariants.{Memory, Refused}
+use Rattle.zh_sheet.specs.Reasons.{AreOnlySeats, AreSeatsAmong, IsReason, IsReasonAmong, IsTieAmong, asked_below}
 use Rattle.zh_sheet.specs.declared.reason.ExhaustedReason.{ExhaustedReason}
 use Rattle.zh_sheet.specs.declared.reason.ExhaustedReason.TheVariants as reasons
-use Rattle.zh_sheet.specs.declared.fault.SheetRefusal.TheVariants as refusals
-use Rattle.zh_sheet.proofs.RefusalLemmas.{memory_answer}
 use Rattle.zh_sheet.proofs.TargetLemmas.{same_question}
-
--- where the search is exhausted, no case before it holds
-memory_alone : (t : VoteTotals) (fault : SheetFault) → IfRefused fault (IsFirstCase t) → IfRefused fault IsBeforeLists →
-    IsFirstCase t refusals.Exhausted → fault ≡ Memory
-memory_alone t Memory first early exhausted = refl
-memory_alone t (Refused refusal) first early exhausted = absurd (exhausted.first refusal (omega (arith, early)) first.holds)
-
--- a refusal above
-pub refused_above : (t : VoteTotals) (fault : SheetFault) → IsAnswer {Sheet = Distribution} t (Err fault) →
-    IfRefused fault IsBeforeLists → IsExplained t (Err fault)
-refused_above t fault is early = record {
-  reason = tt;
-  refused = is.refused;
-  early = early;
-  exhausted = memory_alone t fault is.refused early;
-  none_missed = λ exhausted. tt;
-}
-
-pub no_memory : (t : VoteTotals) → IsExplained t (Err Memory)
-no_memory t = refused_above t Memory (memory_answer t) tt
-
--- where the search is exhausted, no divisors in millionths give seats as a decision does
-none_missed : (t : VoteTotals) (reason : ExhaustedReason) → IsReason t reason → IsFirstCase t refusals.Exhausted → NoneMissed reason
-none_missed t (reasons.Impossible rows) is exhausted = tt
-none_missed t (reasons.NearlyTied d g) is exhausted = tt
-none_missed t (reasons.Beyond x) is exhausted = tt
-none_missed t (reasons.Missed x) is exhausted =
-    let give : AreShowable (asked_below t exhausted.holds.targets) x.seats = is.showable exhausted.holds.targets in
-    exhausted.holds.none_given give.0 give.1 x.seats give.2
-
--- a reason
-pub explained : (t : VoteTotals) (reason : ExhaustedReason) → IsReason t reason → IsExplained t (Ok reason)
-explained t reason is = record {
-  reason = is;
-  refused = tt;
-  early = tt;
-  exhausted = λ exhausted. tt;
-  none_missed = none_missed t reason is;
-}
 
 -- too few seats for one question are too few for each that these totals ask
 impossible : (t : VoteTotals) (a : Targets t) (rows : List Bool) → HasTooFewSeats (asked_below t a) rows → IsReason t (reasons.Impossible rows)
@@ -97,8 +53,4 @@ reason t a (reasons.NearlyTied d g) is = nearly_tied t a d g is
 reason t a (reasons.Beyond x) is = record {
   seats = only t a x is.0;
   none = λ others. subst (λ (q : Question). (seats : List ℕ) → NoneInRange q seats) (sym (same_question t a others)) is.1;
-}
-reason t a (reasons.Missed x) is = record {
-  seats = only t a x is.0;
-  showable = λ others. subst (λ (q : Question). AreShowable q x.seats) (sym (same_question t a others)) is.1;
 }

@@ -47,13 +47,13 @@ refused_answer {Sheet} totals refusal because none = record {
   tied = λ d g is. none d g (cc);
 }
 
--- nor are there the seats above
-pub not_above : (totals : VoteTotals) (fault : SheetFault) → IfRefused fault IsBeforeLists →
-    IsAnswer {Sheet = Distribution} totals (Err fault) → IsAboveLists totals (Err fault)
-not_above totals fault early is = record { given = tt; refused = is; early = early }
+-- nor is there what stands above
+pub not_above : {T : Type 0} (Stands : T → Type 0) (totals : VoteTotals) (fault : SheetFault) → IfRefused fault IsBeforeLists →
+    IsAnswer {Sheet = Distribution} totals (Err fault) → IsAboveLists Stands totals (Err fault)
+not_above {T} Stands totals fault early is = record { given = tt; refused = is; early = early }
 
-pub no_memory_above : (totals : VoteTotals) → IsAboveLists totals (Err Memory)
-no_memory_above totals = not_above totals Memory tt (memory_answer totals)
+pub no_memory_above : {T : Type 0} (Stands : T → Type 0) (totals : VoteTotals) → IsAboveLists Stands totals (Err Memory)
+no_memory_above {T} Stands totals = not_above Stands totals Memory tt (memory_answer totals)
 
 -- the refusals of the parts above come before those of the lists
 pub seats_early : (fault : SeatFault) → IfRefused (of_seats fault) IsBeforeLists

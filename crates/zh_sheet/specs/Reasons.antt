@@ -1,20 +1,26 @@
--- Why the search for the seats of the lists found none, in the numbers of the set-up.
-use Rattle.std.specs.Prelude.{◌≡◌, ℕ, ◌-◌, Bool, List, Result, IfOk, IfErr, slice_index}
+-- Why there is no sheet, with all that was found of it, in the numbers of the set-up.
+use Rattle.std.specs.Prelude.{◌≡◌, ℕ, ◌-◌, Bool, List, Result, Ok, Err, slice_index}
 use Rattle.zh_matrices.specs.Divisors.{Divisors}
 use Rattle.zh_matrices.specs.NearlyTied.{IsClear, IsNearlyTied}
 use Rattle.zh_matrices.specs.Question.{Question}
 use Rattle.zh_matrices.specs.SeatMatrix.{IsStrict, IsWeak}
 use Rattle.zh_decided.specs.Impossible.{HasTooFewSeats, IsPossible}
-use Rattle.zh_decided.specs.Boxes.{GiveWithin, NoneInRange}
+use Rattle.zh_decided.specs.Boxes.{NoneInRange}
+use Rattle.zh_lower.specs.Ties.{IsLowerTie}
 use Rattle.zh_totals.specs.Totals.{VoteTotals}
-use Rattle.zh_sheet.specs.Distribution.{Targets, lower_question, seated_groups}
+use Rattle.zh_sheet.specs.Distribution.{Distribution, Targets, lower_question, seated_groups}
 use Rattle.zh_sheet.specs.ListSeats.{SeatsOfLists}
-use Rattle.zh_sheet.specs.Refusals.{IfRefused, IsBeforeLists, IsFirstCase}
+use Rattle.zh_sheet.specs.Made.{IsMade}
+use Rattle.zh_sheet.specs.Refusals.{IfRefused, IsBeforeSearch}
+use Rattle.zh_sheet.specs.Stages.{IsAsked, question_in}
 use Rattle.zh_sheet.specs.declared.fault.SheetFault.{SheetFault}
-use Rattle.zh_sheet.specs.declared.fault.SheetFault.TheVariants.{Memory}
+use Rattle.zh_sheet.specs.declared.fault.SheetFault.TheVariants.{Refused}
 use Rattle.zh_sheet.specs.declared.fault.SheetRefusal.TheVariants as refusals
 use Rattle.zh_sheet.specs.declared.reason.ExhaustedReason.{ExhaustedReason}
-use Rattle.zh_sheet.specs.declared.reason.ExhaustedReason.TheVariants.{Beyond, Impossible, Missed, NearlyTied}
+use Rattle.zh_sheet.specs.declared.reason.ExhaustedReason.TheVariants.{Beyond, Impossible, NearlyTied}
+use Rattle.zh_sheet.specs.declared.reason.ListTie.{ListTie}
+use Rattle.zh_sheet.specs.declared.reason.NoSheet.{NoSheet}
+use Rattle.zh_sheet.specs.declared.reason.NoSheet.TheVariants.{Exhausted, Fault, Tied}
 
 -- some seats meet all totals, and two of them are nearly tied: they differ first in constituency d and in group g, which has a
 -- column
@@ -31,16 +37,11 @@ pub record AreSeatsAmong (q : Question) (groups : List ℕ) (x : SeatsOfLists) :
   pub divisors : Divisors
   pub strict : IsStrict q divisors x.seats
 
--- divisors in millionths, within the limits of a sheet, give these seats
-abbrev pub AreShowable : Question → List ℕ → Type 0
-AreShowable q seats = (of_rows : List ℕ) × (of_columns : List ℕ) × GiveWithin q of_rows of_columns seats
-
 -- what a reason says of what is asked, with groups for columns
 abbrev pub IsReasonAmong : Question → List ℕ → ExhaustedReason → Type 0
 IsReasonAmong q groups (Impossible rows) = HasTooFewSeats q rows
 IsReasonAmong q groups (NearlyTied d g) = IsTieAmong q groups d g
 IsReasonAmong q groups (Beyond x) = AreSeatsAmong q groups x × ((seats : List ℕ) → NoneInRange q seats)
-IsReasonAmong q groups (Missed x) = AreSeatsAmong q groups x × AreShowable q x.seats
 
 -- what is asked where the seats of the constituencies and of the groups are these
 abbrev pub asked_below : (totals : VoteTotals) → Targets totals → Question
@@ -73,29 +74,33 @@ pub record AreBeyondSheets (totals : VoteTotals) (x : SeatsOfLists) : Type 0 whe
   pub seats : AreOnlySeats totals x
   pub none : (others : Targets totals) (seats : List ℕ) → NoneInRange (asked_below totals others) seats
 
--- the only seats; and divisors that a sheet could show give them, which were missed
-pub record AreMissed (totals : VoteTotals) (x : SeatsOfLists) : Type 0 where
-  pub seats : AreOnlySeats totals x
-  pub showable : (others : Targets totals) → AreShowable (asked_below totals others) x.seats
-
 abbrev pub IsReason : VoteTotals → ExhaustedReason → Type 0
 IsReason totals (Impossible constituencies) = HaveTooFewSeats totals constituencies
 IsReason totals (NearlyTied d g) = AreNearlyTiedBelow totals d g
 IsReason totals (Beyond x) = AreBeyondSheets totals x
-IsReason totals (Missed x) = AreMissed totals x
 
--- not that a sheet could show the seats
-abbrev pub NoneMissed : ExhaustedReason → Type 0
-NoneMissed (Impossible rows) = Unit {0}
-NoneMissed (NearlyTied d g) = Unit {0}
-NoneMissed (Beyond x) = Unit {0}
-NoneMissed (Missed x) = ⊥
+-- the fault, without what was found
+abbrev pub sheet_fault : NoSheet → SheetFault
+sheet_fault (Fault fault) = fault
+sheet_fault (Tied d g tie) = Refused (refusals.TiedLower d g)
+sheet_fault (Exhausted reason) = Refused refusals.Exhausted
 
--- a reason, or why there is no sheet for one of the cases before; where the search is exhausted, always a reason if no
--- memory is refused, and never that seats were missed
-pub record IsExplained (totals : VoteTotals) (result : Result ExhaustedReason SheetFault) : Type 0 where
-  pub reason : IfOk result (IsReason totals)
-  pub refused : IfErr result (λ fault. IfRefused fault (IsFirstCase totals))
-  pub early : IfErr result (λ fault. IfRefused fault IsBeforeLists)
-  pub exhausted : IsFirstCase totals refusals.Exhausted → IfErr result (λ fault. fault ≡ Memory)
-  pub none_missed : IsFirstCase totals refusals.Exhausted → IfOk result NoneMissed
+abbrev pub sheet_or_fault : Result Distribution NoSheet → Result Distribution SheetFault
+sheet_or_fault (Ok sheet) = Ok sheet
+sheet_or_fault (Err none) = Err (sheet_fault none)
+
+-- a tie of what these totals ask
+pub record IsListTie (totals : VoteTotals) (x : ListTie) : Type 0 where
+  pub asked : IsAsked totals x.asked
+  pub tie : IsLowerTie (question_in x.asked) x.tie
+
+-- what was found is so: a tie to which the search comes, or the reason why it is exhausted; before it there is nothing to find
+abbrev pub IsKnown : VoteTotals → NoSheet → Type 0
+IsKnown totals (Fault fault) = IfRefused fault IsBeforeSearch
+IsKnown totals (Tied d g tie) = IsListTie totals tie
+IsKnown totals (Exhausted reason) = IsReason totals reason
+
+-- there is no sheet of these totals, and this is why
+pub record HaveNoSheet (totals : VoteTotals) (none : NoSheet) : Type 0 where
+  pub made : IsMade totals (Err (sheet_fault none))
+  pub known : IsKnown totals none

@@ -1,24 +1,25 @@
 -- What stands between the steps to a sheet.
-use Rattle.std.specs.Prelude.{ℕ, ◌≤◌, Bool, List, Result, Err, IfOk, IfErr, length, slice_index, ◌-◌}
+use Rattle.std.specs.Prelude.{◌≡◌, ◌≤◌, Result, Err, IfOk, IfErr}
 use Rattle.zh_districts.specs.declared.shares.SeatFault.{SeatFault}
 use Rattle.zh_districts.specs.declared.shares.SeatFault.TheVariants as seat_faults
 use Rattle.zh_districts.specs.Seats.{persons}
-use Rattle.zh_divisors.specs.Shares.{Apportionment, HasDivisor}
-use Rattle.zh_matrices.specs.Question.{AreSeatTotals, EachColumnHasVotes, Question}
-use Rattle.zh_lower.specs.declared.lower.LowerFault.{LowerFault}
-use Rattle.zh_lower.specs.declared.lower.LowerFault.TheVariants as lower_faults
+use Rattle.zh_divisors.specs.Shares.{HasDivisor}
+use Rattle.zh_matrices.specs.Question.{AreSeatTotals, EachColumnHasVotes, Question, question}
+use Rattle.zh_matrices.specs.SeatMatrix.{SeatMatrix}
+use Rattle.zh_decided.specs.Ways.{AreBalanced}
 use Rattle.zh_quorum.specs.Quorum.{AreParticipating}
-use Rattle.zh_totals.specs.Totals.{VoteTotals}
+use Rattle.zh_totals.specs.Totals.{AreTotals, VoteTotals}
 use Rattle.zh_upper.specs.UpperSeats.{AreUpperSeats, of_participants, shares_of_participants}
 use Rattle.zh_upper.specs.VoterNumbers.{AreVoterSums}
 use Rattle.zh_upper.specs.declared.fault.UpperFault.{UpperFault}
 use Rattle.zh_upper.specs.declared.fault.UpperFault.TheVariants as upper_faults
-use Rattle.zh_sheet.specs.Distribution.{Distribution, HaveSeats}
+use Rattle.zh_sheet.specs.Distribution.{Distribution, HaveSeats, lower_question, seated_groups}
 use Rattle.zh_sheet.specs.Refusals.{IfRefused, IsAnswer, IsBeforeLists, NoneOf}
-use Rattle.zh_sheet.specs.declared.apportionment.Above.{Above}
+use Rattle.zh_sheet.specs.declared.above.Above.{Above}
 use Rattle.zh_sheet.specs.declared.fault.SheetFault.{SheetFault}
 use Rattle.zh_sheet.specs.declared.fault.SheetFault.TheVariants.{Memory, Refused}
 use Rattle.zh_sheet.specs.declared.fault.SheetRefusal.TheVariants as refusals
+use Rattle.zh_sheet.specs.declared.list_question.ListQuestion.{ListQuestion}
 
 -- the refusals of a sheet for those of the parts below
 abbrev pub of_seats : SeatFault → SheetFault
@@ -30,20 +31,19 @@ abbrev pub of_upper : UpperFault → SheetFault
 of_upper upper_faults.Memory = Memory
 of_upper (upper_faults.Refused refusal) = Refused (refusals.NoUpperSeats refusal)
 
--- the seats of the constituencies and of the groups, and what they follow from; no case before those of the lists holds
-pub record StandAbove (totals : VoteTotals) (seats : Apportionment) (taking : List Bool) (voters : List ℕ)
-    (upper : Apportionment) : Type 0 where
-  pub constituencies : HaveSeats totals seats.seats
-  pub seats_key : HasDivisor (persons totals.canton) seats
-  pub participation : AreParticipating totals taking
-  pub sums : AreVoterSums totals seats.seats voters
-  pub groups : AreUpperSeats voters taking totals.canton.house upper.seats
-  pub upper_key : HasDivisor (of_participants voters taking) (shares_of_participants upper taking)
+-- the seats of the constituencies and of the groups follow from what is beside them; no case before those of the lists holds
+pub record StandAbove (totals : VoteTotals) (above : Above) : Type 0 where
+  pub constituencies : HaveSeats totals above.seats.seats
+  pub seats_key : HasDivisor (persons totals.canton) above.seats
+  pub participation : AreParticipating totals above.taking.items
+  pub sums : AreVoterSums totals above.seats.seats above.voters.items
+  pub groups : AreUpperSeats above.voters.items above.taking.items totals.canton.house above.upper.seats
+  pub upper_key : HasDivisor (of_participants above.voters.items above.taking.items) (shares_of_participants above.upper above.taking.items)
   pub none : NoneOf IsBeforeLists totals
 
--- they stand, or this is why there is no sheet: a case before those of the lists
-pub record IsAboveLists (totals : VoteTotals) (result : Result Above SheetFault) : Type 0 where
-  pub given : IfOk result (λ above. StandAbove totals above.seats above.taking.items above.voters.items above.upper)
+-- what stands before the lists are looked for, or this is why there is no sheet: a case before those of the lists
+pub record IsAboveLists {T : Type 0} (Stands : T → Type 0) (totals : VoteTotals) (result : Result T SheetFault) : Type 0 where
+  pub given : IfOk result Stands
   pub refused : IfErr result (λ fault. IsAnswer {Sheet = Distribution} totals (Err fault))
   pub early : IfErr result (λ fault. IfRefused fault IsBeforeLists)
 
@@ -57,16 +57,26 @@ pub record CanBeAsked (q : Question) : Type 0 where
   pub column_totals : AreSeatTotals q.columns q.column_totals
   pub votes : EachColumnHasVotes q
 
--- and those of the lists, where the columns, from 1, are the seated groups
-abbrev pub of_lower : LowerFault → List ℕ → SheetFault
-of_lower lower_faults.Memory seated = Memory
-of_lower (lower_faults.NoVotes d) seated = Refused (refusals.NoVotes d)
-of_lower (lower_faults.Tied d column) seated = Refused (refusals.TiedLower d (slice_index seated (column - 1)))
-of_lower lower_faults.Exhausted seated = Refused refusals.Exhausted
+-- what is asked of the lower apportionment
+abbrev pub question_in : ListQuestion → Question
+question_in x = question x.matrix x.above.seats.seats x.column_totals.items
 
--- a tie stands in one of the columns
-abbrev pub HasColumn : LowerFault → List ℕ → Type 0
-HasColumn lower_faults.Memory seated = Unit {0}
-HasColumn (lower_faults.NoVotes d) seated = Unit {0}
-HasColumn (lower_faults.Tied d column) seated = (1 ≤ column) × (column ≤ length seated)
-HasColumn lower_faults.Exhausted seated = Unit {0}
+-- by these totals, where the seats above stand
+pub record IsAsked (totals : VoteTotals) (x : ListQuestion) : Type 0 where
+  pub limits : AreTotals totals
+  pub above : StandAbove totals x.above
+  pub seated : x.seated.items ≡ seated_groups x.above.upper.seats
+  pub same : question_in x ≡ lower_question totals x.above.seats.seats x.above.upper.seats
+  pub can : CanBeAsked (question_in x)
+  pub balanced : AreBalanced (question_in x)
+
+-- the distribution of what stands above with these lists
+abbrev pub distribution_with : VoteTotals → Above → SeatMatrix → Distribution
+distribution_with totals above lists = record {
+  totals = totals;
+  seats = above.seats;
+  taking = above.taking.items;
+  voters = above.voters.items;
+  upper = above.upper;
+  lower = lists;
+}

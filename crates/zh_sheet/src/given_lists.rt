@@ -1,18 +1,16 @@
 //! A sheet from seats of the lists and divisors that are given: no search.
 ghost use Rattle.std.specs.Prelude.{◌≡◌, ◌≤◌, ◌↔◌, IfOk, IsTrue, length};
 ghost use Rattle.zh_matrices.specs.Divisors.{AreWithin};
-ghost use Rattle.zh_sheet.specs.Distribution.{lower_question, seated_groups};
 ghost use Rattle.zh_sheet.specs.Given.{DoFit, DoFollow, IsGiven, given_lists};
-ghost use Rattle.zh_sheet.specs.Stages.{StandAbove};
+ghost use Rattle.zh_sheet.specs.Stages.{CanBeAsked, IsAsked, question_in};
 ghost use Rattle.zh_totals.specs.Hidden.{NoneHidden, NoneHiddenIn};
 
-use crate::apportionment::{Above, seats_above};
 use crate::fault::SheetFault;
-use crate::list_seats::{seated_groups, seats_of, votes_of};
+use crate::list_question::ListQuestion;
 use crate::sheet::Sheet;
 use std::alloc::{AllocError, Global};
-use zh_lower::{Lower, Matrix, is_strict};
-use zh_matrices::{MOST_OF_COLUMN, MOST_OF_ROW};
+use zh_lower::Lower;
+use zh_matrices::{MOST_OF_COLUMN, MOST_OF_ROW, is_strict};
 use zh_totals::Totals;
 
 /// Whether each list with votes in a constituency stands there.
@@ -69,78 +67,47 @@ fn do_fit(
 
 /// Whether the seats of the lists follow from the divisors, which are within the limits.
 fn do_follow(
-    alloc: Global,
-    totals: &Totals<'_>,
-    above: &Above,
-    seated: &[u32],
+    asked: &ListQuestion,
     seats: &[u32],
     row_divisors: &[u64],
     column_divisors: &[u64],
-) -> Result<bool, AllocError>
-    requires above { StandAbove totals.now above.now.seats above.now.taking.items above.now.voters.items above.now.upper }
-    requires seated { seated.now ≡ seated_groups above.now.upper.seats }
-    ensures { IfOk result (λ follow. IsTrue follow ↔ DoFollow
-        (lower_question totals.now above.now.seats.seats above.now.upper.seats)
-        (given_lists seats.now row_divisors.now column_divisors.now)) }
+) -> bool
+    requires { CanBeAsked (question_in asked.now) }
+    ensures { IsTrue result ↔ DoFollow (question_in asked.now) (given_lists seats.now row_divisors.now column_divisors.now) }
 {
-    let rows = totals.setup().constituencies() as usize;
-    if !do_fit(rows, seated.len(), seats, row_divisors, column_divisors) {
-        return Ok(false);
-    }
-    let column_totals = seats_of(alloc, &above.upper, seated)?;
-    let votes = votes_of(alloc, totals, seated)?;
-    let matrix = Matrix::new(alloc, rows, seated.len(), &votes)?;
-    Ok(is_strict(
-        &matrix,
-        above.seats.seats(),
-        &column_totals,
-        seats,
-        row_divisors,
-        column_divisors,
-    ))
+    let row_totals = asked.above.seats.seats();
+    let column_totals = asked.column_totals.as_slice();
+    let (rows, columns) = (row_totals.len(), column_totals.len());
+    do_fit(rows, columns, seats, row_divisors, column_divisors)
+        && is_strict(
+            &asked.matrix,
+            row_totals,
+            column_totals,
+            seats,
+            row_divisors,
+            column_divisors,
+        )
 }
 
-/// The seats above the lists, which stand, with the lists, where these follow.
+/// The sheet with these lists, where they follow from what is asked.
 fn with_given<'s>(
     alloc: Global,
     totals: &Totals<'s>,
-    above: Above,
+    asked: ListQuestion,
     seats: Vec<u32>,
     row_divisors: Vec<u64>,
     column_divisors: Vec<u64>,
 ) -> Result<Option<Sheet<'s>>, AllocError>
-    requires above { StandAbove totals.now above.seats above.taking.items above.voters.items above.upper }
+    requires asked { IsAsked totals.now asked }
     requires votes { NoneHidden totals.now }
     ensures { IfOk result (IsGiven totals.now (given_lists seats.items row_divisors.items column_divisors.items)) }
 {
-    let seated = seated_groups(alloc, &above.upper, totals.setup().groups())?;
-    if !do_follow(
-        alloc,
-        totals,
-        &above,
-        &seated,
-        &seats,
-        &row_divisors,
-        &column_divisors,
-    )? {
+    if !do_follow(&asked, &seats, &row_divisors, &column_divisors) {
         return Ok(None);
     }
     let totals = totals.copy(alloc)?;
-    let Above {
-        seats: row_totals,
-        taking,
-        voters,
-        upper,
-    } = above;
-    Ok(Some(Sheet {
-        totals,
-        seats: row_totals,
-        taking,
-        voters,
-        upper,
-        seated,
-        lower: Lower::new(seats, row_divisors, column_divisors),
-    }))
+    let lower = Lower::new(seats, row_divisors, column_divisors);
+    Ok(Some(Sheet::with_lists(totals, asked, lower)))
 }
 
 /// The sheet of these totals with these seats of the lists and these divisors, or `None` where they are no distribution of
@@ -161,8 +128,8 @@ pub fn given<'s>(
     if !none_hidden(totals) {
         return Ok(None);
     }
-    match seats_above(alloc, totals) {
-        Ok(above) => with_given(alloc, totals, above, seats, row_divisors, column_divisors),
+    match ListQuestion::of(alloc, totals) {
+        Ok(asked) => with_given(alloc, totals, asked, seats, row_divisors, column_divisors),
         Err(fault) => match fault {
             SheetFault::Memory => Err(AllocError),
             _ => Ok(None),

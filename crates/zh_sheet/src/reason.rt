@@ -1,18 +1,18 @@
-//! Why the search for the seats of the lists found none.
-ghost use Rattle.std.specs.Prelude.{◌≡◌, IfOk, length};
-ghost use Rattle.zh_decided.specs.Rooms.{IsDecisionRoom};
-ghost use Rattle.zh_matrices.specs.Asked.{asked};
-ghost use Rattle.zh_matrices.specs.Question.{AreSeatTotals};
-ghost use Rattle.zh_decided.specs.Ways.{AreBalanced};
-ghost use Rattle.zh_sheet.specs.Reasons.{IsExplained, IsReason, IsReasonAmong};
-ghost use Rattle.zh_sheet.specs.Stages.{StandAbove};
+//! Why there is no sheet, with all that was found of it.
+ghost use Rattle.std.specs.Prelude.{◌≡◌, ◌≤◌, Err, length};
+ghost use Rattle.zh_decided.specs.Decisions.{Decides};
+ghost use Rattle.zh_decided.specs.Rooms.{found};
+ghost use Rattle.zh_lower.specs.Reasons.{HandsOver};
+ghost use Rattle.zh_lower.specs.Tried.{AreTried};
+ghost use Rattle.zh_sheet.specs.Reasons.{HaveNoSheet, IsReasonAmong, sheet_fault};
+ghost use Rattle.zh_sheet.specs.Stages.{IsAsked, question_in};
 
-use crate::apportionment::{Above, seats_above};
-use crate::fault::SheetFault;
-use crate::list_seats::{ListSeats, seated_groups, seats_of, votes_of};
-use std::alloc::{AllocError, Global};
-use zh_decided::{Decision, DecisionRoom, MarkedRows, decide};
-use zh_matrices::{Matrix, Question};
+use crate::fault::{SheetFault, SheetRefusal};
+use crate::list_question::ListQuestion;
+use crate::list_seats::ListSeats;
+use std::alloc::AllocError;
+use zh_decided::{Decision, MarkedRows};
+use zh_lower::{Decided, NoLower, Tie};
 use zh_totals::Totals;
 
 /// Why the search for the seats of the lists found none, in the numbers of the set-up.
@@ -26,61 +26,104 @@ pub enum ExhaustedReason {
     NearlyTied(u32, u32),
     /// These are the only seats, but no divisors that leave the limits of a sheet some room give any.
     Beyond(ListSeats),
-    /// These are the only seats, and divisors that a sheet could show give them, which were missed.
-    Missed(ListSeats),
 }
 
-/// The reason by what is decided, where the columns are these groups.
-fn reason_of(question: &Question<'_>, groups: Vec<u32>, mut room: DecisionRoom) -> ExhaustedReason
-    requires totals { AreSeatTotals question.now.rows question.now.row_totals.now }
-    requires balanced { AreBalanced (asked question.now) }
-    requires groups { length groups.items ≡ question.now.columns }
-    requires room { IsDecisionRoom question.now.rows question.now.columns room }
-    ensures { IsReasonAmong (asked question.now) groups.items result }
-{
-    let rows = question.rows as u32;
-    match decide(question, &mut room) {
-        Decision::Impossible(constituencies) => ExhaustedReason::Impossible(constituencies),
-        Decision::NearlyTied(constituency, column, _divisors) => {
-            ExhaustedReason::NearlyTied(constituency, groups[(column - 1) as usize])
-        }
-        Decision::Beyond(_divisors) => {
-            ExhaustedReason::Beyond(ListSeats::new(rows, groups, room.findings.seats))
-        }
-        Decision::Seats => ExhaustedReason::Missed(ListSeats::new(
-            rows,
-            groups,
-            room.findings.seats,
-        )),
+/// A tie between the seats of lists, with what was asked.
+#[derive(Drop)]
+pub struct ListTie {
+    pub(crate) asked: ListQuestion,
+    pub(crate) tie: Tie,
+}
+
+/// Why no sheet is made, with all that was found of it.
+#[derive(Drop)]
+pub enum NoSheet {
+    /// This came before the search for the seats of the lists.
+    Fault(SheetFault),
+    /// The seats of the lists are tied, first in this constituency and this group.
+    Tied(u32, u32, ListTie),
+    /// That search ended without divisors, for this reason.
+    Exhausted(ExhaustedReason),
+}
+
+impl From<SheetFault> for NoSheet {
+    ghost use Rattle.zh_sheet.specs.declared.reason.NoSheet.TheVariants.{Fault};
+
+    ghost from_gives = { λ fault none. none ≡ Fault fault };
+
+    fn from(fault: SheetFault) -> NoSheet {
+        NoSheet::Fault(fault)
     }
 }
 
-/// The reason in the numbers of the set-up, where the seats above stand.
-fn reason_below(
-    alloc: Global,
-    totals: &Totals<'_>,
-    above: &Above,
-) -> Result<ExhaustedReason, AllocError>
-    requires { StandAbove totals.now above.now.seats above.now.taking.items above.now.voters.items above.now.upper }
-    ensures { IfOk result (IsReason totals.now) }
-{
-    let setup = totals.setup();
-    let rows = setup.constituencies() as usize;
-    let seated = seated_groups(alloc, &above.upper, setup.groups())?;
-    let column_totals = seats_of(alloc, &above.upper, &seated)?;
-    let votes = votes_of(alloc, totals, &seated)?;
-    let matrix = Matrix::new(alloc, rows, seated.len(), &votes)?;
-    let room = DecisionRoom::new(alloc, rows, seated.len())?;
-    let question = matrix.question(above.seats.seats(), &column_totals);
-    Ok(reason_of(&question, seated, room))
+impl From<AllocError> for NoSheet {
+    ghost use Rattle.zh_sheet.specs.declared.fault.SheetFault.TheVariants.{Memory};
+    ghost use Rattle.zh_sheet.specs.declared.reason.NoSheet.TheVariants.{Fault};
+
+    ghost from_gives = { λ _ none. none ≡ Fault Memory };
+
+    fn from(_error: AllocError) -> NoSheet {
+        NoSheet::Fault(SheetFault::Memory)
+    }
 }
 
-/// Why the sheet of these totals, which was refused as exhausted, has no seats. Whether it was refused so is not asked
-/// again; but what is refused before the lists get their seats, and refused memory, are returned as for a sheet.
-pub fn explain(alloc: Global, totals: &Totals<'_>) -> Result<ExhaustedReason, SheetFault>
-    ensures { IsExplained totals.now result }
+impl From<NoSheet> for SheetFault {
+    ghost from_gives = { λ none fault. fault ≡ sheet_fault none };
+
+    fn from(none: NoSheet) -> SheetFault {
+        match none {
+            NoSheet::Fault(fault) => fault,
+            NoSheet::Tied(constituency, group, _) => {
+                SheetFault::Refused(SheetRefusal::TiedLower(constituency, group))
+            }
+            NoSheet::Exhausted(_) => SheetFault::Refused(SheetRefusal::Exhausted),
+        }
+    }
+}
+
+/// The reason by what was decided in vain, where the columns are these groups.
+fn reason_of(constituencies: u32, asked: ListQuestion, decided: Decided) -> ExhaustedReason
+    requires rows { constituencies ≡ asked.matrix.rows }
+    requires columns { length asked.seated.items ≡ asked.matrix.columns }
+    requires decides { Decides (question_in asked) (found decided.findings) decided.decision }
+    requires tried { AreTried (question_in asked) (found decided.findings) decided.decision }
+    ensures { IsReasonAmong (question_in asked) asked.seated.items result }
 {
-    let above = seats_above(alloc, totals)?;
-    let reason = reason_below(alloc, totals, &above)?;
-    Ok(reason)
+    let groups = asked.seated;
+    let Decided { decision, findings } = decided;
+    match decision {
+        Decision::Impossible(rows) => ExhaustedReason::Impossible(rows),
+        Decision::NearlyTied(constituency, column, _divisors) => {
+            ExhaustedReason::NearlyTied(constituency, groups[(column - 1) as usize])
+        }
+        Decision::Beyond(_divisors) => ExhaustedReason::Beyond(ListSeats::new(
+            constituencies,
+            groups,
+            findings.seats,
+        )),
+        Decision::Seats => unreachable!(),
+    }
+}
+
+/// Why there is no sheet where the lists that are asked for get no seats, in the numbers of the set-up.
+pub(crate) fn no_sheet(totals: &Totals<'_>, asked: ListQuestion, reason: NoLower) -> NoSheet
+    requires asked { IsAsked totals.now asked }
+    requires reason { HandsOver (question_in asked) (Err reason) }
+    ensures { HaveNoSheet totals.now result }
+{
+    match reason {
+        NoLower::Memory => NoSheet::Fault(SheetFault::Memory),
+        NoLower::NoVotes(constituency) => {
+            NoSheet::Fault(SheetFault::Refused(SheetRefusal::NoVotes(constituency)))
+        }
+        NoLower::Unbalanced => unreachable!(),
+        NoLower::Tied(tie) => {
+            let group = asked.seated[(tie.column - 1) as usize];
+            NoSheet::Tied(tie.row, group, ListTie { asked, tie })
+        }
+        NoLower::Exhausted(decided) => {
+            let constituencies = totals.setup().constituencies();
+            NoSheet::Exhausted(reason_of(constituencies, asked, decided))
+        }
+    }
 }

@@ -2,7 +2,8 @@
 ghost use Rattle.std.specs.Prelude.{◌≡◌, ◌-◌, ◌<◌, ◌≤◌, if◌then◌else◌, Some, None, IfSome, [], length, slice_get, slice_index};
 ghost use Rattle.std.specs.Option.{option_map_or};
 
-use crate::list_seats::column_of;
+use crate::above::Above;
+use crate::list_question::{ListQuestion, column_of};
 use std::marker::Model;
 use zh_districts::Setup;
 use zh_divisors::Shares;
@@ -37,10 +38,37 @@ impl<'s> Model for Sheet<'s> {
 }
 
 impl<'s> Sheet<'s> {
+    ghost use Rattle.zh_matrices.specs.Divisors.{millionths};
     ghost use Rattle.zh_sheet.specs.Distribution.{IsDistribution};
+    ghost use Rattle.zh_sheet.specs.Given.{DoFollow};
     ghost use Rattle.zh_sheet.specs.Readings.{column_of, list_seats, takes_part};
+    ghost use Rattle.zh_sheet.specs.Stages.{IsAsked, distribution_with, question_in};
     ghost use Rattle.zh_totals.specs.Totals.{votes_in};
     ghost use Rattle.zh_upper.specs.VoterNumbers.{voter_number};
+
+    /// The seats of the lists, which follow, with what was asked of them.
+    pub(crate) fn with_lists(totals: Totals<'s>, asked: ListQuestion, lower: Lower) -> Sheet<'s>
+        requires asked { IsAsked totals asked }
+        requires follow { DoFollow (question_in asked) lower }
+        requires divisors { lower.divisors ≡ millionths lower.divisors.of_rows lower.divisors.of_columns }
+        ensures { result ≡ distribution_with totals.entry asked.above lower }
+    {
+        let Above {
+            seats,
+            taking,
+            voters,
+            upper,
+        } = asked.above;
+        Sheet {
+            totals,
+            seats,
+            taking,
+            voters,
+            upper,
+            seated: asked.seated,
+            lower,
+        }
+    }
 
     /// The set-up of the election. The sheet meets the definitions.
     pub fn setup(&self) -> &'s Setup

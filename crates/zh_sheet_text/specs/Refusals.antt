@@ -5,7 +5,7 @@ use Rattle.zh_decided.specs.Impossible.{is_among}
 use Rattle.zh_matrices.specs.Question.{cell}
 use Rattle.zh_sheet.specs.ListSeats.{SeatsOfLists}
 use Rattle.zh_sheet.specs.declared.reason.ExhaustedReason.{ExhaustedReason}
-use Rattle.zh_sheet.specs.declared.reason.ExhaustedReason.TheVariants.{Beyond, Impossible, Missed, NearlyTied}
+use Rattle.zh_sheet.specs.declared.reason.ExhaustedReason.TheVariants.{Beyond, Impossible, NearlyTied}
 use Rattle.zh_commands.specs.Replies.{answer}
 use Rattle.zh_commands.specs.declared.replies.Reply.TheVariants as replies
 use Rattle.zh_commands.specs.declared.replies.Refusal.{Refusal}
@@ -40,4 +40,3 @@ reason_text canton (Impossible marked) =
     codes "impossible" ++ each_to (length canton.constituencies) (number_if_among marked)
 reason_text canton (NearlyTied d g) = codes "nearly tied" ++ 32 ∷ decimal d ++ 32 ∷ decimal g
 reason_text canton (Beyond x) = codes "beyond" ++ only_seats_text x
-reason_text canton (Missed x) = codes "missed" ++ only_seats_text x

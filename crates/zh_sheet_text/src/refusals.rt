@@ -135,10 +135,6 @@ fn push_reason(out: &mut Vec<u8>, setup: &Setup, reason: &ExhaustedReason) -> Re
             out.extend_from_slice(b"beyond")?;
             push_only_seats(out, lists)
         }
-        ExhaustedReason::Missed(lists) => {
-            out.extend_from_slice(b"missed")?;
-            push_only_seats(out, lists)
-        }
     }
 }
 

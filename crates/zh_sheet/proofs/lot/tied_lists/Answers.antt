@@ -1,27 +1,30 @@
-use Rattle.std.proofs.Common.{ap, length, ◌∙◌}
-use Rattle.zh_sheet.proofs.AskedLemmas.{can_be_asked}
+use Rattle.std.proofs.Common.{◌≡◌, ap, length, refl, subst, sym, ◌∙◌}
+use Rattle.zh_matrices.specs.Asked.{asked}
+use Rattle.zh_matrices.specs.Question.{Question}
+use Rattle.zh_lower.specs.Ties.{IsLowerTie}
+use Rattle.zh_sheet.specs.Stages.{question_in}
 use Rattle.zh_sheet.proofs.DistributionLemmas.{targets_above}
+use Rattle.zh_sheet.proofs.QuestionLemmas.{columns_are, ranges_of}
 use Rattle.zh_sheet.proofs.lot.tied_lists.Goals as goal
 
-pub ranges_of_lists-requires-clause-asked : goal.ranges_of_lists-requires-clause-asked
-ranges_of_lists-requires-clause-asked c =
-    let above = c.in-Ok.above in
-    let targets = targets_above c.args.totals.now above.seats above.taking.items above.voters.items above.upper c.in-Ok.ensures.given in
-    can_be_asked c.args.totals.now targets c.setup-setup.ensures.limits
+pub lot-requires : goal.lot-requires
+lot-requires c =
+    let same : asked c.question-question.result ≡ question_in c.args.tied.now.asked
+    = c.question-question.ensures ∙ (rw (c.seats.ensures, c.deref-2.ensures.value) refl) in
+    subst (λ (q : Question). IsLowerTie q c.args.tied.now.tie) (sym same) c.requires.tie
 
 pub new-requires-clause-groups : goal.new-requires-clause-groups
 new-requires-clause-groups c =
-    let above = c.in-Ok.above in
-    let targets = targets_above c.args.totals.now above.seats above.taking.items above.voters.items above.upper c.in-Ok.ensures.given in
-    rw c.in_ok-seated.ensures (can_be_asked c.args.totals.now targets c.setup-setup.ensures.limits).few_columns
+    rw (c.in_ok-groups.ensures.items, c.deref.ensures.value, ← columns_are c.args.totals.now c.args.tied.now.asked c.requires.asked)
+    c.requires.asked.can.few_columns
 
 pub returns : goal.returns
 returns c =
-    let above = c.in-Ok.above in
-    let targets = targets_above c.args.totals.now above.seats above.taking.items above.voters.items above.upper c.in-Ok.ensures.given in
+    let same : asked c.question-question.result ≡ question_in c.args.tied.now.asked
+    = c.question-question.ensures ∙ (rw (c.seats.ensures, c.deref-2.ensures.value) refl) in
     rw c.new.ensures (record {
-      targets = targets;
-      constituencies = c.constituencies.ensures.count ∙ ap (λ canton. length canton.constituencies) c.setup-setup.ensures.setup;
-      groups = c.in_ok-seated.ensures;
-      ranges = c.in_ok-ranges.ensures;
+      targets = targets_above c.args.totals.now c.args.tied.now.asked.above c.requires.asked.above;
+      constituencies = c.constituencies.ensures.count ∙ ap (λ canton. length canton.constituencies) c.setup.ensures.setup;
+      groups = c.in_ok-groups.ensures.items ∙ c.deref.ensures.value ∙ c.requires.asked.seated;
+      ranges = ranges_of c.args.totals.now c.args.tied.now.asked _ _ c.requires.asked (rw same at c.in_ok-least.ensures);
     })

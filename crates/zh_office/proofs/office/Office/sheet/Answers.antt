@@ -7,8 +7,8 @@ use Rattle.zh_office.proofs.SheetLemmas.{sheet_given}
 use Rattle.zh_office.proofs.office.Office.sheet.Goals as goal
 use Rattle.zh_office.proofs.office.Office.sheet.Goals.{then-is_final, else-is_final}
 
-pub returns-in-Ok : goal.returns-in-Ok
-returns-in-Ok c =
+pub returns-in-Ok-clause-answer : goal.returns-in-Ok-clause-answer
+returns-in-Ok-clause-answer c =
     let tally = c.args.self.now.ledger.tally in
     let closed : c.args.is_final ≡ true → AreClosed tally = elim c.if-is_final.branch [
       | then-is_final w ↦ λ _.
@@ -20,4 +20,4 @@ returns-in-Ok c =
           absurd (cc wrong)
     ] in
     sheet_given tally c.args.is_final _ closed
-    (Ok c.in-Ok.sheet, subst (λ (t : VoteTotals). IsMade t (Ok c.in-Ok.sheet)) c.totals.ensures c.in-Ok.ensures, refl)
+    (Ok c.in-Ok.sheet, subst (λ (t : VoteTotals). IsMade t (Ok c.in-Ok.sheet)) c.totals.ensures c.in-Ok.ensures.made, refl)

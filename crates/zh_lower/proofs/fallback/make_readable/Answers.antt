@@ -1,0 +1,23 @@
+use Rattle.std.proofs.Common.{◌≡◌, arith, inr, rules}
+use Rattle.std.proofs.lemmas.Grind.{common_steps}
+use Rattle.zh_matrices.specs.Asked.{asked}
+use Rattle.zh_matrices.specs.Divisors.{millionths}
+use Rattle.zh_lower.proofs.SecondLemmas.{only_strict}
+use Rattle.zh_lower.proofs.fallback.make_readable.Goals as goal
+
+pub gives_from-requires-clause-only : goal.gives_from-requires-clause-only
+gives_from-requires-clause-only c =
+    rw c.as_slice.ensures.value
+    (only_strict (asked c.args.question.now) (millionths c.args.decided.now.of_rows.items c.args.decided.now.of_columns.items)
+    c.args.decided.now.seats.items c.requires.give.strict)
+
+pub returns-clause-third : goal.returns-clause-third
+returns-clause-third c =
+    let greatest : c.copy_from_slice.new.self.items ≡ c.args.decided.now.of_columns.items = first_of (search rules, grind (arith, common_steps), cc) in
+    record {
+      seats = c.args.decided.now.seats.items;
+      rows = c.args.decided.now.of_rows.items;
+      columns = c.args.decided.now.of_columns.items;
+      give = c.requires.give;
+      readable = inr (first_of (search rules, grind (arith, common_steps), cc), rw (greatest, c.as_slice.ensures.value) at c.if-gives_from.ensures.none);
+    }

@@ -1,0 +1,56 @@
+use Rattle.std.proofs.Common.{inl, inr}
+use Rattle.zh_matrices.specs.Asked.{asked}
+use Rattle.zh_decided.proofs.CallerLemmas.{few-fitting}
+use Rattle.zh_lower.proofs.FallbackLemmas.{few-strict}
+use Rattle.zh_lower.proofs.SecondLemmas.{follow-false, follow-true, none-second}
+use Rattle.zh_lower.proofs.fallback.seats_by_decision.Goals as goal
+
+pub try_seats-requires-clause-few : goal.try_seats-requires-clause-few
+try_seats-requires-clause-few c =
+    let give = rw c.in-Seats.is at c.requires.decides in
+    rw c.deref.ensures.value (few-strict (asked c.args.question.now) _ c.args.decided.now.findings.seats.items c.requires.proper.row_totals give.strict)
+
+pub make_readable-requires-clause-few : goal.make_readable-requires-clause-few
+make_readable-requires-clause-few c =
+    let give = rw c.in-Seats.is at c.requires.decides in
+    few-strict (asked c.args.question.now) _ c.args.decided.now.findings.seats.items c.requires.proper.row_totals give.strict
+
+pub returns-then-not-try_seats-clause-later : goal.returns-then-not-try_seats-clause-later
+returns-then-not-try_seats-clause-later c =
+    let give = rw c.in-Seats.is at c.requires.decides in
+    inr (
+      none-second (asked c.args.question.now) c.args.decided.now.findings.seats.items _ give.strict
+          (rw c.deref.ensures.value at c.if-not-try_seats.ensures.none),
+      c.make_readable.ensures.third,
+    )
+
+pub try_seats-requires-in-NearlyTied-clause-few : goal.try_seats-requires-in-NearlyTied-clause-few
+try_seats-requires-in-NearlyTied-clause-few c =
+    let are = rw c.in-NearlyTied.is at c.requires.decides in
+    rw c.deref-in-NearlyTied.ensures.value
+    (few-fitting (asked c.args.question.now) c.args.decided.now.findings.seats.items c.requires.proper.row_totals are.one_fits)
+
+pub try_seats-requires-else-try_seats-clause-few : goal.try_seats-requires-else-try_seats-clause-few
+try_seats-requires-else-try_seats-clause-few c =
+    let are = rw c.in-NearlyTied.is at c.requires.decides in
+    rw c.deref-else-try_seats.ensures.value
+    (few-fitting (asked c.args.question.now) c.args.decided.now.findings.others.items c.requires.proper.row_totals are.other_fits)
+
+pub returns-else-try_seats-clause-later : goal.returns-else-try_seats-clause-later
+returns-else-try_seats-clause-later c =
+    follow-true c.try_seats-else-try_seats.result _ _ (λ second. inl (c.deref-else-try_seats.result.now, second)) c.try_seats-else-try_seats.ensures.second
+
+pub returns-else-try_seats-clause-tried : goal.returns-else-try_seats-clause-tried
+returns-else-try_seats-clause-tried c =
+    rw c.in-NearlyTied.is
+    (follow-false c.try_seats-else-try_seats.result _ _ (λ none. (rw c.deref-in-NearlyTied.ensures.value at c.if-try_seats.ensures.none, none))
+    (rw c.deref-else-try_seats.ensures.value at c.try_seats-else-try_seats.ensures.none))
+
+pub try_seats-requires-in-Beyond-clause-few : goal.try_seats-requires-in-Beyond-clause-few
+try_seats-requires-in-Beyond-clause-few c =
+    let are = rw c.in-Beyond.is at c.requires.decides in
+    rw c.deref-in-Beyond.ensures.value
+    (few-strict (asked c.args.question.now) _ c.args.decided.now.findings.seats.items c.requires.proper.row_totals are.strict)
+
+pub returns-in-Beyond-clause-tried : goal.returns-in-Beyond-clause-tried
+returns-in-Beyond-clause-tried c = rw c.in-Beyond.is (rw c.deref-in-Beyond.ensures.value at c.try_seats-in-Beyond.ensures.none)

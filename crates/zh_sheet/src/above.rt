@@ -1,0 +1,36 @@
+//! The seats above the lists: those of the constituencies and of the groups.
+ghost use Rattle.zh_sheet.specs.Stages.{IsAboveLists, StandAbove};
+
+use crate::fault::SheetFault;
+use std::alloc::Global;
+use zh_districts::seats;
+use zh_divisors::Shares;
+use zh_quorum::participating;
+use zh_totals::Totals;
+use zh_upper::{Upper, upper, voters};
+
+/// The seats of the constituencies and of the groups, with what they follow from.
+#[derive(Drop)]
+pub(crate) struct Above {
+    pub seats: Shares,
+    pub taking: Vec<bool>,
+    pub voters: Vec<u64>,
+    pub upper: Upper,
+}
+
+/// These seats by the totals, or the first reason why there are none.
+pub(crate) fn seats_above(alloc: Global, totals: &Totals<'_>) -> Result<Above, SheetFault>
+    ensures { IsAboveLists (StandAbove totals.now) totals.now result }
+{
+    let setup = totals.setup();
+    let seats = seats(alloc, setup)?;
+    let taking = participating(alloc, totals)?;
+    let voters = voters(alloc, totals, seats.seats())?;
+    let upper = upper(alloc, &voters, &taking, setup.house())?;
+    Ok(Above {
+        seats,
+        taking,
+        voters,
+        upper,
+    })
+}

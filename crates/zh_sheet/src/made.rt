@@ -1,0 +1,38 @@
+//! Where sheets are made, from the totals of a count.
+ghost use Rattle.std.specs.Prelude.{IfErr};
+ghost use Rattle.zh_sheet.specs.Made.{IsMade};
+ghost use Rattle.zh_sheet.specs.Reasons.{HaveNoSheet, sheet_or_fault};
+
+use crate::fault::SheetFault;
+use crate::list_question::ListQuestion;
+use crate::reason::{NoSheet, no_sheet};
+use crate::sheet::Sheet;
+use std::alloc::Global;
+use zh_lower::find_or_reason;
+use zh_totals::Totals;
+
+/// The sheet of these totals, as `make` gives it, or why there is none with all that was found of it.
+pub fn make_or_reason<'s>(alloc: Global, totals: &Totals<'s>) -> Result<Sheet<'s>, NoSheet>
+    ensures made { IsMade totals.now (sheet_or_fault result) }
+    ensures none { IfErr result (HaveNoSheet totals.now) }
+{
+    let asked = ListQuestion::of(alloc, totals)?;
+    let copy = totals.copy(alloc)?;
+    let row_totals = asked.above.seats.seats();
+    match find_or_reason(alloc, &asked.matrix, row_totals, &asked.column_totals) {
+        Ok(lower) => Ok(Sheet::with_lists(copy, asked, lower)),
+        Err(reason) => Err(no_sheet(totals, asked, reason)),
+    }
+}
+
+/// The sheet of these totals, or why there is none: the first case that holds decides, in the order of `SheetRefusal`.
+///
+/// No other seats follow from any divisors, of any scale, and the divisors are those of the first state of the search
+/// (docs/DEFINITIONS.md) that gives seats, or where none does those in the middle of what gives them: the same votes have
+/// one sheet. Where the seats of the lists are tied, no divisors give seats without a quotient on a half. `Memory` can come
+/// in place of every answer, and `Exhausted` where no state of the search gives seats.
+pub fn make<'s>(alloc: Global, totals: &Totals<'s>) -> Result<Sheet<'s>, SheetFault>
+    ensures { IsMade totals.now result }
+{
+    Ok(make_or_reason(alloc, totals)?)
+}
