@@ -52,7 +52,7 @@ check:
 	@scripts/check $(CRATE)
 
 quick:
-	@scripts/quick
+	@scripts/quick $(CASES)
 
 cases:
 	@cd crates/zh_cases && rt run > /dev/null
