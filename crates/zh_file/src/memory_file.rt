@@ -32,7 +32,9 @@ fn device_of(alloc: Global, bytes: &[u8]) -> Option<MemoryDisk> {
 fn reach(device: &mut Option<MemoryDisk>, at: usize, bytes: &[u8]) {
     let (at, length) = (at as u64, bytes.len() as u64);
     let fits = length <= DISK_LENGTH && at <= DISK_LENGTH - length;
-    if let Some(device) = device && fits {
+    if let Some(device) = device
+        && fits
+    {
         let _reached = device.write_at(at, bytes);
     }
 }
