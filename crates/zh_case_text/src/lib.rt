@@ -16,7 +16,7 @@ pub use disk::{CaseDisk, Device, disk_of, image_of};
 pub use files::{act_on_files, names_of_files, save};
 pub use lines::{NumberedLine, lines_of};
 pub use progress::{CaseFault, Progress, print_fault, print_line};
-pub use runs::{Passes, RunTexts, TextAtPath, answer_of, arguments_in, input_in, read_passes};
+pub use runs::{Passes, answer_of, arguments_in, input_in, path_after, read_passes};
 pub use setups::{NamedSetup, setups_of};
 pub use streams::{SlowInput, SlowOutput};
 pub use texts::{joined, lines_in, push_lines, push_number, spelled, with_numbers};

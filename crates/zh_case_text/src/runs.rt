@@ -37,7 +37,7 @@ pub fn answer_of(
     Ok(answer)
 }
 
-/// How much passes before all fails: calls of the files, reads of each text, calls of the disk, and bytes of the input and
+/// How much passes before all fails: calls at paths, reads of each text, calls of the disk's file, and bytes of the input and
 /// the output.
 #[derive(Clone, Copy)]
 pub struct Passes {
@@ -78,7 +78,7 @@ pub fn read_passes(text: &str) -> Result<(Passes, &str), CaseFault> {
 }
 
 /// The argument after the one of this name, or nothing.
-fn path_after<'t>(arguments: &'t [String], name: &str) -> &'t str {
+pub fn path_after<'t>(arguments: &'t [String], name: &str) -> &'t str {
     let mut is_next = false;
     for argument in arguments {
         if is_next {
@@ -87,49 +87,4 @@ fn path_after<'t>(arguments: &'t [String], name: &str) -> &'t str {
         is_next = argument.as_str() == name;
     }
     ""
-}
-
-/// A text of the folder. One that is not there stands at the empty path, which no argument is.
-#[derive(Drop)]
-pub struct TextAtPath {
-    pub path: String,
-    pub bytes: Vec<u8>,
-}
-
-impl TextAtPath {
-    /// The text at the path after the argument of this name.
-    fn read(rt: &HostRuntime, arguments: &[String], name: &str) -> Result<TextAtPath, CaseFault> {
-        let alloc = rt.alloc();
-        let path = path_after(arguments, name);
-        Ok(match fs::read(rt, path) {
-            Ok(bytes) => TextAtPath {
-                path: String::from_str(alloc, path)?,
-                bytes,
-            },
-            Err(_) => TextAtPath {
-                path: String::new(alloc),
-                bytes: Vec::new(alloc),
-            },
-        })
-    }
-}
-
-/// The texts of the folder that the arguments of a run name.
-#[derive(Drop)]
-pub struct RunTexts {
-    pub setup: TextAtPath,
-    pub csv: TextAtPath,
-    pub sheet: TextAtPath,
-    pub held: TextAtPath,
-}
-
-impl RunTexts {
-    pub fn read(rt: &HostRuntime, arguments: &[String]) -> Result<RunTexts, CaseFault> {
-        Ok(RunTexts {
-            setup: TextAtPath::read(rt, arguments, "--setup")?,
-            csv: TextAtPath::read(rt, arguments, "--csv")?,
-            sheet: TextAtPath::read(rt, arguments, "--sheet")?,
-            held: TextAtPath::read(rt, arguments, "--held")?,
-        })
-    }
 }

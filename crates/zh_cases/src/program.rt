@@ -2,12 +2,12 @@
 ghost use Rattle.std.specs.Prelude.{[], false};
 
 use std::alloc::Global;
+use std::fs;
 use zh_case_office::Fixture;
 use zh_case_text::{
-    CaseFault, Passes, RunTexts, SlowInput, SlowOutput, TextAtPath, answer_of, arguments_in,
-    input_in, read_passes,
+    CaseFault, SlowInput, SlowOutput, answer_of, arguments_in, input_in, path_after, read_passes,
 };
-use zh_file::{Ended, FolderFiles, HostFolder, MemoryFiles, Named, Remark, Start, World};
+use zh_file::{Ended, FolderFiles, HostFolder, MemoryFolder, Remark, Start, Stood, World};
 use zh_program::{Filmed, Used, program};
 
 /// Stands for what a file of the folder holds when it is opened.
@@ -61,83 +61,56 @@ const DISK: &str = "disk";
 #[derive(Drop)]
 struct OneDisk;
 
-fn lend(text: &TextAtPath) -> Named<'_> {
-    Named {
-        path: &text.path,
-        bytes: &text.bytes,
-    }
-}
-
-/// What a run is given.
-#[derive(Drop)]
-struct Given {
-    arguments: Vec<String>,
-    input: Vec<u8>,
-    texts: RunTexts,
-    /// The image of the disk of the case.
+/// The texts of the folder that the arguments name, and the disk of the case, in memory.
+fn folder_of(
+    rt: &HostRuntime,
+    arguments: &[String],
     image: Vec<u8>,
+) -> Result<MemoryFolder<OneDisk>, CaseFault> {
+    let mut folder = MemoryFolder::new(rt.alloc());
+    for name in ["--setup", "--csv", "--sheet", "--held"] {
+        let path = path_after(arguments, name);
+        if let Ok(bytes) = fs::read(rt, path) {
+            folder.put(path, Stood::File(bytes))?;
+        }
+    }
+    folder.put(DISK, Stood::File(image))?;
+    Ok(folder)
 }
 
-/// Runs the program on these files, and takes its disk over. The answer is that of a run.
+/// Runs the program on this folder, and takes its disk over. The answer is that of a run.
 fn run_on(
     alloc: Global,
     fixture: &mut Fixture<'_>,
-    files: MemoryFiles<'_, OneDisk>,
-    given: &Given,
-    passes: Passes,
+    folder: MemoryFolder<OneDisk>,
+    arguments: &[String],
+    input: SlowInput<'_>,
+    output: SlowOutput,
 ) -> Result<String, CaseFault> {
     let mut world = World {
-        input: SlowInput {
-            text: &given.input,
-            left: passes.input,
-        },
-        output: SlowOutput {
-            bytes: Vec::new(alloc),
-            left: passes.output,
-            takes: 1,
-        },
+        input,
+        output,
         faults: Vec::new(alloc),
         remark: Remark::Whole,
-        files,
+        files: FolderFiles::new(folder),
     };
-    let Ended { result, used } = program(alloc, &given.arguments, OneDisk, &mut world);
-    match used {
+    let Ended { result, used } = program(alloc, arguments, OneDisk, &mut world);
+    let disk = match used {
         Some(Used::Disk(filmed)) => {
             let Filmed {
                 disk,
                 film: _film,
                 text: _text,
             } = filmed;
-            fixture.take_over(disk.into_inner());
+            disk.into_file().into_disk()
         }
-        Some(Used::Rehearsal(_film)) => {}
-        None => {}
+        Some(Used::Rehearsal(_film)) => None,
+        None => None,
+    };
+    if let Some(disk) = disk {
+        fixture.take_over(disk);
     }
     answer_of(alloc, result, ", ", &world.output.bytes, &world.faults)
-}
-
-/// Runs the program on what it is given.
-fn run_on_given(
-    alloc: Global,
-    fixture: &mut Fixture<'_>,
-    given: &Given,
-    passes: Passes,
-) -> Result<String, CaseFault> {
-    let texts = [
-        lend(&given.texts.setup),
-        lend(&given.texts.csv),
-        lend(&given.texts.sheet),
-        lend(&given.texts.held),
-    ];
-    let disks = [Named {
-        path: DISK,
-        bytes: &given.image,
-    }];
-    let mut files = MemoryFiles::<OneDisk>::new(alloc, &texts, &disks);
-    files.calls = passes.files;
-    files.reads = passes.reads;
-    files.disk_calls = passes.calls;
-    run_on(alloc, fixture, files, given, passes)
 }
 
 /// Runs the program within a limit on `LIMIT zhcount ARGUMENTS < INPUT`. The texts that its arguments name are those of
@@ -151,11 +124,19 @@ pub(crate) fn run_within(
     let (passes, run) = read_passes(text)?;
     let (arguments, input) = run.split_once('<').unwrap_or((run, ""));
     let arguments = arguments_in(alloc, arguments)?;
-    let given = Given {
-        input: input_in(rt, input.trim())?,
-        texts: RunTexts::read(rt, &arguments)?,
-        image: fixture.image()?,
-        arguments,
+    let input = input_in(rt, input.trim())?;
+    let mut folder = folder_of(rt, &arguments, fixture.image()?)?;
+    folder.calls = passes.files;
+    folder.reads = passes.reads;
+    folder.file_calls = passes.calls;
+    let input = SlowInput {
+        text: &input,
+        left: passes.input,
     };
-    run_on_given(alloc, fixture, &given, passes)
+    let output = SlowOutput {
+        bytes: Vec::new(alloc),
+        left: passes.output,
+        takes: 1,
+    };
+    run_on(alloc, fixture, folder, &arguments, input, output)
 }

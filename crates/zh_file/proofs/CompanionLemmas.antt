@@ -1,6 +1,6 @@
 -- What becomes of a companion that may be empty.
 use Rattle.std.proofs.Common.{◌≡◌, ◌∙◌, ◌∷◌, ◌≤◌, ℕ, List, [], length, Option, Some, None, Result, Ok, Err, IfOk, refl, sym, ap, subst, inl, inr, ⊎_elim, arith}
-use Rattle.std.specs.Prelude.{◌≢◌, ◌⊎◌, ◌++◌, IfErr, IfSome, codes}
+use Rattle.std.specs.Prelude.{◌⊎◌, ◌++◌, IfErr, IfSome, codes}
 use Rattle.std.specs.declared.io.Error.{Error}
 use Rattle.zh_file.specs.Failures.{FailedCall, ForgetsNone, FailsBetween, asked_with}
 use Rattle.zh_file.specs.Places.{IfKnown, Places, Standing, companion_of, found_at}
@@ -8,7 +8,7 @@ use Rattle.zh_file.specs.Places.Standing.{nothing, file, folder, other}
 use Rattle.zh_file.proofs.PlaceLemmas.{failed_within, goes_itself, just_failed}
 use Rattle.zh_file.specs.declared.notes.Setback.{Setback}
 use Rattle.zh_file.specs.Folder.{ActsAt, Folders, IsKind, LooksAt, Removes, failed_after, noted_at}
-use Rattle.zh_file.specs.Steps.{GoesAhead, FailsAtEither, IsRidOfCompanion, LeavesCompanion}
+use Rattle.zh_file.specs.Steps.{GoesAhead, IsRidOfCompanion, LeavesCompanion}
 use Rattle.zh_file.specs.declared.folder.Found.{Found}
 use Rattle.zh_file.specs.declared.folder.Found.TheVariants as kinds
 

@@ -75,7 +75,7 @@ pub same_companion : (old new : Places) (path : List ℕ) → new.leads ≡ old.
 same_companion old new path same = ap (λ (f : List ℕ → List ℕ). f path ++ codes "-wal") same
 
 -- a companion's place is not that of its disk
-longer : (xs : List ℕ) → (xs ≡ xs ++ codes "-wal" → ⊥)
+pub longer : (xs : List ℕ) → (xs ≡ xs ++ codes "-wal" → ⊥)
 longer xs is = let size : length xs ≡ length xs + 4 = ap length is ∙ length-append xs (codes "-wal") in absurd (omega (arith, size))
 
 bare_made : (old new : Standing) → IsSameOrMade old new → IsSameOrBare old new

@@ -1,5 +1,5 @@
 -- What a stop may have left of a locked file, over its calls.
-use Rattle.std.proofs.Common.{◌≡◌, ◌∙◌, ◌+◌, ◌≤◌, ℕ, List, [], ◌∷◌, length, IsTrue, Option, Some, None, refl, sym, ap, subst, inl, inr, ⊎_elim, arith}
+use Rattle.std.proofs.Common.{◌≡◌, ◌+◌, ◌≤◌, ℕ, List, [], Option, Some, None, refl, sym, subst, inl, ⊎_elim, arith}
 use Rattle.std.specs.Prelude.{IfOk, IfSome, Result, Ok, Err}
 use Rattle.std.specs.declared.io.Error.{Error}
 use Rattle.sqlite_disk.specs.Disk.{Cut, Follows, Only, Torn}

@@ -1,6 +1,6 @@
 -- A folder in memory.
 use Rattle.std.proofs.Common.{◌≡◌, ◌∙◌, ◌+◌, ◌<◌, ℕ, List, [], length, Some, Result, Ok, Err, refl, sym, ap, subst, inl, inr, ⊎_elim, arith}
-use Rattle.std.specs.Prelude.{◌≢◌, bytes_eq, slice_index, IfOk, OnOk, OnErr}
+use Rattle.std.specs.Prelude.{◌≢◌, ◌++◌, bytes_eq, codes, slice_index, IfOk, OnOk, OnErr}
 use Rattle.std.proofs.Math.Path.{fun_ext}
 use Rattle.std.proofs.lemmas.Bool.{cases_Bool, cases_lt}
 use Rattle.std.proofs.lemmas.Bool.Decides.{not_from_Decides}
@@ -14,6 +14,7 @@ use Rattle.zh_file.specs.Places.Standing.{nothing, file}
 use Rattle.zh_file.specs.Folder.{ActsAt, IsCounted, MakesBoth, Removes, failed_after}
 use Rattle.zh_file.specs.MemoryFolder.{PutsAt, disk_in, folders_of, standing_at}
 use Rattle.zh_file.specs.declared.memory_folder.MemoryFolder.{MemoryFolder}
+use Rattle.zh_file.proofs.FolderLemmas.{longer}
 
 -- bytes that were written into an empty file
 pub written_whole : (bytes old new : List ℕ) → old ≡ [] → Torn 0 (length bytes) old new → (0 < length bytes → Holds new 0 bytes) → new ≡ bytes
@@ -60,6 +61,19 @@ module _ {R : Type 0} where
   made_disks path old new made others = same_disks old new (λ place.
       at_or_off (λ p. bytes_of (standing_at new p) ≡ bytes_of (standing_at old p)) path place
       (made_bytes (standing_at old path) (standing_at new path) made) (λ far. ap bytes_of (others place far)))
+
+  -- a disk and then its companion, each made where nothing stood
+  pub both_made : (path name : List ℕ) (old mid new : MemoryFolder R) → name ≡ path ++ codes "-wal"
+      → IsSameOrMade (standing_at old path) (standing_at mid path) → ((place : List ℕ) → place ≢ path → standing_at mid place ≡ standing_at old place)
+      → IsSameOrMade (standing_at mid name) (standing_at new name) → ((place : List ℕ) → place ≢ name → standing_at new place ≡ standing_at mid place)
+      → MakesBoth path (folders_of old).places (folders_of new).places
+  both_made path name old mid new is made others then rest = record {
+    leads = refl;
+    disk = subst (λ (s : Standing). IsSameOrMade (standing_at old path) s) (sym (rest path (λ same. longer path (same ∙ is)))) made;
+    companion = subst (λ (n : List ℕ). IsSameOrMade (standing_at old n) (standing_at new n)) is
+        (subst (λ (s : Standing). IsSameOrMade s (standing_at new name)) (others name (λ same. longer path (sym same ∙ is))) then);
+    others = λ place far off. rest place (λ same. off (same ∙ is)) ∙ others place far;
+  }
 
   -- nor where both are
   pub both_disks : (path : List ℕ) (old new : MemoryFolder R) → MakesBoth path (folders_of old).places (folders_of new).places → disk_in new ≡ disk_in old

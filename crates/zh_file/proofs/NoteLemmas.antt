@@ -11,14 +11,14 @@ use Rattle.sqlite_std_file.specs.declared.pair.OpenError.{OpenError}
 use Rattle.sqlite_std_file.specs.declared.pair.OpenError.TheVariants as opening
 use Rattle.zh_disk.specs.Disk.{disk_length}
 use Rattle.zh_file.specs.Causes.{fault_of_found, fault_of_kind}
-use Rattle.zh_file.specs.Failures.{FailedCall, ForgetsNone, FailsBetween, IsMet, Meets, setback_fault}
+use Rattle.zh_file.specs.Failures.{FailedCall, ForgetsNone, FailsBetween, Meets, setback_fault}
 use Rattle.zh_film.specs.Past.{items}
 use Rattle.zh_file.specs.declared.fault.FileCause.TheVariants as causes
 use Rattle.zh_file.specs.declared.fault.FileFault.{FileFault}
 use Rattle.zh_file.specs.declared.fault.FileFault.TheVariants as faults
 use Rattle.zh_file.specs.declared.notes.Setback.{Setback}
 use Rattle.zh_file.specs.declared.notes.Setback.TheVariants as setbacks
-use Rattle.zh_file.proofs.PlaceLemmas.{failed_within, goes_itself, goes_more, goes_same, just_failed, meets_just, met_by, met_just}
+use Rattle.zh_file.proofs.PlaceLemmas.{failed_within, goes_itself, goes_more, goes_same, meets_just, met_by, met_just}
 use Rattle.zh_file.specs.Failures.{asked_with, fault_of_opening, locked_with}
 use Rattle.zh_file.specs.Folder.{noted_at}
 use Rattle.zh_file.specs.Locked.{IsAmong, IsFaultOf, is_fit, kinds_after, noted_all, setbacks_of, unless_fit}

@@ -4,14 +4,21 @@ use Rattle.std.specs.Str.{bytes_eq}
 use Rattle.std.specs.IoError.{error_kind}
 use Rattle.std.specs.declared.io.Error.{Error}
 use Rattle.std.specs.declared.io.ErrorKind.TheVariants.{OutOfMemory}
+use Rattle.sqlite_disk.specs.declared.fuse.Fuse.{Fuse}
+use Rattle.sqlite_disk.specs.declared.memory.Memory.{Memory}
 use Rattle.zh_film.specs.Past.{number}
 use Rattle.zh_file.specs.Places.{Standing, bytes_of}
 use Rattle.zh_file.specs.Places.Standing.{nothing, file, other}
 use Rattle.zh_file.specs.Folder.{Folders}
+use Rattle.zh_file.specs.declared.memory_file.MemoryFile.{MemoryFile}
 use Rattle.zh_file.specs.declared.memory_folder.Stood.{Stood}
 use Rattle.zh_file.specs.declared.memory_folder.Stood.TheVariants as stood
 use Rattle.zh_file.specs.declared.memory_folder.Placed.{Placed}
 use Rattle.zh_file.specs.declared.memory_folder.MemoryFolder.{MemoryFolder}
+
+-- what clauses speak of
+abbrev pub file_of : MemoryFile → Fuse Memory
+file_of f = f.file
 
 abbrev pub stood_as : Stood → Standing
 stood_as (stood.File bytes) = file bytes.items

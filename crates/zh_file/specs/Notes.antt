@@ -1,5 +1,5 @@
 -- What is noted of a folder: the calls that failed, and the files that were unlocked.
-use Rattle.std.specs.Prelude.{List, [], ◌∷◌, ◌++◌}
+use Rattle.std.specs.Prelude.{List, [], ◌∷◌}
 use Rattle.sqlite_disk.specs.declared.Disk.{Ghosts}
 use Rattle.zh_file.specs.Failures.{FailedCall, failed_call}
 use Rattle.zh_film.specs.Past.{items}

@@ -1,7 +1,7 @@
 //! A folder in memory, for tests.
 mod calls;
 
-ghost use Rattle.std.specs.Prelude.{◌≡◌, ◌≢◌, ◌⊎◌, ◌-◌, ◌++◌, ◌↔◌, ℕ, List, codes, length, string_bytes};
+ghost use Rattle.std.specs.Prelude.{◌≡◌, ◌≢◌, ◌⊎◌, ◌-◌, ◌^◌, ◌++◌, ◌↔◌, ℕ, List, codes, length, string_bytes};
 ghost use Rattle.std.specs.Prelude.{None, Some, Err, IfErr, IfOk, IsTrue, MatchOption, OnErr, OnOk};
 ghost use Rattle.std.specs.IoError.{error_kind};
 ghost use Rattle.sqlite_disk.specs.Disk.{Only};
@@ -9,10 +9,11 @@ ghost use Rattle.sqlite_disk.specs.Fuse.{calls_left};
 ghost use Rattle.zh_file.specs.Causes.{IsCauseAt, cause_of};
 ghost use Rattle.zh_file.specs.Places.{IsSameOrMade};
 ghost use Rattle.zh_file.specs.Places.Standing.{nothing, file as filed};
-ghost use Rattle.zh_file.specs.MemoryFolder.{PutsAt, standing_at, stood_as, placed_at};
+ghost use Rattle.zh_file.specs.MemoryFolder.{PutsAt, file_of, standing_at, stood_as, placed_at};
 
+use crate::memory_file::MemoryFile;
 use crate::notes::Note;
-use sqlite_disk::{Disk as File, Fuse, Memory};
+use sqlite_disk::{Disk as File, Memory};
 use std::alloc::{AllocError, Global};
 use std::io::{self, ErrorKind};
 use std::marker::PhantomData;
@@ -41,6 +42,8 @@ pub struct MemoryFolder<R> {
     placed: Vec<Placed>,
     /// How many calls pass.
     pub calls: u64,
+    /// How many reads of a text pass.
+    pub reads: u64,
     /// How many calls of a file pass.
     pub file_calls: u64,
     /// Another has the lock of each disk.
@@ -49,7 +52,7 @@ pub struct MemoryFolder<R> {
     failed: Past<()>,
     refused: Past<()>,
     // the calls that failed, and the files that were unlocked
-    notes: Past<Note<Fuse<Memory>>>,
+    notes: Past<Note<MemoryFile>>,
     // how often a text was asked for
     asked: Past<()>,
     // what the right to a disk is
@@ -70,12 +73,14 @@ fn stood_at<'a>(all: &'a [Placed], path: &str) -> Option<&'a Stood>
 impl<R> MemoryFolder<R> {
     /// Where nothing stands. So many calls pass that none of a test fails.
     pub fn new(alloc: Global) -> MemoryFolder<R>
-        ensures { (path : List ℕ) → standing_at result path ≡ nothing }
+        ensures empty { (path : List ℕ) → standing_at result path ≡ nothing }
+        ensures passing { (result.calls ≡ 2 ^ 64 - 1) × (result.reads ≡ 2 ^ 64 - 1) × (result.file_calls ≡ 2 ^ 64 - 1) }
     {
         MemoryFolder {
             alloc,
             placed: Vec::new(alloc),
             calls: u64::MAX,
+            reads: u64::MAX,
             file_calls: u64::MAX,
             is_busy: false,
             failed: Past::new(),
@@ -143,18 +148,18 @@ impl<R> MemoryFolder<R> {
     }
 
     /// The file at this path as it is synced.
-    fn file_at(&self, path: &str) -> io::Result<Fuse<Memory>>
-        ensures bytes { IfOk result (λ file. standing_at self.now path.now ≡ filed (⟦<Fuse<Memory> as File>⟧.seen file)) }
-        ensures usable { IfOk result (λ file. IsTrue (⟦<Fuse<Memory> as File>⟧.is_usable file)) }
-        ensures synced { IfOk result (λ file. Only (⟦<Fuse<Memory> as File>⟧.seen file) (⟦<Fuse<Memory> as File>⟧.may_leave file)) }
-        ensures unfailed { IfOk result (λ file. ⟦<Fuse<Memory> as File>⟧.faults file ≡ 0) }
-        ensures calls { IfOk result (λ file. calls_left file ≡ self.now.file_calls) }
+    fn file_at(&self, path: &str) -> io::Result<MemoryFile>
+        ensures bytes { IfOk result (λ file. standing_at self.now path.now ≡ filed (⟦<MemoryFile as File>⟧.seen file)) }
+        ensures usable { IfOk result (λ file. IsTrue (⟦<MemoryFile as File>⟧.is_usable file)) }
+        ensures synced { IfOk result (λ file. Only (⟦<MemoryFile as File>⟧.seen file) (⟦<MemoryFile as File>⟧.may_leave file)) }
+        ensures unfailed { IfOk result (λ file. ⟦<MemoryFile as File>⟧.faults file ≡ 0) }
+        ensures calls { IfOk result (λ file. calls_left (file_of file) ≡ self.now.file_calls) }
     {
         let bytes = self.bytes_at(path)?;
         let mut file = Memory::new(self.alloc);
         file.write_at(0, &bytes)?;
         file.sync()?;
-        Ok(Fuse::new(file, self.file_calls))
+        Ok(MemoryFile::new(self.alloc, file, self.file_calls))
     }
 
     /// The companion's path.

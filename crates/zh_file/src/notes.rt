@@ -1,12 +1,11 @@
 //! What is noted of a folder, which only clauses read: the calls that failed, and the files that were unlocked.
-ghost use Rattle.std.specs.Prelude.{◌≡◌, ◌∷◌, ℕ, List};
+ghost use Rattle.std.specs.Prelude.{◌≡◌, ◌∷◌};
 ghost use Rattle.zh_film.specs.Past.{items};
-ghost use Rattle.zh_file.specs.Failures.{FailedCall, IsMet, failed_call, asked_with, locked_with};
+ghost use Rattle.zh_file.specs.Failures.{failed_call, asked_with, locked_with};
 ghost use Rattle.zh_file.specs.Folder.{noted_at};
 ghost use Rattle.zh_file.specs.Locked.{noted_all, setbacks_of};
 ghost use Rattle.zh_file.specs.Notes.{failed_among, unlocked_among};
 
-use crate::fault::{FileCause, FileFault};
 use crate::stored::Locked;
 use sqlite_disk::Disk as File;
 use sqlite_std_file::OpenError;
@@ -31,32 +30,6 @@ pub enum Setback {
     Unfit,
 }
 
-impl Setback {
-    /// What a call came to that has this fault.
-    pub(crate) fn of(fault: FileFault) -> Setback
-        ensures { (path : List ℕ) (before : List FailedCall) → IsMet path fault before (record { path = path; setback = result } ∷ before) }
-    {
-        match fault {
-            FileFault::Memory => Setback::Asked(ErrorKind::OutOfMemory),
-            FileFault::Busy => Setback::Busy,
-            FileFault::Device(cause) => match cause {
-                FileCause::Missing => Setback::Asked(ErrorKind::NotFound),
-                FileCause::Permission => Setback::Asked(ErrorKind::PermissionDenied),
-                FileCause::NoFolder => Setback::Asked(ErrorKind::NotADirectory),
-                FileCause::ReadOnly => Setback::Asked(ErrorKind::ReadOnlyFilesystem),
-                FileCause::NoRoom => Setback::Asked(ErrorKind::StorageFull),
-                FileCause::LongName => Setback::Asked(ErrorKind::InvalidFilename),
-                FileCause::SecondName => Setback::Locking(ErrorKind::Unsupported),
-                FileCause::Journal => Setback::Journal,
-                FileCause::Folder => Setback::Asked(ErrorKind::IsADirectory),
-                FileCause::Special => Setback::Asked(ErrorKind::Unsupported),
-                FileCause::Failed => Setback::Asked(ErrorKind::Other),
-            },
-            FileFault::Size(_) => Setback::Unfit,
-        }
-    }
-}
-
 /// A call that failed: its path, and what it came to.
 #[derive(Drop)]
 pub struct Failure {
@@ -65,7 +38,7 @@ pub struct Failure {
 }
 
 /// The bytes of a path.
-pub fn noted_path(path: &[u8]) -> Past<u8>
+pub(crate) fn noted_path(path: &[u8]) -> Past<u8>
     ensures { items result ≡ path.now }
 {
     let mut noted = Past::new();

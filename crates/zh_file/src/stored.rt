@@ -45,6 +45,17 @@ pub struct Stored<D: File> {
     ghost unrefused: { is_over ≡ false → refusals ≡ 0 },
 }
 
+impl<D: File> Stored<D> {
+    ghost use Rattle.zh_file.specs.Stored.{stored_file};
+
+    /// Its file.
+    pub fn into_file(self) -> D
+        ensures { result ≡ stored_file self }
+    {
+        self.held.file
+    }
+}
+
 /// The answer of a call of the file.
 fn reported(done: io::Result<()>) -> Result<(), DiskFault>
     ensures { is_ok result ≡ is_ok done }

@@ -12,13 +12,15 @@ ghost use Rattle.zh_file.specs.Folder.{IsCounted, IsCountedLock, IsKind, MakesBo
 ghost use Rattle.zh_file.specs.Failures.{asked_with, locked_with};
 ghost use Rattle.zh_file.specs.Locked.{IsLeftOf, IsLeftOfOne, noted_all, setbacks_of};
 ghost use Rattle.zh_file.specs.Notes.{failed_among, unlocked_among};
-ghost use Rattle.zh_file.specs.MemoryFolder.{PutsAt, Spends, disk_in, folders_of, standing_at};
+ghost use Rattle.zh_file.specs.MemoryFolder.{PutsAt, Spends, disk_in, file_of, folders_of, standing_at};
 
 use super::{MemoryFolder, Stood, stood_at};
 use crate::folder::{Folder, Found};
+use crate::memory_file::MemoryFile;
+use crate::memory_text::MemoryText;
 use crate::notes::{note_call, note_lock, note_unlocked};
 use crate::stored::Locked;
-use sqlite_disk::{Disk as File, Files, Fuse, Memory};
+use sqlite_disk::{Disk as File, Files};
 use sqlite_std_file::OpenError;
 use std::io::{self, Cursor, ErrorKind, Read};
 
@@ -44,8 +46,8 @@ impl<R> MemoryFolder<R> {
         ensures result { result ≡ done }
         ensures rest { self.new ≡ record self.old { failed = self.new.failed; notes = self.new.notes } }
         ensures counted { IsCounted done (folders_of self.old) (folders_of self.new) }
-        ensures noted { failed_among ⟦<Fuse<Memory> as File>⟧ (items self.new.notes)
-            ≡ noted_at path.now asked_with done (failed_among ⟦<Fuse<Memory> as File>⟧ (items self.old.notes)) }
+        ensures noted { failed_among ⟦<MemoryFile as File>⟧ (items self.new.notes)
+            ≡ noted_at path.now asked_with done (failed_among ⟦<MemoryFile as File>⟧ (items self.old.notes)) }
         ensures unlocked { unlocked_among (items self.new.notes) ≡ unlocked_among (items self.old.notes) }
     {
         note_call(&mut self.notes, path, &done);
@@ -78,14 +80,17 @@ impl<R> MemoryFolder<R> {
         Ok(self.beside(path)?)
     }
 
-    fn text_at(&mut self, path: &str) -> io::Result<Cursor<Vec<u8>>>
+    fn text_at(&mut self, path: &str) -> io::Result<MemoryText>
         ensures rest { self.new ≡ record self.old { calls = self.new.calls } }
         ensures spends { Spends ((bytes : List ℕ) → standing_at self.old path.now ≢ filed bytes) result self.old self.new }
-        ensures said { IfOk result (λ text. ⟦<Cursor<Vec<u8>> as Read>⟧.remaining text ≡ disk_in self.old path.now) }
+        ensures said { IfOk result (λ text. ⟦<MemoryText as Read>⟧.remaining text ≡ disk_in self.old path.now) }
         ensures why { IfErr result (λ error. IsCauseAt (standing_at self.old path.now) (cause_of (error_kind error))) }
     {
         self.pass()?;
-        Ok(Cursor::new(self.bytes_at(path)?))
+        Ok(MemoryText {
+            text: Cursor::new(self.bytes_at(path)?),
+            reads: self.reads,
+        })
     }
 
     fn make_at(&mut self, path: &str) -> io::Result<()>
@@ -101,15 +106,15 @@ impl<R> MemoryFolder<R> {
     }
 
     /// The disk at this path and its companion, each made where nothing stands.
-    fn both_at(&mut self, path: &str) -> io::Result<Files<Fuse<Memory>>>
+    fn both_at(&mut self, path: &str) -> io::Result<Files<MemoryFile>>
         ensures rest { self.new ≡ record self.old { placed = self.new.placed } }
         ensures made { MakesBoth path.now (folders_of self.old).places (folders_of self.new).places }
-        ensures locked { IfOk result (λ files. standing_at self.new path.now ≡ filed (⟦<Fuse<Memory> as File>⟧.seen files.db)) }
-        ensures usable { IfOk result (λ files. IsTrue (⟦<Fuse<Memory> as File>⟧.is_usable files.db)) }
+        ensures locked { IfOk result (λ files. standing_at self.new path.now ≡ filed (⟦<MemoryFile as File>⟧.seen files.db)) }
+        ensures usable { IfOk result (λ files. IsTrue (⟦<MemoryFile as File>⟧.is_usable files.db)) }
         ensures synced { IfOk result (λ files.
-            Only (⟦<Fuse<Memory> as File>⟧.seen files.db) (⟦<Fuse<Memory> as File>⟧.may_leave files.db)) }
-        ensures unfailed { IfOk result (λ files. ⟦<Fuse<Memory> as File>⟧.faults files.db ≡ 0) }
-        ensures calls { IfOk result (λ files. calls_left files.db ≡ self.old.file_calls) }
+            Only (⟦<MemoryFile as File>⟧.seen files.db) (⟦<MemoryFile as File>⟧.may_leave files.db)) }
+        ensures unfailed { IfOk result (λ files. ⟦<MemoryFile as File>⟧.faults files.db ≡ 0) }
+        ensures calls { IfOk result (λ files. calls_left (file_of files.db) ≡ self.old.file_calls) }
     {
         let companion = self.beside(path)?;
         self.place(path)?;
@@ -120,15 +125,15 @@ impl<R> MemoryFolder<R> {
         })
     }
 
-    fn lock_at(&mut self, path: &str) -> Result<Files<Fuse<Memory>>, OpenError>
+    fn lock_at(&mut self, path: &str) -> Result<Files<MemoryFile>, OpenError>
         ensures rest { self.new ≡ record self.old { calls = self.new.calls; placed = self.new.placed } }
         ensures made { MakesBoth path.now (folders_of self.old).places (folders_of self.new).places }
-        ensures locked { IfOk result (λ files. standing_at self.new path.now ≡ filed (⟦<Fuse<Memory> as File>⟧.seen files.db)) }
-        ensures usable { IfOk result (λ files. IsTrue (⟦<Fuse<Memory> as File>⟧.is_usable files.db)) }
+        ensures locked { IfOk result (λ files. standing_at self.new path.now ≡ filed (⟦<MemoryFile as File>⟧.seen files.db)) }
+        ensures usable { IfOk result (λ files. IsTrue (⟦<MemoryFile as File>⟧.is_usable files.db)) }
         ensures synced { IfOk result (λ files.
-            Only (⟦<Fuse<Memory> as File>⟧.seen files.db) (⟦<Fuse<Memory> as File>⟧.may_leave files.db)) }
-        ensures unfailed { IfOk result (λ files. ⟦<Fuse<Memory> as File>⟧.faults files.db ≡ 0) }
-        ensures calls { IfOk result (λ files. calls_left files.db ≡ self.old.file_calls) }
+            Only (⟦<MemoryFile as File>⟧.seen files.db) (⟦<MemoryFile as File>⟧.may_leave files.db)) }
+        ensures unfailed { IfOk result (λ files. ⟦<MemoryFile as File>⟧.faults files.db ≡ 0) }
+        ensures calls { IfOk result (λ files. calls_left (file_of files.db) ≡ self.old.file_calls) }
         ensures spent { self.new.calls ≡ self.old.calls - 1 }
         ensures blown { self.old.calls ≡ 0 → IsErr result × (result ≢ Err OpenError.Busy) }
         ensures busy { self.old.calls ≢ 0 → (result ≡ Err OpenError.Busy) ↔ IsTrue self.old.is_busy }
@@ -151,8 +156,8 @@ impl<R> MemoryFolder<R> {
         ensures rest { self.new
             ≡ record self.old { failed = self.new.failed; refused = self.new.refused; notes = self.new.notes } }
         ensures counted { IsCountedLock done (folders_of self.old) (folders_of self.new) }
-        ensures noted { failed_among ⟦<Fuse<Memory> as File>⟧ (items self.new.notes)
-            ≡ noted_at path.now locked_with done (failed_among ⟦<Fuse<Memory> as File>⟧ (items self.old.notes)) }
+        ensures noted { failed_among ⟦<MemoryFile as File>⟧ (items self.new.notes)
+            ≡ noted_at path.now locked_with done (failed_among ⟦<MemoryFile as File>⟧ (items self.old.notes)) }
         ensures unlocked { unlocked_among (items self.new.notes) ≡ unlocked_among (items self.old.notes) }
     {
         note_lock(&mut self.notes, path, &done);
@@ -176,21 +181,21 @@ impl<R> MemoryFolder<R> {
 }
 
 impl<R: Drop> Folder for MemoryFolder<R> {
-    type Text = Cursor<Vec<u8>>;
+    type Text = MemoryText;
 
-    type File = Fuse<Memory>;
+    type File = MemoryFile;
 
-    type Companion = Fuse<Memory>;
+    type Companion = MemoryFile;
 
     type Right = R;
 
     ghost known = { λ folder. Some (folders_of folder) };
 
-    ghost left = { λ folder. IsLeftOfOne ⟦<Fuse<Memory> as File>⟧ (unlocked_among (items folder.notes)) };
+    ghost left = { λ folder. IsLeftOfOne ⟦<MemoryFile as File>⟧ (unlocked_among (items folder.notes)) };
 
     ghost disk_at = { disk_in };
 
-    ghost failed = { λ folder. failed_among ⟦<Fuse<Memory> as File>⟧ (items folder.notes) };
+    ghost failed = { λ folder. failed_among ⟦<MemoryFile as File>⟧ (items folder.notes) };
 
     ghost texts = { λ folder. number folder.asked };
 
@@ -204,7 +209,7 @@ impl<R: Drop> Folder for MemoryFolder<R> {
         self.note(path, name)
     }
 
-    fn text(&mut self, path: &str) -> io::Result<Cursor<Vec<u8>>> {
+    fn text(&mut self, path: &str) -> io::Result<MemoryText> {
         self.asked.add();
         let text = self.text_at(path);
         self.note(path, text)
@@ -219,7 +224,7 @@ impl<R: Drop> Folder for MemoryFolder<R> {
         &mut self,
         _right: R,
         path: &str,
-    ) -> Result<(Locked<Fuse<Memory>>, Fuse<Memory>), OpenError> {
+    ) -> Result<(Locked<MemoryFile>, MemoryFile), OpenError> {
         let locked = self.lock_at(path);
         match self.note_lock(path, locked) {
             Ok(files) => Ok((Locked::new(files.db), files.log)),
@@ -227,19 +232,19 @@ impl<R: Drop> Folder for MemoryFolder<R> {
         }
     }
 
-    fn remove(&mut self, path: &str, _locked: &Fuse<Memory>) -> io::Result<()> {
+    fn remove(&mut self, path: &str, _locked: &MemoryFile) -> io::Result<()> {
         let removed = self.remove_at(path);
         self.note(path, removed)
     }
 
-    fn unlock(&mut self, path: &str, locked: Locked<Fuse<Memory>>)
+    fn unlock(&mut self, path: &str, locked: Locked<MemoryFile>)
         ensures unlocks { Unlocks disk_in (λ folder. Some (folders_of folder))
-            (λ folder. IsLeftOfOne ⟦<Fuse<Memory> as File>⟧ (unlocked_among (items folder.notes)))
-            (IsLeftOf ⟦<Fuse<Memory> as File>⟧ locked) self.old self.new }
+            (λ folder. IsLeftOfOne ⟦<MemoryFile as File>⟧ (unlocked_among (items folder.notes)))
+            (IsLeftOf ⟦<MemoryFile as File>⟧ locked) self.old self.new }
         ensures texts { number self.new.asked ≡ number self.old.asked }
-        ensures noted { failed_among ⟦<Fuse<Memory> as File>⟧ (items self.new.notes)
-            ≡ noted_all path.now (setbacks_of ⟦<Fuse<Memory> as File>⟧ locked)
-            (failed_among ⟦<Fuse<Memory> as File>⟧ (items self.old.notes)) }
+        ensures noted { failed_among ⟦<MemoryFile as File>⟧ (items self.new.notes)
+            ≡ noted_all path.now (setbacks_of ⟦<MemoryFile as File>⟧ locked)
+            (failed_among ⟦<MemoryFile as File>⟧ (items self.old.notes)) }
     {
         note_unlocked(&mut self.notes, path, locked);
     }

@@ -1,5 +1,5 @@
-use Rattle.std.proofs.Common.{◌≡◌, List, ℕ, Ok, Err, rules}
-use Rattle.std.specs.Prelude.{IfOk, IfSome}
+use Rattle.std.proofs.Common.{◌≡◌, Ok, Err, rules}
+use Rattle.std.specs.Prelude.{IfOk}
 use Rattle.std.specs.String.{string_bytes}
 use Rattle.zh_file.specs.Places.{Places, found_at, companion_of}
 use Rattle.zh_file.specs.Places.Standing.{nothing}

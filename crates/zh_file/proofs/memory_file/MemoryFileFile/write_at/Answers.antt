@@ -1,0 +1,14 @@
+use Rattle.zh_file.proofs.memory_file.MemoryFileFile.write_at.Goals as goal
+
+pub returns-clause-frozen : goal.returns-clause-frozen
+returns-clause-frozen c = λ frozen.
+    let still = c.write_at.ensures.frozen frozen in (
+      still.0,
+      record {
+        frozen = still.1.frozen;
+        same = still.1.same;
+        clean = still.1.clean;
+        no_more = still.1.no_more;
+        no_fewer = still.1.no_fewer;
+      },
+    )
