@@ -1,5 +1,5 @@
 -- Why there is no sheet, as its line is answered.
-use Rattle.std.proofs.Common.{◌≡◌, Bool, Option, Some, None, Err, refl, arith}
+use Rattle.std.proofs.Common.{Bool, Option, Some, None, Err, refl, arith}
 use Rattle.zh_totals.specs.Totals.{VoteTotals}
 use Rattle.zh_sheet.specs.Lots.{IsForTheLot, IsLotFor}
 use Rattle.zh_sheet.specs.Made.{IsMade}

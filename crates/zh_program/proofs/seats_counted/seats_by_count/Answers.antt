@@ -1,4 +1,4 @@
-use Rattle.std.proofs.Common.{Err, subst, sym}
+use Rattle.std.proofs.Common.{Err, subst}
 use Rattle.zh_totals.specs.Totals.{VoteTotals}
 use Rattle.zh_sheet.specs.Reasons.{sheet_fault}
 use Rattle.zh_office.proofs.CallerLemmas.{answered_instead}
