@@ -100,7 +100,7 @@ def test_copies_and_a_witness():
         until("the line is noted", lambda: room.records("protocol")[-1].text == RETURNS[1])
         room.goes_on()
         until("the first is shown", lambda: link_of(room) == "now-0" and not room.child())
-        stays("nothing that waits is copied", lambda: not room.child() and names_of_now(room) == ["now", "now-0"], 2)
+        stays("nothing that waits is copied", lambda: not room.child() and names_of_now(room) == ["now", "now-0"], 5)
         room.signal(signal.SIGCONT)
         same("the answer", "stored 2", desk.answer())
         until("then it is", lambda: link_of(room) == "now-2")
