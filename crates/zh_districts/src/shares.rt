@@ -10,18 +10,33 @@ use crate::setup::Setup;
 use std::alloc::{AllocError, Global};
 use thiserror::Error;
 use zh_divisors::{ShareFault, Shares, Weights, apportion, same_claims};
+use zh_text::Name;
 
 /// Why the constituencies get no seats.
 #[derive(Clone, Copy, Debug, PartialEq, Eq, Error)]
+#[error("{}", self.name())]
 pub enum SeatFault {
-    #[error("memory")]
     Memory,
     /// A seat is worth as much to two constituencies.
-    #[error("tied seats")]
     Tied,
     /// This constituency, the first such, gets no seat.
-    #[error("noseat {0}")]
     NoSeat(u32),
+}
+
+impl SeatFault {
+    ghost use Rattle.zh_districts.specs.SeatNames.{seats_name};
+    ghost use Rattle.zh_text.specs.Names.{ArePartsOf};
+
+    /// Its name, as replies and reports spell it.
+    pub fn name(self) -> Name
+        ensures { ArePartsOf (seats_name self) result }
+    {
+        match self {
+            SeatFault::Memory => Name::Words("memory"),
+            SeatFault::Tied => Name::Words("tied seats"),
+            SeatFault::NoSeat(constituency) => Name::Number("noseat", constituency),
+        }
+    }
 }
 
 impl From<AllocError> for SeatFault {

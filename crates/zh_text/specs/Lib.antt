@@ -1,4 +1,5 @@
 pub mod Each
+pub mod Names
 pub mod Numbers
 pub mod Shown
 pub mod Signs
