@@ -1,12 +1,12 @@
 //! Replies, and how they are spelled.
 ghost use Rattle.std.specs.Prelude.{◌≡◌, ◌≤◌, [], ◌∷◌, ◌++◌, length, take};
 ghost use Rattle.zh_commands.specs.Replies.{name, reason_name, answer, reply_text};
-ghost use Rattle.zh_sheet.specs.Names.{ArePartsOf};
+ghost use Rattle.zh_text.specs.Names.{ArePartsOf};
 
 use arrayvec::ArrayVec;
 use zh_returns::{Reason, RowFault};
-use zh_sheet::{Name, SheetRefusal};
-use zh_text::{push, push_numbered, push_numeral};
+use zh_sheet::SheetRefusal;
+use zh_text::{Name, push, push_name, push_numbered, push_numeral};
 
 /// The reply to a line of a desk.
 #[derive(Clone, Copy, Debug, PartialEq, Eq)]
@@ -115,32 +115,12 @@ fn push_answer(text: &mut ReplyLine, reply: &Reply)
         Reply::LastDesk(desk) => push_numbered(text, "last ", u32::from(*desk)),
         Reply::Refused(refusal) => {
             push(text, "refused ");
-            push_name(text, refusal);
+            push_name(text, name_of(refusal));
         }
     }
 }
 
 // The name of the refusal.
-fn push_name(text: &mut ReplyLine, refusal: &Refusal)
-    requires { length text.old.items ≤ 12 }
-    ensures name { text.new.items ≡ text.old.items ++ name refusal.now }
-    ensures short { length text.new.items ≤ 63 }
-{
-    match name_of(refusal) {
-        Name::Words(words) => push(text, words),
-        Name::Number(words, number) => {
-            push(text, words);
-            push_numbered(text, " ", number);
-        }
-        Name::Pair(words, one, other) => {
-            push(text, words);
-            push_numbered(text, " ", one);
-            push_numbered(text, " ", other);
-        }
-    }
-}
-
-// The name of the refusal in its parts.
 fn name_of(refusal: &Refusal) -> Name
     ensures { ArePartsOf (name refusal.now) result }
 {

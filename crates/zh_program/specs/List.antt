@@ -14,14 +14,12 @@ use Rattle.zh_program.specs.declared.fault.TaskFault.TheVariants as faults
 use Rattle.zh_program.specs.declared.shown.Shown.{Shown}
 use Rattle.zh_program.specs.declared.shown.Shown.TheVariants.{Text, Advised}
 
--- why a table is not made in memory, as the fault of the task: the refusal of the seats, a part that the set-up does not
--- have, or memory
+-- why a table is not made in memory, as the fault of the task: memory, the refusal of the seats, or a part that the set-up does
+-- not have
 abbrev pub RefusedAs : ListFault → TaskFault → Type 0
-RefusedAs (lists.Seats refusal) e = e ≡ faults.Seats refusal
-RefusedAs (lists.NoMunicipality m) e = e ≡ faults.NoMunicipality m
-RefusedAs (lists.NoConstituency d) e = e ≡ faults.NoConstituency d
 RefusedAs lists.Memory e = e ≡ faults.Memory
 RefusedAs lists.Write e = e ≡ faults.Memory
+RefusedAs why e = e ≡ faults.Table why
 
 -- the fault of a task for which a table of this set-up is not made
 abbrev pub RefusesList : Canton → Table → TaskFault → Type 0

@@ -3,14 +3,13 @@ use Rattle.std.specs.Prelude.{ℕ, List, [], ◌∷◌, ◌++◌, Option, Some, 
 use Rattle.zh_csv.specs.Faults.{held_name}
 use Rattle.zh_verdicts.specs.Reports.{setup_place}
 use Rattle.zh_disk.specs.Disk.{disk_length}
-use Rattle.zh_districts.specs.declared.shares.SeatFault.{SeatFault}
-use Rattle.zh_districts.specs.declared.shares.SeatFault.TheVariants as of_seats
 use Rattle.zh_ledger.specs.Faults.{opening_name}
 use Rattle.zh_office.specs.Served.{serving_name}
 use Rattle.zh_program.specs.Places.{named_place}
 use Rattle.zh_program.specs.declared.fault.TaskFault.{TaskFault}
 use Rattle.zh_program.specs.declared.fault.TaskFault.TheVariants as faults
 use Rattle.zh_setups.specs.Names.{setup_name}
+use Rattle.zh_tables.specs.Faults.{list_name}
 use Rattle.zh_setups.specs.declared.place.FaultPlace.{FaultPlace}
 use Rattle.zh_setups.specs.declared.place.FaultPlace.TheVariants as of_text
 use Rattle.zh_setups.specs.declared.place.Key.TheVariants as keys
@@ -20,12 +19,6 @@ use Rattle.zh_file.specs.Causes.{cause_name}
 use Rattle.zh_program.specs.Paths.{shown_path}
 use Rattle.zh_program.specs.declared.place.TaskPlace.{TaskPlace}
 use Rattle.zh_program.specs.declared.place.TaskPlace.TheVariants as places
-
--- the name of a fault of the seats of the constituencies
-abbrev pub seats_name : SeatFault → List ℕ
-seats_name of_seats.Memory = codes "memory"
-seats_name of_seats.Tied = codes "tied seats"
-seats_name (of_seats.NoSeat constituency) = codes "noseat " ++ decimal constituency
 
 -- of a file that was not opened, or not read
 abbrev pub file_name : TaskFile → List ℕ
@@ -46,9 +39,7 @@ fault_text (faults.Size found) = codes "disk size"
 fault_text faults.InUse = codes "disk inuse"
 fault_text (faults.Open fault) = opening_name fault
 fault_text (faults.Held fault) = held_name fault
-fault_text (faults.Seats fault) = seats_name fault
-fault_text (faults.NoMunicipality number) = codes "nomunicipality " ++ decimal number
-fault_text (faults.NoConstituency number) = codes "noconstituency " ++ decimal number
+fault_text (faults.Table fault) = list_name fault
 fault_text faults.Memory = codes "memory"
 fault_text (faults.Serve fault) = serving_name fault
 fault_text faults.Write = codes "write"

@@ -10,7 +10,6 @@ ghost use Rattle.zh_program.specs.declared.fault.TaskFault.TheVariants as faults
 use crate::place::{TaskFile, TaskPlace};
 use std::alloc::AllocError;
 use zh_csv::HeldFault;
-use zh_districts::SeatFault;
 use zh_file::{FileCause, FileFault};
 use zh_office::{OpenFault, ServeFault};
 use zh_record_text::RecordFault;
@@ -38,12 +37,8 @@ pub enum TaskFault {
     Open(OpenFault),
     /// A record of the export is refused.
     Held(HeldFault),
-    /// The constituencies get no seats.
-    Seats(SeatFault),
-    /// The set-up has no municipality of this number.
-    NoMunicipality(u32),
-    /// The set-up has no constituency of this number.
-    NoConstituency(u32),
+    /// A table of the set-up is not made.
+    Table(ListFault),
     Memory,
     Serve(ServeFault),
     /// What the task answers could not be written to its end.
@@ -163,11 +158,9 @@ impl From<ListFault> for TaskFault {
 
     fn from(fault: ListFault) -> Self {
         match fault {
-            ListFault::Seats(refusal) => TaskFault::Seats(refusal),
-            ListFault::NoMunicipality(number) => TaskFault::NoMunicipality(number),
-            ListFault::NoConstituency(number) => TaskFault::NoConstituency(number),
             // The text is made in memory, where nothing else can fail.
             ListFault::Memory | ListFault::Write => TaskFault::Memory,
+            fault => TaskFault::Table(fault),
         }
     }
 }

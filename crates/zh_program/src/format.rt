@@ -36,14 +36,14 @@ pub(crate) fn format_blank<D: Disk>(
 }
 
 /// Says how many problems there are, if there are any. Where that can't be written the disk is made all the same.
-fn say_problems<E: Write>(count: usize, line: &str, faults: &mut E, remark: &mut Remark)
+fn say_problems<E: Write>(count: usize, line: &[u8], faults: &mut E, remark: &mut Remark)
     ensures { SaysIf (nat_lt 0 count) (BecameOf remark.new (E.contents faults.old) (E.contents faults.new) line.now)
         ((faults.new ≡ faults.old) × (remark.new ≡ remark.old)) }
 {
     if count == 0 {
         return;
     }
-    *remark = make_remark(line.as_bytes(), faults);
+    *remark = make_remark(line, faults);
 }
 
 /// Formats a disk that is blank, and says how many problems the set-up has.
@@ -57,11 +57,11 @@ pub(crate) fn format_with<I: Read, O: Write, E: Write, F: Files>(
         (world.old, disk.old) (world.new, disk.new) result }
 {
     let problems = setup_problems(alloc, setup)?;
-    let line = problems_line(alloc, &problems)?;
+    let line = problems_line(&problems);
     format_blank(alloc, setup, disk)?;
     say_problems(
         problems.count(),
-        line.as_str(),
+        &line,
         &mut world.faults,
         &mut world.remark,
     );

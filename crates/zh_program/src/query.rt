@@ -25,7 +25,7 @@ fn shown(alloc: Global, office: &Office<'_>, query: Query) -> Result<Shown, Task
         Query::Status(view) => {
             let text = write_status(alloc, count, view, Vec::new(alloc))?;
             let said = said_of(alloc, count, view)?;
-            Ok(Shown::Advised(text, said.into_bytes()))
+            Ok(Shown::Advised(text, said))
         }
         Query::Seats { is_final, layout } => {
             let seats = seats_by_count(alloc, office, is_final);

@@ -9,10 +9,9 @@ use crate::fault::TaskFault;
 use crate::place::{TaskFile, TaskPlace, place_words};
 use arrayvec::ArrayVec;
 use std::io::Write;
-use zh_districts::SeatFault;
 use zh_file::Remark;
 use zh_office::{OpenFault, ServeFault};
-use zh_text::{push, push_bytes, push_numbered, put};
+use zh_text::{push, push_bytes, push_name, put};
 use zh_verdicts::push_shown;
 
 /// How many bytes of a path are shown at most: no file has a longer one.
@@ -25,7 +24,7 @@ type Report = ArrayVec<u8, 4352>;
 fn push_fault(report: &mut Report, fault: &TaskFault)
     requires { length report.old.items ≤ 9 }
     ensures name { report.new.items ≡ report.old.items ++ fault_text fault.now }
-    ensures short { length report.new.items ≤ length report.old.items + 25 }
+    ensures short { length report.new.items ≤ length report.old.items + 36 }
 {
     match fault {
         TaskFault::Unopened(file, _) | TaskFault::Unreadable(file) => { push(report, file.name()) }
@@ -36,13 +35,8 @@ fn push_fault(report: &mut Report, fault: &TaskFault)
         TaskFault::InUse => push(report, "disk inuse"),
         TaskFault::Open(opening) => push(report, opening.name()),
         TaskFault::Held(record) => push(report, record.name()),
-        TaskFault::Seats(SeatFault::Tied) => push(report, "tied seats"),
-        TaskFault::Seats(SeatFault::NoSeat(number)) => push_numbered(report, "noseat ", *number),
-        TaskFault::NoMunicipality(number) => push_numbered(report, "nomunicipality ", *number),
-        TaskFault::NoConstituency(number) => push_numbered(report, "noconstituency ", *number),
-        TaskFault::Seats(SeatFault::Memory) | TaskFault::Memory => {
-            push(report, OpenFault::Memory.name())
-        }
+        TaskFault::Table(listing) => push_name(report, listing.name()),
+        TaskFault::Memory => push(report, OpenFault::Memory.name()),
         TaskFault::Serve(serving) => push(report, serving.name()),
         TaskFault::Write => push(report, ServeFault::Write.name()),
         TaskFault::Refused => push(report, "refused"),
@@ -60,7 +54,7 @@ fn push_path(report: &mut Report, path: &str)
 
 /// Writes the second line: the path of the file, and the place in it or the cause, as far as they are known.
 fn push_second(report: &mut Report, path: Option<&str>, place: Option<TaskPlace>)
-    requires { length report.old.items ≤ 35 }
+    requires { length report.old.items ≤ 46 }
     ensures { report.new.items ≡ report.old.items ++ second_line (option_map (λ p. p.now) path.entry) place }
 {
     match (path, place) {

@@ -5,7 +5,6 @@ pub mod ListRanges
 pub mod ListSeats
 pub mod Lots
 pub mod Made
-pub mod Names
 pub mod Readings
 pub mod Reasons
 pub mod Refusals

@@ -2,6 +2,8 @@
 use Rattle.std.specs.Prelude.{◌≡◌, ℕ, ◌-◌, ◌^◌, ◌<◌, ◌≤◌, Bool, List, ◌∷◌, ◌++◌, Result, IfErr, IsErrOf, ◌⊎◌}
 use Rattle.std.specs.Prelude.{length, slice_index, codes, decimal}
 use Rattle.zh_districts.specs.Seats.{AreSeats, IsFirstWithout, persons}
+use Rattle.zh_districts.specs.SeatNames.{seats_name}
+use Rattle.zh_districts.specs.declared.shares.SeatFault.TheVariants as of_seats
 use Rattle.zh_divisors.specs.Fit as fits
 use Rattle.zh_matrices.specs.Divisors.{Divisors}
 use Rattle.zh_decided.specs.Boxes.{NoneGiven}
@@ -75,8 +77,8 @@ place_in_order refusals.Exhausted = 5
 
 -- the name of each; 32 is the space
 abbrev pub refusal_name : SheetRefusal → List ℕ
-refusal_name refusals.TiedSeats = codes "tied seats"
-refusal_name (refusals.NoSeat constituency) = codes "noseat " ++ decimal constituency
+refusal_name refusals.TiedSeats = seats_name of_seats.Tied
+refusal_name (refusals.NoSeat constituency) = seats_name (of_seats.NoSeat constituency)
 refusal_name (refusals.NoUpperSeats refusal) = upper_refusal_name refusal
 refusal_name (refusals.NoVotes constituency) = codes "novotes " ++ decimal constituency
 refusal_name (refusals.TiedLower constituency group) = codes "tied lower " ++ decimal constituency ++ 32 ∷ decimal group

@@ -6,6 +6,7 @@ use std::alloc::AllocError;
 use std::fmt;
 use thiserror::Error;
 use zh_districts::SeatFault;
+use zh_text::Name;
 use zh_upper::{UpperFault, UpperRefusal};
 
 /// Why no sheet is made.
@@ -58,14 +59,6 @@ impl From<UpperFault> for SheetFault {
     }
 }
 
-/// A name in its parts, as replies spell it: words, and up to two numbers after them, a space before each.
-#[derive(Clone, Copy)]
-pub enum Name {
-    Words(&'static str),
-    Number(&'static str, u32),
-    Pair(&'static str, u32, u32),
-}
-
 /// Why there is no sheet, in the order in which the cases are looked for (docs/FORMATS.md, "Replies").
 /// Constituencies and groups are numbered from 1 as in the set-up.
 #[derive(Clone, Copy, Debug, PartialEq, Eq)]
@@ -86,16 +79,16 @@ pub enum SheetRefusal {
 }
 
 impl SheetRefusal {
-    ghost use Rattle.zh_sheet.specs.Names.{ArePartsOf};
     ghost use Rattle.zh_sheet.specs.Refusals.{refusal_name};
+    ghost use Rattle.zh_text.specs.Names.{ArePartsOf};
 
     /// Its name, as replies spell it.
     pub fn name(self) -> Name
         ensures { ArePartsOf (refusal_name self) result }
     {
         match self {
-            SheetRefusal::TiedSeats => Name::Words("tied seats"),
-            SheetRefusal::NoSeat(constituency) => Name::Number("noseat", constituency),
+            SheetRefusal::TiedSeats => SeatFault::Tied.name(),
+            SheetRefusal::NoSeat(constituency) => SeatFault::NoSeat(constituency).name(),
             SheetRefusal::NoUpperSeats(refusal) => Name::Words(refusal.name()),
             SheetRefusal::NoVotes(constituency) => Name::Number("novotes", constituency),
             SheetRefusal::TiedLower(constituency, group) => {
@@ -113,10 +106,6 @@ impl fmt::Display for SheetRefusal {
     ghost output = { λ refusal. Some (refusal_name refusal) };
 
     fn fmt<W: fmt::Write>(&self, f: &mut fmt::Formatter<W>) -> fmt::Result {
-        match self.name() {
-            Name::Words(words) => f.write_str(words),
-            Name::Number(words, number) => write!(f, "{words} {number}"),
-            Name::Pair(words, one, other) => write!(f, "{words} {one} {other}"),
-        }
+        write!(f, "{}", self.name())
     }
 }

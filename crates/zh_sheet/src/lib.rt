@@ -14,7 +14,7 @@ mod made;
 mod reason;
 mod sheet;
 
-pub use fault::{Name, SheetFault, SheetRefusal};
+pub use fault::{SheetFault, SheetRefusal};
 pub use given_lists::given;
 pub use laws::{made_is_given, one_result, one_sheet};
 pub use list_ranges::ListRanges;

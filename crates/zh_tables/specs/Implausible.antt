@@ -4,6 +4,7 @@ use Rattle.std.specs.Prelude.{◌≡◌, ◌≤◌, ℕ, ◌-◌, ◌*◌, ◌==
 use Rattle.std.specs.Prelude.{Result, Ok, Err, codes, decimal}
 use Rattle.zh_divisors.specs.Shares.{Apportionment}
 use Rattle.zh_districts.specs.Canton.{Canton, constituency_of, persons_of}
+use Rattle.zh_districts.specs.SeatNames.{seats_name}
 use Rattle.zh_districts.specs.declared.shares.SeatFault.{SeatFault}
 use Rattle.zh_districts.specs.declared.shares.SeatFault.TheVariants as refusals
 use Rattle.zh_returns.specs.Tally.{Tally, held}
@@ -82,6 +83,6 @@ abbrev pub uncompared : List ℕ
 uncompared = codes ": votes are not compared with persons" ++ 10 ∷ []
 
 abbrev pub found_note : Result Apportionment SeatFault → List ℕ
-found_note (Err refusals.Tied) = codes "tied seats" ++ uncompared
-found_note (Err (refusals.NoSeat d)) = codes "noseat " ++ (decimal d ++ uncompared)
-found_note found = []
+found_note (Ok shares) = []
+found_note (Err refusals.Memory) = []
+found_note (Err refusal) = seats_name refusal ++ uncompared

@@ -1,4 +1,5 @@
 pub mod HeldRows
+pub mod Faults
 pub mod Problems
 pub mod Returns
 pub mod Tables

@@ -9,25 +9,40 @@ use std::alloc::AllocError;
 use thiserror::Error;
 use zh_districts::SeatFault;
 use zh_record_text::RecordFault;
+use zh_text::Name;
 
 /// Why a table is not written to its end.
 #[derive(Clone, Copy, Debug, PartialEq, Eq, Error)]
+#[error("{}", self.name())]
 pub enum ListFault {
     /// The constituencies get no seats, or memory ran out while these were computed.
-    #[error("{0}")]
     Seats(SeatFault),
     /// The returns are asked of a municipality that the set-up does not have.
-    #[error("nomunicipality {0}")]
     NoMunicipality(u32),
     /// The returns are asked of a constituency that the set-up does not have.
-    #[error("noconstituency {0}")]
     NoConstituency(u32),
     /// Memory ran out.
-    #[error("memory")]
     Memory,
     /// The writer failed, or took no byte.
-    #[error("write")]
     Write,
+}
+
+impl ListFault {
+    ghost use Rattle.zh_tables.specs.Faults.{list_name};
+    ghost use Rattle.zh_text.specs.Names.{ArePartsOf};
+
+    /// Its name, as reports spell it.
+    pub fn name(self) -> Name
+        ensures { ArePartsOf (list_name self) result }
+    {
+        match self {
+            ListFault::Seats(fault) => fault.name(),
+            ListFault::NoMunicipality(number) => Name::Number("nomunicipality", number),
+            ListFault::NoConstituency(number) => Name::Number("noconstituency", number),
+            ListFault::Memory => SeatFault::Memory.name(),
+            ListFault::Write => Name::Words("write"),
+        }
+    }
 }
 
 impl From<SeatFault> for ListFault {

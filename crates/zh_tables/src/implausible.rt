@@ -1,12 +1,13 @@
 //! Votes that are hardly true, written row by row, and why they are not compared with persons.
 
-ghost use Rattle.std.specs.Prelude.{◌≡◌, ◌≤◌, IfOk, OnOk, length, string_bytes};
+ghost use Rattle.std.specs.Prelude.{◌≡◌, ◌++◌, ◌≤◌, [], IfOk, OnOk, length};
 ghost use Rattle.zh_record_text.specs.Records.{IsBetweenRecords, PutsText};
 ghost use Rattle.zh_tables.specs.Implausible.{AreFound, IsSeated, exceeding_in, found_note, implausible_row, most_in, outweighing_row};
 ghost use Rattle.zh_tables.specs.Implausible.{outweighs};
 ghost use Rattle.zh_tables.specs.Progress.{AreFew};
 
 use crate::progress::{Progress, Region, entry_votes, progress_of, progress_within};
+use crate::view::Said;
 use csv::Writer;
 use itoa::Buffer;
 use std::alloc::{AllocError, Global};
@@ -15,6 +16,7 @@ use zh_districts::{SeatFault, Setup, seats};
 use zh_divisors::Shares;
 use zh_record_text::{NumberedRows, RecordFault, write_each, write_record};
 use zh_returns::Count;
+use zh_text::{push, push_name};
 
 /// The seats of the constituencies, or why they get none. Memory is not among the reasons.
 pub(crate) type Found = Result<Shares, SeatFault>;
@@ -29,18 +31,18 @@ pub(crate) fn found_seats(alloc: Global, setup: &Setup) -> Result<Found, AllocEr
     }
 }
 
-/// Why votes are not compared with persons, in a line, if they are not.
-pub(crate) fn found_note(alloc: Global, found: &Found) -> Result<String, AllocError>
-    ensures { IfOk result (λ note. string_bytes note ≡ found_note found.now) }
+/// Writes why votes are not compared with persons, in a line, if they are not.
+pub(crate) fn push_note(text: &mut Said, found: &Found)
+    requires { text.old.items ≡ [] }
+    ensures note { text.new.items ≡ found_note found.now }
+    ensures short { length text.new.items ≤ 74 }
 {
     match found {
-        Err(SeatFault::Tied) => {
-            format!(in alloc; "tied seats: votes are not compared with persons\n")
+        Ok(_) | Err(SeatFault::Memory) => {}
+        Err(fault) => {
+            push_name(text, fault.name());
+            push(text, ": votes are not compared with persons\n");
         }
-        Err(SeatFault::NoSeat(constituency)) => {
-            format!(in alloc; "noseat {constituency}: votes are not compared with persons\n")
-        }
-        Err(SeatFault::Memory) | Ok(_) => Ok(String::new(alloc)),
     }
 }
 

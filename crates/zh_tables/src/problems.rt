@@ -1,13 +1,14 @@
 //! What keeps a set-up from ever giving seats.
 ghost use Rattle.std.specs.Io.KnownBytes.{Appends};
 ghost use Rattle.std.specs.List.{count_by};
-ghost use Rattle.std.specs.Prelude.{◌≡◌, ◌≤◌, ◌↔◌, IfOk, IsTrue, length, string_bytes, ◌++◌, OnOk};
+ghost use Rattle.std.specs.Prelude.{◌≡◌, ◌≤◌, ◌↔◌, IfOk, IsTrue, length, ◌++◌, OnOk};
 ghost use Rattle.zh_districts.specs.Claims.{Tell};
 ghost use Rattle.zh_record_text.specs.Records.{IsBetweenRecords, PutsText, record_text};
 ghost use Rattle.zh_tables.specs.Problems.{HasFewMarks, AreProblems, LacksList, LacksMunicipality, problem_count, problems_line};
 ghost use Rattle.zh_tables.specs.Tables.{header, marked_rows, problem_rows};
 ghost use Rattle.zh_tables.specs.declared.tables.Table.TheVariants.{Problems};
 
+use arrayvec::ArrayVec;
 use csv::Writer;
 use itoa::Buffer;
 use std::alloc::{AllocError, Global};
@@ -16,6 +17,7 @@ use zh_districts::{Setup, tied, unseated};
 use zh_record_text::{
     NumberedRows, RecordFault, close_table, open_table, write_each, write_record,
 };
+use zh_text::{push, push_numeral};
 
 /// For each constituency in order whether it has each problem.
 #[derive(Drop)]
@@ -114,12 +116,15 @@ pub fn setup_problems(alloc: Global, setup: &Setup) -> Result<SetupProblems, All
 }
 
 /// A line that says how many there are, and what names them.
-pub fn problems_line(alloc: Global, problems: &SetupProblems) -> Result<String, AllocError>
+pub fn problems_line(problems: &SetupProblems) -> ArrayVec<u8, 96>
     requires { HasFewMarks problems.now }
-    ensures { IfOk result (λ line. string_bytes line ≡ problems_line (problem_count problems.now)) }
+    ensures { result.items ≡ problems_line (problem_count problems.now) }
 {
-    let count = problems.count();
-    format!(in alloc; "zhcount: problems of the set-up: {count}, named by list --of problems\n")
+    let mut line = ArrayVec::new();
+    push(&mut line, "zhcount: problems of the set-up: ");
+    push_numeral(&mut line, problems.count() as u64);
+    push(&mut line, ", named by list --of problems\n");
+    line
 }
 
 /// A problem, and the constituencies that have it.

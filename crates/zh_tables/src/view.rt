@@ -1,11 +1,13 @@
 //! The views of the returns, and what is said beside each.
-ghost use Rattle.std.specs.Prelude.{◌≡◌, IfOk, string_bytes};
+ghost use Rattle.std.specs.Prelude.{◌≡◌, ◌++◌, ◌≤◌, IfOk, length};
 ghost use Rattle.zh_tables.specs.Status.{IsSaidOf, summary, would_be};
 
-use crate::implausible::{found_note, found_seats};
+use crate::implausible::{found_seats, push_note};
 use crate::progress::{Progress, Region, progress_within};
+use arrayvec::ArrayVec;
 use std::alloc::{AllocError, Global};
 use zh_returns::Count;
+use zh_text::{push, push_numbered, push_numeral};
 
 /// What is shown of the returns.
 #[derive(Clone, Copy, Debug, PartialEq, Eq)]
@@ -31,35 +33,36 @@ fn would_be(progress: &Progress) -> &str
     }
 }
 
-/// How many returns are there of those that are due, how many municipalities are closed, how many commands were accepted, and
-/// whether a final sheet would be of all returns, in a line.
-fn summary_line(alloc: Global, count: &Count<'_>) -> Result<String, AllocError>
-    ensures { IfOk result (λ line. string_bytes line ≡ summary count.now) }
+/// The lines that are said beside a view, which have at most 281 bytes.
+pub(crate) type Said = ArrayVec<u8, 320>;
+
+/// Writes how many returns are there of those that are due, how many municipalities are closed, how many commands were accepted,
+/// and whether a final sheet would be of all returns, in a line.
+fn push_summary(text: &mut Said, count: &Count<'_>)
+    requires { length text.old.items ≤ 94 }
+    ensures { text.new.items ≡ text.old.items ++ summary count.now }
 {
     let progress = progress_within(count, Region::Whole);
-    let held = progress.held;
-    let due = progress.due;
-    let closed = progress.closed;
-    let all = progress.municipalities;
-    let accepted = count.accepted();
-    let would_be = would_be(&progress);
-    format!(in alloc;
-        "{held} of {due} returns, {closed} of {all} municipalities closed, {accepted} commands; final {would_be} of all returns\n"
-    )
+    push_numbered(text, "", progress.held);
+    push_numbered(text, " of ", progress.due);
+    push_numbered(text, " returns, ", progress.closed);
+    push_numbered(text, " of ", progress.municipalities);
+    push(text, " municipalities closed, ");
+    push_numeral(text, count.accepted());
+    push(text, " commands; final ");
+    push(text, would_be(&progress));
+    push(text, " of all returns\n");
 }
 
 /// What is said beside a view, in lines: of implausible votes why they are not compared with persons, where the constituencies
 /// get no seats; and then how far the whole canton is.
-pub fn said_of(alloc: Global, count: &Count<'_>, view: View) -> Result<String, AllocError>
-    ensures { IfOk result (λ text. IsSaidOf count.now view (string_bytes text)) }
+pub fn said_of(alloc: Global, count: &Count<'_>, view: View) -> Result<Vec<u8>, AllocError>
+    ensures { IfOk result (λ text. IsSaidOf count.now view text.items) }
 {
-    let line = summary_line(alloc, count)?;
-    match view {
-        View::Municipalities | View::Constituencies | View::Missing => Ok(line),
-        View::Implausible => {
-            let found = found_seats(alloc, count.setup())?;
-            let note = found_note(alloc, &found)?;
-            format!(in alloc; "{note}{line}")
-        }
+    let mut said = Said::new();
+    if view == View::Implausible {
+        push_note(&mut said, &found_seats(alloc, count.setup())?);
     }
+    push_summary(&mut said, count);
+    Vec::from_slice(alloc, &said)
 }

@@ -9,11 +9,6 @@ returns-in_err-problems g c =
     let is : c.from_residual.result ≡ Err faults.Memory = search rules in
     rw is (record { rest = refl; said = (refl, refl); call = memory_first c.args.setup.now; fault = tt })
 
-pub returns-in_err-line : goal.returns-in_err-line
-returns-in_err-line g c =
-    let is : c.from_residual-in_err-line.result ≡ Err faults.Memory = search rules in
-    rw is (record { rest = refl; said = (refl, refl); call = memory_first c.args.setup.now; fault = tt })
-
 pub returns-in_err-format_blank : goal.returns-in_err-format_blank
 returns-in_err-format_blank g c =
     let is : c.from_residual-in_err-format_blank.result ≡ Err c.in_err-format_blank.field-0.0 = search rules in
