@@ -1,6 +1,6 @@
 //! The views of the returns, and what is said beside each.
 ghost use Rattle.std.specs.Prelude.{◌≡◌, ◌++◌, ◌≤◌, IfOk, length};
-ghost use Rattle.zh_tables.specs.Status.{IsSaidOf, summary, would_be};
+ghost use Rattle.zh_tables.specs.Status.{IsSaidOf, summary, summary_of, would_be};
 
 use crate::implausible::{found_seats, push_note};
 use crate::progress::{Progress, Region, progress_within};
@@ -38,20 +38,28 @@ pub(crate) type Said = ArrayVec<u8, 320>;
 
 /// Writes how many returns are there of those that are due, how many municipalities are closed, how many commands were accepted,
 /// and whether a final sheet would be of all returns, in a line.
-fn push_summary(text: &mut Said, count: &Count<'_>)
+fn push_progress(text: &mut Said, progress: &Progress, accepted: u64)
     requires { length text.old.items ≤ 94 }
-    ensures { text.new.items ≡ text.old.items ++ summary count.now }
+    ensures { text.new.items ≡ text.old.items ++ summary_of progress.now accepted }
 {
-    let progress = progress_within(count, Region::Whole);
     push_numbered(text, "", progress.held);
     push_numbered(text, " of ", progress.due);
     push_numbered(text, " returns, ", progress.closed);
     push_numbered(text, " of ", progress.municipalities);
     push(text, " municipalities closed, ");
-    push_numeral(text, count.accepted());
+    push_numeral(text, accepted);
     push(text, " commands; final ");
-    push(text, would_be(&progress));
+    push(text, would_be(progress));
     push(text, " of all returns\n");
+}
+
+/// Writes how far the whole canton is, in a line.
+fn push_summary(text: &mut Said, count: &Count<'_>)
+    requires { length text.old.items ≤ 94 }
+    ensures { text.new.items ≡ text.old.items ++ summary count.now }
+{
+    let progress = progress_within(count, Region::Whole);
+    push_progress(text, &progress, count.accepted());
 }
 
 /// What is said beside a view, in lines: of implausible votes why they are not compared with persons, where the constituencies
