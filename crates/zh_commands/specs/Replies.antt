@@ -2,7 +2,7 @@
 use Rattle.std.specs.Prelude.{ℕ, ◌^◌, ◌<◌, List, [], ◌∷◌, ◌++◌, codes, decimal}
 use Rattle.zh_returns.specs.declared.judgement.Reason.{Reason}
 use Rattle.zh_returns.specs.declared.judgement.Reason.TheVariants as reasons
-use Rattle.zh_returns.specs.declared.row.RowFault.TheVariants as row_faults
+use Rattle.zh_returns.specs.RowFaults.{row_fault_name}
 use Rattle.zh_sheet.specs.Refusals.{IsSheetRefusal, refusal_name}
 use Rattle.zh_commands.specs.declared.replies.Reply.{Reply}
 use Rattle.zh_commands.specs.declared.replies.Reply.TheVariants.{Stored, Same, Held, Dropped, Nothing}
@@ -26,8 +26,7 @@ abbrev pub name : Refusal → List ℕ
 name refusals.Syntax = codes "syntax"
 name refusals.Desk = codes "desk"
 name (refusals.Judged reason) = reason_name reason
-name (refusals.Row row_faults.Twice) = codes "twice"
-name (refusals.Row row_faults.BatchFull) = codes "batchfull"
+name (refusals.Row fault) = row_fault_name fault
 name refusals.NoBatch = codes "nobatch"
 name refusals.Memory = codes "memory"
 name refusals.Device = codes "device"

@@ -1,5 +1,5 @@
 -- Why a batch does not take a row, memory aside.
-use Rattle.std.specs.Prelude.{ℕ, nat_le, nat_lt, if◌then◌else◌, List, length, Option, Some, None}
+use Rattle.std.specs.Prelude.{ℕ, nat_le, nat_lt, if◌then◌else◌, List, length, codes, Option, Some, None}
 use Rattle.zh_districts.specs.Canton.{Canton}
 use Rattle.zh_districts.specs.Misplaced.{misplaced}
 use Rattle.zh_districts.specs.declared.setup.Misplaced.{Misplaced}
@@ -24,3 +24,8 @@ unfit canton row = unfit_at (misplaced canton row.municipality row.list) row.vot
 -- why a batch of these rows does not take one more: the first that applies
 abbrev pub fault_in : List Row → Row → Option RowFault
 fault_in rows row = if has_key rows (row_key row) then Some Twice else if nat_le most_rows (length rows) then Some BatchFull else None
+
+-- the name of such a fault, as replies spell it
+abbrev pub row_fault_name : RowFault → List ℕ
+row_fault_name Twice = codes "twice"
+row_fault_name BatchFull = codes "batchfull"

@@ -1,5 +1,5 @@
 //! A row: a return of one list in one municipality, why a batch does not take it, and its bytes.
-ghost use Rattle.std.specs.Prelude.{◌≡◌, IfNone, length};
+ghost use Rattle.std.specs.Prelude.{◌≡◌, ◌≤◌, IfNone, length};
 ghost use Rattle.zh_returns.specs.Decoding.{Decodes};
 ghost use Rattle.zh_returns.specs.RowBytes.{row_from};
 ghost use Rattle.zh_returns.specs.RowFaults.{unfit};
@@ -23,13 +23,27 @@ pub struct Row {
 
 /// Why a batch does not take a row: the first that applies.
 #[derive(Clone, Copy, Debug, PartialEq, Eq, Error)]
+#[error("{}", self.name())]
 pub enum RowFault {
     /// The batch has a row of this municipality and list.
-    #[error("twice")]
     Twice,
     /// The batch has 1,000 rows.
-    #[error("batchfull")]
     BatchFull,
+}
+
+impl RowFault {
+    ghost use Rattle.zh_returns.specs.RowFaults.{row_fault_name};
+
+    /// Its name, as replies spell it.
+    pub fn name(self) -> &'static str
+        ensures name { result.now ≡ row_fault_name self }
+        ensures short { length result.now ≤ 9 }
+    {
+        match self {
+            RowFault::Twice => "twice",
+            RowFault::BatchFull => "batchfull",
+        }
+    }
 }
 
 /// Why no batch may have a row, if so: the first that applies. The set-up has no such municipality, the list does not
