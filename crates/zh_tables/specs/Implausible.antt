@@ -81,5 +81,4 @@ implausible_rows tally found = each_to (length tally.canton.municipalities) (imp
 -- why votes are not compared with persons, in a line with its LF, which is 10
 abbrev pub found_note : Result Apportionment SeatFault → List ℕ
 found_note (Ok shares) = []
-found_note (Err refusals.Memory) = []
 found_note (Err refusal) = seats_name refusal ++ codes ": votes are not compared with persons" ++ 10 ∷ []

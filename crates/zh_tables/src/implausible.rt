@@ -37,12 +37,9 @@ pub(crate) fn push_note(text: &mut Said, found: &Found)
     ensures note { text.new.items ≡ found_note found.now }
     ensures short { length text.new.items ≤ 74 }
 {
-    match found {
-        Ok(_) | Err(SeatFault::Memory) => {}
-        Err(fault) => {
-            push_name(text, fault.name());
-            push(text, ": votes are not compared with persons\n");
-        }
+    if let Err(fault) = found {
+        push_name(text, fault.name());
+        push(text, ": votes are not compared with persons\n");
     }
 }
 
