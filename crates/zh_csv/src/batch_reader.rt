@@ -21,6 +21,7 @@ pub fn hold(setup: &Setup, batch: &mut Batch, row: Row) -> Result<(), LoadFault>
     ensures kept { OnErr result (batch.new ≡ batch.old) }
     ensures loaded { AreLoaded setup.now batch.old → OnOk result (AreLoaded setup.now batch.new) }
     ensures refused { IfErr result (λ fault. fault ≢ LoadFault.Memory → fault_after setup.now batch.old row ≡ Some fault) }
+    ensures memory { IsErrOf result LoadFault.Memory → fault_after setup.now batch.old row ≡ None }
 {
     if let Some(reason) = unfit(setup, row) {
         return Err(LoadFault::Judged(reason));

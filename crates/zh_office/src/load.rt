@@ -20,7 +20,7 @@ use zh_returns::Batch;
 /// The desk of what no desk sent.
 const NO_DESK: u8 = 0;
 
-/// The name under which a text is refused.
+/// The name under which a text is refused, or a row of a desk.
 pub(crate) fn load_refusal(fault: LoadFault) -> Refusal
     ensures { result ≡ load_refusal fault }
 {
