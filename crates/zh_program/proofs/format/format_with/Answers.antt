@@ -17,9 +17,9 @@ returns-in_err-format_blank g c =
 pub returns : goal.returns
 returns g c = record {
   rest = refl;
-  said = said_of c.args.setup.now c.in_ok-problems.problems c.count.result c.as_str.result.now
+  said = said_of c.args.setup.now c.in_ok-problems.problems c.count.result c.deref.result.now
       (BecameOf c.say_problems.new.remark (g.E.Write.contents c.args.world.now.faults) (g.E.Write.contents c.say_problems.new.faults))
-      _ c.count.ensures (c.as_str.ensures.value ∙ c.in_ok-line.ensures) c.in_ok-problems.ensures.problems c.say_problems.ensures;
+      _ c.count.ensures (c.deref.ensures.0 ∙ c.problems_line-line.ensures) c.in_ok-problems.ensures.problems c.say_problems.ensures;
   call = c.in_ok-format_blank.ensures.call;
   fault = tt;
 }
