@@ -103,7 +103,7 @@ static int place_all(const struct question *q, struct decided *x) {
 
 /* ---- divisors in millionths: boxes from 2^20, 2^16, 2^12, 2^8 and 2^4 on ---- */
 
-static const uint64_t ROW_MOST = 1000000000000000000, COLUMN_MOST = 1000000000000, HIGH = (uint64_t)1 << 60;
+static const uint64_t HIGH = (uint64_t)1 << 60;
 
 /* The number from 2^bits on with this logarithm, rounded down. */
 static uint64_t number_of(uint64_t log, int bits, uint64_t most) {
@@ -121,16 +121,16 @@ static uint64_t number_of(uint64_t log, int bits, uint64_t most) {
 }
 
 static int gives_within(const struct question *q, const struct logarithms *l, struct decided *x, struct sweep *w) {
-    uint64_t scale = logarithm(COLUMN_MOST);
+    uint64_t scale = logarithm(MOST_OF_COLUMN);
     for (int bits = 20; bits >= 4; bits -= 4) {
         uint64_t least = (uint64_t)bits << 30;
-        struct bounds box = {((uint64_t)1 << (32 - bits)) + 6, 6, HIGH + scale - least, scale, HIGH + scale - logarithm(ROW_MOST), least};
+        struct bounds box = {((uint64_t)1 << (32 - bits)) + 6, 6, HIGH + scale - least, scale, HIGH + scale - logarithm(MOST_OF_ROW), least};
         if (sweep(q, l, x->seats, box, w) != STILL)
             continue;
         for (int d = 0; d < q->rows; d++)
-            x->of_rows[d] = number_of(HIGH + scale - w->of_rows[d], bits, ROW_MOST);
+            x->of_rows[d] = number_of(HIGH + scale - w->of_rows[d], bits, MOST_OF_ROW);
         for (int g = 0; g < q->columns; g++)
-            x->of_columns[g] = number_of(w->of_columns[g], bits, COLUMN_MOST);
+            x->of_columns[g] = number_of(w->of_columns[g], bits, MOST_OF_COLUMN);
         return 1;
     }
     return 0;

@@ -4,8 +4,6 @@
 
 #include <string.h>
 
-
-static const uint64_t MOST_OF_ROW = 1000000000000000000, MOST_OF_COLUMN = 1000000000000;
 static const u128 SQUARE = 1000000000000;
 enum { ROUNDS = 1000, MIDDLES = 16 };
 

@@ -2,7 +2,7 @@
 
 #include <string.h>
 
-static const uint64_t ONE = 1000000, MOST_OF_ROW = 1000000000000000000, MOST_OF_COLUMN = 1000000000000;
+static const uint64_t ONE = 1000000;
 static const int ROUNDS = 1000;
 
 /* The cell to which a seat more is worth most: its votes over the other divisor and an odd number of half seats. */
@@ -112,26 +112,24 @@ static int is_on_cycle(const struct question *q, const char *half, const char *u
     return 0;
 }
 
+/* What the cells of a line, rounded down, leave of its total; less than 0 where they pass it. */
+static int left_of(uint32_t total, int n, const u128 *down, int apart) {
+    u128 sum = 0;
+    for (int k = 0; k < n; k++)
+        sum += down[k * apart];
+    return sum > total ? -1 : (int)(total - sum);
+}
+
 /* Rounds the half cells down so that no total is passed, and up again along paths until all totals are met. */
 int fill_ways(const struct question *q, struct ways *w) {
     int row_lacks[LINES], column_lacks[LINES];
     memset(w->up, 0, sizeof w->up);
-    for (int d = 0; d < q->rows; d++) {
-        u128 total = 0;
-        for (int g = 0; g < q->columns; g++)
-            total += w->down[d * q->columns + g];
-        if (total > q->row_totals[d])
+    for (int d = 0; d < q->rows; d++)
+        if ((row_lacks[d] = left_of(q->row_totals[d], q->columns, w->down + d * q->columns, 1)) < 0)
             return 0;
-        row_lacks[d] = (int)(q->row_totals[d] - total);
-    }
-    for (int g = 0; g < q->columns; g++) {
-        u128 total = 0;
-        for (int d = 0; d < q->rows; d++)
-            total += w->down[d * q->columns + g];
-        if (total > q->column_totals[g])
+    for (int g = 0; g < q->columns; g++)
+        if ((column_lacks[g] = left_of(q->column_totals[g], q->rows, w->down + g, q->columns)) < 0)
             return 0;
-        column_lacks[g] = (int)(q->column_totals[g] - total);
-    }
     for (int d = 0; d < q->rows; d++)
         for (; row_lacks[d] > 0; row_lacks[d]--) {
             char seen[LINES] = {0};

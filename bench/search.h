@@ -7,6 +7,9 @@
 
 enum { LINES = 32, CELLS = LINES * LINES };
 
+/* The most of a divisor, in millionths. */
+static const uint64_t MOST_OF_ROW = 1000000000000000000, MOST_OF_COLUMN = 1000000000000;
+
 enum answer { FOUND, NO_VOTES, TIED, EXHAUSTED };
 
 /* Votes row by row; what each row and each column is to get. */

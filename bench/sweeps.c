@@ -2,9 +2,6 @@
  * rows and columns show that no exchange of seats is cheaper, or a cycle of cells shows one that is. */
 #include "sweeps.h"
 
-#include <string.h>
-
-
 static const uint64_t BASE = (uint64_t)1 << 60;
 
 uint64_t logarithm(uint64_t number) {

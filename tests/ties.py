@@ -6,28 +6,14 @@ The matrices that may be drawn are those that have the totals and the greatest p
 found here by writing down every matrix. Which questions come to a tie of the search is asked of the C program of bench/.
 The lines that are printed stand in crates/zh_cases/data/ties.case.
 """
-import ctypes
 import random
-import subprocess
 import sys
 import tempfile
 from fractions import Fraction
 from pathlib import Path
 
-BENCH = Path(__file__).resolve().parent.parent / "bench"
-LINES = 32
-TIED = 2
-
-
-class Question(ctypes.Structure):
-    _fields_ = [("rows", ctypes.c_int), ("columns", ctypes.c_int), ("votes", ctypes.c_uint64 * LINES * LINES),
-                ("row_totals", ctypes.c_uint32 * LINES), ("column_totals", ctypes.c_uint32 * LINES)]
-
-
-class Outcome(ctypes.Structure):
-    _fields_ = [("answer", ctypes.c_int), ("row", ctypes.c_int), ("column", ctypes.c_int), ("half_steps", ctypes.c_int),
-                ("of_rows", ctypes.c_uint64 * LINES), ("of_columns", ctypes.c_uint64 * LINES),
-                ("seats", ctypes.c_uint32 * LINES * LINES)]
+sys.path.insert(0, str(Path(__file__).resolve().parent.parent / "bench"))
+from asked import TIED, Asked, listed, question as question_of_c
 
 
 def rows_with(total, most):
@@ -90,22 +76,6 @@ def question(numbers):
     return row_totals, column_totals, votes
 
 
-def is_tied(library, row_totals, column_totals, votes):
-    asked, outcome = Question(len(row_totals), len(column_totals)), Outcome()
-    flat = ctypes.cast(asked.votes, ctypes.POINTER(ctypes.c_uint64))
-    for place, of_cell in enumerate(votes):
-        flat[place] = of_cell
-    asked.row_totals[:len(row_totals)] = row_totals
-    asked.column_totals[:len(column_totals)] = column_totals
-    library.search(ctypes.byref(asked), ctypes.byref(outcome))
-    return outcome.answer == TIED
-
-
-def listed(word, cells, columns):
-    rows = [cells[place:place + columns] for place in range(0, len(cells), columns)]
-    return word + "".join("; " + " ".join(map(str, row)) for row in rows)
-
-
 def line(row_totals, column_totals, votes, found):
     columns = len(column_totals)
     asked = ["rows " + " ".join(map(str, row_totals)), "columns " + " ".join(map(str, column_totals))]
@@ -118,13 +88,11 @@ def line(row_totals, column_totals, votes, found):
 
 def main(count):
     with tempfile.TemporaryDirectory() as folder:
-        path = Path(folder) / "search.so"
-        subprocess.run(["cc", "-O2", "-std=gnu11", "-shared", "-fPIC", BENCH / "search.c", "-o", path], check=True)
-        library = ctypes.CDLL(str(path))
+        c = Asked(folder)
     numbers, written = random.Random(1), set()
     while len(written) < count:
         asked = question(numbers)
-        if not asked or not is_tied(library, *asked):
+        if not asked or c.search(question_of_c(*asked)).answer != TIED:
             continue
         text = line(*asked, drawn(*asked))
         if text not in written:
