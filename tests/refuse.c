@@ -1,30 +1,50 @@
-/* Preloaded under a program, it refuses the allocation whose number is in REFUSE, and then writes a byte to descriptor 3. Where
- * WITHIN has the name of a file, those allocations count alone that are made while it is open. */
+/* Preloaded under a program, it refuses the allocation whose number is in REFUSE, or fails the call of a file whose number is in FAIL,
+ * and then writes a byte to descriptor 3. Where WITHIN has the name of a file, those allocations count alone that are made while it is
+ * open. And it takes as many bytes of the standard output as are in OUTPUT, of standard error as in ERRORS, and then fails each write
+ * there. Descriptors up to 3 are no files. */
 #define _GNU_SOURCE
 #include <dlfcn.h>
+#include <errno.h>
 #include <fcntl.h>
 #include <stdarg.h>
 #include <stdlib.h>
 #include <string.h>
+#include <sys/stat.h>
+#include <sys/syscall.h>
 #include <unistd.h>
 
-static long left = -1;
 static int marked = -1;
+
+static long number(const char *name, long none) {
+    const char *text = getenv(name);
+    return text ? atol(text) : none;
+}
+
+/* Whether this call is the one whose number a variable has; `left` counts those up to it. */
+static int is_the_one(const char *name, long *left) {
+    if (*left < 0) *left = number(name, 0);
+    return *left > 0 && --*left == 0 && syscall(SYS_write, 3, "r", 1) == 1;
+}
+
+static int is_refused(void) {
+    static long left = -1;
+    return (marked >= 0 || !getenv("WITHIN")) && is_the_one("REFUSE", &left);
+}
+
+/* Whether this call of a file is the one that fails. */
+static int fails(int file) {
+    static long left = -1;
+    if (file <= 3 || !is_the_one("FAIL", &left)) return 0;
+    errno = EIO;
+    return 1;
+}
 
 /* The function that this one stands before, as `next`. */
 #define NEXT(name) \
     static __typeof__(&name) next; \
     if (!next) next = (__typeof__(&name))dlsym(RTLD_NEXT, #name)
 
-static int is_refused(void) {
-    if (left < 0) {
-        const char *number = getenv("REFUSE");
-        left = number ? atol(number) : 0;
-    }
-    if (marked < 0 && getenv("WITHIN")) return 0;
-    return left > 0 && --left == 0 && write(3, "r", 1) == 1;
-}
-
+/* A path is no descriptor: each opening counts. */
 int open(const char *path, int flags, ...) {
     va_list more;
     va_start(more, flags);
@@ -32,7 +52,7 @@ int open(const char *path, int flags, ...) {
     va_end(more);
     NEXT(open);
     const char *within = getenv("WITHIN");
-    int file = next(path, flags, mode);
+    int file = fails(4) ? -1 : next(path, flags, mode);
     if (within && !strcmp(path, within)) marked = file;
     return file;
 }
@@ -51,4 +71,53 @@ void *malloc(size_t size) {
 void *realloc(void *old, size_t size) {
     NEXT(realloc);
     return is_refused() ? NULL : next(old, size);
+}
+
+int statx(int folder, const char *restrict path, int flags, unsigned int mask, struct statx *restrict found) {
+    NEXT(statx);
+    return fails(folder == AT_FDCWD ? 4 : folder) ? -1 : next(folder, path, flags, mask, found);
+}
+
+ssize_t read(int file, void *bytes, size_t length) {
+    NEXT(read);
+    return fails(file) ? -1 : next(file, bytes, length);
+}
+
+ssize_t pread(int file, void *bytes, size_t length, off_t place) {
+    NEXT(pread);
+    return fails(file) ? -1 : next(file, bytes, length, place);
+}
+
+ssize_t pwrite(int file, const void *bytes, size_t length, off_t place) {
+    NEXT(pwrite);
+    return fails(file) ? -1 : next(file, bytes, length, place);
+}
+
+int fsync(int file) {
+    NEXT(fsync);
+    return fails(file) ? -1 : next(file);
+}
+
+int fdatasync(int file) {
+    NEXT(fdatasync);
+    return fails(file) ? -1 : next(file);
+}
+
+int ftruncate(int file, off_t length) {
+    NEXT(ftruncate);
+    return fails(file) ? -1 : next(file, length);
+}
+
+ssize_t write(int file, const void *bytes, size_t length) {
+    static long left[3] = {0, -1, -1};
+    NEXT(write);
+    if (file != 1 && file != 2) return fails(file) ? -1 : next(file, bytes, length);
+    if (left[file] < 0) left[file] = number(file == 1 ? "OUTPUT" : "ERRORS", 1L << 40);
+    if (left[file] == 0) {
+        errno = EPIPE;
+        return -1;
+    }
+    ssize_t taken = next(file, bytes, length < (size_t)left[file] ? length : (size_t)left[file]);
+    if (taken > 0) left[file] -= taken;
+    return taken;
 }

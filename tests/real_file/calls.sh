@@ -1,11 +1,11 @@
-# Calls of files that fail, and streams that are closed, by tests/fail.c.
+# Calls of files that fail, and streams that are closed, by tests/refuse.c.
 
-# failing WHAT NUMBER COMMAND..: runs it where the call of a file of this number fails (FAIL), or where so many bytes are taken
-# (OUTPUT, ERRORS). It writes to replies and faults, and to reached if a call failed.
+# failing WHAT NUMBER COMMAND..: runs it where the call of a file of this number fails (FAIL), or the allocation (REFUSE), or where so
+# many bytes are taken (OUTPUT, ERRORS). It writes to replies and faults, and to reached if a call or an allocation failed.
 failing() {
     local what=$1 number=$2
     shift 2
-    env "$what=$number" LD_PRELOAD="$folder/fail.so" "$@" > replies 2> faults 3> reached
+    env "$what=$number" LD_PRELOAD="$folder/refuse.so" "$@" > replies 2> faults 3> reached
 }
 
 # each_call FAULTS REPLIES TASK ARGUMENT..: each call of a file fails in turn. The task does without it and writes just what
@@ -47,7 +47,7 @@ shows_one_of_two() {
 
 each_failed_call() {
     local opened="setup file,disk device"
-    cc -shared -fPIC -O1 -o fail.so "$here/../fail.c" -ldl
+    cc -shared -fPIC -O1 -o refuse.so "$here/../refuse.c" -ldl
     sheet_and_rows
     cp d before
     echo "1 return 1 1 2 530" > lines
@@ -89,7 +89,7 @@ each_byte() {
 }
 
 closed_at_each_byte() {
-    cc -shared -fPIC -O1 -o fail.so "$here/../fail.c" -ldl
+    cc -shared -fPIC -O1 -o refuse.so "$here/../refuse.c" -ldl
     sheet_and_rows
     cp d before
     printf 'municipality,list,number,votes\n1,1,1,14\n' > refused.csv

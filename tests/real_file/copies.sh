@@ -17,9 +17,7 @@ copies_beside_a_run() {
         draw 20000
         pause "$moment"
     done 2> kill.err
-    wait $first
-    same "the status of run" 0 $?
-    same "the replies of run" "$(seq -f '1 stored %.0f' 1500)" "$(cat first.out)"
+    finish "$(seq -f '1 stored %.0f' 1500)"
     for ((copy = 0; copy < copies; copy++)); do ask_copy copy.$copy "${before[copy]}" $((after[copy] + 1)); done
     that "copies that were not refused" "2 * refused < copies"
     rm copy.*

@@ -17,8 +17,6 @@ look_at() {
 
 other_kind() {
     local why="there is no such file"
-    rm -rf kinds
-    mkdir kinds
     case $1 in
         folder) mkdir kinds/d; why="is a folder" ;;
         FIFO) mkfifo kinds/d; why="is no ordinary file" ;;
@@ -31,8 +29,6 @@ other_kind() {
 }
 
 second_name() {
-    rm -rf kinds
-    mkdir kinds
     new_disk d
     mv d kinds/d
     ln kinds/d kinds/other
@@ -45,8 +41,6 @@ second_name() {
 }
 
 through_a_link() {
-    rm -rf kinds
-    mkdir kinds
     new_disk kinds/d
     ln -s kinds/d link
     serves link "$(returns 1 1 1)" "1 stored 1"
@@ -60,12 +54,8 @@ through_a_link() {
 another_length() {
     local length
     for length in 1 $((DISK - 1)) $((DISK + 1)) $((2 * DISK)); do
-        rm -rf kinds
-        mkdir kinds
         head -c "$length" /dev/zero > kinds/d
-        cp kinds/d before
-        refused "disk size" kinds/d "$length bytes instead of $DISK"
-        same_bytes kinds/d before
+        untouched kinds/d refused "disk size" kinds/d "$length bytes instead of $DISK"
     done
 }
 
@@ -78,8 +68,6 @@ empty_file() {
 
 # The empty file that an opening makes beside the disk: a stop may leave it, and one that holds something stays.
 beside() {
-    rm -rf kinds
-    mkdir kinds
     new_disk kinds/d
     : > kinds/d-wal
     serves kinds/d "$(returns 1 1 1)" "1 stored 1"
@@ -103,8 +91,6 @@ beside() {
 # Beside a name there has to be one with -journal.
 long_name() {
     local name
-    rm -rf kinds
-    mkdir kinds
     name=$(printf 'x%.0s' {1..247})
     new_disk "kinds/$name"
     serves "kinds/$name" "$(returns 1 1 1)" "1 stored 1"
@@ -117,8 +103,6 @@ long_name() {
 # None of the tasks that open a disk makes one.
 missing_file() {
     local missing=$'disk device\nkinds/d: there is no such file'
-    rm -rf kinds
-    mkdir kinds
     echo "municipality,list,number,votes" > returns.csv
     ends 1 "$missing" "" run kinds/d < /dev/null
     ends 1 "$missing" "" load kinds/d returns.csv
@@ -128,8 +112,6 @@ missing_file() {
 
 # A disk that is made is for its owner alone, whatever the umask allows; a file that is there keeps its mode.
 modes() {
-    rm -rf kinds
-    mkdir kinds
     (
         umask 0
         format kinds/d
@@ -155,8 +137,6 @@ zeros() {
 no_permission() {
     local as=() there=denied
     sheet_and_rows
-    rm -rf kinds
-    mkdir kinds
     if [ "$(id -u)" -eq 0 ]; then
         if ! setpriv --reuid=65534 --regid=65534 --clear-groups true 2> /dev/null; then
             untried="as root, and no other user can be taken"
@@ -191,7 +171,6 @@ shown_paths() {
     ends 1 $'setup file\n'"${name:0:4096}: the name is too long" "" timeout 120 "$program" list --setup "$name" --of groups
 }
 
-# The files of a load, and of a folder that is given for one.
 # A record that has no end is read no further than a record may go on: by a load, a dry run and a check.
 records_without_end() {
     new_disk d
@@ -206,10 +185,9 @@ records_without_end() {
     same_bytes d before
 }
 
+# The files of a load, and of a folder that is given for one.
 files_of_a_load() {
     new_disk d
-    rm -rf kinds
-    mkdir kinds
     ends 1 $'csv file\nkinds/none.csv: there is no such file' "" load d kinds/none.csv
     ends 1 $'csv file\nkinds: is a folder' "" load d kinds
     ends 1 $'setup file\nkinds: is a folder' "" timeout 120 "$program" list --setup kinds --of groups

@@ -17,26 +17,14 @@ all_tables() {
 # A run keeps its disk to itself, and a table needs none.
 table_beside_a_run() {
     new_disk d
-    rm -f input
-    mkfifo input
-    run d < input > replies 2> faults &
-    exec 8> input
-    echo "1 return 1 1 1 7" >&8
-    await_lines replies 1
-    list "$setup" groups > groups.csv
-    same "the status of the groups" 0 $?
-    same "the groups" $'number,name\n1,A\n2,B\n3,C' "$(cat groups.csv)"
-    exec 8>&-
-    wait $!
-    same "the status of run" 0 $?
-    same "the replies" "1 stored 1" "$(cat replies)"
+    start_with "1 return 1 1 1 7"
+    ends 0 "" $'number,name\n1,A\n2,B\n3,C' list "$setup" groups
+    finish "1 stored 1"
 }
 
 unwritten_tables() {
-    ends 1 write "" closed '>&-' list "$setup" groups
-    list "$setup" lists > /dev/full 2> faults
-    same "the status with a full output" 1 $?
-    same "the fault with a full output" "zhcount: write" "$(cat faults)"
+    unwritten list "$setup" groups
+    unwritten list "$setup" lists
 }
 
 missing_setup() {

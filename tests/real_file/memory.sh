@@ -1,12 +1,4 @@
-# Refused allocations, by tests/refuse.c.
-
-# refusing NUMBER COMMAND..: runs it with this allocation refused. It writes to replies and faults, and to reached if
-# there were as many.
-refusing() {
-    local number=$1
-    shift
-    REFUSE=$number LD_PRELOAD=$folder/refuse.so "$@" > replies 2> faults 3> reached
-}
+# Refused allocations.
 
 # A folder with a disk d of these bytes; without one where none are given.
 room_for() {
@@ -25,7 +17,7 @@ each_refused() {
     said=$("$program" "$@" --setup "$setup" <<< "1 show 1 1" 2>&1)
     while number=$((number + 1)); do
         room_for "$bytes"
-        refusing $number "$program" "$@" --setup "$setup" <<< "1 show 1 1"
+        failing REFUSE $number "$program" "$@" --setup "$setup" <<< "1 show 1 1"
         status=$?
         [ -s reached ] || break
         if [ "$status" -eq 0 ]; then
@@ -80,7 +72,7 @@ each_allocation_of_a_rehearsal() {
     cc -shared -fPIC -O1 -o refuse.so "$here/../refuse.c" -ldl
     line=$'1 return 1 1 1 525\n1 show 1 1'
     while number=$((number + 1)); do
-        refusing $number "$program" <<< "$line"
+        failing REFUSE $number "$program" <<< "$line"
         status=$?
         [ -s reached ] || break
         case "$status $(cat replies)" in

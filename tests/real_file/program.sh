@@ -24,6 +24,13 @@ ends() {
     same "the replies of $*" "$replies" "$(cat replies)"
 }
 
+# untouched FILE COMMAND..: it leaves the file as it is.
+untouched() {
+    cp "$1" before
+    "${@:2}"
+    same_bytes "$1" before
+}
+
 # serves DISK LINES REPLIES: a run on the disk ends with status 0, and gives these replies to these lines.
 serves() {
     printf '%s\n' "$2" > lines

@@ -42,23 +42,16 @@ seats_of_both() {
 
 seats_beside_a_run() {
     elected
-    start
-    returns 1 2 2 >&8
-    await_lines first.out 1
+    start_with "$(returns 1 2 2)"
     ends 1 $'disk busy\nd' "" seats --disk d
     seats --sheet sheet > replies 2> remark
     same "the status beside a run" 0 $?
     same "the records beside a run" 10 "$(wc -l < replies)"
-    exec 8>&-
-    wait $first
-    same "the status of run" 0 $?
+    finish "1 stored 2"
 }
 
 unwritten_seats() {
     elected
-    ends 1 write "" closed '>&-' seats --disk d
+    unwritten seats --disk d
     ends 1 write "" closed '>&-' seats --sheet sheet --table
-    seats --disk d > /dev/full 2> faults
-    same "the status with a full output" 1 $?
-    same "the fault with a full output" "zhcount: write" "$(cat faults)"
 }

@@ -17,25 +17,18 @@ status_of_a_disk() {
 # A run keeps its disk to itself, so a copy is asked.
 status_beside_a_run() {
     new_disk d
-    start
-    returns 1 1 1 >&8
-    await_lines first.out 1
+    start_with "$(returns 1 1 1)"
     ends 1 $'disk busy\nd' "" status d
     cp d copy
     status copy > held.csv 2> faults
     same "the status of the copy" 0 $?
     same "the last line of the copy" "1 of 9 returns, 0 of 3 municipalities closed, 1 commands; final would not be of all returns" "$(cat faults)"
-    exec 8>&-
-    wait $first
-    same "the status of run" 0 $?
+    finish "1 stored 1"
 }
 
 unwritten_status() {
     new_disk d
-    ends 1 write "" closed '>&-' status d
-    status d > /dev/full 2> faults
-    same "the status with a full output" 1 $?
-    same "the fault with a full output" "zhcount: write" "$(cat faults)"
+    unwritten status d
     status d > held.csv 2> /dev/full
     same "the status with full standard error" 0 $?
     same "the lines with full standard error" 4 "$(wc -l < held.csv)"

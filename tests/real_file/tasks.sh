@@ -1,12 +1,11 @@
 # Formatting and running, and the arguments.
 
 a_night() {
-    mkdir night
-    new_disk night/d
-    same "the length" $DISK "$(stat -c %s night/d)"
-    serves night/d "$(returns 1 1 3)" $'1 stored 1\n1 stored 2\n1 stored 3'
-    serves night/d "1 show 1 1" "$(shows 3)"
-    same "the folder" d "$(ls night)"
+    new_disk kinds/d
+    same "the length" $DISK "$(stat -c %s kinds/d)"
+    serves kinds/d "$(returns 1 1 3)" $'1 stored 1\n1 stored 2\n1 stored 3'
+    serves kinds/d "1 show 1 1" "$(shows 3)"
+    same "the folder" d "$(ls kinds)"
 }
 
 # The election of examples/zurich2006, and its sheet.
@@ -22,22 +21,16 @@ known_election() {
 
 in_use() {
     new_disk d
-    cp d before
-    ends 1 $'disk inuse\nd' "" format d
-    same_bytes d before
+    untouched d ends 1 $'disk inuse\nd' "" format d
     serves d "$(returns 1 1 1)" "1 stored 1"
-    cp d before
-    ends 1 $'disk inuse\nd' "" format d
-    same_bytes d before
+    untouched d ends 1 $'disk inuse\nd' "" format d
 }
 
 another_setup() {
     new_disk d
     sed 's/persons = 3000/persons = 3001/' "$setup" > other.toml
-    cp d before
-    ends 1 $'disk differs\nd' "" timeout 120 "$program" run --setup other.toml --disk d < /dev/null
-    ends 1 $'disk inuse\nd' "" timeout 120 "$program" format --setup other.toml --disk d
-    same_bytes d before
+    untouched d ends 1 $'disk differs\nd' "" timeout 120 "$program" run --setup other.toml --disk d < /dev/null
+    untouched d ends 1 $'disk inuse\nd' "" timeout 120 "$program" format --setup other.toml --disk d
 }
 
 # misplaced EDIT FAULT PLACE: a set-up with this edit is refused with this fault and its place, and the disk d is untouched.
@@ -66,14 +59,10 @@ places_of_faults() {
 blank_and_damaged() {
     rm -f d
     truncate -s $DISK d
-    cp d before
-    ends 1 $'disk blank\nd' "" run d < /dev/null
-    same_bytes d before
+    untouched d ends 1 $'disk blank\nd' "" run d < /dev/null
     ends 0 "" "" format d
     printf X | dd of=d bs=1 seek=1 conv=notrunc status=none
-    cp d before
-    ends 1 $'disk damaged\nd' "" run d < /dev/null
-    same_bytes d before
+    untouched d ends 1 $'disk damaged\nd' "" run d < /dev/null
 }
 
 no_arguments() {

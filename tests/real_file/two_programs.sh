@@ -10,31 +10,35 @@ start() {
     exec 8> first.in
 }
 
-second_program() {
-    rm -rf busy
-    mkdir busy
-    new_disk busy/d
-    ln -s busy/d link
-    cp busy/d d.new
-    ln -sf busy/d d
+# The same, once it has stored this return.
+start_with() {
     start
-    returns 1 1 1 >&8
+    echo "$1" >&8
     await_lines first.out 1
-    cp busy/d before
-    returns 1 2 2 > lines
-    ends 1 $'disk busy\nbusy/d' "" run busy/d < lines
-    ends 1 $'disk busy\nlink' "" run link < lines
-    ends 1 $'disk busy\nbusy/d' "" format busy/d
-    same_bytes busy/d before
-    returns 1 2 3 >&8
+}
+
+# Ends it, which has given these replies.
+finish() {
     exec 8>&-
     wait $first
     same "the status of the first" 0 $?
     same "the fault of the first" "" "$(cat first.err)"
-    same "the replies of the first" $'1 stored 1\n1 stored 2\n1 stored 3' "$(cat first.out)"
-    serves busy/d "1 show 1 1" "$(shows 3)"
-    same "the folder" d "$(ls busy)"
-    rm -f d link
+    same "the replies of the first" "$1" "$(cat first.out)"
+}
+
+second_program() {
+    new_disk kinds/d
+    ln -s kinds/d link
+    ln -s kinds/d d
+    start_with "$(returns 1 1 1)"
+    returns 1 2 2 > lines
+    untouched kinds/d ends 1 $'disk busy\nkinds/d' "" run kinds/d < lines
+    untouched kinds/d ends 1 $'disk busy\nlink' "" run link < lines
+    untouched kinds/d ends 1 $'disk busy\nkinds/d' "" format kinds/d
+    returns 1 2 3 >&8
+    finish $'1 stored 1\n1 stored 2\n1 stored 3'
+    serves kinds/d "1 show 1 1" "$(shows 3)"
+    same "the folder" d "$(ls kinds)"
 }
 
 # One of two programs: 20 returns of a municipality, from the number after the held one on.
