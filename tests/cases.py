@@ -1,4 +1,4 @@
-"""How the cases write what is repeated, and bytes (docs/CASES.md)."""
+"""How the cases write what is repeated, bytes and files (docs/CASES.md)."""
 import re
 
 
@@ -38,3 +38,40 @@ def coded(words):
     """The bytes that groups of hexadecimal digits stand for, as `a5 01` or `ff*300`."""
     groups = [word.partition("*") for word in words]
     return b"".join(bytes.fromhex(digits) * int(times or 1) for digits, _, times in groups)
+
+
+def replaced(text, change):
+    """The text with each OLD as NEW, where the change is `OLD => NEW`."""
+    old, new = (part.strip(" ").replace("\\n", "\n").encode() for part in (change + " ").split(" =>", 1))
+    return text.replace(old, new)
+
+
+def write(line, files):
+    """Does a turn that writes a file."""
+    words = line.split()
+    if words[0] == "write":
+        files[words[1]] = coded(words[2:])
+    elif words[0] == "append":
+        files[words[1]] = files.get(words[1], b"") + coded(words[2:])
+    elif words[0] == "remove":
+        files.pop(words[1], None)
+    elif words[0] == "replace" and words[1] in files:
+        files[words[2]] = replaced(files[words[1]], line.split(None, 3)[3])
+
+
+def turns(path):
+    """(line, files) for each turn of a file of cases, with the files as they stand before it."""
+    files, writing = {}, None
+    for line in repeated(path.read_text().split("\n")):
+        text = line.strip()
+        if text == "end file":
+            writing = None
+        elif writing:
+            files[writing] += text.encode() + b"\n"
+        elif text.startswith("file "):
+            writing = text.split()[1]
+            files[writing] = b""
+        elif text and not text.startswith("#"):
+            text = text.split(" #")[0].strip()
+            yield text, files
+            write(text, files)

@@ -8,8 +8,9 @@ import subprocess
 
 import pytest
 
-TOP = pathlib.Path(__file__).resolve().parents[1]
-PROGRAM = pathlib.Path(os.environ.get("ZHCOUNT") or TOP / "crates/zhcount/out/zhcount").resolve()
+from pages.cited import lost_links
+from places import PROGRAM, TOP
+
 VERSION = (TOP / "VERSION").read_text().strip()
 NAMES = ("zhcount", "zhcount-desk", "zhcount-office", "zhcount-read", "zhcount-witness")
 PAGES = "BRIEF CHANGELOG CHECKING DECISIONS DEFINITIONS FAQ FORMATS MANUAL NIGHT OPERATING PROVED README STATUTE de/BRIEF de/CHECKING de/NIGHT"
@@ -22,9 +23,6 @@ FILES = {
     "share/zhcount": ["card.html", "index.html", *(f"zhcount_{it}.py" for it in (
         "desks", "folder", "held", "now", "office", "rebuild", "replay", "views", "witness"))],
 }
-FENCED = re.compile(r"^ *```.*?^ *```", re.M | re.S)
-LINK = re.compile(r"\]\(([^()\s]+)\)|^\[[^\]]+\]: +(\S+)", re.M)
-LINK_OF_HTML = re.compile(r"(?:href|src)=[\"']()([^\"'{$]+)[\"']")
 
 
 def ran(*words, seconds=60, **options):
@@ -41,29 +39,6 @@ def make(*words):
 
 def files_below(folder):
     return sorted(str(it.relative_to(folder)) for it in folder.rglob("*") if it.is_file())
-
-
-def anchors_of(page):
-    """The names of a page's headings, as a link has them; those that are there before get a number."""
-    names = []
-    for heading in re.findall(r"^#+ +(.*)", FENCED.sub("", page.read_text()), re.M):
-        text = re.sub(r"\[([^\]]*)\]\([^)]*\)", r"\1", heading).strip().lower()
-        name = re.sub(r"[^\w\- ]", "", text).replace(" ", "-")
-        names.append(name if name not in names else f"{name}-{names.count(name)}")
-    return names
-
-
-def lost_links(folder):
-    """The links of the pages below a folder that lead to nothing below it, or to no heading there; those to other machines are left out."""
-    lost = []
-    for page in (it for it in folder.rglob("*") if it.suffix in (".md", ".html")):
-        links = ("".join(it) for it in (LINK_OF_HTML if page.suffix == ".html" else LINK).findall(FENCED.sub("", page.read_text())))
-        for link in (it for it in links if not re.match("[a-z]+:", it)):
-            target, _, anchor = link.partition("#")
-            path = pathlib.Path(os.path.normpath(page.parent / target)) if target else page
-            if folder not in path.parents or not path.exists() or anchor and (path.suffix != ".md" or anchor not in anchors_of(path)):
-                lost.append((page.name, link))
-    return lost
 
 
 def names_in_unit(folder):
@@ -147,13 +122,13 @@ def test_each_program_says_how_it_is_called_or_what_it_waits_for(there, words, t
 def test_unit_and_pages_name_what_was_installed(there):
     assert names_in_unit(there) == [str(there)] * 2
     assert "share/examples/zhcount`, beside" in (there / "share/doc/zhcount/MANUAL.md").read_text()
-    assert lost_links(there) == []
+    assert [*lost_links(there)] == []
 
 
 @pytest.mark.parametrize("link", ["Two.md", "#two", "/etc/passwd"])
 def test_a_link_that_leads_nowhere_is_seen(tmp_path, link):
     (tmp_path / "One.md").write_text(f"# One\n[a]({link}) [b](#one) [c](https://example.org)\n")
-    assert lost_links(tmp_path) == [("One.md", link)]
+    assert [*lost_links(tmp_path)] == [f"One.md:2: {link} leads nowhere"]
 
 
 @pytest.mark.parametrize("page, name, text", [
@@ -205,7 +180,7 @@ def test_the_archive_has_what_is_installed_with_its_sums(archive, unpacked):
     assert ran("sha256sum", "--quiet", "-c", "SHA256SUMS", cwd=unpacked).stdout == ""
     summed = [line[66:] for line in (unpacked / "SHA256SUMS").read_text().splitlines()]
     assert sorted(["SHA256SUMS", *summed]) == files_below(unpacked)
-    assert lost_links(unpacked) == [] and names_in_unit(unpacked) == ["/usr/local"] * 2
+    assert [*lost_links(unpacked)] == [] and names_in_unit(unpacked) == ["/usr/local"] * 2
     assert "\n## Install\n" in (unpacked / "share/doc/zhcount/OPERATING.md").read_text()
     make("dist")
     assert filecmp.cmp(TOP / "out" / archive.name, archive, shallow=False)

@@ -7,8 +7,8 @@ from pathlib import Path
 import pytest
 from pages.rules import RULES, planted
 from pages.sources import Tree
+from places import TOP
 
-TOP = Path(__file__).resolve().parents[1]
 KINDS = {"examples": pytest.mark.long}  # the others look at the sources alone
 each_rule = pytest.mark.parametrize(
     "rule", [pytest.param(it, id=it.name, marks=KINDS.get(it.name, pytest.mark.sources)) for it in RULES])

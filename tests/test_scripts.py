@@ -1,14 +1,14 @@
 """make run and make build: which program is run, and called proved, and which crate is refused. A small copy of the repository with a
 stand-in for the toolchain is enough, so nothing is proved, and each test takes seconds."""
 import os
-import pathlib
 import re
 import shutil
 import subprocess
 
 import pytest
 
-TOP = pathlib.Path(__file__).resolve().parents[1]
+from places import TOP
+
 # `rt run` makes a program that says what text it was built from; `rt try` compiles one and runs it: try -- list --setup FILE --of groups.
 RT = r"""#!/usr/bin/env bash
 case "$1" in

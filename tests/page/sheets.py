@@ -2,7 +2,7 @@
 hand or by another program, and the election of 2006."""
 import re
 
-from cases import repeated
+from cases import repeated, turns
 from places import CASES, REHEARSAL, ZURICH
 
 HEAD = "municipality,list,number,votes"
@@ -25,13 +25,12 @@ class Held:
         if expected.startswith("closed"):
             return
         if words[0].isdigit() and words[1:2] == ["return"] and " stored " in expected:
-            self.rows[words[2], words[3]] = (words[4], words[5])
+            self.rows[words[2], words[3]] = [words[4], words[5]]
         elif words[0].isdigit() and words[1:2] == ["withdraw"] and " stored " in expected:
-            self.rows[words[2], words[3]] = (words[4], "withdrawn")
+            self.rows[words[2], words[3]] = [words[4], "withdrawn"]
         elif words[0] == "csv" and expected.startswith("stored"):
-            for line in files.get(words[1], [""])[1:]:
-                municipality, group, number, votes = line.strip().split(",")
-                self.rows[municipality, group] = (number, votes)
+            rows = re.findall(r"^(\d+),(\d+),(\d+),(\w+)\r?$", files.get(words[1], b"").decode(errors="replace"), re.M)
+            self.rows.update({(municipality, group): entry for municipality, group, *entry in rows})
         elif words[1:2] == ["commit"] or words[0] in ("poke", "load", "stop", "sweep", "serve", "hex"):
             self.known = False
 
@@ -39,22 +38,14 @@ class Held:
         if not self.known:
             return None
         rows = sorted(self.rows.items(), key=lambda row: (int(row[0][0]), int(row[0][1])))
-        return "\n".join([HEAD] + [",".join(key + value) for key, value in rows]) + "\n"
+        return "\n".join([HEAD] + [",".join([*key, *value]) for key, value in rows]) + "\n"
 
 
 def of_cases(path):
     """(title, sheet, set-up, rows held or None) of each sheet that is expected in a file of cases."""
     first = current = None
-    title, held, files, writing = "", Held(), {}, None
-    for line in repeated(path.read_text().split("\n")):
-        text = line.split(" #")[0].strip()
-        if writing is not None:
-            writing = None if text == "end file" else writing + [text]
-            if writing is not None:
-                files[last] = writing
-            continue
-        if not text or text.startswith("#"):
-            continue
+    title, held = "", Held()
+    for text, files in turns(path):
         turn, _, expected = (part.strip() for part in text.partition("->"))
         words = turn.split()
         if words[0] == "case":
@@ -62,8 +53,6 @@ def of_cases(path):
         elif words[0] == "setup":
             current = words[1]
             first = first or current
-        elif words[0] == "file":
-            last, writing = words[1], []
         elif re.match(r"[1-8] sheet (provisional|final) ", expected) and expected.endswith("; end"):
             yield f"{path.name}: {title}", expected.replace("; ", "\n") + "\n", setup(current), held.csv()
         else:

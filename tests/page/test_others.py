@@ -4,7 +4,7 @@ import re
 import model
 import sheets
 from browser import By
-from case import EXAMPLE, EXAMPLE_SETUP, Case, changed
+from case import EXAMPLE, EXAMPLE_SETUP, ROWS, Case, changed
 
 
 class Others(Case):
@@ -45,17 +45,16 @@ class Others(Case):
         self.holds(EXAMPLE, "# a remark\n\n" + EXAMPLE_SETUP.replace("\n", "  # more\r\n"))
 
     def test_rows_held(self):
-        rows = model.Election(10, [5000, 3000, 2000], [[525, 300, 175], [240, 330, 30], [90, 60, 50]]).held()
-        self.holds(EXAMPLE, EXAMPLE_SETUP, rows)
+        self.holds(EXAMPLE, EXAMPLE_SETUP, ROWS)
         self.assertIn("compared with all 9 returns", self.page.text("#parts"))
-        self.fails("votes", 12, "the returns make 301 votes", EXAMPLE, EXAMPLE_SETUP, changed(rows, "1,2,1,300", "1,2,1,301"),
+        self.fails("votes", 12, "the returns make 301 votes", EXAMPLE, EXAMPLE_SETUP, changed(ROWS, "1,2,1,300", "1,2,1,301"),
                    state="mismatch")
-        self.fails("votes", 12, "the returns make 0 votes", EXAMPLE, EXAMPLE_SETUP, changed(rows, "1,2,1,300", "1,2,1,withdrawn"),
+        self.fails("votes", 12, "the returns make 0 votes", EXAMPLE, EXAMPLE_SETUP, changed(ROWS, "1,2,1,300", "1,2,1,withdrawn"),
                    state="mismatch")
-        self.unsure("Returns", 4, "there twice", EXAMPLE, EXAMPLE_SETUP, changed(rows, "1,3,1,175", "1,2,1,175"))
-        self.unsure("Returns", 3, "does not stand there", EXAMPLE, EXAMPLE_SETUP, changed(rows, "1,2,1,300", "1,4,1,300"))
-        self.unsure("Returns", 3, "no row of four numbers", EXAMPLE, EXAMPLE_SETUP, changed(rows, "1,2,1,300", "1,2,1"))
-        self.page.sheet(EXAMPLE, None, rows)
+        self.unsure("Returns", 4, "there twice", EXAMPLE, EXAMPLE_SETUP, changed(ROWS, "1,3,1,175", "1,2,1,175"))
+        self.unsure("Returns", 3, "does not stand there", EXAMPLE, EXAMPLE_SETUP, changed(ROWS, "1,2,1,300", "1,4,1,300"))
+        self.unsure("Returns", 3, "no row of four numbers", EXAMPLE, EXAMPLE_SETUP, changed(ROWS, "1,2,1,300", "1,2,1"))
+        self.page.sheet(EXAMPLE, None, ROWS)
         self.assertIn("only together with the set-up", self.page.text("#problems"))
 
     def test_two_sheets(self):

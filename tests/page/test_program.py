@@ -5,7 +5,7 @@ import re
 import model
 import program
 import sheets
-from case import EXAMPLE, EXAMPLE_SETUP, Case
+from case import EXAMPLE, EXAMPLE_SETUP, ROWS, Case
 
 # So many changes of each larger sheet, from this seed. Of the smallest all are taken.
 SAMPLE, SEED = 20, 2027
@@ -61,9 +61,7 @@ class Program(Case):
             self.same(chance.sample(list(changes(sheet)), SAMPLE), setup, held)
 
     def test_rows_held(self):
-        election = model.Election(10, [5000, 3000, 2000], [[525, 300, 175], [240, 330, 30], [90, 60, 50]])
-        rows = election.held()
-        for held in (rows, rows.replace("525", "526"), rows.replace("3,3,1,50", "3,3,2,withdrawn"), rows.replace("1,1,1,525\n", "")):
+        for held in (ROWS, ROWS.replace("525", "526"), ROWS.replace("3,3,1,50", "3,3,2,withdrawn"), ROWS.replace("1,1,1,525\n", "")):
             self.same([EXAMPLE], EXAMPLE_SETUP, held)
 
     def test_a_forged_quorum(self):
