@@ -60,6 +60,12 @@ class Case(unittest.TestCase):
     def tearDownClass(cls):
         cls.driver.quit()
 
+    def has_screen(self, width, height, scale, is_mobile):
+        """Gives the browser another screen, until the end of the test."""
+        screen = {"width": width, "height": height, "deviceScaleFactor": scale, "mobile": is_mobile}
+        self.driver.execute_cdp_cmd("Emulation.setDeviceMetricsOverride", screen)
+        self.addCleanup(self.driver.execute_cdp_cmd, "Emulation.clearDeviceMetricsOverride", {})
+
     def holds(self, sheet, setup=None, held=None):
         """The page's own check says right. Which colour the bar has depends on what was given (test_bar.py)."""
         page = self.page.sheet(sheet, setup, held)

@@ -200,9 +200,7 @@ class Kinds(Case):
 
     def test_the_first_screen(self):
         """Verdict, election, ticks and parliament are seen at 1280 x 900 without scrolling."""
-        self.driver.execute_cdp_cmd("Emulation.setDeviceMetricsOverride",
-                                    {"width": 1280, "height": 900, "deviceScaleFactor": 1, "mobile": False})
-        self.addCleanup(self.driver.execute_cdp_cmd, "Emulation.clearDeviceMetricsOverride", {})
+        self.has_screen(1280, 900, 1, False)
         zurich = sheets.zurich(), sheets.zurich_setup(), sheets.zurich_held()
         for files in ((EXAMPLE, *ALL), (EXAMPLE,), (WRONG, *ALL), (EXAMPLE, EXAMPLE_SETUP, changed(ROWS, "1,1,1,525", "1,1,1,526")), zurich,
                       zurich[:1], (changed(zurich[0], "seats key 38000/38", "seats key 38000/39"), *zurich[1:])):

@@ -6,7 +6,6 @@ import sheets
 from browser import By
 from case import EXAMPLE, EXAMPLE_SETUP, LARGEST, ROWS, Case, changed
 
-PHONE = {"width": 375, "height": 667, "deviceScaleFactor": 2, "mobile": True}
 TURNED, HEBREW = "\u202eX 11", "\u05d0\u05d1 11"
 
 
@@ -22,8 +21,7 @@ def contrast(one, other):
 
 class Sight(Case):
     def phone(self, *files):
-        self.driver.execute_cdp_cmd("Emulation.setDeviceMetricsOverride", PHONE)
-        self.addCleanup(self.driver.execute_cdp_cmd, "Emulation.clearDeviceMetricsOverride", {})
+        self.has_screen(375, 667, 2, True)
         return self.page.sheet(*files)
 
     def click(self, css):

@@ -52,24 +52,18 @@ class Use(Case):
     def test_the_keyboard_alone(self):
         page = self.page.open()
         page.driver.find_element(By.TAG_NAME, "body").send_keys(Keys.TAB)
-        for _ in range(2):
-            page.press(Keys.TAB)
+        page.press(Keys.TAB, Keys.TAB)
         self.assertEqual(self.focus("id"), "pick")
-        page.press(Keys.TAB)
-        page.press(Keys.ENTER)
-        page.press(Keys.TAB)
+        page.press(Keys.TAB, Keys.ENTER, Keys.TAB)
         self.assertEqual(self.focus("id"), "text")
-        page.press(EXAMPLE.rstrip("\n"))
-        page.press(Keys.TAB)
-        page.press(Keys.ENTER)
+        page.press(EXAMPLE.rstrip("\n"), Keys.TAB, Keys.ENTER)
         self.assertEqual(page.own(), "right")
         for _ in range(12):
             if "Nord, A" in (self.focus("aria-label") or ""):
                 break
             page.press(Keys.TAB)
         self.assertEqual(self.focus("aria-label"), "Nord, A: 3, holds")
-        page.press(Keys.ARROW_DOWN)
-        page.press(Keys.ARROW_RIGHT)
+        page.press(Keys.ARROW_DOWN, Keys.ARROW_RIGHT)
         self.assertEqual(self.focus("aria-label"), "Mitte, B: 2, holds")
         page.press(Keys.ENTER)
         self.assertIn("Mitte, B: 2 seats", page.text("#detail h2"))
@@ -144,14 +138,10 @@ class Use(Case):
 
     def test_a_phone(self):
         page = self.holds(sheets.zurich())
-        phone = {"width": 360, "height": 740, "deviceScaleFactor": 2, "mobile": True}
-        page.driver.execute_cdp_cmd("Emulation.setDeviceMetricsOverride", phone)
-        try:
-            for sheet in (sheets.zurich(), LARGEST.sheet(), changed(sheets.zurich(), "seats key 38000/38", "seats key 38000/39")):
-                page.sheet(sheet)
-                self.assertLessEqual(page.driver.execute_script("return document.documentElement.scrollWidth"), 360)
-        finally:
-            page.driver.execute_cdp_cmd("Emulation.clearDeviceMetricsOverride", {})
+        self.has_screen(360, 740, 2, True)
+        for sheet in (sheets.zurich(), LARGEST.sheet(), changed(sheets.zurich(), "seats key 38000/38", "seats key 38000/39")):
+            page.sheet(sheet)
+            self.assertLessEqual(page.driver.execute_script("return document.documentElement.scrollWidth"), 360)
 
     def test_the_largest_sheet(self):
         """Its time is printed, and not judged: it depends on the machine. The elements do not."""
