@@ -7,10 +7,9 @@ all_tables() {
     ends 0 "" $'number,name,persons,seats\n1,Nord,5000,5\n2,Mitte,3000,3\n3,West,2000,2' list "$setup" constituencies
     ends 0 "" $'number,name,constituency\n1,N,1\n2,M,2\n3,W,3' list "$setup" municipalities
     ends 0 "" $'number,name\n1,A\n2,B\n3,C' list "$setup" groups
-    list "$setup" lists > lists.csv 2> faults
-    same "the status of the lists" 0 $?
-    same "the lists and the names of their columns" 10 "$(wc -l < lists.csv)"
-    same "the last list" "3,3,West,C" "$(tail -n 1 lists.csv)"
+    ends 0 "" .. list "$setup" lists
+    same "the lists and the names of their columns" 10 "$(wc -l < replies)"
+    same "the last list" "3,3,West,C" "$(tail -n 1 replies)"
     ends 0 "" "problem,number,name" list "$setup" problems
 }
 
@@ -63,9 +62,8 @@ problems_are_told() {
 # The table of returns with its last column filled in.
 returns_filled_in() {
     new_disk d
-    list "$setup" returns > due.csv 2> faults
-    same "the status of the returns" 0 $?
-    same "what is said of few returns" "" "$(cat faults)"
+    ends 0 "" .. list "$setup" returns
+    cp replies due.csv
     sed '2,$s/$/7/' due.csv > filled.csv
     ends 0 "" "stored 1" load d filled.csv
     ends 1 "" "refused syntax" load d due.csv
@@ -86,11 +84,8 @@ two_lists_in() {
 returns_to_be_split() {
     two_lists_in 500 > thousand.toml
     two_lists_in 501 > more.toml
-    list thousand.toml returns > due.csv 2> faults
-    same "the lines of 1,000 returns" 1001 "$(wc -l < due.csv)"
-    same "what is said of 1,000 returns" "" "$(cat faults)"
-    list more.toml returns > due.csv 2> faults
-    same "the status of 1,002 returns" 0 $?
-    same "the lines of 1,002 returns" 1003 "$(wc -l < due.csv)"
-    same "what is said of 1,002 returns" "zhcount: more than 1,000 returns, to be split by --constituency or --municipality" "$(cat faults)"
+    ends 0 "" .. list thousand.toml returns
+    same "the lines of 1,000 returns" 1001 "$(wc -l < replies)"
+    ends 0 "more than 1,000 returns, to be split by --constituency or --municipality" .. list more.toml returns
+    same "the lines of 1,002 returns" 1003 "$(wc -l < replies)"
 }

@@ -14,14 +14,14 @@ new_disk() {
 }
 
 # ends STATUS FAULT REPLIES COMMAND..: the command ends with this status, this fault on standard error
-# (without its 'zhcount: '; none if it is empty) and these replies.
+# (without its 'zhcount: '; none if it is empty) and these replies, or any if they are '..'. It writes to replies and faults.
 ends() {
     local status=$1 fault=$2 replies=$3
     shift 3
     "$@" > replies 2> faults
     same "the status of $*" "$status" $?
     same "the fault of $*" "${fault:+zhcount: $fault}" "$(cat faults)"
-    same "the replies of $*" "$replies" "$(cat replies)"
+    [ "$replies" = .. ] || same "the replies of $*" "$replies" "$(cat replies)"
 }
 
 # untouched FILE COMMAND..: it leaves the file as it is.

@@ -32,11 +32,9 @@ checked_sheets() {
 
 # says_wrong FILE [LINE]: the sheet is wrong, and the first line says so.
 says_wrong() {
-    check_sheet "$setup" "$1" > verdict 2> faults
-    same "the status of $1" 1 $?
-    same "the fault of $1" "" "$(cat faults)"
-    same "the last line of $1" "sheet wrong" "$(tail -n 1 verdict)"
-    [ $# -eq 1 ] || same "the first line of $1" "$2" "$(head -n 1 verdict)"
+    ends 1 "" .. check_sheet "$setup" "$1"
+    same "the last line of $1" "sheet wrong" "$(tail -n 1 replies)"
+    [ $# -eq 1 ] || same "the first line of $1" "$2" "$(head -n 1 replies)"
 }
 
 # What downloads and editors do to a sheet.

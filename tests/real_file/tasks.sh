@@ -12,9 +12,7 @@ a_night() {
 known_election() {
     local setup=$election/setup.toml
     new_disk election
-    run election < "$election/lines" > replies 2> faults
-    same "the status of run" 0 $?
-    same "the faults of run" "" "$(cat faults)"
+    ends 0 "" .. run election < "$election/lines"
     sed -n '/ sheet /,$p' replies > found
     same_bytes "$election/sheet" found
 }

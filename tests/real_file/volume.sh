@@ -29,9 +29,7 @@ full_disk_and_output() {
         returns 1 1 $((pages + 1))
         yes "1 show 1 1" | head -n 20000
     } > lines
-    limited 340 run d < lines > replies 2> faults
-    same "the status" 1 $?
-    same "the fault" "zhcount: write" "$(cat faults)"
+    ends 1 write .. limited 340 run d < lines
     same "the length of the replies" $((340 * 1024)) "$(stat -c %s replies)"
     same "the replies at the fault of the disk" $'1 refused device\n1 refused reopen-disk' \
         "$(sed -n "$((pages + 1)),$((pages + 2))p" replies)"
