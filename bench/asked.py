@@ -143,7 +143,9 @@ class Asked:
             o = self.search(q := question_of(asked.split(", ")))
             if (o.half_steps, self.searched(q, o)) != (half_steps, wanted):
                 yield f"{asked}: {self.searched(q, o)}, in {o.half_steps} half-steps"
-        yield from (f"a line, {votes} {others}" for votes, others, seats, wanted in WORKED_LINES if self.line(votes, others, seats) != wanted)
+        for votes, others, seats, wanted in WORKED_LINES:
+            if self.line(votes, others, seats) != wanted:
+                yield f"a line, {votes} {others}: {self.line(votes, others, seats)}"
         for path in paths:
             turns = [*self.turns(path.read_text())]
             yield from [] if turns else [f"{path.name} asks nothing"]
