@@ -12,9 +12,17 @@ def needs(program):
 
 
 @pytest.fixture
-def room():
-    with Room() as room:
+def new_room(request):
+    """A room in which no office has run yet, of the kind that the module names as its ROOM."""
+    with getattr(request.module, "ROOM", Room)() as room:
         yield room
+
+
+@pytest.fixture
+def room(new_room):
+    """A room whose office runs."""
+    new_room.start()
+    return new_room
 
 
 @pytest.fixture

@@ -3,46 +3,13 @@ answered and what was not is chosen. The answers are those of `zhcount run`; wha
 import hashlib
 import os
 import re
-import shutil
-import subprocess
 
 from places import PROGRAM, REHEARSAL
-from room import Room, same
+from room import Count, Room, same
 
 from zhcount_desks import Record
 
 TIME = "2026-11-29T18:00:00.000+01:00"
-
-
-class Count:
-    """What is held, by the commands that were stored: a return or a row replaces what stood in its place."""
-
-    def __init__(self):
-        self.held, self.commands, self.batches = {}, 0, {}
-
-    def begin(self):
-        self.batches = {}
-
-    def take(self, desk, text, answer):
-        word, *numbers = text.split(" ")
-        rows = self.batches.setdefault(desk, [])
-        if word == "row" and answer.startswith("held"):
-            rows.append(numbers)
-        elif word in ("open", "drop") and answer.startswith(("held 0", "dropped")):
-            rows.clear()
-        elif answer.startswith("stored "):
-            self.commands += 1
-            self.replace({"return": [numbers], "withdraw": [numbers], "commit": rows}.get(word, []))
-        if word == "commit" and answer.startswith(("stored", "same")):
-            rows.clear()
-
-    def replace(self, rows):
-        for municipality, group, number, *votes in rows:
-            self.held[int(municipality), int(group)] = number, votes[0] if votes else "withdrawn"
-
-    def export(self):
-        rows = [f"{m},{g},{n},{v}" for (m, g), (n, v) in sorted(self.held.items())]
-        return "".join(f"{it}\n" for it in ["municipality,list,number,votes", *rows])
 
 
 class Night(Room):
@@ -108,9 +75,8 @@ class Night(Room):
 
     def answers(self, lines):
         """What a run says to these lines, without their desks."""
-        words = [PROGRAM, "run", "--setup", self.setup, "--disk", self.disk]
-        ran = subprocess.run(words, input="".join(f"{it}\n" for it in lines).encode(), capture_output=True)
-        found = re.findall(r"(?:^\d sheet (?:provisional|final) \d+\n(?:.*\n)*?end|^.*)\n", ran.stdout.decode(), re.MULTILINE)
+        said = self.zhcount("run", given="".join(f"{it}\n" for it in lines))
+        found = re.findall(r"(?:^\d sheet (?:provisional|final) \d+\n(?:.*\n)*?end|^.*)\n", said, re.MULTILINE)
         same(f"answers to {lines}", len(lines), len(found))
         return [it[2:].rstrip("\n") for it in found]
 
@@ -118,19 +84,12 @@ class Night(Room):
         """A table, loaded while no office runs. Its file."""
         path = self.path / f"loaded{self.count.commands}.csv"
         path.write_text("".join(f"{it}\n" for it in ["municipality,list,number,votes", *rows]))
-        words = [PROGRAM, "load", "--setup", self.setup, "--disk", self.disk, "--csv", path]
-        same(f"the loading of {rows}", f"stored {self.count.commands + 1}\n", subprocess.run(words, capture_output=True, text=True).stdout)
+        same(f"the loading of {rows}", f"stored {self.count.commands + 1}\n", self.zhcount("load", "--csv", path))
         self.count.commands += 1
         self.count.replace(it.split(",") for it in rows)
         return path
 
     # What is done with it
-
-    def zhcount_office(self, *words, program=PROGRAM):
-        """The status and the text of zhcount-office with these arguments."""
-        ran = subprocess.run(self.script("zhcount-office", *words), env={**os.environ, "ZHCOUNT": str(program)}, capture_output=True,
-                             text=True)
-        return ran.returncode, ran.stdout + ran.stderr
 
     def rebuild(self, *more, program=PROGRAM):
         self.new.unlink() if os.path.lexists(self.new) else None
@@ -140,8 +99,7 @@ class Night(Room):
         """What is said where the disk is made, and the export of that disk."""
         status, said = self.rebuild(*more)
         same(f"the status, {said}", 0, status)
-        words = [PROGRAM, "export", "--setup", self.setup, "--disk", self.new]
-        return said, subprocess.run(words, capture_output=True, text=True).stdout
+        return said, self.zhcount("export", disk=self.new)
 
     def refused(self, *more, program=PROGRAM):
         """What is said where no disk is made, and nothing is left."""
@@ -151,26 +109,9 @@ class Night(Room):
         same("the files beside", [it for it in before if it != self.new.name], sorted(os.listdir(self.path)))
         return said
 
-    def edit(self, name, old, new=None):
-        """Changes a file of the folder, in which the old text stands once; without a new one its line is taken out."""
-        text = (self.folder / name).read_text()
-        same(f"{old} in {name}", 1, text.count(old))
-        without = "".join(f"{it}\n" for it in text.split("\n")[:-1] if old not in it)
-        (self.folder / name).write_text(without if new is None else text.replace(old, new))
-
     def sum_of(self, start):
         """The sum that the state at the beginning of a start has."""
         return next(it.answer for it in self.records("protocol") if it.mark == "state" and it.start == start)
-
-    def kept(self):
-        """The folder as it is, to be put back."""
-        copy = self.path / "kept"
-        shutil.rmtree(copy, ignore_errors=True)
-        shutil.copytree(self.folder, copy)
-
-    def put_back(self):
-        shutil.rmtree(self.folder)
-        shutil.copytree(self.path / "kept", self.folder)
 
 
 # By chance

@@ -4,9 +4,7 @@ import os
 import pathlib
 import re
 import shutil
-import subprocess
 
-from places import PROGRAM
 from room import SCRIPTS, Room, same, until
 
 RETURNS = ["return 1 1 1 525", "return 1 2 1 300", "return 1 3 1 175", "return 2 1 1 240", "return 2 2 1 330", "return 2 3 1 30",
@@ -76,22 +74,20 @@ def names_of_now(room):
     return sorted(it.name for it in room.folder.iterdir() if it.name.startswith("now"))
 
 
-def model(room, lines, loaded=""):
+def model(room, lines):
     """What the program says of a disk with these lines, each with its desk: of each file of `now` the content."""
     disk = room.path / "model.disk"
     disk.unlink(missing_ok=True)
 
-    def said(task, *words, given=""):
-        ran = subprocess.run([PROGRAM, task, "--setup", room.setup, "--disk", disk, *words], input=given, capture_output=True, text=True)
-        return ran.stdout, ran.stderr
+    def ran(task, *words, given=""):
+        return room.ran(task, *words, disk=disk, given=given)
 
-    said("format")
-    if loaded:
-        said("load", "--csv", "/dev/stdin", given=loaded)
-    said("run", given="".join(f"{it}\n" for it in lines))
-    seats = said("seats", "--table")
-    return {"status": said("status")[0], "sums": said("status")[1], "missing": said("status", "--missing")[0],
-            "implausible": said("status", "--implausible")[0], "held.csv": said("export")[0], "seats": seats[0] or seats[1]}
+    ran("format")
+    ran("run", given="".join(f"{it}\n" for it in lines))
+    status, seats = ran("status"), ran("seats", "--table")
+    return {"status": status.stdout, "sums": status.stderr, "missing": ran("status", "--missing").stdout,
+            "implausible": ran("status", "--implausible").stdout, "held.csv": ran("export").stdout,
+            "seats": seats.stdout or seats.stderr}
 
 
 def compare(room, now, lines, unconfirmed):
@@ -101,8 +97,7 @@ def compare(room, now, lines, unconfirmed):
         same(f"{name} of {now.name}", text, (now / name).read_text())
     copy = room.path / "copy.disk"
     shutil.copyfile(now / "disk", copy)
-    ran = subprocess.run([PROGRAM, "export", "--setup", room.setup, "--disk", copy], capture_output=True, text=True)
-    same("the copy of the disk", wanted["held.csv"], ran.stdout)
+    same("the copy of the disk", wanted["held.csv"], room.zhcount("export", disk=copy))
     same("nothing else is there", sorted([*wanted, "disk"]), sorted(it.name for it in now.iterdir()))
 
 

@@ -6,6 +6,7 @@ import pathlib
 import re
 import shutil
 import signal
+import stat
 import subprocess
 import sys
 import tempfile
@@ -16,6 +17,8 @@ from places import PROGRAM, REHEARSAL, TOP
 
 SCRIPTS = pathlib.Path(os.environ.get("DESKS", TOP / "desks"))
 SECONDS = int(os.environ.get("PATIENCE", "90"))  # a busy machine may take long
+MODES = {"lines": "prw--w----", "bell": "prw-r-----", "sent": "-rw-rw----", "protocol": "-rw-r-----", "status": "-rw-r-----",
+         "held": "-rw-r-----", "setup": "-rw-r-----", "office": "-rw-r-----"}
 
 sys.path.insert(0, str(SCRIPTS))
 from zhcount_desks import records_in
@@ -72,6 +75,11 @@ class Process:
 
     def said(self):
         return "\n".join(self.error)
+
+    def says(self, *texts):
+        """Waits until it has said all of this."""
+        for text in texts:
+            until(f"'{text}' is said: {self.said()}", lambda text=text: text in self.said())
 
     def kill(self, number=signal.SIGKILL):
         self.process.send_signal(number)
@@ -139,9 +147,13 @@ class Room:
             it.process.wait()
         shutil.rmtree(self.path, ignore_errors=True)
 
-    def zhcount(self, task):
-        words = [PROGRAM, task, "--setup", self.setup, "--disk", self.disk]
-        return subprocess.run(words, stdin=subprocess.DEVNULL, capture_output=True, text=True).stdout
+    def ran(self, task, *words, disk=None, given=""):
+        """A run of the program on the room's disk, or on another one."""
+        return subprocess.run([PROGRAM, task, "--setup", self.setup, "--disk", disk or self.disk, *words], input=given, capture_output=True,
+                              text=True)
+
+    def zhcount(self, task, *words, **more):
+        return self.ran(task, *words, **more).stdout
 
     def script(self, name, *words):
         return [sys.executable, self.scripts / name, *words]
@@ -162,8 +174,7 @@ class Room:
         """A disk of the same set-up with these lines, and its path."""
         path = self.path / "other.disk"
         for task, given in (("format", ""), ("run", "".join(f"1 {it}\n" for it in lines))):
-            words = [PROGRAM, task, "--setup", self.setup, "--disk", path]
-            same(task, 0, subprocess.run(words, input=given, capture_output=True, text=True).returncode)
+            same(task, 0, self.ran(task, disk=path, given=given).returncode)
         return path
 
     def process(self, kind, words):
@@ -183,6 +194,15 @@ class Room:
         self.office.kill(number)
         return self.office.wait()
 
+    def restart(self, number=signal.SIGTERM):
+        self.stop(number)
+        self.start()
+
+    def ends(self, status, *texts):
+        """The office ends of itself, with this status, and has said this."""
+        same(f"the end of the office: {self.office.said()}", status, self.office.wait())
+        self.office.says(*texts)
+
     def desk(self, number):
         return self.process(Desk, self.script("zhcount-desk", str(number), self.folder))
 
@@ -197,10 +217,68 @@ class Room:
         children = pathlib.Path(f"/proc/{self.office.process.pid}/task/{self.office.process.pid}/children")
         return int(children.read_text().split()[0])
 
-    def replay(self):
-        ran = subprocess.run(self.script("zhcount-office", "--replay", self.folder), env={**os.environ, "ZHCOUNT": str(PROGRAM)},
-                             capture_output=True, text=True)
+    def note(self, desk, line):
+        """Types a line at a desk, which the office notes. Its answer is not awaited."""
+        desk.write(f"{line}\n")
+        until(f"{line} is noted", lambda: self.records("protocol")[-1].text == line)
+
+    def unanswered(self, desk, line):
+        """Types a line that is noted, and that the run does not get to answer. The process of the run."""
+        run_process = self.run_of_office()
+        os.kill(run_process, signal.SIGSTOP)
+        self.note(desk, line)
+        return run_process
+
+    def lost(self, desk, line):
+        """Types a line which is noted and unanswered when desk, office and run are killed."""
+        run_process = self.unanswered(desk, line)
+        desk.kill()
+        self.office.kill()
+        os.kill(run_process, signal.SIGKILL)
+        desk.wait(), self.office.wait()
+
+    def outlived(self, desk, line):
+        """Types a line which is noted and unanswered when desk and office are killed. The run then stores it, and ends."""
+        run_process = self.unanswered(desk, line)
+        desk.kill()
+        self.stop(signal.SIGKILL)
+        os.kill(run_process, signal.SIGCONT)
+
+    def zhcount_office(self, *words, program=PROGRAM):
+        """The status and the text of zhcount-office with these arguments."""
+        ran = subprocess.run(self.script("zhcount-office", *words), env={**os.environ, "ZHCOUNT": str(program)}, capture_output=True,
+                             text=True)
         return ran.returncode, ran.stdout + ran.stderr
+
+    def replay(self):
+        return self.zhcount_office("--replay", self.folder)
+
+    def rebuilt(self, folder, disk):
+        """What is said where a disk is made anew from a folder."""
+        status, said = self.zhcount_office("--rebuild", folder, disk)
+        same(f"a disk made anew: {said}", 0, status)
+        return said
+
+    def edit(self, name, old, new=None):
+        """Changes a file of the folder, in which the old text stands once; without a new one its line is taken out."""
+        text = (self.folder / name).read_text()
+        same(f"{old} in {name}", 1, text.count(old))
+        without = "".join(f"{it}\n" for it in text.split("\n")[:-1] if old not in it)
+        (self.folder / name).write_text(without if new is None else text.replace(old, new))
+
+    @contextlib.contextmanager
+    def edited(self, *changes):
+        """The folder with these changes, each as of `edit`; and then as it was."""
+        kept = shutil.copytree(self.folder, self.path / "kept")
+        for it in changes:
+            self.edit(*it)
+        yield
+        shutil.rmtree(self.folder)
+        kept.rename(self.folder)
+
+    def modes(self):
+        """Who may use the files of the folder, by the first word of their names."""
+        return {it.name.split(".")[0]: stat.filemode(it.stat().st_mode) for it in self.folder.iterdir() if not it.name.startswith("now")}
 
     def records(self, name):
         return records_in((self.folder / name).read_bytes(), name)[0]
@@ -209,7 +287,10 @@ class Room:
         return [it for it in self.records(f"protocol.{number}") if it.is_line()]
 
     def check(self, sent=None):
-        """Each line has one final answer, the export is that of the stored commands, and a replay says the same."""
+        """Ends the office, if it runs: each line has one final answer, the export is that of the stored commands, and a replay says the
+        same."""
+        if self.office.process.poll() is None:
+            self.stop()
         for number in range(1, 9):
             finals = final_answers(self.of_desk(number))
             if sent and number in sent:
@@ -219,6 +300,14 @@ class Room:
         status, said = self.replay()
         same(f"the replay: {said}", 0, status)
         return said
+
+
+@contextlib.contextmanager
+def running(room):
+    """The room, while its office runs."""
+    with room:
+        room.start()
+        yield room
 
 
 def final_answers(records):
@@ -234,22 +323,43 @@ def final_answers(records):
     return [tuple(it) for it in found]
 
 
+class Count:
+    """What is held, by the commands that were stored: a return or a row replaces what stood in its place."""
+
+    def __init__(self):
+        self.held, self.commands, self.batches = {}, 0, {}
+
+    def begin(self):
+        self.batches = {}
+
+    def take(self, desk, text, answer):
+        word, *numbers = text.split(" ")
+        rows = self.batches.setdefault(desk, [])
+        if word == "row" and answer.startswith("held"):
+            rows.append(numbers)
+        elif word in ("open", "drop") and answer.startswith(("held 0", "dropped")):
+            rows.clear()
+        elif answer.startswith("stored "):
+            self.commands += 1
+            self.replace({"return": [numbers], "withdraw": [numbers], "commit": rows}.get(word, []))
+        if word == "commit" and answer.startswith(("stored", "same")):
+            rows.clear()
+
+    def replace(self, rows):
+        for municipality, group, number, *votes in rows:
+            self.held[int(municipality), int(group)] = number, votes[0] if votes else "withdrawn"
+
+    def export(self):
+        rows = [f"{m},{g},{n},{v}" for (m, g), (n, v) in sorted(self.held.items())]
+        return "".join(f"{it}\n" for it in ["municipality,list,number,votes", *rows])
+
+
 def export_of(records):
     """The export of the commands answered `stored`, or `same` to a line marked again, each once and in their order."""
-    held, batches, start = {}, {}, 0
+    count, start = Count(), 0
     for record in sorted(records, key=lambda it: (it.start, it.line)):
         if record.start != start:
-            start, batches = record.start, {}
-        word, *numbers = record.text.split(" ")
-        rows = batches.setdefault(record.desk, [])
-        is_done = record.answer.startswith("stored") or (record.mark, record.answer) == ("again", "same")
-        if word == "open" and record.answer == "held 0":
-            rows.clear()
-        elif word == "row" and record.answer.startswith("held"):
-            rows.append(numbers)
-        elif is_done and word in ("return", "withdraw", "commit"):
-            for municipality, group, number, *votes in rows if word == "commit" else [numbers]:
-                held[int(municipality), int(group)] = number, votes[0] if votes else "withdrawn"
-            rows.clear() if word == "commit" else None
-    lines = ["municipality,list,number,votes", *(f"{m},{g},{n},{v}" for (m, g), (n, v) in sorted(held.items()))]
-    return "".join(line + "\n" for line in lines)
+            start = record.start
+            count.begin()
+        count.take(record.desk, record.text, "stored 0" if (record.mark, record.answer) == ("again", "same") else record.answer)
+    return count.export()

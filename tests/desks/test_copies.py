@@ -10,7 +10,7 @@ import pytest
 
 from now import NEVER, RETURNS, QuickRoom, compare, in_haste, link_of, names_of_now, table_of
 from places import PROGRAM
-from room import Room, same, stays, that, until
+from room import Room, running, same, stays, that, until
 from watch import COMPILED, WatchedRoom
 from witnessed import Witnessed
 
@@ -29,18 +29,13 @@ if [ $1 = run ]; then
     exit
 fi"""
 
-
-@pytest.fixture
-def room():
-    with QuickRoom() as room:
-        yield room
+ROOM = QuickRoom
 
 
 @pytest.mark.xdist_group("times")
 def test_every_ten_seconds():
     """a command that comes soon after a copy is seen ten seconds after that copy, though no other line comes"""
-    with Room() as room:
-        room.start()
+    with running(Room()) as room:
         until("the first", lambda: link_of(room) == "now-0")
         first = (room.folder / "now-0/disk").stat().st_mtime
         same("the answers", ["stored 1", "stored 2"], room.ask(1, *RETURNS[:2]).out)
@@ -53,8 +48,7 @@ def test_every_ten_seconds():
 
 def test_lines_meanwhile():
     """what comes while the child works is in none of its files"""
-    with QuickRoom(every=NEVER) as room:
-        room.start()
+    with running(QuickRoom(every=NEVER)) as room:
         room.shows(0)
         same("the answers", ["stored 1", "stored 2"], room.ask(1, *RETURNS[:2]).out)
         room.stop()
@@ -96,8 +90,7 @@ def test_copies_and_a_witness():
         desk = room.desk(1)
         same("the answer", "stored 1", desk.send(RETURNS[0]))
         room.signal(signal.SIGSTOP)
-        desk.write(f"{RETURNS[1]}\n")
-        until("the line is noted", lambda: room.records("protocol")[-1].text == RETURNS[1])
+        room.note(desk, RETURNS[1])
         room.goes_on()
         until("the first is shown", lambda: link_of(room) == "now-0" and not room.child())
         stays("nothing that waits is copied", lambda: not room.child() and names_of_now(room) == ["now", "now-0"], 5)
@@ -107,26 +100,25 @@ def test_copies_and_a_witness():
         room.stop()
 
 
-def test_copy_of_other_commands(room):
+def test_copy_of_other_commands(new_room):
     """a copy that has other commands than the protocol is not shown"""
-    one_more = f"printf '1 return 1 1 1 5\\n' | '{PROGRAM}' run --setup '{room.setup}' --disk '{room.folder}/now.new/disk'"
-    room.on_copies(f"{one_more} > '{room.path}/said'")
-    room.start()
-    has_failed(room, "not made anew: the copy has 1 commands, and the protocol 0")
-    same("nothing is shown", None, link_of(room))
-    room.stop()
+    one_more = f"printf '1 return 1 1 1 5\\n' | '{PROGRAM}' run --setup '{new_room.setup}' --disk '{new_room.folder}/now.new/disk'"
+    new_room.on_copies(f"{one_more} > '{new_room.path}/said'")
+    new_room.start()
+    has_failed(new_room, "not made anew: the copy has 1 commands, and the protocol 0")
+    same("nothing is shown", None, link_of(new_room))
+    new_room.stop()
 
 
-def test_copy_of_another_disk(room):
+def test_copy_of_another_disk(new_room):
     """another disk at the disk's path is not copied: the office stops"""
-    room.holds()
-    room.start()
-    until("the first copy", room.left_over)
-    same("the answer", ["stored 1"], room.ask(1, RETURNS[0]).out)
-    os.replace(room.other_disk(RETURNS[1]), room.disk)
-    room.goes_on()
-    same("the status", 3, room.office.wait())
-    that(f"it says so: {room.office.said()}", "is not the file any more" in room.office.said())
+    new_room.holds()
+    new_room.start()
+    until("the first copy", new_room.left_over)
+    same("the answer", ["stored 1"], new_room.ask(1, RETURNS[0]).out)
+    os.replace(new_room.other_disk(RETURNS[1]), new_room.disk)
+    new_room.goes_on()
+    new_room.ends(3, "is not the file any more")
 
 
 # The child
@@ -136,32 +128,32 @@ def has_failed(room, text, times=1):
     until(f"{text}: {room.office.said()}", lambda: sum(text in it for it in room.office.error) >= times)
 
 
-def test_failing_child(room):
+def test_failing_child(new_room):
     """of a child that fails the log says once why, and the office goes on"""
-    tries = room.path / "tries"
-    room.on_copies(f"[ -e '{room.held}' ] && {{ echo >> '{tries}'; echo 'zhcount: disk damaged' >&2; exit 1; }}")
-    room.held.write_text("")
-    room.start()
+    tries = new_room.path / "tries"
+    new_room.on_copies(f"[ -e '{new_room.held}' ] && {{ echo >> '{tries}'; echo 'zhcount: disk damaged' >&2; exit 1; }}")
+    new_room.held.write_text("")
+    new_room.start()
     until("it is tried again", lambda: tries.exists() and len(tries.read_text()) >= 3)
-    same("the answer", ["stored 1"], room.ask(1, RETURNS[0]).out)
+    same("the answer", ["stored 1"], new_room.ask(1, RETURNS[0]).out)
     same("it is said once", ["zhcount-office: `now` is not made anew: zhcount status: zhcount: disk damaged"],
-         [it for it in room.office.error if "not made anew" in it])
-    room.held.unlink()
-    compare(room, room.shows(1), [f"1 {RETURNS[0]}"], table_of(RETURNS[:1], 1))
-    room.stop()
+         [it for it in new_room.office.error if "not made anew" in it])
+    new_room.held.unlink()
+    compare(new_room, new_room.shows(1), [f"1 {RETURNS[0]}"], table_of(RETURNS[:1], 1))
+    new_room.stop()
 
 
-def test_killed_child(room):
+def test_killed_child(new_room):
     """a child that is killed leaves nothing behind, and another one does its work"""
-    room.holds()
-    room.start()
-    asked = until("a question", room.left_over)
-    os.kill(room.child(), signal.SIGKILL)
-    has_failed(room, "not made anew: status -9")
-    until("it is left to nobody", lambda: not {*asked} & {*room.left_over()}, 5)
-    room.goes_on()
-    compare(room, room.shows(0), [], "")
-    room.stop()
+    new_room.holds()
+    new_room.start()
+    asked = until("a question", new_room.left_over)
+    os.kill(new_room.child(), signal.SIGKILL)
+    has_failed(new_room, "not made anew: status -9")
+    until("it is left to nobody", lambda: not {*asked} & {*new_room.left_over()}, 5)
+    new_room.goes_on()
+    compare(new_room, new_room.shows(0), [], "")
+    new_room.stop()
 
 
 def test_slow_child():
@@ -177,26 +169,25 @@ def test_slow_child():
         same("and no folder", [], names_of_now(room))
 
 
-def test_no_room(room):
+def test_no_room(new_room):
     """an office that has no room for a copy or a sheet says so, and goes on"""
-    office = room.start()
-    room.shows(0)
+    office = new_room.start()
+    new_room.shows(0)
     resource.prlimit(office.process.pid, resource.RLIMIT_FSIZE, (500_000, resource.RLIM_INFINITY))
-    same("the answers", [f"stored {it}" for it in range(1, 10)], room.ask(1, *RETURNS).out)
-    has_failed(room, "not made anew: [Errno 27] File too large")
-    (room.folder / "sheet-9.new").mkdir()
-    same("the sheet", "2 sheet provisional 9", room.ask(2, "sheet").out[0])
-    has_failed(room, "a sheet is not put into the folder: ")
-    same("an older one stays", ["now", "now-0"], names_of_now(room))
+    same("the answers", [f"stored {it}" for it in range(1, 10)], new_room.ask(1, *RETURNS).out)
+    has_failed(new_room, "not made anew: [Errno 27] File too large")
+    (new_room.folder / "sheet-9.new").mkdir()
+    same("the sheet", "2 sheet provisional 9", new_room.ask(2, "sheet").out[0])
+    has_failed(new_room, "a sheet is not put into the folder: ")
+    same("an older one stays", ["now", "now-0"], names_of_now(new_room))
     resource.prlimit(office.process.pid, resource.RLIMIT_FSIZE, (resource.RLIM_INFINITY, resource.RLIM_INFINITY))
-    room.shows(9)
-    same("the end", 0, room.stop())
+    new_room.shows(9)
+    same("the end", 0, new_room.stop())
 
 
 def test_killed_office():
     """a child ends with its office, and the next start removes what it left"""
-    with QuickRoom(every=NEVER) as room:
-        room.start()
+    with running(QuickRoom(every=NEVER)) as room:
         same("the answer", ["stored 1"], room.ask(1, RETURNS[0]).out)
         room.stop()
         room.holds()
@@ -213,7 +204,6 @@ def test_killed_office():
         room.goes_on()
         compare(room, room.shows(1), [f"1 {RETURNS[0]}"], table_of(RETURNS[:1], 1))
         same("nothing else", ["now", "now-1"], names_of_now(room))
-        room.stop()
         room.check()
 
 
@@ -276,5 +266,5 @@ def test_failed_disk():
         same("the answer", "stored 1", desk.send(RETURNS[0]))
         room.shows(1)
         desk.write(f"{RETURNS[1]}\n")
-        same("the status", 3, room.office.wait())
+        room.ends(3)
         same("what `now` shows", ("now-1", ["now", "now-1"]), (link_of(room), names_of_now(room)))

@@ -6,32 +6,11 @@ import re
 import signal
 import subprocess
 
+import pytest
+
 from dying import DESK_MOMENTS, OFFICE_MOMENTS, Dying
 from places import PROGRAM, TOP
-from room import SCRIPTS, SECONDS, Room, same, that, until
-
-
-def said(desk, *texts):
-    for text in texts:
-        until(f"'{text}' is said: {desk.said()}", lambda text=text: text in desk.said())
-
-
-def unanswered(room, desk, line):
-    """Types a line that is noted, and that the run does not get to answer. The process of the run."""
-    run_process = room.run_of_office()
-    os.kill(run_process, signal.SIGSTOP)
-    desk.write(line + "\n")
-    until(f"{line} is noted", lambda: room.records("protocol")[-1].text == line)
-    return run_process
-
-
-def lost(room, desk, line):
-    """Types a line which is noted and unanswered when desk, office and run are killed."""
-    run_process = unanswered(room, desk, line)
-    desk.kill()
-    room.office.kill()
-    os.kill(run_process, signal.SIGKILL)
-    desk.wait(), room.office.wait()
+from room import SCRIPTS, SECONDS, running, same, that, until
 
 
 def put_aside(room):
@@ -51,7 +30,6 @@ def into_pipe(room, desk, data):
 
 def test_another_folder(room):
     """a desk that stays connected while folder and disk are made anew ends, and the next connection begins anew"""
-    room.start()
     desk = room.desk(3)
     same("the first night", "stored 1", desk.send("return 3 3 1 555"))
     desk.kill(signal.SIGSTOP)
@@ -63,40 +41,37 @@ def test_another_folder(room):
     desk.kill(signal.SIGCONT)
     same("its end", 1, desk.wait())
     same("what it shows", ["stored 1"], desk.out)
-    said(desk, "desk 3: the office has another folder now: connect again")
+    desk.says("desk 3: the office has another folder now: connect again")
     same("connected again", ["none"], room.ask(3, "show 3 3").out)
 
 
 def test_another_folder_while_it_waits(room):
     """a desk that waits for an answer, or for a line, ends when its folder is put aside, and says what has no answer"""
-    room.start()
     waits, is_idle = room.desk(3), room.desk(4)
     same("both are connected", ["none"] * 2, [it.send("show 1 1") for it in (waits, is_idle)])
-    unanswered(room, waits, "return 3 1 1 90")
+    room.unanswered(waits, "return 3 1 1 90")
     put_aside(room)
     room.start()
     for desk in (waits, is_idle):
         same("its end", 1, desk.wait())
-        said(desk, "the office has another folder now: connect again")
-    said(waits, "without an answer: return 3 1 1 90")
+        desk.says("the office has another folder now: connect again")
+    waits.says("without an answer: return 3 1 1 90")
     same("connected again", ["none"], room.ask(3, "show 3 1").out)
 
 
 def test_folder_is_gone(room):
     """a desk whose office has ended, and whose folder is put aside, ends"""
-    room.start()
     desk = room.desk(3)
     same("connected", "none", desk.send("show 1 1"))
     room.stop()
-    said(desk, "the office has ended: waiting; what is unanswered is kept")
+    desk.says("the office has ended: waiting; what is unanswered is kept")
     room.folder.rename(f"{room.folder}.before")
     same("its end", 1, desk.wait())
-    said(desk, "the office has another folder now: connect again")
+    desk.says("the office has another folder now: connect again")
 
 
 def test_another_file(room):
     """a desk whose file is another one by now sends nothing more, so that two connections never have one desk"""
-    room.start()
     desk, run_process = room.desk(3), room.run_of_office()
     os.kill(run_process, signal.SIGSTOP)
     desk.write("return 1 1 1 525\nreturn 1 2 1 300\n")
@@ -111,7 +86,6 @@ def test_another_file(room):
 
 def test_turn_of_another_line(room):
     """the answer to a line that has the turn of another is not shown for it"""
-    room.start()
     desk = room.desk(3)
     same("the first", "stored 1", desk.send("return 3 1 1 90"))
     into_pipe(room, 3, b"2 new return 1 1 1 525\n")
@@ -122,7 +96,6 @@ def test_turn_of_another_line(room):
 
 def test_turns_come_to_an_end(room):
     """a desk whose turns have come to an end says so, and sends nothing"""
-    room.start()
     room.ask(3, "return 3 1 1 90")
     room.stop()
     for name in ("protocol", "protocol.3"):
@@ -132,43 +105,40 @@ def test_turns_come_to_an_end(room):
     desk = room.desk(3)
     desk.write("show 3 1\n")
     same("its end", 1, desk.wait())
-    said(desk, "desk 3: it has no turn left: connect as another desk", "without an answer: show 3 1")
+    desk.says("desk 3: it has no turn left: connect as another desk", "without an answer: show 3 1")
 
 
 # What is kept of the last line
 
 
-def test_later_line_of_the_protocol():
+@pytest.mark.parametrize("line, shown", [("return 1 1 2 530", "stored 2"),
+                                         ("close 1", "not repeated: close 1; the last status: 1,1,3,open,525,N")])
+def test_later_line_of_the_protocol(room, line, shown):
     """where a power failure has left the line before in sent.N, that of the protocol counts"""
-    for line, shown in [("return 1 1 2 530", "stored 2"), ("close 1", "not repeated: close 1; the last status: 1,1,3,open,525,N")]:
-        with Room() as room:
-            room.start()
-            desk = room.desk(3)
-            same("the line before", "stored 1", desk.send("return 1 1 1 525"))
-            kept = (room.folder / "sent.3").read_bytes()
-            lost(room, desk, line)
-            (room.folder / "sent.3").write_bytes(kept)
-            room.start()
-            said(room.ask(3, end=""), f"before: {line}: {shown}")
+    desk = room.desk(3)
+    same("the line before", "stored 1", desk.send("return 1 1 1 525"))
+    kept = (room.folder / "sent.3").read_bytes()
+    room.lost(desk, line)
+    (room.folder / "sent.3").write_bytes(kept)
+    room.start()
+    room.ask(3, end="").says(f"before: {line}: {shown}")
 
 
 def test_half_of_a_line(room):
     """what a power failure left in sent.N of two lines is none, and is not sent"""
-    room.start()
     room.ask(3, "return 1 1 1 525")
     with open(room.folder / "sent.3", "r+b") as file:
         file.write(b"2 new return 1 1 2")
-    said(room.ask(3, end=""), "before: return 1 1 1 525: stored 1")
+    room.ask(3, end="").says("before: return 1 1 1 525: stored 1")
     same("what is held", ["shows 1 525"], room.ask(3, "show 1 1").out)
 
 
 def test_batch_is_not_the_last_line():
     """rows that were brought back are not taken for the last line, which is still repeated"""
-    with Dying("zhcount-desk", DESK_MOMENTS) as room:
-        room.start()
+    with running(Dying("zhcount-desk", DESK_MOMENTS)) as room:
         desk = room.desk(3)
         same("the batch", ["held 0", "held 1"], [desk.send(it) for it in ("open", "row 1 1 1 525")])
-        lost(room, desk, "return 3 1 1 90")
+        room.lost(desk, "return 3 1 1 90")
         room.start()
         for _ in ("open", "row"):
             room.arm(1)
@@ -176,21 +146,19 @@ def test_batch_is_not_the_last_line():
         desk = room.ask(3, "show 3 1", "commit")
         that(f"it is told: {desk.said()}", re.search("before: return 3 1 1 90: (stored 1|same)", desk.said()))
         same("the answers", ["shows 1 90", "stored 2"], desk.out)
-        room.stop()
         room.check()
 
 
 def test_told_although_the_office_ends():
     """a new connection is told what became of the last line, also where the office ends when it has noted that"""
-    with Dying("zhcount-office", OFFICE_MOMENTS) as room:
-        room.start()
-        lost(room, room.desk(1), "return 1 1 1 525")
+    with running(Dying("zhcount-office", OFFICE_MOMENTS)) as room:
+        room.lost(room.desk(1), "return 1 1 1 525")
         room.start()
         room.arm(3)
         desk = room.desk(1)
-        same("the end of the office", -9, room.office.wait())
+        room.ends(-9)
         room.start()
-        said(desk, "before: return 1 1 1 525: stored 1")
+        desk.says("before: return 1 1 1 525: stored 1")
         same("an answer", "none", desk.send("show 1 2"))
 
 
@@ -199,11 +167,10 @@ def test_told_although_the_office_ends():
 
 def test_stolen_bell(room):
     """a desk whose bell somebody else has read finds its answer"""
-    room.start()
     desk = room.desk(3)
     until("a greeting", lambda: desk.error)
     bell = os.open(room.folder / "bell.3", os.O_RDONLY)
-    run_process = unanswered(room, desk, "return 3 1 1 90")
+    run_process = room.unanswered(desk, "return 3 1 1 90")
     desk.kill(signal.SIGSTOP)
     os.kill(run_process, signal.SIGCONT)
     same("the bell", b".", os.read(bell, 100))
@@ -215,7 +182,6 @@ def test_stolen_bell(room):
 
 def test_bytes_in_front(room):
     """a line that bytes without an end have spoilt is asked for, and repeated unless it is a closing"""
-    room.start()
     desks = {number: room.desk(number) for number in (3, 4, 5)}
     until("greetings", lambda: all(it.error for it in desks.values()))
     cases = {3: (b"spoilt ", "return 3 1 1 90", "stored [12]"),
@@ -227,16 +193,14 @@ def test_bytes_in_front(room):
     for number, (_, line, wanted) in cases.items():
         answer = desks[number].answer(line)
         that(f"{line}: {answer}", re.fullmatch(wanted, answer))
-    said(desks[3], "no answer yet to return 3 1 1 90: waiting")
+    desks[3].says("no answer yet to return 3 1 1 90: waiting")
     same("its records", [("new", "unanswered"), ("again", desks[3].out[0])], [(it.mark, it.answer) for it in room.of_desk(3)])
     same("the next line", "none", desks[4].send("show 1 1"))
-    room.stop()
     room.check()
 
 
 def test_stopped_office(room):
     """a desk says that it has no answer yet, once, and an office that goes on answers the line once, also where its pipe was full"""
-    room.start()
     desks = {number: room.desk(number) for number in (3, 4)}
     until("greetings", lambda: all(it.error for it in desks.values()))
     room.office.kill(signal.SIGSTOP)
@@ -249,14 +213,13 @@ def test_stopped_office(room):
     for number, desk in desks.items():
         desk.write(f"return {number - 1} 1 1 90\n")
     for desk in desks.values():
-        said(desk, "no answer yet to return")
+        desk.says("no answer yet to return")
     room.office.kill(signal.SIGCONT)
     same("the answers", {"stored 1", "stored 2"}, {it.answer() for it in desks.values()})
     for desk in desks.values():
         same("how often it was said", 1, desk.said().count("no answer yet"))
         that(f"nothing else is: {desk.said()}", "has ended" not in desk.said())
     same("the records of desk 3", [("new", "return 2 1 1 90")], [(it.mark, it.text) for it in room.of_desk(3)])
-    room.stop()
     room.check({3: ["return 2 1 1 90"], 4: ["return 3 1 1 90"]})
 
 
@@ -265,7 +228,6 @@ def test_stopped_office(room):
 
 def test_closed_streams(room):
     """a file of the folder never takes the place of standard input, output or error"""
-    room.start()
     room.ask(3, "return 1 1 1 525")
     words = room.script("zhcount-desk", "3", room.folder)
 
@@ -280,12 +242,11 @@ def test_closed_streams(room):
     that(f"without output: {status} {error}", status == 1 and "an answer can't be shown" in error)
     same("with none", 0, shown("<&- >&- 2>&-")[0])
     same("the lines that came", ["return 1 1 1 525", "show 1 1", "show 1 1"], [it.text for it in room.of_desk(3)])
-    said(room.ask(3, end=""), "before: show 1 1: shows 1 525")
+    room.ask(3, end="").says("before: show 1 1: shows 1 525")
 
 
 def test_endless_line(room):
     """a line without an end is not kept in memory"""
-    room.start()
     desk = room.desk(3)
     until("a greeting", lambda: desk.error)
 
@@ -307,17 +268,14 @@ def test_endless_line(room):
 
 def test_batch_is_left_open(room):
     """a new connection is told of a batch that the one before left open, and of none that was dropped"""
-    room.start()
     text = "a batch is open; its rows: 1; 'commit' or 'drop' it"
     room.ask(5, "open", "row 1 1 1 525")
-    said(room.ask(5, end=""), text)
-    room.stop(signal.SIGKILL)
-    room.start()
+    room.ask(5, end="").says(text)
+    room.restart(signal.SIGKILL)
     desk = room.ask(5, "drop")
-    said(desk, text)
+    desk.says(text)
     same("the answer", ["dropped 1"], desk.out)
-    room.stop(signal.SIGKILL)
-    room.start()
+    room.restart(signal.SIGKILL)
     desk = room.ask(5, "commit")
     same("a batch that was dropped", ["refused nobatch"], desk.out)
     that(f"it is not spoken of: {desk.said()}", "batch" not in desk.said())
@@ -325,57 +283,47 @@ def test_batch_is_left_open(room):
 
 def test_batch_stays_open(room):
     """a batch whose repeated commit is refused stays open, which is said"""
-    room.start()
     desk = room.desk(5)
     same("the batch", ["held 0", "held 1"], [desk.send(it) for it in ("open", "row 1 1 1 525")])
-    run_process = unanswered(room, desk, "commit")
-    desk.kill()
-    room.office.kill()
-    room.office.wait()
-    os.kill(run_process, signal.SIGCONT)
+    room.outlived(desk, "commit")
     room.start()
     same("a correction", ["stored 2"], room.ask(2, "return 1 1 2 530").out)
     desk = room.ask(5, "drop")
-    said(desk, "before: commit: perhaps stored: show it", "a batch is open; its rows: 1; 'commit' or 'drop' it")
+    desk.says("before: commit: perhaps stored: show it", "a batch is open; its rows: 1; 'commit' or 'drop' it")
     same("the answer", ["dropped 1"], desk.out)
-    room.stop()
     room.check()
 
 
 def test_batch_is_lost(room):
     """a batch that can't be brought back is dropped for good, and its unanswered line is not repeated"""
-    room.start()
     desk = room.desk(5)
     same("the batch", ["held 0", "held 1"], [desk.send(it) for it in ("open", "row 1 1 1 525")])
-    lost(room, desk, "commit")
+    room.lost(desk, "commit")
     room.edits_answers("s/held 1/refused memory/")
     room.start()
-    said(room.ask(5, end=""), "the batch can't be brought back: it is dropped; open it, and send its rows again",
+    room.ask(5, end="").says("the batch can't be brought back: it is dropped; open it, and send its rows again",
          "before: commit: not repeated: commit; its batch is lost")
     room.environment["ZHCOUNT"] = str(PROGRAM)
-    room.stop(signal.SIGKILL)
-    room.start()
+    room.restart(signal.SIGKILL)
     same("it does not come back", ["none", "held 0"], room.ask(5, "show 1 1", "open").out)
 
 
 def test_reopen_is_not_repeated(room):
     """an unanswered reopening is left to the person, also when the office comes twice"""
-    room.start()
     desk = room.desk(3)
     same("before", "stored 1", desk.send("close 1"))
-    lost(room, desk, "reopen 1")
+    room.lost(desk, "reopen 1")
     room.start()
-    said(room.ask(3, end=""), "before: reopen 1: not repeated: reopen 1; the last status: 1,0,3,closed,0,N")
+    room.ask(3, end="").says("before: reopen 1: not repeated: reopen 1; the last status: 1,0,3,closed,0,N")
     same("its records", ["close 1", "reopen 1"], [it.text for it in room.of_desk(3)])
 
 
 def test_conflict_is_in_doubt(room):
     """a repeated return that is in conflict with another is 'perhaps stored'"""
-    room.start()
-    lost(room, room.desk(1), "return 1 1 1 525")
+    room.lost(room.desk(1), "return 1 1 1 525")
     room.start()
     same("the other", ["stored 1"], room.ask(2, "return 1 1 1 526").out)
-    said(room.ask(1, end=""), "before: return 1 1 1 525: perhaps stored: show it")
+    room.ask(1, end="").says("before: return 1 1 1 525: perhaps stored: show it")
     same("its records", ["unanswered", "refused conflict"], [it.answer for it in room.of_desk(1)])
 
 

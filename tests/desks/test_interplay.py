@@ -6,18 +6,18 @@ import sys
 import threading
 
 from places import PROGRAM
-from room import same, that, until
+from room import same, that
 from test_witness import TRACED
 from witnessed import Witnessed
 
 
-def test_shown_once_it_is_synced(room):
+def test_shown_once_it_is_synced(new_room):
     """a desk syncs what it has read before it shows it, since the bell that it heard may have rung for something else"""
-    wrapper, trace = room.path / "traced.py", room.path / "trace"
+    wrapper, trace = new_room.path / "traced.py", new_room.path / "trace"
     wrapper.write_text(TRACED)
-    room.start()
-    room.environment["TRACE"] = str(trace)
-    desk = room.process(type(room.desk(2)), [sys.executable, wrapper, room.scripts / "zhcount-desk", "1", room.folder])
+    new_room.start()
+    new_room.environment["TRACE"] = str(trace)
+    desk = new_room.process(type(new_room.desk(2)), [sys.executable, wrapper, new_room.scripts / "zhcount-desk", "1", new_room.folder])
     same("the answer", "stored 1", desk.send("return 1 1 1 525"))
     same("its end", 0, desk.end())
     calls = trace.read_text().split("\n")
@@ -30,15 +30,14 @@ def test_told_at_once():
     with Witnessed() as room:
         room.away.touch()
         room.start()
-        until("the log says it", lambda: "no witness since" in room.office.said())
+        room.office.says("no witness since")
         desk = room.desk(1)
-        until(f"the desk says it: {desk.said()}", lambda: "no witness since" in desk.said())
+        desk.says("no witness since")
         same("what it was shown", [], desk.out)
 
 
 def test_number_of_a_start(room):
     """a start has a number that no protocol has, where the office's is older than those of the desks"""
-    room.start()
     room.stop()
     before = (room.folder / "protocol").read_bytes()
     room.start()
@@ -46,7 +45,7 @@ def test_number_of_a_start(room):
     room.stop()
     (room.folder / "protocol").write_bytes(before)
     room.start()
-    that(f"the third start: {room.office.said()}", "start 3," in room.office.said())
+    room.office.says("start 3,")
 
 
 def test_in_pieces():
@@ -69,27 +68,25 @@ exec '{program}' "$@"
 """
 
 
-def test_disk_is_busy_at_the_end(room):
+def test_disk_is_busy_at_the_end(new_room):
     """an office that is told to end waits for a program that has just then opened the disk, and notes what is on it"""
-    script, flag = room.path / "stand-in", room.path / "flag"
+    script, flag = new_room.path / "stand-in", new_room.path / "flag"
     script.write_text(BUSY_ONCE.format(flag=flag, program=PROGRAM))
     script.chmod(0o755)
-    room.environment["ZHCOUNT"] = str(script)
-    room.start()
-    same("the answer", ["stored 1"], room.ask(1, "return 1 1 1 525").out)
+    new_room.environment["ZHCOUNT"] = str(script)
+    new_room.start()
+    same("the answer", ["stored 1"], new_room.ask(1, "return 1 1 1 525").out)
     flag.touch()
-    same(f"the status: {room.office.said()}", 0, room.stop())
-    that(f"it waits: {room.office.said()}", "another program has the disk" in room.office.said())
-    that(f"every line is answered: {room.office.said()}", "every line is answered" in room.office.said())
-    same("the last state", "1 commands", room.records("protocol")[-1].text)
+    same(f"the status: {new_room.office.said()}", 0, new_room.stop())
+    new_room.office.says("another program has the disk", "every line is answered")
+    same("the last state", "1 commands", new_room.records("protocol")[-1].text)
 
 
 def test_start_beside_a_replay(room):
     """a start waits for a replay that is about to have read the folder"""
-    room.start()
     room.stop()
     with open(room.folder / "office", "rb") as lock:
         fcntl.flock(lock, fcntl.LOCK_SH)
         threading.Timer(1.5, lambda: fcntl.flock(lock, fcntl.LOCK_UN)).start()
         room.start()
-    that(f"it has the folder: {room.office.said()}", "start 2," in room.office.said())
+    room.office.says("start 2,")

@@ -2,13 +2,14 @@
 import concurrent.futures
 import os
 import re
-import shutil
 import signal
 import stat
 
+import pytest
+
 from dying import DESK_MOMENTS, OFFICE_MOMENTS, START_MOMENTS, Dying
 from places import PROGRAM
-from room import Room, same, stays, that, until
+from room import MODES, running, same, stays, that, until
 
 
 def each(function, *arguments):
@@ -18,8 +19,7 @@ def each(function, *arguments):
 
 
 def killed_office(moment):
-    with Dying("zhcount-office", OFFICE_MOMENTS) as room:
-        room.start()
+    with running(Dying("zhcount-office", OFFICE_MOMENTS)) as room:
         desk, sent = room.desk(1), ["return 1 1 1 525", "open", "row 2 1 1 240", "row 2 2 1 330"]
         same("before", ["stored 1", "held 0", "held 1", "held 2"], [desk.send(it) for it in sent])
         is_noted = moment >= 3
@@ -31,7 +31,7 @@ def killed_office(moment):
             room.arm(moment)
             desk.write(line + "\n")
             sent.append(line)
-            same("the end of the office", -9, room.office.wait())
+            room.ends(-9)
             room.start()
             answer = desk.answer(line)
             that(f"{line} at moment {moment}: {answer}", re.fullmatch(wanted, answer))
@@ -46,28 +46,25 @@ def test_office_is_killed():
 
 def test_start_is_killed():
     """kill -9 of the office at each moment of a start"""
-    with Dying("zhcount-office", START_MOMENTS) as room:
-        room.start()
+    with running(Dying("zhcount-office", START_MOMENTS)) as room:
         desk = room.desk(2)
         os.kill(room.run_of_office(), signal.SIGSTOP)
         desk.write("return 1 1 1 525\n")
         until("the line is noted", lambda: [it for it in room.records("protocol") if it.is_line()])
         os.kill(room.run_of_office(), signal.SIGKILL)
-        same("the end of the office", 1, room.office.wait())
+        room.ends(1)
         for moment in range(len(START_MOMENTS)):
             room.arm(moment)
             room.start(is_awaited=False)
-            same(f"the end of the start at moment {moment}", -9, room.office.wait())
+            room.ends(-9)
         room.start()
         same("the answer", "stored 1", desk.answer())
         same("its records", [("new", "unanswered"), ("again", "stored 1")], [(it.mark, it.answer) for it in room.of_desk(2)])
-        room.stop()
         that("the loss is said", "lost desk 2's unanswered return 1 1 1 525" in room.check())
 
 
 def killed_desk(moment):
-    with Dying("zhcount-desk", DESK_MOMENTS) as room:
-        room.start()
+    with running(Dying("zhcount-desk", DESK_MOMENTS)) as room:
         for line, wanted in [("return 1 1 1 525", r"stored 1"), ("show 1 1", "shows 1 525"),
                              ("close 1", r"stored 2" if moment else "not repeated: close 1; the last status: 1,0,3,open,0,N")]:
             desk = room.desk(3)
@@ -77,7 +74,6 @@ def killed_desk(moment):
             same("the end of the desk", -9, desk.wait())
             before = room.ask(3, "", end="").error
             that(f"what the next connection shows: {before}", f"zhcount-desk: before: {line}: {wanted}" in before)
-        room.stop()
         room.check({3: ["return 1 1 1 525", "show 1 1", "close 1"]})
 
 
@@ -88,60 +84,45 @@ def test_desk_is_killed():
 
 def test_batch_is_brought_back():
     """a batch is brought back, also by a second desk where the first was killed at it"""
-    with Dying("zhcount-desk", DESK_MOMENTS) as room:
-        room.start()
+    with running(Dying("zhcount-desk", DESK_MOMENTS)) as room:
         sent = ["open", "row 1 1 1 525", "row 1 2 1 300", "commit"]
         room.ask(5, *sent[:3])
-        room.stop(signal.SIGKILL)
-        room.start()
+        room.restart(signal.SIGKILL)
         for moment in (0, 1, 0, 1):
             room.arm(moment)
             same("the end of the desk", -9, room.desk(5).wait())
         same("the answer to commit", ["stored 1"], room.ask(5, "commit").out)
         again = [(it.text, it.answer) for it in room.of_desk(5) if it.mark == "again"]
         same("what was repeated", [("open", "held 0"), ("row 1 1 1 525", "held 1"), ("row 1 2 1 300", "held 2")], again)
-        room.stop(signal.SIGKILL)
-        room.start()
+        room.restart(signal.SIGKILL)
         same("an answered commit is not repeated", ["shows 1 525"], room.ask(5, "show 1 1").out)
         same("its records", ["commit", "show 1 1"], [it.text for it in room.of_desk(5)[-2:]])
-        room.stop()
         room.check({5: [*sent, "show 1 1"]})
 
 
 def test_run_is_killed(room):
     """kill -9 of run, idle and at work: the office ends, and a new one goes on"""
-    room.start()
     desk = room.desk(1)
     same("the answer", "stored 1", desk.send("return 1 1 1 525"))
     os.kill(room.run_of_office(), signal.SIGKILL)
-    same("the end of the office", 1, room.office.wait())
-    that(f"it says so: {room.office.said()}", "zhcount run has ended: killed by signal 9" in room.office.said())
+    room.ends(1, "zhcount run has ended: killed by signal 9")
     room.start()
-    os.kill(room.run_of_office(), signal.SIGSTOP)
-    desk.write("return 1 1 2 530\n")
-    until("the line is noted", lambda: room.records("protocol")[-1].text == "return 1 1 2 530")
+    room.unanswered(desk, "return 1 1 2 530")
     os.kill(room.run_of_office(), signal.SIGKILL)
-    same("the end of the office", 1, room.office.wait())
-    that(f"it says what is unanswered: {room.office.said()}", "desk 1: return 1 1 2 530" in room.office.said())
+    room.ends(1, "desk 1: return 1 1 2 530")
     room.start()
     same("the answer", "stored 2", desk.answer())
-    room.stop()
     room.check({1: ["return 1 1 1 525", "return 1 1 2 530"]})
 
 
 def test_stop_keeps_a_command(room):
     """a run that outlives its office ends, and what it still stored is found; a closing waits for its person"""
-    room.start()
     desks = {number: room.desk(number) for number in (1, 2, 3)}
-    run_process = room.run_of_office()
-    os.kill(run_process, signal.SIGSTOP)
-    desks[1].write("return 1 1 1 525\n")
-    until("the line is noted", lambda: room.records("protocol")[-1].text == "return 1 1 1 525")
+    run_process = room.unanswered(desks[1], "return 1 1 1 525")
     desks[2].write("close 2\n")
     desks[3].write("return 3 1 1 90\n")
     until("the lines are kept", lambda: all((room.folder / f"sent.{number}").read_bytes() for number in (2, 3)))
-    room.office.kill()
-    room.office.wait()
+    room.stop(signal.SIGKILL)
     room.start(is_awaited=False)
     until("it waits for the disk", lambda: "another program has the disk" in room.office.said())
     os.kill(run_process, signal.SIGCONT)
@@ -149,46 +130,33 @@ def test_stop_keeps_a_command(room):
     same("a closing", "not repeated: close 2; the last status: 2,0,3,open,0,M", desks[2].answer())
     same("what nobody had read", "stored 2", desks[3].answer())
     same("the person decides", "stored 3", desks[2].send("close 2"))
-    room.stop()
     that("the replay says it", "kept desk 1's unanswered return 1 1 1 525" in room.check({2: ["close 2", "close 2"]}))
 
 
 def test_perhaps_stored(room):
     """a repeated return that another desk has corrected meanwhile is 'perhaps stored'"""
-    room.start()
-    desk, run_process = room.desk(1), room.run_of_office()
-    os.kill(run_process, signal.SIGSTOP)
-    desk.write("return 1 1 1 525\n")
-    until("the line is noted", lambda: room.records("protocol")[-1].text == "return 1 1 1 525")
-    desk.kill()
-    room.office.kill()
-    room.office.wait()
-    os.kill(run_process, signal.SIGCONT)
+    room.outlived(room.desk(1), "return 1 1 1 525")
     room.start()
     same("the correction", ["stored 2"], room.ask(2, "return 1 1 2 530").out)
     desk = room.ask(1, "show 1 1")
-    that(f"it is shown: {desk.said()}", "before: return 1 1 1 525: perhaps stored: show it" in desk.said())
+    desk.says("before: return 1 1 1 525: perhaps stored: show it")
     same("what is held", ["shows 2 530"], desk.out)
     same("its record", ("again", "refused stale"), (room.of_desk(1)[1].mark, room.of_desk(1)[1].answer))
-    room.stop()
     room.check()
 
 
 def test_torn_line(room):
     """a line without its end is not sent, and that is said"""
-    room.start()
     desk = room.ask(6, "return 1 1 1 525", "return 1 1 2 53", end="")
     same("the answers", (["stored 1"], 1), (desk.out, desk.status))
-    that(f"it says so: {desk.said()}", "not sent, since its end is missing: return 1 1 2 53" in desk.said())
+    desk.says("not sent, since its end is missing: return 1 1 2 53")
     same("the next line", ["shows 1 525"], room.ask(6, "show 1 1").out)
     same("another desk is not disturbed", ["shows 1 525"], room.ask(5, "show 1 1").out)
-    room.stop()
     room.check({6: ["return 1 1 1 525", "show 1 1"]})
 
 
 def test_for_itself(room):
     """a desk speaks for itself alone, whatever it sends"""
-    room.start()
     lines = ["4 return 1 1 1 525", "4 show 1 1", "", " show 1 1", "show\t1 1", "sh\\ow", "é", "return 1 1 1 525" + " " * 200,
              "x" * 9000]
     answers = ["refused syntax"] * 8 + ["not sent: a line has at most 3900 bytes"]
@@ -196,18 +164,16 @@ def test_for_itself(room):
     same("the records of desk 4", [], room.of_desk(4))
     (room.folder / "lines.3").open("w").write("4 return 1 1 1 5\n")
     same("what is no message counts for nothing", ["none"], room.ask(3, "show 1 1").out)
-    room.stop()
     room.check()
 
 
 def test_second_connection(room):
     """of two connections with one number the second is refused, until the first has ended"""
-    room.start()
     first = room.desk(7)
     same("the first", "none", first.send("show 1 1"))
     second = room.ask(7, "show 1 1")
     same("the second", (1, []), (second.status, second.out))
-    that(f"it says so: {second.said()}", "desk 7: another connection has this desk" in second.said())
+    second.says("desk 7: another connection has this desk")
     same("the first goes on", "none", first.send("show 1 2"))
     first.kill()
     first.wait()
@@ -221,75 +187,63 @@ def test_second_connection(room):
 
 def test_told_to_end(room):
     """TERM ends the office after the line at work, and a second one says what is unanswered"""
-    room.start()
     desks = {number: room.desk(number) for number in (1, 2)}
-    os.kill(room.run_of_office(), signal.SIGSTOP)
-    desks[1].write("return 1 1 1 525\n")
-    until("the line is noted", lambda: room.records("protocol")[-1].text == "return 1 1 1 525")
+    room.unanswered(desks[1], "return 1 1 1 525")
     desks[2].write("return 2 1 1 240\n")
     until("the line is kept", lambda: (room.folder / "sent.2").read_bytes())
     run_process = room.run_of_office()
     room.office.kill(signal.SIGTERM)
     stays("it waits", lambda: room.office.process.poll() is None)
     os.kill(run_process, signal.SIGCONT)
-    same("the status", 0, room.office.wait())
+    room.ends(0, "not looked at: desk 2: return 2 1 1 240")
     same("the answer", "stored 1", desks[1].answer())
-    that(f"it says what is unanswered: {room.office.said()}", "not looked at: desk 2: return 2 1 1 240" in room.office.said())
     same("no pipe is left", [], [it.name for it in room.folder.iterdir() if stat.S_ISFIFO(it.stat().st_mode)])
     room.start()
     same("the answer of the next start", "stored 2", desks[2].answer())
-    os.kill(room.run_of_office(), signal.SIGSTOP)
-    desks[1].write("close 1\n")
-    until("the line is noted", lambda: room.records("protocol")[-1].text == "close 1")
+    room.unanswered(desks[1], "close 1")
     run_process = room.run_of_office()
     room.office.kill(signal.SIGTERM)
     room.office.kill(signal.SIGINT)
-    same("the status", 0, room.office.wait())
-    that(f"it says what is unanswered: {room.office.said()}", "perhaps stored: desk 1: close 1" in room.office.said())
+    room.ends(0, "perhaps stored: desk 1: close 1")
     os.kill(run_process, signal.SIGKILL)
     room.start()
     that("it is not repeated", desks[1].answer().startswith("not repeated: close 1; the last status: 1,1,3,open,525,N"))
-    room.stop()
     room.check()
 
 
-def test_no_answers():
+@pytest.mark.parametrize("edit, line, status, text", [
+    ("s/stored 2/refused device/", "return 1 1 2 530", 3, "refused device. Copy it before anything else"),
+    ("s/stored 2/refused reopen-disk/", "return 1 1 2 530", 3, "refused reopen-disk"),
+    ("/^constituency 2/Q", "sheet", 1, "zhcount run has ended"),
+], ids=["device", "reopen-disk", "a sheet without its end"])
+def test_no_answers(new_room, edit, line, status, text):
     """device, reopen-disk and a sheet without its end are no answers: the office stops, and says so"""
-    for edit, line, status, text in [("s/stored 2/refused device/", "return 1 1 2 530", 3, "refused device. Copy it before anything else"),
-                                     ("s/stored 2/refused reopen-disk/", "return 1 1 2 530", 3, "refused reopen-disk"),
-                                     ("/^constituency 2/Q", "sheet", 1, "zhcount run has ended")]:
-        with Room() as room:
-            room.edits_answers(edit)
-            room.start()
-            desk = room.desk(1)
-            first = [f"return {m} {g} 1 {votes}" for m, g, votes in [(1, 1, 525), (2, 1, 240), (3, 1, 90)]]
-            same("the first", "stored 1", desk.send(first[0]))
-            if line == "sheet":
-                room.environment["ZHCOUNT"] = str(PROGRAM)
-                room.stop()
-                room.start()
-                same("the others", ["stored 2", "stored 3"], [desk.send(it) for it in first[1:]])
-                room.stop()
-                room.edits_answers(edit)
-                room.start()
-            desk.write(line + "\n")
-            same("the status", status, room.office.wait())
-            that(f"it says why: {room.office.said()}", text in room.office.said() and f"desk 1: {line}" in room.office.said())
-            room.environment["ZHCOUNT"] = str(PROGRAM)
-            room.start()
-            that("the answer", re.match("same|1 sheet provisional 3\nhouse(.|\n)*\nend$", desk.answer(line)))
-            room.stop()
-            room.check()
+    new_room.edits_answers(edit)
+    new_room.start()
+    desk = new_room.desk(1)
+    first = [f"return {m} {g} 1 {votes}" for m, g, votes in [(1, 1, 525), (2, 1, 240), (3, 1, 90)]]
+    same("the first", "stored 1", desk.send(first[0]))
+    if line == "sheet":
+        new_room.environment["ZHCOUNT"] = str(PROGRAM)
+        new_room.restart()
+        same("the others", ["stored 2", "stored 3"], [desk.send(it) for it in first[1:]])
+        new_room.stop()
+        new_room.edits_answers(edit)
+        new_room.start()
+    desk.write(line + "\n")
+    new_room.ends(status, text, f"desk 1: {line}")
+    new_room.environment["ZHCOUNT"] = str(PROGRAM)
+    new_room.start()
+    that("the answer", re.match("same|1 sheet provisional 3\nhouse(.|\n)*\nend$", desk.answer(line)))
+    new_room.check()
 
 
 def test_what_does_not_belong_together(room):
     """another office, another set-up, another disk, a folder that others may use: refused"""
-    room.start()
     same("the answer", ["stored 1"], room.ask(1, "return 1 1 1 525").out)
     first = room.office
-    second = room.start(is_awaited=False)
-    same("a second office", 3, second.wait())
-    that(second.said(), "another office has" in second.said())
+    room.start(is_awaited=False)
+    room.ends(3, "another office has")
     same("the first goes on", ["shows 1 525"], room.ask(1, "show 1 1").out)
     room.office = first
     room.stop()
@@ -301,57 +255,36 @@ def test_what_does_not_belong_together(room):
             (lambda: room.folder.chmod(0o2755), lambda: room.folder.chmod(0o2750), "others may use"),
             (lambda: room.disk.rename(old), lambda: old.rename(room.disk), "zhcount status: zhcount: disk device")]:
         change()
-        office = room.start(is_awaited=False)
-        same(f"refused: {said}", 3, office.wait())
-        that(office.said(), said in office.said())
+        room.start(is_awaited=False)
+        room.ends(3, said)
         restore()
     room.start()
-    modes = {it.name.split(".")[0]: stat.filemode(it.stat().st_mode) for it in room.folder.iterdir() if not it.name.startswith("now")}
-    same("who may use what", {"lines": "prw--w----", "bell": "prw-r-----", "sent": "-rw-rw----", "protocol": "-rw-r-----",
-                              "status": "-rw-r-----", "held": "-rw-r-----", "setup": "-rw-r-----", "office": "-rw-r-----"}, modes)
-    room.stop()
+    same("who may use what", MODES, room.modes())
     room.check()
 
 
-def test_waits_for_an_office(room):
+def test_waits_for_an_office(new_room):
     """a desk waits for an office, and an office for the disk"""
-    desk = room.desk(1)
+    desk = new_room.desk(1)
     desk.write("return 1 1 1 525\n")
-    until("it says so", lambda: "no office runs in" in desk.said())
-    room.start()
+    desk.says("no office runs in")
+    new_room.start()
     same("the answer", "stored 1", desk.answer())
-    room.stop()
-    until("it says so", lambda: "the office has ended" in desk.said())
-    same("the end of the desk", 0, (room.start(), desk.end())[1])
-
-
-def forged(room, change):
-    """The status and what is said of a replay of the folder with a change."""
-    kept = room.folder
-    room.folder = room.path / "forged"
-    shutil.copytree(kept, room.folder, ignore=lambda folder, names: [it for it in names if it.startswith(("lines.", "bell."))])
-    for name, old, new in change:
-        text = (room.folder / name).read_text()
-        same(f"{old} in {name}", 1, text.count(old))
-        (room.folder / name).write_text(text.replace(old, new))
-    found = room.replay()
-    shutil.rmtree(room.folder)
-    room.folder = kept
-    return found
+    new_room.stop()
+    desk.says("the office has ended")
+    same("the end of the desk", 0, (new_room.start(), desk.end())[1])
 
 
 def test_replays(room):
     """a replay says that a protocol is right, and where a forged one is not"""
-    room.start()
     room.ask(1, "return 1 1 1 525", "return 2 1 1 240", "return 3 1 1 90", "sheet", "withdraw 3 1 2",
              "open", "row 1 2 1 300", "commit")
-    room.stop(signal.SIGKILL)
-    room.start()
+    room.restart(signal.SIGKILL)
     room.ask(2, "close 1", "return 1 1 2 5", "show 1 1", "last 1 1")
     room.stop()
-    same("a replay", (0, "the same: the answers to 12 lines in 2 starts, and the export\n"), forged(room, []))
+    same("a replay", (0, "the same: the answers to 12 lines in 2 starts, and the export\n"), room.replay())
     line = "return 1 1 1 525"
-    for said, *change in [
+    for said, *changes in [
             ("start 1, line 4, desk 1: sheet: noted is 'list 1 1 votes 526",
              ("protocol.1", "list 1 1 votes 525", "list 1 1 votes 526")),
             ("desk 1: withdraw 3 1 2: noted is '1 refused gap', and here '1 stored 4'", ("protocol.1", "stored 4", "refused gap")),
@@ -362,10 +295,10 @@ def test_replays(room):
              ("protocol", "row 1 2 1 300", "row 1 2 1 301"), ("protocol.1", "row 1 2 1 300", "row 1 2 1 301")),
             ("held.csv is not the export", ("held.csv", "1,1,1,525", "1,1,1,526")),
             ("protocol.2 has a line that is no record: 2026", ("protocol.2", "\tlast 1 1\t", "x\n"))]:
-        status, found = forged(room, change)
+        with room.edited(*changes):
+            status, found = room.replay()
         that(f"{said}: {found}", status == 1 and said in found)
-    for name in ("protocol", "protocol.1"):  # a line taken out
-        text = (room.folder / name).read_text()
-        (room.folder / name).write_text(re.sub(r".*return 3 1 1 90.*\n", "", text))
+    for name in ("protocol", "protocol.1"):
+        room.edit(name, "\treturn 3 1 1 90\t")  # taken out
     status, found = room.replay()
     that(f"a line taken out: {found}", status == 1 and "start 1, line 3 is missing" in found)

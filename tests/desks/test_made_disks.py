@@ -6,7 +6,7 @@ import stat
 import subprocess
 
 from places import PROGRAM
-from room import same, that, until
+from room import same, that
 
 
 def test_nothing_is_overwritten(night):
@@ -85,11 +85,10 @@ def test_nothing_to_run(night):
 
 def test_while_the_office_runs(room):
     """while an office runs, replay and rebuild say so; after its end they work, and it can start again"""
-    room.start()
     same("the answer", ["stored 1"], room.ask(1, "return 1 1 1 525").out)
     for words in (["--replay", room.folder], ["--rebuild", room.folder, room.path / "new.disk"]):
-        ran = subprocess.run(room.script("zhcount-office", *words), capture_output=True, text=True)
-        same(f"{words[0]}: {ran.stderr}", (1, True), (ran.returncode, f"an office or a witness runs in {room.folder}: end it first" in ran.stdout))
+        status, said = room.zhcount_office(*words)
+        same(f"{words[0]}: {said}", (1, True), (status, f"an office or a witness runs in {room.folder}: end it first" in said))
     room.stop()
     same("a replay", 0, room.replay()[0])
     room.start()
@@ -98,32 +97,20 @@ def test_while_the_office_runs(room):
 
 def test_used_again(room):
     """an office goes on with the folder and the disk that was made from it: the desk's unanswered line is repeated, a closing is not"""
-    room.start()
     desks = {number: room.desk(number) for number in (1, 2)}
     same("the first", ["stored 1", "stored 2"], [desks[1].send("return 1 1 1 525"), desks[2].send("return 2 1 1 240")])
-    run_process = room.run_of_office()
-    os.kill(run_process, signal.SIGSTOP)
-    desks[1].write("return 1 1 2 530\n")
-    until("the line is noted", lambda: room.records("protocol")[-1].text == "return 1 1 2 530")
-    os.kill(room.office.process.pid, signal.SIGKILL)
+    run_process = room.unanswered(desks[1], "return 1 1 2 530")
+    room.office.kill()
     os.kill(run_process, signal.SIGKILL)
     room.office.wait()
     room.disk.unlink()
-    said = rebuilt(room)
+    said = room.rebuilt(room.folder, room.disk)
     that(f"it is said: {said}", "desk 1: return 1 1 2 530 was not answered, and is left out" in said)
     room.start()
     same("the answer of the next start", "stored 3", desks[1].answer())
     same("its own", "stored 4", desks[2].send("close 2"))
-    room.stop()
     room.check({1: ["return 1 1 1 525", "return 1 1 2 530"], 2: ["return 2 1 1 240", "close 2"]})
     export = room.zhcount("export")
     room.disk.unlink()
-    that("it is made again", "4 commands" in rebuilt(room))
+    that("it is made again", "4 commands" in room.rebuilt(room.folder, room.disk))
     same("what is held", export, room.zhcount("export"))
-
-
-def rebuilt(room):
-    words = room.script("zhcount-office", "--rebuild", room.folder, room.disk)
-    ran = subprocess.run(words, env={**os.environ, "ZHCOUNT": str(PROGRAM)}, capture_output=True, text=True)
-    same(f"the status, {ran.stdout}{ran.stderr}", 0, ran.returncode)
-    return ran.stdout

@@ -4,17 +4,11 @@ import stat
 import subprocess
 import time
 
-import pytest
-
 from now import CLOSINGS, NEVER, RETURNS, UNCONFIRMED, QuickRoom, compare, model, names_of_now, table_of
 from places import PROGRAM
-from room import same, that, until
+from room import running, same, that, until
 
-
-@pytest.fixture
-def room():
-    with QuickRoom() as room:
-        yield room
+ROOM = QuickRoom
 
 
 # Sheets
@@ -29,8 +23,7 @@ def verdict(room, sheet, held):
 
 def test_sheets():
     """what a desk shows as a sheet, and the sheet in the folder, are the sheet of run, and check says the same of them"""
-    with QuickRoom(every=NEVER) as room:
-        room.start()
+    with running(QuickRoom(every=NEVER)) as room:
         same("other answers have no desk", [f"stored {it}" for it in range(1, 10)] + ["shows 1 525", "refused notclosed 1"],
              room.ask(2, *RETURNS, "show 1 1", "final").out)
         held = room.path / "held.csv"
@@ -38,8 +31,7 @@ def test_sheets():
         for desk, before, line, name in [(2, [], "sheet", "sheet-9"), (1, CLOSINGS, "final", "sheet-final-12")]:
             lines += [f"{desk} {it}" for it in before]
             held.write_text(model(room, lines)["held.csv"])
-            ran = subprocess.run([PROGRAM, "run", "--setup", room.setup, "--disk", room.path / "model.disk"], input=f"{desk} {line}\n",
-                                 capture_output=True, text=True).stdout
+            ran = room.zhcount("run", disk=room.path / "model.disk", given=f"{desk} {line}\n")
             shown = room.ask(desk, *before, line).out[len(before):]
             same(f"the first line of {line}", ran.split("\n")[0], shown[0])
             same(f"the answer to {line}", ran, "".join(f"{it}\n" for it in shown))
@@ -67,7 +59,6 @@ def kept_sheets(room):
 
 def test_files_of_a_copy(room):
     """the files of `now` are those of the model after as many commands, and the group may read them"""
-    room.start()
     compare(room, room.shows(0), [], "")
     lines = [*RETURNS[:1], *RETURNS[3:4], "return 3 1 1 20001", "withdraw 1 2 1", "close 2"]
     same("the answers", [f"stored {it}" for it in range(1, 6)], room.ask(1, *lines).out)
@@ -101,14 +92,13 @@ def test_names_with_commas():
 # Who has entered what
 
 
-def test_unconfirmed_returns(room):
+def test_unconfirmed_returns(new_room):
     """what one desk alone has entered is unconfirmed, until another desk sends the same"""
-    loaded = room.path / "loaded.csv"
+    loaded = new_room.path / "loaded.csv"
     loaded.write_text("municipality,list,number,votes\n3,1,1,90\n3,2,1,60\n")
-    words = [PROGRAM, "load", "--setup", room.setup, "--disk", room.disk, "--csv", loaded]
-    same("what is loaded", "stored 1\n", subprocess.run(words, capture_output=True, text=True).stdout)
-    room.start()
-    desks = {it: room.desk(it) for it in range(1, 8)}
+    same("what is loaded", "stored 1\n", new_room.zhcount("load", "--csv", loaded))
+    new_room.start()
+    desks = {it: new_room.desk(it) for it in range(1, 8)}
     for desk, line, answer in [
             (1, "return 1 1 1 525", "stored 2"), (1, "return 1 1 1 525", "same"),
             (1, "return 1 2 1 300", "stored 3"), (2, "return 1 2 1 300", "same"),
@@ -120,15 +110,15 @@ def test_unconfirmed_returns(room):
             (1, "withdraw 2 3 1", "stored 6"), (3, "return 3 1 1 90", "same")]:
         same(f"{desk} {line}", answer, desks[desk].send(line))
     rows = ["1,1,1,525,1,N,A\n", "1,3,1,175,1,N,C\n", "2,2,1,330,4,M,B\n", "2,3,1,withdrawn,1,M,C\n", "3,2,1,60,-,W,B\n"]
-    shows_unconfirmed(room, 6, rows)
+    shows_unconfirmed(new_room, 6, rows)
     for desk, line in [(2, "return 1 1 1 525"), (3, "return 3 2 1 60"), (4, "withdraw 2 3 1")]:
         same(f"{desk} {line}", "same", desks[desk].send(line))
-    shows_unconfirmed(room, 6, rows[1:3])
+    shows_unconfirmed(new_room, 6, rows[1:3])
     same("a batch with one new row", ["held 2", "stored 7"], [desks[6].send(it) for it in ("row 1 1 2 530", "commit")])
-    shows_unconfirmed(room, 7, ["1,1,2,530,6,N,A\n", rows[1]])
+    shows_unconfirmed(new_room, 7, ["1,1,2,530,6,N,A\n", rows[1]])
     same("a confirmed correction", "same", desks[2].send("return 1 1 2 530"))
-    shows_unconfirmed(room, 7, rows[1:2])
-    room.stop()
+    shows_unconfirmed(new_room, 7, rows[1:2])
+    new_room.stop()
 
 
 def shows_unconfirmed(room, commands, rows):
@@ -139,24 +129,21 @@ def shows_unconfirmed(room, commands, rows):
         same("what is unconfirmed", text, (room.folder / "now/unconfirmed").read_text())
 
 
-def test_unconfirmed_after_a_stop(room):
+def test_unconfirmed_after_a_stop(new_room):
     """what a desk repeats after a stop, which had kept it, it has not confirmed itself"""
-    room.stands_in(f"[ $1 = run ] && exec '{PROGRAM}' \"$@\" > >(exec sed -u '/stored [13]/d')")
-    room.start()
-    desk = room.desk(1)
+    new_room.stands_in(f"[ $1 = run ] && exec '{PROGRAM}' \"$@\" > >(exec sed -u '/stored [13]/d')")
+    new_room.start()
+    desk = new_room.desk(1)
     desk.write(f"{RETURNS[0]}\n")
-    until("it is stored", lambda: room.records("protocol")[-1].is_line())
+    until("it is stored", lambda: new_room.records("protocol")[-1].is_line())
     time.sleep(0.3)
-    room.stop(signal.SIGKILL)
-    room.start()
+    new_room.restart(signal.SIGKILL)
     same("the answer", "same", desk.answer())
     same("the others", ["held 0", "held 1", "stored 2"], [desk.send(it) for it in ("open", "row 1 2 1 300", "commit")])
     same("a batch", ["held 0", "held 1"], [desk.send(it) for it in ("open", "row 1 3 1 175")])
-    desk.write("commit\n")
-    until("it is stored", lambda: room.records("protocol")[-1].text == "commit")
+    new_room.note(desk, "commit")
     time.sleep(0.3)
-    room.stop(signal.SIGKILL)
-    room.start()
+    new_room.restart(signal.SIGKILL)
     same("the answer", "same", desk.answer())
-    shows_unconfirmed(room, 3, [table_of([it], 1) for it in RETURNS[:3]])
-    room.stop()
+    shows_unconfirmed(new_room, 3, [table_of([it], 1) for it in RETURNS[:3]])
+    new_room.stop()

@@ -18,7 +18,7 @@ import time
 import pytest
 
 from places import PROGRAM, TOP
-from room import SCRIPTS, Process, Room, same, that, until
+from room import MODES, SCRIPTS, Process, Room, same, that, until
 
 FIRST, SECOND = "return 1 1 1 525", "return 1 2 1 300"
 UNIT = SCRIPTS / "zhcount-office.service"
@@ -58,14 +58,12 @@ def refused(room, *texts):
     """The office does not start, with status 3, and says these texts."""
     office = room.start(is_awaited=False)
     until("its end", lambda: office.process.poll() is not None or "desks can send lines" in office.said())
-    that(f"refused: {texts[0]}", office.process.poll() == 3 and office.wait() == 3)
-    for text in texts:
-        that(f"{text}: {office.said()}", text in office.said())
+    same(f"refused: {texts[0]}", 3, office.process.poll())
+    room.ends(3, *texts)
 
 
 def test_turns(room):
     """a line is taken if its turn is the one after the last; one with the turn of another line is not, nor a repetition"""
-    room.start()
     sent = [f"1 new {FIRST}", "1 new return 1 1 1 526", f"1 new {FIRST}", f"1 new? {FIRST}", "999999999999999 new show 1 2",
             "2 new show 1 1", "2 again show 1 1", "3 new? show 1 3"]
     with open(room.folder / "lines.1", "wb", buffering=0) as pipe:
@@ -75,8 +73,7 @@ def test_turns(room):
     wanted = [(1, FIRST, "stored 1"), (2, "show 1 1", "shows 1 525"), (3, "show 1 3", "unanswered")]
     same("what was taken", wanted, [(it.turn, it.text, it.answer) for it in room.of_desk(1)])
     until("it is said", lambda: "desk 1: not taken" in room.office.said())
-    room.stop(signal.SIGKILL)
-    room.start()
+    room.restart(signal.SIGKILL)
     with open(room.folder / "lines.1", "wb", buffering=0) as pipe:
         for line in ("3 new show 1 3", "3 new close 1", "4 new show 1 1"):
             pipe.write(f"{line}\n".encode())
@@ -84,30 +81,28 @@ def test_turns(room):
     same("what was taken", [*wanted, (4, "show 1 1", "shows 1 525")], [(it.turn, it.text, it.answer) for it in room.of_desk(1)])
 
 
-def test_full_volume(room):
+def test_full_volume(new_room):
     """a record that had no room is cut off again, and the office starts as soon as there is some"""
-    office = room.start()
-    desk, run_process = room.desk(1), room.run_of_office()
+    office = new_room.start()
+    desk, run_process = new_room.desk(1), new_room.run_of_office()
     same("the answer", "stored 1", desk.send(FIRST))
     os.kill(run_process, signal.SIGSTOP)
-    size = (room.folder / "protocol").stat().st_size
+    size = (new_room.folder / "protocol").stat().st_size
     resource.prlimit(office.process.pid, resource.RLIMIT_FSIZE, (size + 30, resource.RLIM_INFINITY))
     desk.write(f"{SECOND}\n")
     until("it stops", lambda: "stopped: " in office.said())
-    same("the size", size, (room.folder / "protocol").stat().st_size)
+    same("the size", size, (new_room.folder / "protocol").stat().st_size)
     resource.prlimit(office.process.pid, resource.RLIMIT_FSIZE, (resource.RLIM_INFINITY, resource.RLIM_INFINITY))
     os.kill(run_process, signal.SIGCONT)
-    same("its status", 3, office.wait())
-    room.start()
-    that("its stop is noted", "File too large" in [it for it in room.records("protocol") if it.mark == "stop"][0].text)
+    new_room.ends(3)
+    new_room.start()
+    that("its stop is noted", "File too large" in [it for it in new_room.records("protocol") if it.mark == "stop"][0].text)
     same("the answer then", "stored 2", desk.answer())
-    room.stop()
-    room.check()
+    new_room.check()
 
 
 def test_torn_record(room):
     """a record that a stop left without its end is cut off at the next start"""
-    room.start()
     same("the answer", ["stored 1"], room.ask(1, FIRST).out)
     room.stop(signal.SIGKILL)
     for name in ("protocol", "protocol.1"):
@@ -116,13 +111,11 @@ def test_torn_record(room):
     room.start()
     same("the next answer", ["shows 1 525"], room.ask(1, "show 1 1").out)
     same("stops", ["killed"], [it.text for it in room.records("protocol") if it.mark == "stop"])
-    room.stop()
     room.check()
 
 
 def test_another_disk_at_a_start(room):
     """a disk of other returns is not taken for the folder's, whether it has as many commands or more"""
-    room.start()
     same("the answer", ["stored 1"], room.ask(1, FIRST).out)
     room.stop()
     own = room.path / "own.disk"
@@ -134,12 +127,10 @@ def test_another_disk_at_a_start(room):
         room.disk.unlink()
     own.rename(room.disk)
     (room.path / "more.csv").write_text("municipality,list,number,votes\n1,1,2,530\n3,1,1,90\n")
-    words = [PROGRAM, "load", "--setup", room.setup, "--disk", room.disk, "--csv", room.path / "more.csv"]
-    same("a load", "stored 2\n", subprocess.run(words, capture_output=True, text=True).stdout)
+    same("a load", "stored 2\n", room.zhcount("load", "--csv", room.path / "more.csv"))
     room.start()
     same("its own is", ["shows 2 530"], room.ask(1, "show 1 1").out)
-    room.stop(signal.SIGKILL)
-    room.start()
+    room.restart(signal.SIGKILL)
     same("and a batch", ["held 0", "held 1", "held 2", "stored 3"], room.ask(2, "open", "row 2 1 1 240", "row 2 2 1 330", "commit").out)
     room.stop(signal.SIGKILL)
     room.disk.rename(own)
@@ -147,47 +138,37 @@ def test_another_disk_at_a_start(room):
     refused(room, "lacks what was answered, return 2 2 1 330")
 
 
-def test_another_disk_while_it_runs():
+def put_in_its_place(room):
+    room.disk.rename(room.path / "own.disk")
+    room.other_disk(FIRST, SECOND).rename(room.disk)
+
+
+@pytest.mark.parametrize("change", [
+    put_in_its_place, lambda room: room.disk.unlink(), lambda room: os.link(room.disk, room.path / "own.disk"),
+], ids=["put in its place", "removed", "a second name"])
+def test_another_disk_while_it_runs(room, change):
     """a disk that is put in another's place, is removed or has a second name stops the office before anything is shown"""
-    def change_of(room, number):
-        own = room.path / "own.disk"
-        if number == 0:
-            room.disk.rename(own)
-            room.other_disk(FIRST, SECOND).rename(room.disk)
-        elif number == 1:
-            room.disk.unlink()
-        else:
-            os.link(room.disk, own)
-
-    for number in range(3):
-        with Room() as room:
-            room.start()
-            desk = room.desk(1)
-            same("the answer", "stored 1", desk.send(FIRST))
-            change_of(room, number)
-            desk.write(f"{SECOND}\n")
-            same("the status", 3, room.office.wait())
-            that(f"it says so: {room.office.said()}", "is not the file any more" in room.office.said())
-            that(f"and what is open: {room.office.said()}", f"perhaps stored: desk 1: {SECOND}" in room.office.said())
-            same("what the desk was shown", ["stored 1"], desk.out)
+    desk = room.desk(1)
+    same("the answer", "stored 1", desk.send(FIRST))
+    change(room)
+    desk.write(f"{SECOND}\n")
+    room.ends(3, "is not the file any more", f"perhaps stored: desk 1: {SECOND}")
+    same("what the desk was shown", ["stored 1"], desk.out)
 
 
-def test_another_disk_at_the_end():
+@pytest.mark.parametrize("lines, put", [(["return 3 1 1 90"], os.replace), ([], shutil.copyfile)], ids=["in its place", "into the file"])
+def test_another_disk_at_the_end(room, lines, put):
     """an office that is told to end looks at the disk, too: no other export is noted, and no 'every line is answered'"""
-    for lines, put in [(["return 3 1 1 90"], os.replace), ([], shutil.copyfile)]:  # in its place; into the same file
-        with Room() as room:
-            room.start()
-            same("the answer", ["stored 1"], room.ask(1, FIRST).out)
-            held = (room.folder / "held.csv").read_bytes()
-            put(room.other_disk(*lines), room.disk)
-            same("the status", 3, room.stop())
-            that(f"not said: {room.office.said()}", "every line is answered" not in room.office.said())
-            same("the export", held, (room.folder / "held.csv").read_bytes())
+    same("the answer", ["stored 1"], room.ask(1, FIRST).out)
+    held = (room.folder / "held.csv").read_bytes()
+    put(room.other_disk(*lines), room.disk)
+    same("the status", 3, room.stop())
+    that(f"not said: {room.office.said()}", "every line is answered" not in room.office.said())
+    same("the export", held, (room.folder / "held.csv").read_bytes())
 
 
 def test_two_folders(room):
     """a second folder is not used for a disk, until a person says so"""
-    room.start()
     first, room.folder = room.folder, room.path / "second"
     refused(room, f"is the disk of {first}, and not of {room.folder}", f"remove {room.disk}.folder")
     refused(room, "is the disk of")
@@ -200,33 +181,32 @@ def test_two_folders(room):
     room.stop()
 
 
-def test_ignored_signal(room):
+def test_ignored_signal(new_room):
     """a signal that was ignored at the start, as by nohup, does not end the office"""
-    wrapped(room, "trap '' HUP")
-    is_ready(room)
-    room.office.kill(signal.SIGHUP)
-    same("the answer", ["stored 1"], room.ask(1, FIRST).out)
-    same("TERM ends it", 0, room.stop())
+    wrapped(new_room, "trap '' HUP")
+    is_ready(new_room)
+    new_room.office.kill(signal.SIGHUP)
+    same("the answer", ["stored 1"], new_room.ask(1, FIRST).out)
+    same("TERM ends it", 0, new_room.stop())
 
 
-def test_log_that_takes_nothing(room):
+def test_log_that_takes_nothing(new_room):
     """an office whose log is full, or is not read by anybody, goes on"""
-    os.mkfifo(room.path / "log")
-    log = os.open(room.path / "log", os.O_RDWR | os.O_NONBLOCK)
+    os.mkfifo(new_room.path / "log")
+    log = os.open(new_room.path / "log", os.O_RDWR | os.O_NONBLOCK)
     with contextlib.suppress(BlockingIOError):
         while os.write(log, b"x" * 4096):
             pass
-    for before in ("exec 2> /dev/full", "exec 2>&-", f"exec 2> '{room.path}/log'"):
-        wrapped(room, before)
-        is_ready(room)
-        same(f"the answer with {before}", ["none"], room.ask(1, "show 1 1").out)
-        same(f"the end with {before}", 0, room.stop())
+    for before in ("exec 2> /dev/full", "exec 2>&-", f"exec 2> '{new_room.path}/log'"):
+        wrapped(new_room, before)
+        is_ready(new_room)
+        same(f"the answer with {before}", ["none"], new_room.ask(1, "show 1 1").out)
+        same(f"the end with {before}", 0, new_room.stop())
     os.close(log)
 
 
 def test_garbage(room):
     """what no desk wrote is counted, and not written again and again; what has no end is forgotten"""
-    room.start()
     with open(room.folder / "lines.1", "wb", buffering=0) as pipe:
         for _ in range(100):
             pipe.write(b"x\n" * 2000)
@@ -243,7 +223,6 @@ def test_garbage(room):
 
 def test_what_is_noted(room):
     """a start has the program's version, and the sums of program and set-up; a backslash is escaped; the end writes status and export"""
-    room.start()
     same("the answers", ["stored 1", "refused syntax"], room.ask(1, FIRST, "sh\\ow").out)
     room.stop()
     sums = [hashlib.sha256(it.read_bytes()).hexdigest() for it in (PROGRAM, room.setup)]
@@ -258,25 +237,21 @@ def test_what_is_noted(room):
     same("the state", "1 commands", room.records("protocol")[-1].text)
 
 
-def test_program_that_is_not_there(room):
+def test_program_that_is_not_there(new_room):
     """a program that can't be started has status 1, which says: it may be tried again"""
-    room.environment["ZHCOUNT"] = str(room.path / "none")
-    office = room.start(is_awaited=False)
-    same("the status", 1, office.wait())
-    that(f"it says so: {office.said()}", f"{room.path}/none can't be started: No such file or directory" in office.said())
+    new_room.environment["ZHCOUNT"] = str(new_room.path / "none")
+    new_room.start(is_awaited=False)
+    new_room.ends(1, f"{new_room.path}/none can't be started: No such file or directory")
 
 
-def test_who_may_use_it():
+@pytest.mark.parametrize("umask", ["077", "000"])
+def test_who_may_use_it(new_room, umask):
     """the modes of a folder do not hang on the umask"""
-    for umask in ("077", "000"):
-        with Room() as room:
-            wrapped(room, f"umask {umask}")
-            is_ready(room)
-            modes = {it.name.split(".")[0]: stat_of(it) for it in room.folder.iterdir() if not it.name.startswith("now")}
-            same(f"with {umask}", {"lines": "prw--w----", "bell": "prw-r-----", "sent": "-rw-rw----", "protocol": "-rw-r-----",
-                                   "status": "-rw-r-----", "held": "-rw-r-----", "setup": "-rw-r-----", "office": "-rw-r-----"}, modes)
-            same("the folder", "drwxr-s---", stat_of(room.folder))
-            room.stop()
+    wrapped(new_room, f"umask {umask}")
+    is_ready(new_room)
+    same(f"with {umask}", MODES, new_room.modes())
+    same("the folder", "drwxr-s---", stat_of(new_room.folder))
+    new_room.stop()
 
 
 def test_folder_of_another_user():
@@ -303,20 +278,19 @@ def test_disk_of_another_user():
         room.folder.parent.mkdir()
         os.chown(room.folder.parent, 65534, 65534)
         for path in (place, room.disk):
-            office = as_nobody(room)
-            same(f"{path}: {office.said()}", 3, office.wait())
+            as_nobody(room)
             mend = f"'chown nobody {path}'"
-            that(f"{mend}: {office.said()}", f"{path} belongs to root, and nobody runs the office: run it as root, or, as root, {mend}" in office.said())
+            room.ends(3, f"{path} belongs to root, and nobody runs the office: run it as root, or, as root, {mend}")
             subprocess.run(["sh", "-c", mend.strip("'")], check=True)
         as_nobody(room)
-        until("it starts", lambda: "desks can send lines" in room.office.said())
+        room.office.says("desks can send lines")
 
 
-def test_folder_that_others_may_use(room):
+def test_folder_that_others_may_use(new_room):
     """a folder that others may use is refused, with what mends it"""
-    room.folder.mkdir()
-    room.folder.chmod(0o755)
-    refused(room, f"others may use {room.folder}: 'chmod 2750 {room.folder}' makes it right")
+    new_room.folder.mkdir()
+    new_room.folder.chmod(0o755)
+    refused(new_room, f"others may use {new_room.folder}: 'chmod 2750 {new_room.folder}' makes it right")
 
 
 def test_python_of_the_scripts():

@@ -3,6 +3,8 @@ import concurrent.futures
 import os
 import random
 
+import pytest
+
 from nights import Night, damage, load_by_chance, random_line
 from places import REHEARSAL
 from room import same, that
@@ -37,35 +39,36 @@ def test_kept_line(night):
         that(f"{line}: {said}", f"the stop kept {line}" in said)
 
 
-def test_last_line_without_its_answer():
+@pytest.mark.parametrize("fate, is_held", [("answered", True), ("kept", False), ("lost", False)])
+def test_last_line_without_its_answer(night, fate, is_held):
     """the very last line is run if it was answered, and left out if its desk's protocol has no answer"""
-    for fate, is_held in [("answered", True), ("kept", False), ("lost", False)]:
-        with Night() as night:
-            night.begin()
-            night.send(["3 return 1 1 1 525", "3 return 2 1 1 240"], fate)
-            said, export = night.made()
-            same(f"held, {fate}: {said}", is_held, "2,1,1,240" in export)
-            that(f"the other is, {fate}", "1,1,1,525" in export)
-            same(f"it says so, {fate}", not is_held, "desk 3: return 2 1 1 240 was not answered, and is left out\n" in said)
+    night.begin()
+    night.send(["3 return 1 1 1 525", "3 return 2 1 1 240"], fate)
+    said, export = night.made()
+    same(f"held, {fate}: {said}", is_held, "2,1,1,240" in export)
+    that(f"the other is, {fate}", "1,1,1,525" in export)
+    same(f"it says so, {fate}", not is_held, "desk 3: return 2 1 1 240 was not answered, and is left out\n" in said)
 
 
-def test_last_line_in_doubt():
+def older(night):
+    night.edit("protocol.3", (night.folder / "protocol.3").read_text(), "")
+
+
+def without_an_earlier_answer(night):
+    text = (night.folder / "protocol.3").read_text()
+    night.edit("protocol.3", text, text[:text.index("\n") + 1])
+
+
+@pytest.mark.parametrize("change", [lambda night: (night.folder / "protocol.3").unlink(), older, without_an_earlier_answer],
+                         ids=["missing", "older", "without an earlier answer"])
+def test_last_line_in_doubt(night, change):
     """the very last line is run where its desk's protocol is missing, or older: its answer may have been shown"""
-    def older(night):
-        night.edit("protocol.3", (night.folder / "protocol.3").read_text(), "")
-
-    def without_an_earlier_answer(night):
-        text = (night.folder / "protocol.3").read_text()
-        night.edit("protocol.3", text, text[:text.index("\n") + 1])
-
-    for change in (lambda night: (night.folder / "protocol.3").unlink(), older, without_an_earlier_answer):
-        with Night() as night:
-            night.begin()
-            night.send(["3 return 1 1 1 525", "3 return 2 1 1 240"])
-            change(night)
-            said, export = night.made()
-            same("what is held", night.count.export(), export)
-            that(f"it says so: {said}", "desk 3: whether return 2 1 1 240 was answered no protocol says; it was run\n" in said)
+    night.begin()
+    night.send(["3 return 1 1 1 525", "3 return 2 1 1 240"])
+    change(night)
+    said, export = night.made()
+    same("what is held", night.count.export(), export)
+    that(f"it says so: {said}", "desk 3: whether return 2 1 1 240 was answered no protocol says; it was run\n" in said)
 
 
 def test_only_the_first_protocol(night):
@@ -134,7 +137,6 @@ def test_another_answer(night):
     night.send(["1 return 1 1 1 525", "2 return 2 1 1 240", "1 sheet"])
     night.begin()
     night.send(["2 return 3 1 1 90", "3 show 1 1"])
-    night.kept()
     line = "\tnew\treturn 2 1 1 240\t"
     for said, *changes in [
             ("start 1, line 2, desk 2: return 2 1 1 240: noted is '2 stored 9', and here '2 stored 2'",
@@ -148,23 +150,20 @@ def test_another_answer(night):
             ("start 1, line 2 is missing", ("protocol", line), ("protocol.2", line)),
             ("at the beginning of start 2: nothing is noted", ("protocol", "\tstate\t2 commands", "\tstart\t2 commands")),
             ("protocol.3 has a line that is no record: 2026", ("protocol.3", "\tshow 1 1\t", "x\n"))]:
-        for change in changes:
-            night.edit(*change)
-        found = night.refused()
+        with night.edited(*changes):
+            found = night.refused()
         that(f"{said}: {found}", f"not made: {said}" in found)
-        night.put_back()
 
 
 def test_torn_ends(night):
     """a record without its end is none, in whatever protocol; a line that desks' protocols alone have is run"""
     night.begin()
     night.send(["1 return 1 1 1 525", "2 return 2 1 1 240", "3 return 3 1 1 90", "1 sheet"])
-    night.kept()
     for name, cut in [("protocol.1", 200), ("protocol.1", 7), ("protocol.1", 1), ("protocol", 100), ("protocol", 160)]:
-        data = (night.folder / name).read_bytes()
-        (night.folder / name).write_bytes(data[:-cut])
-        same(f"what is held, {name} without {cut} bytes", night.count.export(), night.made()[1])
-        night.put_back()
+        with night.edited():
+            data = (night.folder / name).read_bytes()
+            (night.folder / name).write_bytes(data[:-cut])
+            same(f"what is held, {name} without {cut} bytes", night.count.export(), night.made()[1])
     data = (night.folder / "protocol").read_bytes()
     (night.folder / "protocol").write_bytes(data[:-160])
     (night.folder / "protocol.2").unlink()

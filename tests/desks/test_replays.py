@@ -10,7 +10,6 @@ def test_replay_compares(night):
     night.begin()
     night.send(["2 return 3 1 1 90", "1 close 1"])
     night.end()
-    night.kept()
     same("a replay", (0, "the same: the answers to 6 lines in 2 starts, and the export\n"), night.replay())
     last, line = "\tnew\tclose 1\t", "\tnew\treturn 2 1 1 240\t"
     for said, *changes in [
@@ -27,11 +26,9 @@ def test_replay_compares(night):
             ("at the beginning of start 2: noted are 2 commands and the sum of an export, and here are 2 commands with another export",
              ("protocol", night.sum_of(2), "0" * 64)),
             ("held.csv is not the export", ("held.csv", "1,1,1,525", "1,1,1,526"))]:
-        for change in changes:
-            night.edit(*change)
-        status, found = night.replay()
+        with night.edited(*changes):
+            status, found = night.replay()
         same(f"{said}: {found}", (1, True), (status, f"not the same: {said}" in found))
-        night.put_back()
 
 
 def test_several_wait(night):
@@ -54,7 +51,6 @@ def test_answers_that_a_witness_had(night):
     night.edit("protocol.2", "\tstored 2", "\tunanswered")
     night.begin()
     night.end()
-    night.kept()
     status, said = night.replay()
     same(f"a replay: {said}", 0, status)
 

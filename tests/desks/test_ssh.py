@@ -18,7 +18,7 @@ import pytest
 
 from canton import Canton, Chance
 from office import Office
-from room import Process, Room, same, that, until
+from room import Process, Room, running, same, that, until
 from witnessed import Witnessed, night_that_is_lost
 
 LINES = int(os.environ.get("LINES", "2000"))
@@ -192,16 +192,14 @@ def compare_with_the_manual(room, canton, desks):
 def test_side_by_side():
     """eight desks over ssh, two connections cut in the middle of a line, the office killed twice"""
     canton = Canton(Chance(2027))
-    with Room(setup=canton.setup()) as room:
-        room.start()
+    with running(Room(setup=canton.setup())) as room:
         ssh = Ssh(room).let_desks_in()
         clients = {desk: Client(ssh, desk, some_lines(canton, desk, LINES)) for desk in range(1, 9)}
         for it in clients.values():
             it.start()
         for lines in KILLS:
             until(f"{lines} lines", lambda: sum(it.done for it in clients.values()) >= lines or have_faults(clients), 300)
-            room.stop(signal.SIGKILL)
-            room.start()
+            room.restart(signal.SIGKILL)
         for it in clients.values():
             it.join(300)
             same(f"the fault of desk {it.desk}", None, it.fault)
@@ -218,7 +216,6 @@ def have_faults(clients):
 
 def test_a_key_is_a_desk(room):
     """a key speaks for no other desk, opens no shell, forwards no port, and a dead connection lets go"""
-    room.start()
     ssh = Ssh(room).let_desks_in()
     _, out, error = ssh.ask(3, command=[*room.script("zhcount-desk", 4, room.folder)], text="return 1 1 1 525\n4 return 1 1 2 5\n")
     same(f"the answers to desk 3: {error}", "stored 1\nrefused syntax\n", out)
@@ -243,7 +240,6 @@ def test_a_key_is_a_desk(room):
     until("it is let in when the first is dead", lambda: ssh.ask(5, text="show 1 1\n")[1] == "shows 1 525\n", 60)
     dead.kill()
     dead.wait()
-    room.stop()
     room.check()
 
 
@@ -287,7 +283,7 @@ def test_network_hangs():
             same("the answer", "stored 2", desk.send("return 1 1 2 530"))
             that(f"after some ten seconds: {time.monotonic() - begun}", 5 < time.monotonic() - begun < 20)
             until("the desk says it", lambda: "no witness since" in desk.said(), 3)
-            that(f"and why: {room.office.said()}", "it has said nothing for 10 seconds" in room.office.said())
+            room.office.says("it has said nothing for 10 seconds")
             until("it is there again", lambda: room.office.said().count("the witness is there since") == 2, 60)
         finally:
             os.kill(hung, signal.SIGCONT)

@@ -13,35 +13,28 @@ import pytest
 
 from dying import Dying
 from places import TOP
-from room import Process, Room, same, stays, that, until
+from room import Process, Room, running, same, stays, that, until
 from witnessed import Canton, Chance, Witnessed, check_what_is_held, enter, leave, night_that_is_lost, wait_for_answers
 
-
-@pytest.fixture
-def room():
-    with Witnessed() as room:
-        yield room
+ROOM = Witnessed
 
 
 def test_mirrored(room):
     """the witness has each record, before and after a stop of the office, and from it the disk can be made anew"""
-    room.start()
     same("the answers", ["stored 1", "held 0", "held 1", "stored 2"],
          room.ask(1, "return 1 1 1 525", "open", "row 2 1 1 240", "commit").out)
     room.has_all()
-    room.stop(signal.SIGKILL)
-    room.start()
+    room.restart(signal.SIGKILL)
     same("the answer", ["stored 3"], room.ask(2, "return 3 1 1 90").out)
     same("the end", 0, room.stop())
     same("what differs", [], room.differing())
-    same("the export", room.zhcount("export"), room.of(room.rebuilt(), "export"))
+    same("the export", room.zhcount("export"), room.zhcount("export", disk=room.rebuilt_from_witness()))
     room.check()
 
 
 def test_nothing_before():
     """no answer is shown before the witness has it, while other desks' lines are answered on the disk; a silent one is waited for"""
-    with Witnessed("--witness-required") as room:
-        room.start()
+    with running(Witnessed("--witness-required")) as room:
         desks = [room.desk(1), room.desk(2)]
         same("the answer", "none", desks[0].send("show 1 1"))
         same("the answer", "none", desks[1].send("show 1 1"))
@@ -53,26 +46,24 @@ def test_nothing_before():
         room.signal(signal.SIGCONT)
         same("the answers", ["stored 1", "stored 2"], sorted(it.answer() for it in desks))
         room.has_all()
-        room.stop()
         room.check()
 
 
 def test_goes_on_without(room):
     """without its witness the office goes on, and says so; the witness then gets what it lacks"""
-    room.start()
     desk = room.desk(1)
     same("the answer", "stored 1", desk.send("return 1 1 1 525"))
     room.lose_witness()
     same("the answer", "stored 2", desk.send("return 1 1 2 530"))
-    until("the log says it", lambda: "no witness since" in room.office.said())
+    room.office.says("no witness since")
     that("the folder says it", (room.folder / "witness").read_text().startswith("no witness since"))
     same("the answer", "none", desk.send("show 2 1"))
-    until(f"the desk says it: {desk.said()}", lambda: "no witness since" in desk.said())
+    desk.says("no witness since")
     room.away.unlink()
     room.has_all()
     until("the log says it", lambda: room.office.said().count("the witness is there since") == 2)
     same("the answer", "stored 3", desk.send("return 2 1 1 240"))
-    until(f"the desk says it: {desk.said()}", lambda: "the witness is there since" in desk.said())
+    desk.says("the witness is there since")
     room.stop()
     same("what differs", [], room.differing())
     room.check()
@@ -80,48 +71,44 @@ def test_goes_on_without(room):
 
 def test_waits_for_it():
     """where the witness is required no answer is shown while it is away"""
-    with Witnessed("--witness-required") as room:
-        room.start()
+    with running(Witnessed("--witness-required")) as room:
         desk = room.desk(1)
         same("the answer", "stored 1", desk.send("return 1 1 1 525"))
         room.lose_witness()
-        until("the log says it", lambda: "waiting for the witness since" in room.office.said())
-        desk.write("return 1 1 2 530\n")
-        until("the line is noted", lambda: room.records("protocol")[-1].text == "return 1 1 2 530")
+        room.office.says("waiting for the witness since")
+        room.note(desk, "return 1 1 2 530")
         stays("no answer is shown", lambda: len(room.of_desk(1)) == 1 and len(desk.out) == 1)
-        until(f"the desk says it: {desk.said()}", lambda: "waiting for the witness since" in desk.said())
+        desk.says("waiting for the witness since")
         room.away.unlink()
         same("the answer", "stored 2", desk.answer())
-        room.stop()
         room.check()
 
 
 @pytest.mark.xdist_group("times")
 def test_silent_witness(room):
     """a witness that says nothing for ten seconds is none, and the answer is shown without it"""
-    room.start()
     desk = room.desk(1)
     room.signal(signal.SIGSTOP)
     begun = time.monotonic()
     same("the answer", "stored 1", desk.send("return 1 1 1 525"))
     that(f"after some ten seconds: {time.monotonic() - begun}", 5 < time.monotonic() - begun < 15)
-    until("the log says it", lambda: "no witness since" in room.office.said())
-    that(f"and why: {room.office.said()}", "it has said nothing for 10 seconds" in room.office.said())
+    room.office.says("no witness since", "it has said nothing for 10 seconds")
 
 
 class DyingWithWitness(Dying, Witnessed):
     """A room whose office has a witness, and is killed at a moment."""
 
 
-def alone(is_away):
-    """An office that is killed between the witness's acknowledgement and its own note of the answer."""
-    with DyingWithWitness("zhcount-office", ["self.folder.note_answer(record)"]) as room:
-        room.start()
+@pytest.mark.parametrize("is_away", [False, True], ids=["is taken over", "was not shown"])
+def test_answer_that_it_alone_has(is_away):
+    """an answer that the witness alone has, as the office is killed between the acknowledgement and its own note of it, is taken over
+    by the next start; where that does without the witness, it is put aside"""
+    with running(DyingWithWitness("zhcount-office", ["self.folder.note_answer(record)"])) as room:
         desk = room.desk(1)
         same("the answer", "stored 1", desk.send("return 1 1 1 525"))
         room.arm(0)
         desk.write("return 1 1 2 530\n")
-        same("the end of the office", -9, room.office.wait())
+        room.ends(-9)
         until("the witness has the answer", lambda: b"stored 2" in (room.copy / "protocol.1").read_bytes())
         that("the office has it not", b"stored 2" not in (room.folder / "protocol.1").read_bytes())
         if is_away:
@@ -135,18 +122,8 @@ def alone(is_away):
         if is_away:
             that("what was not shown is put aside", b"stored 2" in (room.copy / "protocol.1.aside").read_bytes())
         room.stop()
-        same("the export", room.zhcount("export"), room.of(room.rebuilt(), "export"))
+        same("the export", room.zhcount("export"), room.zhcount("export", disk=room.rebuilt_from_witness()))
         room.check()
-
-
-def test_answer_that_it_alone_has():
-    """an answer that the witness alone has is taken over by the next start"""
-    alone(False)
-
-
-def test_answer_that_nobody_saw():
-    """an answer that the witness alone has is put aside, where the next start did without the witness"""
-    alone(True)
 
 
 def test_another_office():
@@ -157,13 +134,11 @@ def test_another_office():
         first.stop()
         second.options = first.options
         second.start(is_awaited=False)
-        same("the end", 3, second.office.wait())
-        that(f"it says so: {second.office.said()}", "the witness has another protocol" in second.office.said())
+        second.ends(3, "the witness has another protocol")
 
 
 def test_torn_record(room):
     """a torn record at the witness is cut off, and sent again"""
-    room.start()
     desk = room.desk(1)
     same("the answer", "stored 1", desk.send("return 1 1 1 525"))
     room.lose_witness()
@@ -195,14 +170,14 @@ runpy.run_path(sys.argv[0], run_name="__main__")
 '''
 
 
-def test_each_piece_is_synced(room):
+def test_each_piece_is_synced(new_room):
     """the witness acknowledges a piece once it has synced it"""
-    wrapper, trace = room.path / "traced.py", room.path / "trace"
+    wrapper, trace = new_room.path / "traced.py", new_room.path / "trace"
     wrapper.write_text(TRACED)
-    room.options = ["--witness", f"env TRACE={trace} {sys.executable} {wrapper} {room.scripts / 'zhcount-witness'} {room.copy}"]
-    room.start()
-    same("the answers", ["stored 1", "shows 1 525"], room.ask(1, "return 1 1 1 525", "show 1 1").out)
-    room.stop()
+    new_room.options = ["--witness", f"env TRACE={trace} {sys.executable} {wrapper} {new_room.scripts / 'zhcount-witness'} {new_room.copy}"]
+    new_room.start()
+    same("the answers", ["stored 1", "shows 1 525"], new_room.ask(1, "return 1 1 1 525", "show 1 1").out)
+    new_room.stop()
     written, said = set(), 0
     for line in trace.read_text().splitlines():
         word, name, *more = line.split(" ")
@@ -216,26 +191,24 @@ def test_each_piece_is_synced(room):
     that(f"pieces were acknowledged: {said}", said >= 4)
 
 
-def test_slow_witness(room):
+def test_slow_witness(new_room):
     """a witness that takes seconds for its start, and for an answer, is waited for"""
-    room.command.write_text(room.command.read_text().replace("exec", "sleep 3\nexec"))
-    room.start()
-    lines = room.office.error
+    new_room.command.write_text(new_room.command.read_text().replace("exec", "sleep 3\nexec"))
+    new_room.start()
+    lines = new_room.office.error
     that(f"it was there first: {lines}", "the witness is there since" in lines[0] and "desks can send lines" in lines[-1])
-    room.signal(signal.SIGSTOP)
-    desk = room.desk(1)
-    desk.write("return 1 1 1 525\n")
-    until("the line is noted", lambda: room.records("protocol")[-1].text == "return 1 1 1 525")
+    new_room.signal(signal.SIGSTOP)
+    desk = new_room.desk(1)
+    new_room.note(desk, "return 1 1 1 525")
     stays("no answer is shown", lambda: not desk.out, 3)
-    room.signal(signal.SIGCONT)
+    new_room.signal(signal.SIGCONT)
     same("the answer", "stored 1", desk.answer())
-    that(f"it was there all the time: {room.office.said()}", "no witness" not in room.office.said())
-    room.stop()
+    that(f"it was there all the time: {new_room.office.said()}", "no witness" not in new_room.office.said())
+    new_room.stop()
 
 
 def test_full_volume(room):
     """a witness without room ends, and says why; the office goes on, and says it too"""
-    room.start()
     desk = room.desk(1)
     same("the answer", "stored 1", desk.send("return 1 1 1 525"))
     room.has_all()
@@ -243,59 +216,58 @@ def test_full_volume(room):
     resource.prlimit(room.witness(), resource.RLIMIT_FSIZE, (size + 30, resource.RLIM_INFINITY))
     room.away.touch()
     same("the answer", "stored 2", desk.send("return 1 1 2 530"))
-    until("the log says it", lambda: "no witness since" in room.office.said())
-    that(f"and why: {room.office.said()}", f": it has ended: zhcount-witness: {room.copy}: File too large" in room.office.said())
+    room.office.says("no witness since", f": it has ended: zhcount-witness: {room.copy}: File too large")
     same("the size of its protocol", size, (room.copy / "protocol").stat().st_size)
     room.away.unlink()
     room.has_all()
     room.stop()
 
 
-def test_no_such_command():
+@pytest.mark.parametrize("words, why", [
+    ("/nowhere/witness 'a b'", "/nowhere/witness can't be started: No such file or directory"), ("echo Welcome", "it said 'Welcome'"),
+    ("sh -c 'echo no such key >&2; exit 255'", "it has ended: no such key"),
+    ("head -c 100000 /dev/zero", "what it says is not what zhcount-witness says"),
+])
+def test_no_such_command(new_room, words, why):
     """where the command can't be started, or says something else, the office goes on, and says why; one without words is refused"""
-    for words, why in [("/nowhere/witness 'a b'", "/nowhere/witness can't be started: No such file or directory"),
-                       ("echo Welcome", "it said 'Welcome'"), ("sh -c 'echo no such key >&2; exit 255'", "it has ended: no such key"),
-                       ("head -c 100000 /dev/zero", "what it says is not what zhcount-witness says")]:
-        with Room() as room:
-            room.options = ["--witness", words]
-            room.start()
-            same("the answer", ["stored 1"], room.ask(1, "return 1 1 1 525").out)
-            until(f"it says why, {why}", lambda: any("no witness" in it and it.endswith(f": {why}") for it in room.office.error))
-            same("the end", 0, room.stop())
-            for nothing in ("", " ", "ssh 'other"):
-                ran = subprocess.run(room.script("zhcount-office", "--witness", nothing, room.setup, room.disk, room.folder), capture_output=True,
-                                     timeout=10)
-                same(f"the status with '{nothing}'", 2, ran.returncode)
+    new_room.options = ["--witness", words]
+    new_room.start()
+    same("the answer", ["stored 1"], new_room.ask(1, "return 1 1 1 525").out)
+    until(f"it says why, {why}", lambda: any("no witness" in it and it.endswith(f": {why}") for it in new_room.office.error))
+    same("the end", 0, new_room.stop())
+    for nothing in ("", " ", "ssh 'other"):
+        status, _ = new_room.zhcount_office("--witness", nothing, new_room.setup, new_room.disk, new_room.folder)
+        same(f"the status with '{nothing}'", 2, status)
 
 
-def test_folder_of_another_witness(room):
+def test_folder_of_another_witness(new_room):
     """a folder that another witness has is refused by a text; that one ends when it has heard nothing for 20 seconds"""
-    first = room.process(Process, room.script("zhcount-witness", room.copy))
+    first = new_room.process(Process, new_room.script("zhcount-witness", new_room.copy))
     until("it is ready", lambda: "ready" in first.out)
     begun = time.monotonic()
-    ran = subprocess.run(room.script("zhcount-office", "--rebuild", room.copy, room.other / "new"), capture_output=True, text=True)
-    same("a rebuilding meanwhile", (1, f"not made: an office or a witness runs in {room.copy}: end it first\n"), (ran.returncode, ran.stdout))
-    room.start()
-    refused = f"it has ended: zhcount-witness: {room.copy}: another witness, or an office, has this folder"
-    until("it says so", lambda: refused in room.office.said())
-    same("the answer", ["stored 1"], room.ask(1, "return 1 1 1 525").out)
+    same("a rebuilding meanwhile", (1, f"not made: an office or a witness runs in {new_room.copy}: end it first\n"),
+         new_room.zhcount_office("--rebuild", new_room.copy, new_room.other / "new"))
+    new_room.start()
+    refused = f"it has ended: zhcount-witness: {new_room.copy}: another witness, or an office, has this folder"
+    until("it says so", lambda: refused in new_room.office.said())
+    same("the answer", ["stored 1"], new_room.ask(1, "return 1 1 1 525").out)
     same(f"the status of the first: {first.said()}", 1, first.wait())
     that(f"not before 15 seconds: {time.monotonic() - begun}", time.monotonic() - begun > 15)
-    same("what it says", f"zhcount-witness: {room.copy}: nothing has come for 20 seconds", first.said())
-    until("the other has the folder", lambda: "the witness is there since" in room.office.said())
-    room.stop()
-    same("what differs", [], room.differing())
+    same("what it says", f"zhcount-witness: {new_room.copy}: nothing has come for 20 seconds", first.said())
+    until("the other has the folder", lambda: "the witness is there since" in new_room.office.said())
+    new_room.stop()
+    same("what differs", [], new_room.differing())
 
 
-def test_refused_folder(room):
+def test_refused_folder(new_room):
     """a folder that others may use, or that can't be made, is refused by a text; so are words of no form"""
-    room.copy.mkdir(0o755)
-    for folder, text, said in [(room.copy, "", f"others may use {room.copy}: 'chmod 2750 {room.copy}' makes it right"),
-                               (room.other / "no/copy", "", "No such file or directory"),
-                               (room.other / "new", "append protocol x\n", "what came is of no form: append protocol x"),
-                               (room.other / "new", "add protocol 0\n", "what came is of no form: add"),
-                               (room.other / "new", "append lines.1 1\n\n", "what came is of no form: append lines.1 1")]:
-        refused = room.process(Process, room.script("zhcount-witness", folder))
+    new_room.copy.mkdir(0o755)
+    for folder, text, said in [(new_room.copy, "", f"others may use {new_room.copy}: 'chmod 2750 {new_room.copy}' makes it right"),
+                               (new_room.other / "no/copy", "", "No such file or directory"),
+                               (new_room.other / "new", "append protocol x\n", "what came is of no form: append protocol x"),
+                               (new_room.other / "new", "add protocol 0\n", "what came is of no form: add"),
+                               (new_room.other / "new", "append lines.1 1\n\n", "what came is of no form: append lines.1 1")]:
+        refused = new_room.process(Process, new_room.script("zhcount-witness", folder))
         same(f"the status: {refused.said()}", 1, refused.end(text))
         that(f"it says so: {refused.said()}", refused.said().startswith(f"zhcount-witness: {folder}: {said}"))
 
@@ -312,14 +284,14 @@ runpy.run_path(sys.argv[0], run_name="__main__")
 '''
 
 
-def test_lock_before_the_files(room):
+def test_lock_before_the_files(new_room):
     """what a witness still wrote while the next one waited for the folder stays"""
     record = "2026-11-29T18:00:00.000+01:00\t1\t1\t1\t1\tnew\tclose 1\t\n"
-    (room.other / "slow.py").write_text(SLOW_LOCK.replace("RECORD", repr(record)))
-    room.copy.mkdir(0o750)
-    words = [sys.executable, room.other / "slow.py", *room.script("zhcount-witness", room.copy)[-2:]]
+    (new_room.other / "slow.py").write_text(SLOW_LOCK.replace("RECORD", repr(record)))
+    new_room.copy.mkdir(0o750)
+    words = [sys.executable, new_room.other / "slow.py", *new_room.script("zhcount-witness", new_room.copy)[-2:]]
     ran = subprocess.run(words, stdin=subprocess.DEVNULL, capture_output=True, text=True)
-    same(f"what it has: {ran.stderr}", record, (room.copy / "protocol").read_text())
+    same(f"what it has: {ran.stderr}", record, (new_room.copy / "protocol").read_text())
     that(f"what it says: {ran.stdout}", f"has protocol {len(record)} " in ran.stdout)
 
 
@@ -333,7 +305,7 @@ def test_start_waits_for_it():
         until("the start is noted", lambda: (room.folder / "protocol").exists() and room.records("protocol")[-1:] and
               room.records("protocol")[-1].mark == "state")
         stays("no desk is let in", lambda: not (room.folder / "lines.1").exists() and "start 1" not in desk.said(), 2)
-        until(f"the desk says it: {desk.said()}", lambda: "waiting for the witness since" in desk.said())
+        desk.says("waiting for the witness since")
         same("the end of an office that waits", 0, room.stop())
         room.start(is_awaited=False)
         room.away.unlink()
@@ -345,7 +317,6 @@ def test_start_waits_for_it():
 
 def test_spoilt_in_the_night(room):
     """a witness that has something else in the middle of a night is none, and the office goes on"""
-    room.start()
     desk = room.desk(1)
     same("the answer", "stored 1", desk.send("return 1 1 1 525"))
     room.has_all()
@@ -354,21 +325,19 @@ def test_spoilt_in_the_night(room):
     path = room.copy / "protocol.1"
     path.write_bytes(path.read_bytes().replace(b"525", b"526"))
     room.away.unlink()
-    until("the log says it", lambda: "still no witness: the witness has another protocol.1" in room.office.said())
+    room.office.says("still no witness: the witness has another protocol.1")
     same("the answer", "stored 3", desk.send("return 1 1 3 540"))
     same("the end", 0, room.stop())
 
 
 def test_unanswered_at_the_end():
     """an answer that the witness does not have at the end is shown to nobody, and given after the next start"""
-    with Witnessed("--witness-required") as room:
-        room.start()
+    with running(Witnessed("--witness-required")) as room:
         desk = room.desk(1)
         same("the answer", "stored 1", desk.send("return 1 1 1 525"))
         room.lose_witness()
-        until("the log says it", lambda: "waiting for the witness since" in room.office.said())
-        desk.write("return 1 1 2 530\n")
-        until("the line is noted", lambda: room.records("protocol")[-1].text == "return 1 1 2 530")
+        room.office.says("waiting for the witness since")
+        room.note(desk, "return 1 1 2 530")
         same("the end", 0, room.stop())
         that(f"it says so: {room.office.said()}", "unanswered, since the witness does not have it: desk 1: return 1 1 2 530" in room.office.error[-1])
         same("what desk 1 was shown", ["stored 1"], desk.out)
@@ -418,4 +387,4 @@ def test_either_is_lost():
         wait_for_answers(room, entering, 300)
         room.lose_office()
         leave(entering)
-        check_what_is_held(room, entering, room.rebuilt())
+        check_what_is_held(room, entering, room.rebuilt_from_witness())

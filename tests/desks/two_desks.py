@@ -1,11 +1,8 @@
 """The night of two desks, whose lines are each sent once the one before is answered, whatever is stopped meanwhile."""
-import os
 import re
 import signal
-import subprocess
 import zlib
 
-from places import PROGRAM
 from room import final_answers, same, that, until
 
 # The lines of the night: the desk, the line, and its answer where nothing is stopped. Between two parts the office is told to end, and
@@ -213,8 +210,5 @@ class Night:
     def check_rebuilt(self):
         """The disk made anew from the protocols has the same export."""
         disk = self.room.path / "rebuilt.disk"
-        ran = subprocess.run(self.room.script("zhcount-office", "--rebuild", self.room.folder, disk), capture_output=True, text=True,
-                             env={**os.environ, **self.room.environment})
-        same(f"a disk made anew: {ran.stdout}{ran.stderr}", 0, ran.returncode)
-        found = subprocess.run([PROGRAM, "export", "--setup", self.room.setup, "--disk", disk], capture_output=True, text=True)
-        same("the export of the disk made anew", EXPORT, found.stdout)
+        self.room.rebuilt(self.room.folder, disk)
+        same("the export of the disk made anew", EXPORT, self.room.zhcount("export", disk=disk))

@@ -5,7 +5,6 @@ import random
 import shlex
 import shutil
 import signal
-import subprocess
 import sys
 import tempfile
 import threading
@@ -13,7 +12,6 @@ import time
 
 from canton import Canton, Chance
 from office import Office
-from places import PROGRAM
 from room import Desk, Room, same, that, until
 
 MIRRORED = ("setup.toml", "protocol", *(f"protocol.{desk}" for desk in range(1, 9)))
@@ -71,19 +69,13 @@ class Witnessed(Room):
     def has_all(self):
         until("the witness has all", lambda: not self.differing())
 
-    def rebuilt(self):
+    def rebuilt_from_witness(self):
         """A disk that is made anew from the witness, once that has ended."""
         disk = self.other / f"rebuilt-{time.monotonic_ns()}"
         until("the witness has ended", lambda: not self.witness())
-        ran = subprocess.run(self.script("zhcount-office", "--rebuild", self.copy, disk), env={**os.environ, **self.environment},
-                             capture_output=True, text=True)
-        same(f"the status of the rebuilding: {ran.stdout}{ran.stderr}", 0, ran.returncode)
+        self.rebuilt(self.copy, disk)
+        same("its set-up", self.setup.read_bytes(), (self.copy / "setup.toml").read_bytes())
         return disk
-
-    def of(self, disk, task):
-        """What a task says of a disk that was made anew."""
-        words = [PROGRAM, task, "--setup", self.copy / "setup.toml", "--disk", disk]
-        return subprocess.run(words, stdin=subprocess.DEVNULL, capture_output=True, text=True).stdout
 
 
 def kill(pid):
@@ -201,10 +193,10 @@ def leave(entering):
 def check_what_is_held(room, entering, disk):
     """The disk that was made anew has what these desks were shown; and its status says what is closed."""
     held = {}
-    for row in room.of(disk, "export").splitlines()[1:]:
+    for row in room.zhcount("export", disk=disk).splitlines()[1:]:
         municipality, group, number, votes = row.split(",")
         held[int(municipality), int(group)] = int(number), None if votes == "withdrawn" else int(votes)
-    rows = [it.split(",") for it in room.of(disk, "status").splitlines()[1:]]
+    rows = [it.split(",") for it in room.zhcount("status", disk=disk).splitlines()[1:]]
     closed = {int(it[0]) for it in rows if it[0].isdigit() and len(it) > 5 and it[3] == "closed"}
     for it in entering:
         it.check(held, closed)
@@ -222,5 +214,5 @@ def night_that_is_lost(seed, words=None, device=None):
         time.sleep(chance.random() / 50)
         room.lose_office()
         count = leave(entering)
-        check_what_is_held(room, entering, room.rebuilt())
+        check_what_is_held(room, entering, room.rebuilt_from_witness())
         return count
