@@ -247,7 +247,7 @@ class Room:
     def zhcount_office(self, *words, program=PROGRAM):
         """The status and the text of zhcount-office with these arguments."""
         ran = subprocess.run(self.script("zhcount-office", *words), env={**os.environ, "ZHCOUNT": str(program)}, capture_output=True,
-                             text=True)
+                             text=True, timeout=SECONDS)
         return ran.returncode, ran.stdout + ran.stderr
 
     def replay(self):
