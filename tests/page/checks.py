@@ -1,4 +1,4 @@
-"""The checks of the cases: what stands in the files when a case calls `zhcount check` (docs/CASES.md, "Turns on files")."""
+"""The checks of the cases: what stands in the files when a case calls `zhcount check` (docs/CASES.md, "Turns on files, and the program")."""
 import re
 
 from cases import turns

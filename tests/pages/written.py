@@ -57,7 +57,7 @@ def numbers(tree):
         ("definitions", f"{len(tree.definitions):,}", f"`headline` reaches {len(reached_by_headline(tree))} of them"),
         ("clauses that promise something", f"{sum(bool(it.text) for it in tree.clauses):,}",
          "each `ensures` of a function or a trait"),
-        ("wrong bodies", f"{gravest + others:,}", f"`rt ci` tries the {gravest} gravest each time, and `make wrong-bodies` all; "
+        ("wrong bodies", f"{gravest + others:,}", f"`rt ci` tries the {gravest} gravest when it proves their crates, and `make wrong-bodies` all; "
          "`tests/edits --differ` says which crates owe a trial"),
         ("cases", f"{cases:,}, with {turns:,} turns", "run by the proved program `zh_cases`, as LLVM builds it and as Rattle does"),
         ("tests in code", found("crates/*/src/**/*.rt", "^ *#.test."), "proved like any function, and run"),
