@@ -42,6 +42,7 @@ def test_every_ten_seconds():
         until("the next", lambda: link_of(room) == "now-2", 25)
         after = (room.folder / "now-2/disk").stat().st_ctime - first
         that(f"after {after:.1f} seconds", 9.5 < after < 20)
+        until("the first is gone", lambda: names_of_now(room) == ["now", "now-2"])
         stays("nothing is copied where nothing has changed", lambda: names_of_now(room) == ["now", "now-2"])
         room.stop()
 
