@@ -11,6 +11,8 @@ from places import PROGRAM
 
 sys.dont_write_bytecode = True
 os.environ["PYTHONDONTWRITEBYTECODE"] = "1"  # of the scripts that are run
+# Scripts are run by the Python that runs the tests: one that is found by a shim takes ten times as long to start.
+os.environ["PATH"] = os.pathsep.join([os.path.dirname(sys.executable), os.environ["PATH"]])
 if "ZHCOUNT" in os.environ:
     os.environ["ZHCOUNT"] = str(PROGRAM)  # wherever they are run
 

@@ -121,20 +121,19 @@ def test_libraries(tree):
 
 
 def test_nothing_changed(tree):
-    """The one in turn is tried, and the one with the fewest."""
-    tree.differs("none; others: zh_high")
+    """The one in turn is tried; in which folder an edit stands makes no difference."""
     (tree.top / "crates/zh_low/must-fail").mkdir()
     shutil.move(tree.top / "tests/wrong_bodies/zh_low/step_of_three.edit", tree.top / "crates/zh_low/must-fail")
-    tree.differs("none")
+    tree.differs("none; in turn: zh_high (1 of 1)")
 
 
 @pytest.mark.parametrize("path, old, new, which", [
-    ("src/lib.rt", "    n + 1", "    1 + n", "zh_low; others"),
-    ("specs/Next.antt", "{ℕ, ", "{ℤ, ℕ, ", "zh_low zh_high; others"),
-    ("src/lib.rt", "n ≤ 90", "n ≤ 91", "zh_low zh_high; others"),
+    ("src/lib.rt", "    n + 1", "    1 + n", "zh_low; in turn"),
+    ("specs/Next.antt", "{ℕ, ", "{ℤ, ℕ, ", "zh_low zh_high; in turn"),
+    ("src/lib.rt", "n ≤ 90", "n ≤ 91", "zh_low zh_high; in turn"),
     ("src/lib.rt", "fn stepped(n: u64) -> u64\n    requires { n ≤ 100 }", "fn stepped(n: u64) -> u64\n    requires { n ≤ 101 }",
-     "zh_low; others"),
-    ("src/lib.rt", "    n + 1", "    // one more\n    n + 1", "none; others"),
+     "zh_low; in turn"),
+    ("src/lib.rt", "    n + 1", "    // one more\n    n + 1", "none; in turn"),
 ], ids=["a body", "a spec", "a public clause", "a private clause", "a comment"])
 def test_changed(tree, path, old, new, which):
     tree.change(f"crates/zh_low/{path}", old, new)
@@ -142,10 +141,10 @@ def test_changed(tree, path, old, new, which):
 
 
 def test_in_turn(tree):
-    """One more commit: the last crate that was touched, and the first in turn."""
+    """One more commit, and it is the turn of the first, which is tried anyway as it changed."""
     tree.change(tree.low, "    n + 1", "    1 + n")
     tree.commit()
-    tree.differs("zh_low; others: none")
+    tree.differs("zh_low; in turn: none")
 
 
 def test_many_changed(tree):
@@ -153,7 +152,7 @@ def test_many_changed(tree):
     tree.change(tree.low, "    n + 1", "    1 + n")
     for name in ("zh_5", "zh_4", "zh_3", "zh_2", "zh_1"):
         tree.add_crate(name)
-    tree.differs("zh_low zh_1 zh_2 zh_3 zh_4 zh_5; others")
+    tree.differs("zh_low zh_1 zh_2 zh_3 zh_4 zh_5; in turn")
     tree.add_crate("zh_0")
     tree.says(1, "7 crates owe a trial", 'make wrong-bodies CRATES="zh_low zh_0 zh_1 zh_2 zh_3 zh_4 zh_5"', words=["--differ"])
 
@@ -163,9 +162,8 @@ def test_part_of_a_crate(tree, tmp_path):
     tree.spoil(tmp_path / "tool", "tree.py", "MOST_OF_A_CRATE = 30", "MOST_OF_A_CRATE = 3")
     refused = tree.top / "crates/zh_low/out/refused"
     refused.unlink()
-    (tree.top / "crates/zh_low/note").touch()
     tree.commit()
-    tree.says(0, "zh_low: 2 of 2 refused at a goal of their own", f"{CHANGED}: none; others: zh_low (2 of 4)", words=[])
+    tree.says(0, "zh_low: 2 of 2 refused at a goal of their own", f"{CHANGED}: none; in turn: zh_low (2 of 4)", words=[])
     tree.commit()
     tree.commit()
     tree.says(0, words=[])
@@ -210,7 +208,7 @@ def test_fault_in_sums(tree, tmp_path):
     tree.spoil(tmp_path / "tool", "tree.py", 'return [*self.without_comments(crate, "specs"), *lemmas', "return [*lemmas")
     tree.says(0)
     tree.change("crates/zh_low/specs/Next.antt", "{ℕ, ", "{ℤ, ℕ, ")
-    tree.differs("zh_low; others")
+    tree.differs("zh_low; in turn")
 
 
 def test_fault_in_what_is_kept(tree, tmp_path):

@@ -1,4 +1,4 @@
-"""The wrong bodies of the crates that changed, and of two more, over what `rt ci` has proved."""
+"""The wrong bodies of the crates that changed, and of one in turn, over what `rt ci` has proved."""
 import subprocess
 
 import pytest

@@ -108,22 +108,13 @@ class Tree:
         """The sum of the sources of all crates."""
         return hashlib.sha256(repr([(it, self.files(it, *PARTS)) for it in self.named]).encode()).hexdigest()
 
-    def git(self, *words):
-        """The lines that git prints, none where there is no history."""
-        try:
-            ran = subprocess.run(["git", *words], cwd=self.top, stdout=subprocess.PIPE, stderr=subprocess.DEVNULL, text=True)
-            return ran.stdout.split("\n")[:-1] if ran.returncode == 0 else []
-        except OSError:
-            return []
-
     def commits(self):
-        return int((self.git("rev-list", "--count", "HEAD") or ["0"])[0])
-
-    def touched_last(self):
-        """The crates that the last commit below crates/ touched."""
-        last = self.git("log", "-1", "--format=%H", "--", "crates")
-        files = self.git("show", "--format=", "--name-only", last[0], "--", "crates") if last else []
-        return {it.split("/")[1] for it in files if it.count("/") > 1}
+        """How many there are, none where there is no history."""
+        try:
+            return int(subprocess.run(["git", "rev-list", "--count", "HEAD"], cwd=self.top, stdout=subprocess.PIPE, stderr=subprocess.DEVNULL,
+                                      check=True).stdout)
+        except (OSError, subprocess.CalledProcessError):
+            return 0
 
 
 class Passed:
@@ -168,12 +159,9 @@ class Refused:
             self.path.write_text("".join(f"{it}\n" for it in kept), encoding="utf-8")
 
 
-def two_more(tree):
-    """The crate with the fewest wrong bodies of those that the last commit below crates/ touched, and one in turn."""
-    touched = [it for it in tree.with_edits if it in tree.touched_last()]
-    fewest = [min(touched, key=lambda it: len(tree.edits(it)))] if touched else []
-    in_turn = tree.with_edits[tree.commits() % len(tree.with_edits)] if tree.with_edits else None
-    return list(dict.fromkeys([*fewest, *filter(None, [in_turn])]))
+def in_turn(tree):
+    """The crate whose turn it is, one at each commit; None where no crate has wrong bodies."""
+    return tree.with_edits[tree.commits() % len(tree.with_edits)] if tree.with_edits else None
 
 
 def share(tree, crate):
