@@ -30,24 +30,19 @@ def votes_in(office):
     return votes
 
 
-def sheet_fault(office, sheet):
-    """What is wrong with a sheet of what the office holds; '' if nothing is."""
+def check_sheet(office, sheet):
+    """A sheet of what the office holds is that of the model, but for its divisors, of which many are right."""
     kind, commands = sheet.split()[2:4]
     election = model.Election(cantons.HOUSE, office.canton.persons, votes_in(office), names=cantons.CONSTITUENCIES, groups=cantons.LISTS)
-    wanted = election.sheet(kind, int(commands)).splitlines()
-    for found, line in zip(plain(sheet).splitlines(), map(plain, wanted)):
-        if found != line:
-            return f"printed: {found}; computed: {line}"
+    assert plain(sheet).splitlines() == plain(election.sheet(kind, int(commands))).splitlines()
     rows, columns = totals("constituency", sheet), totals("group", sheet)
     seated = [g for g, (seats, _) in enumerate(columns) if seats]
     question = [[row[g] or 0 for g in seated] for row in election.votes]
-    is_right = model.is_right(question, [seats for seats, _ in rows], [columns[g][0] for g in seated],
-                              [divisor for _, divisor in rows], [columns[g][1] for g in seated])
-    return "" if is_right and len(wanted) == len(sheet.splitlines()) else "its seats do not follow from its divisors"
+    assert model.is_right(question, [seats for seats, _ in rows], [columns[g][0] for g in seated],
+                          [divisor for _, divisor in rows], [columns[g][1] for g in seated])
 
 
 def plain(sheet):
-    """The sheet without its divisors, of which many are right."""
     return re.sub(r" divisor \S+", "", sheet)
 
 
@@ -57,57 +52,21 @@ def totals(word, sheet):
     return [(int(seats), None if divisor == "-" else int(divisor.replace(".", ""))) for seats, divisor in rows]
 
 
-class Night:
-    """A night that the program had in this folder, beside what the manual says of it."""
-
-    def __init__(self, room, seed):
-        self.room, self.office = room, offices.Office(cantons.Canton(cantons.Chance(seed)))
-        self.found, self.answers, self.sheets = [], 0, 0
-        copied = (room / "evening.status").read_text()
-        commands = int(re.search(r"(\d+) commands;", copied)[1])
-        least, status = self.compare("evening", commands)
-        if commands < least or copied != status:
-            self.found.append(f"the status of the copy: {copied}")
-        self.compare_status("stop")
-        self.office.stop()
-        self.compare("night")
-        self.compare_status("night")
-        for disk in ("copy.disk", "night.disk"):
-            self.compare_read(self.room / disk)
-
-    def compare(self, part, copied=None):
-        """Compares the answers of a part. How many commands half of them had, and the status after as many as a copy has."""
-        lines = (self.room / part).read_text().splitlines()
-        given = answers_of((self.room / f"{part}.answers").read_text())
-        if len(lines) != len(given):
-            self.found.append(f"{part}: {len(lines)} lines and {len(given)} answers")
-        at_half, at_copy = 0, ""
-        for count, (line, answer) in enumerate(zip(lines, given), 1):
-            self.compare_answer(line, answer)
-            if count == len(lines) - len(lines) // 2:
-                at_half = self.office.commands
-            if self.office.commands == copied and not at_copy:
-                at_copy = self.office.status()
-        return at_half, at_copy
-
-    def compare_answer(self, line, answer):
-        wanted = self.office.answer(line)
-        is_sheet = " sheet " in wanted
-        fault = sheet_fault(self.office, answer) if is_sheet and answer.count("\n") > 1 else ""
-        if answer.split("\n")[0] != wanted or fault:
-            self.found.append(f"{line}: {answer.splitlines()[0]}, and not {wanted} {fault}")
-        self.answers, self.sheets = self.answers + 1, self.sheets + is_sheet
-
-    def compare_status(self, name):
-        status, wanted = (self.room / f"{name}.status").read_text(), self.office.status()
-        if status != wanted:
-            self.found.append(f"the status {name}: {status}, and not {wanted}")
-
-    def compare_read(self, disk):
-        exported, read = (subprocess.run(words, stdout=subprocess.PIPE).stdout for words in (
-            [PROGRAM, "export", "--setup", self.room / "setup.toml", "--disk", disk], [TOP / "desks" / "zhcount-read", disk]))
-        if exported != read or read.count(b"\n") < 2:
-            self.found.append(f"{disk.name}: zhcount-read reads {read[-80:]}, and {exported[-80:]} was exported")
+def compare(office, room, part, copied=None):
+    """Each answer of a part is that of the manual. How many commands half of them had, and the status after those of a copy."""
+    lines, given = (room / part).read_text().splitlines(), answers_of((room / f"{part}.answers").read_text())
+    assert len(lines) == len(given)
+    at_half, at_copy = 0, ""
+    for count, (line, answer) in enumerate(zip(lines, given), 1):
+        wanted = office.answer(line)
+        assert answer.split("\n")[0] == wanted, line
+        if " sheet " in wanted:
+            check_sheet(office, answer)
+        if count == len(lines) - len(lines) // 2:
+            at_half = office.commands
+        if office.commands == copied and not at_copy:
+            at_copy = office.status()
+    return at_half, at_copy
 
 
 @pytest.mark.parametrize("seed", SEEDS)
@@ -115,6 +74,18 @@ def test_night(seed, tmp_path, program):
     ran = subprocess.run([TOP / "examples" / "canton" / "run", str(seed)], env={**os.environ, "KEEP": str(tmp_path), "ZHCOUNT": str(program)},
                          stdin=subprocess.DEVNULL, stdout=subprocess.PIPE, stderr=subprocess.STDOUT, text=True)
     assert ran.returncode == 0, ran.stdout
-    night_of = Night(tmp_path, seed)
-    assert not night_of.found[:5]
-    assert night_of.answers and night_of.sheets
+    office = offices.Office(cantons.Canton(cantons.Chance(seed)))
+    status = {it: (tmp_path / f"{it}.status").read_text() for it in ("evening", "stop", "night")}
+    commands = int(re.search(r"(\d+) commands;", status["evening"])[1])
+    at_half, at_copy = compare(office, tmp_path, "evening", commands)
+    assert at_half <= commands
+    assert status["evening"] == at_copy
+    assert status["stop"] == office.status()
+    office.stop()
+    compare(office, tmp_path, "night")
+    assert status["night"] == office.status()
+    assert re.search(r"^\d sheet final ", (tmp_path / "night.answers").read_text(), re.M)
+    for disk in (tmp_path / "copy.disk", tmp_path / "night.disk"):
+        exported, read = (subprocess.run(words, stdout=subprocess.PIPE).stdout for words in (
+            [PROGRAM, "export", "--setup", tmp_path / "setup.toml", "--disk", disk], [TOP / "desks" / "zhcount-read", disk]))
+        assert exported == read and read.count(b"\n") > 1

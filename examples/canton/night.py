@@ -23,12 +23,11 @@ class Desk:
 
     def __init__(self, number, canton, chance):
         self.number, self.canton, self.chance = number, canton, chance
-        self.lines = []
-        self.moment = 0
+        self.lines, self.moment = [], 0
         self.sent = {}  # the number under which a municipality and list were sent last
 
-    def say(self, text):
-        self.lines.append((self.moment, f"{self.number} {text}"))
+    def say(self, *texts):
+        self.lines += [(self.moment, f"{self.number} {text}") for text in texts]
 
     def send(self, municipality, group, votes):
         """The next number's return."""
@@ -52,29 +51,24 @@ class Desk:
     def enter(self, municipality, group, votes):
         """A return, with the mistakes that people make."""
         self.moment += self.chance.below(2)
-        place = f"{municipality} {group}"
+        place, is_in_doubt = f"{municipality} {group}", False
         if (municipality, group) in self.sent:  # something is held already
-            self.say(f"return {place} 1 {votes}")
-            self.say(f"show {place}")
-            self.send(municipality, group, votes)
+            self.say(f"return {place} 1 {votes}", f"show {place}")
         elif self.chance.once_in(40):  # a wrong figure, seen at once
             self.send(municipality, group, votes + 9)
-            self.send(municipality, group, votes)
         elif self.chance.once_in(50):  # a wrong number
-            self.say(f"return {place} 2 {votes}")
-            self.say(f"show {place}")
-            self.send(municipality, group, votes)
+            self.say(f"return {place} 2 {votes}", f"show {place}")
         else:
-            self.send(municipality, group, votes)
-            if self.chance.once_in(30):  # sent again, in doubt
-                self.say(f"return {place} 1 {votes}")
+            is_in_doubt = self.chance.once_in(30)
+        self.send(municipality, group, votes)
+        if is_in_doubt:  # sent again
+            self.say(f"return {place} 1 {votes}")
 
     def enter_batch(self, rows):
         municipality, group, votes = rows[-1]
         if self.chance.once_in(4):  # a wrong number, which only the commit finds
             self.batch(rows[:-1])
-            for text in (f"row {municipality} {group} 2 {votes}", "commit", f"show {municipality} {group}", "drop"):
-                self.say(text)
+            self.say(f"row {municipality} {group} 2 {votes}", "commit", f"show {municipality} {group}", "drop")
         self.batch(rows)
         self.say("commit")
         self.sent |= {row[:2]: 1 for row in rows}
@@ -83,15 +77,13 @@ class Desk:
         self.say("open")
         for municipality, group, votes in rows:
             self.moment += self.chance.below(2)
-            self.say(f"row {municipality} {group} 1 {votes}")
-            if self.chance.once_in(50):  # the same row once more
-                self.say(f"row {municipality} {group} 1 {votes}")
+            row = f"row {municipality} {group} 1 {votes}"
+            self.say(*[row] * (1 + self.chance.once_in(50)))  # at times the same row once more
 
     def correct(self, municipality, group, votes):
         """A correction comes when the municipality is closed already."""
         self.moment += self.chance.between(1, 30)
-        self.say(f"return {municipality} {group} {self.sent[municipality, group] + 1} {votes + 4}")
-        self.say(f"reopen {municipality}")
+        self.say(f"return {municipality} {group} {self.sent[municipality, group] + 1} {votes + 4}", f"reopen {municipality}")
         self.send(municipality, group, votes + 4)
         self.say(f"close {municipality}")
 
@@ -105,15 +97,10 @@ class Desk:
         self.withdraw(other, 1)
 
 
-def arrivals(canton, chance):
-    """The municipalities with the moments in which their returns come, the first one first."""
-    return sorted((chance.between(30, 950), m) for m in canton.municipalities())
-
-
 def desks_of(canton, chance):
     desks = {number: Desk(number, canton, chance) for number in DESKS}
     queues = {number: [] for number in DESKS}
-    for moment, m in arrivals(canton, chance):
+    for moment, m in sorted((chance.between(30, 950), m) for m in canton.municipalities()):  # as returns arrive
         queues[1 + (m - 1) * len(DESKS) // len(canton.names)].append((moment, m))
     for number, queue in queues.items():
         for place, (moment, m) in enumerate(queue):
@@ -124,8 +111,7 @@ def desks_of(canton, chance):
             if number == 2 and place == 5:  # a list turns out not to stand there any more
                 desks[2].say(f"reopen {m}")
                 desks[2].withdraw(m, len(canton.lists_in(m)))
-                desks[2].say(f"show {m} {len(canton.lists_in(m))}")
-                desks[2].say(f"close {m}")
+                desks[2].say(f"show {m} {len(canton.lists_in(m))}", f"close {m}")
     return desks
 
 
@@ -173,7 +159,6 @@ def main(folder, seed=SEED):
         (folder / name).write_text("".join(line + "\n" for line in lines))
         (folder / f"{name}.replies").write_text("".join(office.answer(line) + "\n" for line in lines))
         office.stop()
-    return office
 
 
 if __name__ == "__main__":
