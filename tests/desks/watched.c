@@ -1,6 +1,6 @@
 /* Preloaded under a process, it asks before each call that opens, makes, changes, syncs or renames something below the folder in
  * WATCHED: it sends the process's number, what WATCHED_AS calls it, the call and the path to the socket in WATCHER, a field on each
- * line, and goes on when that answers. Who is to be stopped gets no answer. */
+ * line, and goes on when that closes the connection. */
 #define _GNU_SOURCE
 #include <dlfcn.h>
 #include <errno.h>
@@ -27,7 +27,7 @@ static void send_and_wait(const char *socket_path, const char *text) {
     close(fd);
 }
 
-/* Asks before a call at a path, which is that of `folder` where it is not absolute. */
+/* Asks before a call at a path, which is that of `folder` where it is not absolute. The path of a descriptor alone is "". */
 static void ask(const char *call, int folder, const char *path) {
     const char *below = getenv("WATCHED"), *watcher = getenv("WATCHER"), *as = getenv("WATCHED_AS");
     char link[40], found[PATH_MAX] = "", whole[2 * PATH_MAX], text[3 * PATH_MAX];
@@ -45,27 +45,20 @@ static void ask(const char *call, int folder, const char *path) {
     errno = before;
 }
 
-/* Asks before a call at a descriptor. */
-static void ask_at(const char *call, int file) { ask(call, file, ""); }
-
 /* The function that this one stands before, as `next`. */
 #define NEXT(name) \
     static __typeof__(&name) next; \
     if (!next) next = (__typeof__(&name))dlsym(RTLD_NEXT, #name)
 
-#define AT_DESCRIPTOR(name, call, result, parameters, arguments) \
-    result name parameters { \
-        NEXT(name); \
-        ask_at(call, file); \
-        return next arguments; \
-    }
-
-#define AT_PATH(name, call, result, folder, parameters, arguments) \
+#define ASKING(name, call, result, folder, path, parameters, arguments) \
     result name parameters { \
         NEXT(name); \
         ask(call, folder, path); \
         return next arguments; \
     }
+
+#define AT_DESCRIPTOR(name, call, result, parameters, arguments) ASKING(name, call, result, file, "", parameters, arguments)
+#define AT_PATH(name, call, folder, parameters, arguments) ASKING(name, call, int, folder, path, parameters, arguments)
 
 #define OPENING(name, folder, parameters, arguments) \
     int name parameters { \
@@ -90,20 +83,20 @@ AT_DESCRIPTOR(ftruncate64, "truncate", int, (int file, off64_t length), (file, l
 AT_DESCRIPTOR(fsync, "sync", int, (int file), (file))
 AT_DESCRIPTOR(fdatasync, "sync", int, (int file), (file))
 AT_DESCRIPTOR(fchmod, "chmod", int, (int file, mode_t mode), (file, mode))
-AT_PATH(truncate, "truncate", int, AT_FDCWD, (const char *path, off_t length), (path, length))
-AT_PATH(truncate64, "truncate", int, AT_FDCWD, (const char *path, off64_t length), (path, length))
-AT_PATH(chmod, "chmod", int, AT_FDCWD, (const char *path, mode_t mode), (path, mode))
-AT_PATH(fchmodat, "chmod", int, folder, (int folder, const char *path, mode_t mode, int flags), (folder, path, mode, flags))
-AT_PATH(mkdir, "make", int, AT_FDCWD, (const char *path, mode_t mode), (path, mode))
-AT_PATH(mkdirat, "make", int, folder, (int folder, const char *path, mode_t mode), (folder, path, mode))
-AT_PATH(mkfifo, "make", int, AT_FDCWD, (const char *path, mode_t mode), (path, mode))
-AT_PATH(mkfifoat, "make", int, folder, (int folder, const char *path, mode_t mode), (folder, path, mode))
-AT_PATH(unlink, "unlink", int, AT_FDCWD, (const char *path), (path))
-AT_PATH(unlinkat, "unlink", int, folder, (int folder, const char *path, int flags), (folder, path, flags))
-AT_PATH(rmdir, "unlink", int, AT_FDCWD, (const char *path), (path))
-AT_PATH(rename, "rename", int, AT_FDCWD, (const char *path, const char *to), (path, to))
-AT_PATH(renameat, "rename", int, folder, (int folder, const char *path, int into, const char *to), (folder, path, into, to))
-AT_PATH(link, "link", int, AT_FDCWD, (const char *path, const char *to), (path, to))
-AT_PATH(linkat, "link", int, folder, (int folder, const char *path, int into, const char *to, int flags),
+AT_PATH(truncate, "truncate", AT_FDCWD, (const char *path, off_t length), (path, length))
+AT_PATH(truncate64, "truncate", AT_FDCWD, (const char *path, off64_t length), (path, length))
+AT_PATH(chmod, "chmod", AT_FDCWD, (const char *path, mode_t mode), (path, mode))
+AT_PATH(fchmodat, "chmod", folder, (int folder, const char *path, mode_t mode, int flags), (folder, path, mode, flags))
+AT_PATH(mkdir, "make", AT_FDCWD, (const char *path, mode_t mode), (path, mode))
+AT_PATH(mkdirat, "make", folder, (int folder, const char *path, mode_t mode), (folder, path, mode))
+AT_PATH(mkfifo, "make", AT_FDCWD, (const char *path, mode_t mode), (path, mode))
+AT_PATH(mkfifoat, "make", folder, (int folder, const char *path, mode_t mode), (folder, path, mode))
+AT_PATH(unlink, "unlink", AT_FDCWD, (const char *path), (path))
+AT_PATH(unlinkat, "unlink", folder, (int folder, const char *path, int flags), (folder, path, flags))
+AT_PATH(rmdir, "unlink", AT_FDCWD, (const char *path), (path))
+AT_PATH(rename, "rename", AT_FDCWD, (const char *path, const char *to), (path, to))
+AT_PATH(renameat, "rename", folder, (int folder, const char *path, int into, const char *to), (folder, path, into, to))
+AT_PATH(link, "link", AT_FDCWD, (const char *path, const char *to), (path, to))
+AT_PATH(linkat, "link", folder, (int folder, const char *path, int into, const char *to, int flags),
         (folder, path, into, to, flags))
-AT_PATH(symlink, "link", int, AT_FDCWD, (const char *of, const char *path), (of, path))
+AT_PATH(symlink, "link", AT_FDCWD, (const char *of, const char *path), (of, path))
