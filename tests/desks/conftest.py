@@ -3,7 +3,6 @@ import pytest
 
 from nights import Night
 from room import Room
-from watch import prepare
 
 
 @pytest.fixture(autouse=True)
@@ -29,9 +28,3 @@ def room(new_room):
 def night():
     with Night() as night:
         yield night
-
-
-@pytest.fixture
-def place(tmp_path):
-    """A folder with what a watched room needs."""
-    return prepare(tmp_path)

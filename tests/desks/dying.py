@@ -1,9 +1,7 @@
 """Rooms whose scripts are killed at a moment."""
-import pathlib
-import shutil
-import tempfile
+import re
 
-from room import SCRIPTS, Room, same
+from room import Room
 
 # Where the office or the desk is killed: before this line.
 OFFICE_MOMENTS = ["self.at_work = record = dataclasses.replace(record, line=self.lines)",
@@ -21,29 +19,20 @@ def die_at(number):
         os.unlink(at)
         os.kill(os.getpid(), 9)
 
-'''
+
+if __name__'''
 
 
 class Dying(Room):
     """A room whose scripts are killed at a moment, once it is armed for that."""
 
     def __init__(self, name, moments):
-        copy = pathlib.Path(tempfile.mkdtemp(prefix="desks-dying-"))
-        shutil.copytree(SCRIPTS, copy, dirs_exist_ok=True)
-        lines = []
-        for line in (SCRIPTS / name).read_text().splitlines():
-            if line.strip() in moments:
-                lines.append(line[:len(line) - len(line.lstrip())] + f"die_at({moments.index(line.strip())})")
-            lines += [*(DYING.splitlines() if line.startswith("if __name__") else ()), line]
-        planted = sorted(int(it.strip()[7:-1]) for it in lines if it.strip().startswith("die_at("))
-        same("the moments", list(range(len(moments))), planted)
-        (copy / name).write_text("\n".join(lines) + "\n")
-        self.flag = copy / "at"
-        super().__init__(scripts=copy, environment={"KILL_AT": str(self.flag)})
-
-    def __exit__(self, *fault):
-        super().__exit__(*fault)
-        shutil.rmtree(self.scripts)
+        super().__init__()
+        self.flag = self.path / "at"
+        self.environment["KILL_AT"] = str(self.flag)
+        for number, moment in enumerate(moments):
+            self.edit_script(name, rf"^( *)(?={re.escape(moment)}$)", rf"\1die_at({number})\n\1")
+        self.edit_script(name, "^if __name__", DYING)
 
     def arm(self, number):
         self.flag.write_text(str(number))

@@ -4,7 +4,7 @@ import hashlib
 import os
 import re
 
-from places import PROGRAM, REHEARSAL
+from places import REHEARSAL
 from room import Count, Room, same
 
 from zhcount_desks import Record
@@ -38,8 +38,8 @@ class Night(Room):
         (self.folder / "held.csv").write_bytes(held)
         self.write("protocol", "state", f"{self.count.commands} commands", hashlib.sha256(held).hexdigest())
 
-    def begin(self):
-        """A start, after the stop of one that was killed."""
+    def begin(self, lines=(), fate="answered"):
+        """A start with these lines, after the stop of one that was killed."""
         if self.start:
             self.write("protocol", "stop", "killed")
         if self.open_line:
@@ -49,15 +49,15 @@ class Night(Room):
         for name in ("protocol", *(f"protocol.{desk}" for desk in range(1, 9))):
             self.write(name, "start")
         self.state()
+        self.send(lines, fate)
 
     def end(self):
         self.write("protocol", "stop", "told to")
         self.state()
 
-    def send(self, lines, fate="answered"):
-        """Lines of a start, each 'N LINE'. The last one is answered; or it is kept by a stop, or lost, and not answered."""
-        is_run = lines[:-1] if fate == "lost" else lines
-        answers = self.answers(is_run) if is_run else []
+    def send(self, lines, fate):
+        """Lines of the start, each 'N LINE'. The last one is answered; or it is kept by a stop, or lost, and not answered."""
+        answers = self.answers(lines[:-1] if fate == "lost" else lines)
         for place, spelled in enumerate(lines):
             desk, text = int(spelled[0]), spelled[2:]
             answer = answers[place] if place < len(answers) else None
@@ -91,21 +91,18 @@ class Night(Room):
 
     # What is done with it
 
-    def rebuild(self, *more, program=PROGRAM):
-        self.new.unlink() if os.path.lexists(self.new) else None
-        return self.zhcount_office("--rebuild", self.folder, self.new, *more, program=program)
+    def rebuild(self, *more, status=0):
+        self.new.unlink(missing_ok=True)
+        return self.zhcount_office("--rebuild", self.folder, self.new, *more, status=status)
 
     def made(self, *more):
         """What is said where the disk is made, and the export of that disk."""
-        status, said = self.rebuild(*more)
-        same(f"the status, {said}", 0, status)
-        return said, self.zhcount("export", disk=self.new)
+        return self.rebuild(*more), self.zhcount("export", disk=self.new)
 
-    def refused(self, *more, program=PROGRAM):
+    def refused(self, *more):
         """What is said where no disk is made, and nothing is left."""
         before = sorted(os.listdir(self.path))
-        status, said = self.rebuild(*more, program=program)
-        same(f"the status, {said}", 1, status)
+        said = self.rebuild(*more, status=1)
         same("the files beside", [it for it in before if it != self.new.name], sorted(os.listdir(self.path)))
         return said
 

@@ -19,6 +19,25 @@ SCRIPTS = pathlib.Path(os.environ.get("DESKS", TOP / "desks"))
 SECONDS = int(os.environ.get("PATIENCE", "90"))  # a busy machine may take long
 MODES = {"lines": "prw--w----", "bell": "prw-r-----", "sent": "-rw-rw----", "protocol": "-rw-r-----", "status": "-rw-r-----",
          "held": "-rw-r-----", "setup": "-rw-r-----", "office": "-rw-r-----"}
+HAS_ENDED = "(it has ended)"  # what a desk gives as its answer that has none
+# Runs a script, and notes each of these calls, its file, and what it says on standard output, or else the size of the file.
+TRACED = '''
+import os, runpy, sys
+real = {it: getattr(os, it) for it in ("fsync", "write", "rename")}
+def traced(name):
+    def call(at, *more):
+        found = real[name](at, *more)
+        path, is_said = more[0] if name == "rename" else f"/proc/self/fd/{at}", (name, at) == ("write", 1)
+        note = f"{os.path.basename(os.path.realpath(path))} {more[0][:30] if is_said else os.stat(path).st_size}"
+        real["write"](trace, f"{'said' if is_said else name} {note}\\n".encode())
+        return found
+    return call
+trace = os.open(os.environ["TRACE"], os.O_WRONLY | os.O_CREAT | os.O_APPEND)
+for it in real:
+    setattr(os, it, traced(it))
+sys.argv = sys.argv[1:]
+runpy.run_path(sys.argv[0], run_name="__main__")
+'''
 
 sys.path.insert(0, str(SCRIPTS))
 from zhcount_desks import records_in
@@ -34,11 +53,11 @@ def that(what, holds):
 
 
 def until(what, holds, seconds=SECONDS):
-    """Waits until something holds."""
+    """Waits until something holds, and gives it. Where it does not, `what` says that, or what it says by then as a function."""
     end = time.monotonic() + seconds
     while not (found := holds()):
         if time.monotonic() > end:
-            raise AssertionError(f"not after {seconds} seconds: {what}")
+            raise AssertionError(f"not after {seconds} seconds: {what() if callable(what) else what}")
         time.sleep(0.01)
     return found
 
@@ -54,9 +73,9 @@ def stays(what, holds, seconds=0.5):
 class Process:
     """A process with pipes, whose output is read as it comes."""
 
-    def __init__(self, words, environment=None):
+    def __init__(self, words, environment):
         streams = dict.fromkeys(("stdin", "stdout", "stderr"), subprocess.PIPE)
-        self.process = subprocess.Popen([str(it) for it in words], env={**os.environ, **(environment or {})}, bufsize=0, **streams)
+        self.process = subprocess.Popen([str(it) for it in words], env={**os.environ, **environment}, bufsize=0, **streams)
         self.out, self.error = [], []
         self.readers = [threading.Thread(target=self.read, args=it, daemon=True)
                         for it in ((self.process.stdout, self.out), (self.process.stderr, self.error))]
@@ -79,22 +98,24 @@ class Process:
     def says(self, *texts):
         """Waits until it has said all of this."""
         for text in texts:
-            until(f"'{text}' is said: {self.said()}", lambda text=text: text in self.said())
+            until(lambda: f"'{text}' is said: {self.said()}", lambda: text in self.said())
 
     def kill(self, number=signal.SIGKILL):
         self.process.send_signal(number)
 
-    def end(self, text=None):
+    def has_ended(self):
+        return self.process.poll() is not None
+
+    def end(self, text=""):
         """Closes its input, after this text, and waits for its end. Its status."""
-        if text:
-            self.write(text)
+        self.write(text)
         self.process.stdin.close()
         return self.wait()
 
-    def wait(self, seconds=SECONDS):
-        status = self.process.wait(seconds)
+    def wait(self):
+        status = self.process.wait(SECONDS)
         for it in self.readers:
-            it.join(seconds)
+            it.join(SECONDS)
         return status
 
 
@@ -103,17 +124,24 @@ class Desk(Process):
 
     taken = 0  # lines of output
 
+    def talk(self, *exchanges):
+        """Sends lines, each with the answer that it has to have: 'LINE -> ANSWER'. The desk."""
+        for line, wanted in (it.split(" -> ") for it in exchanges):
+            same(f"the answer to {line}", wanted, self.send(line))
+        return self
+
     def send(self, line):
         self.write(line + "\n")
         return self.answer(line)
 
-    def answer(self, line=""):
+    def answer(self, line="", meanwhile=lambda: None):
         """The next answer; of a sheet all its lines."""
         def whole():
+            meanwhile()
             found = self.out[self.taken:]
             if found and re.match(r"\d sheet (provisional|final) \d+$", found[0]):
                 return found[:found.index("end") + 1] if "end" in found else None
-            return found[:1] or (["(it has ended)"] if self.process.poll() is not None else None)
+            return found[:1] or ([HAS_ENDED] if self.has_ended() else None)
         answer = until(f"an answer to {line}", whole)
         self.taken += len(answer)
         return "\n".join(answer)
@@ -122,10 +150,9 @@ class Desk(Process):
 class Room:
     """A folder with a set-up, a disk and an office's folder."""
 
-    def __init__(self, setup=REHEARSAL.read_text(), scripts=SCRIPTS, program=PROGRAM, environment=None):
+    def __init__(self, setup=REHEARSAL.read_text()):
         self.path = pathlib.Path(tempfile.mkdtemp(prefix="desks-", dir=self.shared()))
-        self.scripts, self.program = pathlib.Path(scripts), program
-        self.environment = {"ZHCOUNT": str(program), **(environment or {})}
+        self.scripts, self.environment = SCRIPTS, {"ZHCOUNT": str(PROGRAM)}
         self.setup, self.disk, self.folder = self.path / "setup.toml", self.path / "night.disk", self.path / "office"
         self.setup.write_text(setup)
         self.zhcount("format")
@@ -141,9 +168,8 @@ class Room:
 
     def __exit__(self, *_):
         for it in self.processes:
-            with contextlib.suppress(ProcessLookupError):
-                it.kill(signal.SIGCONT)
-                it.kill()
+            it.kill(signal.SIGCONT)
+            it.kill()
             it.process.wait()
         shutil.rmtree(self.path, ignore_errors=True)
 
@@ -158,13 +184,30 @@ class Room:
     def script(self, name, *words):
         return [sys.executable, self.scripts / name, *words]
 
+    def traced(self, name, *words):
+        """As `script`, of a script that notes its calls, which `calls` gives."""
+        self.trace, wrapper = self.path / "trace", self.path / "traced.py"
+        self.environment["TRACE"] = str(self.trace)
+        wrapper.write_text(TRACED)
+        return [sys.executable, wrapper, self.scripts / name, *words]
+
+    def calls(self):
+        return [it.split(" ", 2) for it in self.trace.read_text().splitlines()]
+
+    def edit_script(self, name, pattern, text):
+        """Changes the one place of a script where this regular expression matches, from now on in a copy of the scripts."""
+        if self.scripts == SCRIPTS:
+            self.scripts = shutil.copytree(SCRIPTS, self.path / "scripts")
+        edited, times = re.subn(pattern, text, (self.scripts / name).read_text(), flags=re.MULTILINE)
+        same(f"places with {pattern} in {name}", 1, times)
+        (self.scripts / name).write_text(edited)
+
     def stands_in(self, task):
-        """Has a stand-in for the program do this first, in bash. Its path."""
+        """Has a stand-in for the program do this first, in bash."""
         path = self.path / "stand-in"
         path.write_text(f"#!/bin/bash\n{task}\nexec '{PROGRAM}' \"$@\"\n")
         path.chmod(0o755)
         self.environment["ZHCOUNT"] = str(path)
-        return path
 
     def edits_answers(self, edit):
         """Has the answers of `run` edited on the way."""
@@ -173,29 +216,44 @@ class Room:
     def other_disk(self, *lines):
         """A disk of the same set-up with these lines, and its path."""
         path = self.path / "other.disk"
+        path.unlink(missing_ok=True)
         for task, given in (("format", ""), ("run", "".join(f"1 {it}\n" for it in lines))):
             same(task, 0, self.ran(task, disk=path, given=given).returncode)
         return path
 
     def process(self, kind, words):
-        self.processes.append(kind(words, self.environment))
-        return self.processes[-1]
+        process = kind(words, self.environment)
+        self.processes.append(process)
+        return process
 
     def start(self, is_awaited=True):
         self.office = self.process(Process, self.script("zhcount-office", *self.options, self.setup, self.disk, self.folder))
         if is_awaited:
-            with contextlib.suppress(AssertionError):
-                until("an office", lambda: "desks can send lines" in self.office.said() or self.office.process.poll() is not None)
-            if "desks can send lines" not in self.office.said():
-                raise AssertionError(f"the office does not start: {self.office.said()}")
+            self.await_start()
+            that(f"the office starts: {self.office.said()}", self.serves())
         return self.office
+
+    def serves(self):
+        return "desks can send lines" in self.office.said()
+
+    def await_start(self):
+        """Waits until the office serves, or has ended."""
+        until(lambda: f"the office serves, or ends: {self.office.said()}", lambda: self.serves() or self.office.has_ended())
+
+    def refuses(self, *texts, status=3):
+        """The office does not start, but ends with this status, and says these texts."""
+        self.start(is_awaited=False)
+        self.await_start()
+        that(f"no start, but {texts}", not self.serves())
+        self.ends(status, *texts)
 
     def stop(self, number=signal.SIGTERM):
         self.office.kill(number)
         return self.office.wait()
 
-    def restart(self, number=signal.SIGTERM):
-        self.stop(number)
+    def restart(self):
+        """Kills the office, and starts another one."""
+        self.stop(signal.SIGKILL)
         self.start()
 
     def ends(self, status, *texts):
@@ -244,20 +302,15 @@ class Room:
         self.stop(signal.SIGKILL)
         os.kill(run_process, signal.SIGCONT)
 
-    def zhcount_office(self, *words, program=PROGRAM):
-        """The status and the text of zhcount-office with these arguments."""
-        ran = subprocess.run(self.script("zhcount-office", *words), env={**os.environ, "ZHCOUNT": str(program)}, capture_output=True,
+    def zhcount_office(self, *words, status=0):
+        """What zhcount-office says with these arguments, and ends with this status."""
+        ran = subprocess.run(self.script("zhcount-office", *words), env={**os.environ, **self.environment}, capture_output=True,
                              text=True, timeout=SECONDS)
-        return ran.returncode, ran.stdout + ran.stderr
+        same(f"the status of {words[0]}, which says {ran.stdout}{ran.stderr}", status, ran.returncode)
+        return ran.stdout + ran.stderr
 
-    def replay(self):
-        return self.zhcount_office("--replay", self.folder)
-
-    def rebuilt(self, folder, disk):
-        """What is said where a disk is made anew from a folder."""
-        status, said = self.zhcount_office("--rebuild", folder, disk)
-        same(f"a disk made anew: {said}", 0, status)
-        return said
+    def replay(self, status=0):
+        return self.zhcount_office("--replay", self.folder, status=status)
 
     def edit(self, name, old, new=None):
         """Changes a file of the folder, in which the old text stands once; without a new one its line is taken out."""
@@ -286,20 +339,18 @@ class Room:
     def of_desk(self, number):
         return [it for it in self.records(f"protocol.{number}") if it.is_line()]
 
-    def check(self, sent=None):
+    def check(self, sent=()):
         """Ends the office, if it runs: each line has one final answer, the export is that of the stored commands, and a replay says the
         same."""
-        if self.office.process.poll() is None:
+        if not self.office.has_ended():
             self.stop()
-        for number in range(1, 9):
-            finals = final_answers(self.of_desk(number))
-            if sent and number in sent:
+        records = {number: self.of_desk(number) for number in range(1, 9)}
+        for number, of_desk in records.items():
+            finals = final_answers(of_desk)
+            if number in sent:
                 same(f"the lines of desk {number}", sent[number], [text for text, _ in finals])
-        lines = [it for number in range(1, 9) for it in self.of_desk(number) if it.line]
-        same("the export", export_of(lines), self.zhcount("export"))
-        status, said = self.replay()
-        same(f"the replay: {said}", 0, status)
-        return said
+        same("the export", export_of(it for of_desk in records.values() for it in of_desk if it.line), self.zhcount("export"))
+        return self.replay()
 
 
 @contextlib.contextmanager

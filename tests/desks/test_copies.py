@@ -8,10 +8,10 @@ import signal
 
 import pytest
 
-from now import NEVER, RETURNS, QuickRoom, compare, in_haste, link_of, names_of_now, table_of
+from now import NEVER, RETURNS, QuickRoom, compare, link_of, names_of_now
 from places import PROGRAM
 from room import Room, running, same, stays, that, until
-from watch import COMPILED, WatchedRoom
+from watch import Stop, WatchedRoom, prepare
 from witnessed import Witnessed
 
 # A run that spoils the first byte of the disk for as long as a line is in the air.
@@ -53,14 +53,12 @@ def test_lines_meanwhile():
         room.shows(0)
         same("the answers", ["stored 1", "stored 2"], room.ask(1, *RETURNS[:2]).out)
         room.stop()
-        room.holds()
-        room.start()
-        until("the child", room.child)
-        same("its priority", 19, os.getpriority(os.PRIO_PROCESS, until("a question", room.left_over) and room.child()))
+        room.start_held()
+        same("its priority", 19, os.getpriority(os.PRIO_PROCESS, room.child()))
         same("the answers meanwhile", ["same", "stored 3"], room.ask(2, RETURNS[0], RETURNS[2]).out)
         same("`now` is not there before all is", ["now.new"], names_of_now(room))
         room.goes_on()
-        compare(room, room.shows(2), [f"1 {it}" for it in RETURNS[:2]], "1,1,1,525,1,N,A\n1,2,1,300,1,N,B\n")
+        compare(room, RETURNS[:2])
         room.stop()
 
 
@@ -69,10 +67,8 @@ def test_copies_between_lines():
     with QuickRoom(every=0.05) as room:
         room.stands_in(RUN_THAT_SPOILS.format(program=PROGRAM, disk=room.disk))
         room.start()
-        desk = room.desk(1)
-        for number, line in enumerate(RETURNS, 1):
-            same("the answer", f"stored {number}", desk.send(line))
-        compare(room, room.shows(9), [f"1 {it}" for it in RETURNS], table_of(RETURNS, 1))
+        room.desk(1).talk(*(f"{line} -> stored {number}" for number, line in enumerate(RETURNS, 1)))
+        compare(room, RETURNS)
         same("nothing failed", "", "".join(it for it in room.office.error if "not made anew" in it))
         room.stop()
 
@@ -85,11 +81,8 @@ def test_copies_and_a_witness():
     """what no desk was shown yet, since it waits for the witness, is in no copy"""
     with QuickWitnessed() as room:
         room.options.append("--witness-required")
-        room.holds()
-        room.start()
-        until("the first copy", room.left_over)
-        desk = room.desk(1)
-        same("the answer", "stored 1", desk.send(RETURNS[0]))
+        room.start_held()
+        desk = room.desk(1).talk(f"{RETURNS[0]} -> stored 1")
         room.signal(signal.SIGSTOP)
         room.note(desk, RETURNS[1])
         room.goes_on()
@@ -105,17 +98,14 @@ def test_copy_of_other_commands(new_room):
     """a copy that has other commands than the protocol is not shown"""
     one_more = f"printf '1 return 1 1 1 5\\n' | '{PROGRAM}' run --setup '{new_room.setup}' --disk '{new_room.folder}/now.new/disk'"
     new_room.on_copies(f"{one_more} > '{new_room.path}/said'")
-    new_room.start()
-    has_failed(new_room, "not made anew: the copy has 1 commands, and the protocol 0")
+    new_room.start().says("not made anew: the copy has 1 commands, and the protocol 0")
     same("nothing is shown", None, link_of(new_room))
     new_room.stop()
 
 
 def test_copy_of_another_disk(new_room):
     """another disk at the disk's path is not copied: the office stops"""
-    new_room.holds()
-    new_room.start()
-    until("the first copy", new_room.left_over)
+    new_room.start_held()
     same("the answer", ["stored 1"], new_room.ask(1, RETURNS[0]).out)
     os.replace(new_room.other_disk(RETURNS[1]), new_room.disk)
     new_room.goes_on()
@@ -123,10 +113,6 @@ def test_copy_of_another_disk(new_room):
 
 
 # The child
-
-
-def has_failed(room, text, times=1):
-    until(f"{text}: {room.office.said()}", lambda: sum(text in it for it in room.office.error) >= times)
 
 
 def test_failing_child(new_room):
@@ -140,31 +126,27 @@ def test_failing_child(new_room):
     same("it is said once", ["zhcount-office: `now` is not made anew: zhcount status: zhcount: disk damaged"],
          [it for it in new_room.office.error if "not made anew" in it])
     new_room.held.unlink()
-    compare(new_room, new_room.shows(1), [f"1 {RETURNS[0]}"], table_of(RETURNS[:1], 1))
+    compare(new_room, RETURNS[:1])
     new_room.stop()
 
 
 def test_killed_child(new_room):
     """a child that is killed leaves nothing behind, and another one does its work"""
-    new_room.holds()
-    new_room.start()
-    asked = until("a question", new_room.left_over)
+    asked = new_room.start_held()
     os.kill(new_room.child(), signal.SIGKILL)
-    has_failed(new_room, "not made anew: status -9")
+    new_room.office.says("not made anew: status -9")
     until("it is left to nobody", lambda: not {*asked} & {*new_room.left_over()}, 5)
     new_room.goes_on()
-    compare(new_room, new_room.shows(0), [], "")
+    compare(new_room, [])
     new_room.stop()
 
 
 def test_slow_child():
     """a child that takes too long is killed, with what it has started, and desks are answered meanwhile"""
     with QuickRoom(longest=1) as room:
-        room.holds()
-        room.start()
-        until("a question", room.left_over)
+        room.start_held()
         same("the answer meanwhile", ["stored 1"], room.ask(1, RETURNS[0]).out)
-        has_failed(room, "not made anew: not done after 1 seconds")
+        room.office.says("not made anew: not done after 1 seconds")
         room.stop()
         until("nothing is left", lambda: not room.left_over())
         same("and no folder", [], names_of_now(room))
@@ -176,10 +158,10 @@ def test_no_room(new_room):
     new_room.shows(0)
     resource.prlimit(office.process.pid, resource.RLIMIT_FSIZE, (500_000, resource.RLIM_INFINITY))
     same("the answers", [f"stored {it}" for it in range(1, 10)], new_room.ask(1, *RETURNS).out)
-    has_failed(new_room, "not made anew: [Errno 27] File too large")
+    office.says("not made anew: [Errno 27] File too large")
     (new_room.folder / "sheet-9.new").mkdir()
     same("the sheet", "2 sheet provisional 9", new_room.ask(2, "sheet").out[0])
-    has_failed(new_room, "a sheet is not put into the folder: ")
+    office.says("a sheet is not put into the folder: ")
     same("an older one stays", ["now", "now-0"], names_of_now(new_room))
     resource.prlimit(office.process.pid, resource.RLIMIT_FSIZE, (resource.RLIM_INFINITY, resource.RLIM_INFINITY))
     new_room.shows(9)
@@ -191,41 +173,29 @@ def test_killed_office():
     with running(QuickRoom(every=NEVER)) as room:
         same("the answer", ["stored 1"], room.ask(1, RETURNS[0]).out)
         room.stop()
-        room.holds()
-        room.start()
-        until("a question", room.left_over)
+        room.start_held()
         room.stop(signal.SIGKILL)
         until("nothing is left", lambda: not room.left_over(), 5)
         same("what is there", ["now.new"], names_of_now(room))
         (room.folder / "now-7").mkdir()
         (room.folder / "now").symlink_to("now-7")
-        room.start()
-        until("a question", room.left_over)
+        room.start_held()
         same("an older `now` is gone", ["now.new"], names_of_now(room))
         room.goes_on()
-        compare(room, room.shows(1), [f"1 {RETURNS[0]}"], table_of(RETURNS[:1], 1))
+        compare(room, RETURNS[:1])
         same("nothing else", ["now", "now-1"], names_of_now(room))
         room.check()
 
 
-class Stop:
-    """An office that is stopped before its call of this number in `now`."""
+class StopInNow(Stop):
+    """A stop of the office before its call of this number in `now`, while it shows two commands, one after the other."""
 
-    def __init__(self, place, number):
-        self.place, self.number, self.calls = place, number, 0
-
-    def goes_on(self, call):
+    def counts(self, call):
         is_of_now = re.search(r"/office/now[^/]*(/.*)?$", call.path) and call.name != "look"
-        if not is_of_now or call.pid not in self.room.pids:  # a call of the child
-            return True
-        self.calls += 1
-        if self.calls == self.number:
-            os.kill(call.pid, signal.SIGKILL)
-        return self.calls != self.number
+        return is_of_now and call.pid in self.room.pids  # and not of the child
 
     def run(self):
-        """Has the office show two commands, one after the other, and starts it again where it was stopped. How many calls there were."""
-        with WatchedRoom(self.place, self.goes_on) as room:
+        with WatchedRoom(self.place, self.before) as room:
             self.room = room
             room.start(is_awaited=False)
             for number, line in enumerate(RETURNS[:2], 1):
@@ -234,11 +204,11 @@ class Stop:
                 self.until(f"now-{number}", lambda: link_of(room) == f"now-{number}")
                 self.until("the answer", lambda: desk.out)
                 desk.process.stdin.close()
-                self.until("the end of the desk", lambda: desk.process.poll() is not None)
+                self.until("the end of the desk", desk.has_ended)
             self.until("nothing else", lambda: names_of_now(room) == ["now", "now-2"])
             same("the rows", "municipality,list,number,votes\n1,1,1,525\n1,2,1,300\n", (room.folder / "now/held.csv").read_text())
             room.stop()
-        return self.calls
+        return self
 
     def until(self, what, holds):
         """Waits until something holds, and starts the office again where it was stopped."""
@@ -249,13 +219,13 @@ class Stop:
             self.room.start(is_awaited=False)
 
 
-def test_stopped_office(place):
+def test_stopped_office(new_room, tmp_path):
     """kill -9 of the office at each of its calls that make, change or remove something of `now`"""
-    in_haste(place / COMPILED, 0.2)
-    calls = Stop(place, 0).run()
+    place = prepare(tmp_path, new_room.scripts)
+    calls = StopInNow(place, 0).run().calls
     that(f"calls: {calls}", calls > 20)
     with concurrent.futures.ThreadPoolExecutor(5) as pool:
-        list(pool.map(lambda number: Stop(place, number).run(), range(1, calls + 1)))
+        list(pool.map(lambda number: StopInNow(place, number).run(), range(1, calls + 1)))
 
 
 def test_failed_disk():
@@ -263,8 +233,7 @@ def test_failed_disk():
     with QuickRoom(every=0) as room:
         room.edits_answers("s/stored 2/refused device/")
         room.start()
-        desk = room.desk(1)
-        same("the answer", "stored 1", desk.send(RETURNS[0]))
+        desk = room.desk(1).talk(f"{RETURNS[0]} -> stored 1")
         room.shows(1)
         desk.write(f"{RETURNS[1]}\n")
         room.ends(3)

@@ -2,6 +2,7 @@
 streams, a batch that is left open."""
 import ast
 import os
+import pathlib
 import re
 import signal
 import subprocess
@@ -10,7 +11,7 @@ import pytest
 
 from dying import DESK_MOMENTS, OFFICE_MOMENTS, Dying
 from places import PROGRAM, TOP
-from room import SCRIPTS, SECONDS, running, same, that, until
+from room import SCRIPTS, SECONDS, Desk, running, same, that, until
 
 
 def put_aside(room):
@@ -30,8 +31,7 @@ def into_pipe(room, desk, data):
 
 def test_another_folder(room):
     """a desk that stays connected while folder and disk are made anew ends, and the next connection begins anew"""
-    desk = room.desk(3)
-    same("the first night", "stored 1", desk.send("return 3 3 1 555"))
+    desk = room.desk(3).talk("return 3 3 1 555 -> stored 1")
     desk.kill(signal.SIGSTOP)
     room.stop()
     put_aside(room)
@@ -47,8 +47,7 @@ def test_another_folder(room):
 
 def test_another_folder_while_it_waits(room):
     """a desk that waits for an answer, or for a line, ends when its folder is put aside, and says what has no answer"""
-    waits, is_idle = room.desk(3), room.desk(4)
-    same("both are connected", ["none"] * 2, [it.send("show 1 1") for it in (waits, is_idle)])
+    waits, is_idle = (room.desk(number).talk("show 1 1 -> none") for number in (3, 4))
     room.unanswered(waits, "return 3 1 1 90")
     put_aside(room)
     room.start()
@@ -61,8 +60,7 @@ def test_another_folder_while_it_waits(room):
 
 def test_folder_is_gone(room):
     """a desk whose office has ended, and whose folder is put aside, ends"""
-    desk = room.desk(3)
-    same("connected", "none", desk.send("show 1 1"))
+    desk = room.desk(3).talk("show 1 1 -> none")
     room.stop()
     desk.says("the office has ended: waiting; what is unanswered is kept")
     room.folder.rename(f"{room.folder}.before")
@@ -74,7 +72,7 @@ def test_another_file(room):
     """a desk whose file is another one by now sends nothing more, so that two connections never have one desk"""
     desk, run_process = room.desk(3), room.run_of_office()
     os.kill(run_process, signal.SIGSTOP)
-    desk.write("return 1 1 1 525\nreturn 1 2 1 300\n")
+    desk.write("return 1 1 1 525\nreturn 1 2 1 300\n")  # in one piece, so that it has the second when the first is answered
     until("the first is noted", lambda: room.records("protocol")[-1].text == "return 1 1 1 525")
     (room.folder / "sent.3").unlink()
     (room.folder / "sent.3").write_bytes(b"")
@@ -86,12 +84,10 @@ def test_another_file(room):
 
 def test_turn_of_another_line(room):
     """the answer to a line that has the turn of another is not shown for it"""
-    desk = room.desk(3)
-    same("the first", "stored 1", desk.send("return 3 1 1 90"))
+    desk = room.desk(3).talk("return 3 1 1 90 -> stored 1")
     into_pipe(room, 3, b"2 new return 1 1 1 525\n")
     until("it is answered", lambda: len(room.of_desk(3)) == 2)
-    same("its own answer", "stored 3", desk.send("return 3 3 1 777"))
-    same("what is held", "shows 1 777", desk.send("show 3 3"))
+    desk.talk("return 3 3 1 777 -> stored 3", "show 3 3 -> shows 1 777")
 
 
 def test_turns_come_to_an_end(room):
@@ -99,8 +95,7 @@ def test_turns_come_to_an_end(room):
     room.ask(3, "return 3 1 1 90")
     room.stop()
     for name in ("protocol", "protocol.3"):
-        path = room.folder / name
-        path.write_text(path.read_text().replace("\t3\t1\tnew", f"\t3\t{10**15 - 1}\tnew"))
+        room.edit(name, "\t3\t1\tnew", f"\t3\t{10**15 - 1}\tnew")
     room.start()
     desk = room.desk(3)
     desk.write("show 3 1\n")
@@ -111,17 +106,20 @@ def test_turns_come_to_an_end(room):
 # What is kept of the last line
 
 
-@pytest.mark.parametrize("line, shown", [("return 1 1 2 530", "stored 2"),
-                                         ("close 1", "not repeated: close 1; the last status: 1,1,3,open,525,N")])
-def test_later_line_of_the_protocol(room, line, shown):
-    """where a power failure has left the line before in sent.N, that of the protocol counts"""
-    desk = room.desk(3)
-    same("the line before", "stored 1", desk.send("return 1 1 1 525"))
+@pytest.mark.parametrize("before, line, shown, records", [
+    ("return 1 1 1 525", "return 1 1 2 530", "stored 2", 3),
+    ("return 1 1 1 525", "close 1", "not repeated: close 1; the last status: 1,1,3,open,525,N", 2),
+    ("close 1", "reopen 1", "not repeated: reopen 1; the last status: 1,0,3,closed,0,N", 2),
+], ids=["return", "close", "reopen"])
+def test_later_line_of_the_protocol(room, before, line, shown, records):
+    """where a power failure has left the line before in sent.N, that of the protocol counts; close and reopen are not repeated"""
+    desk = room.desk(3).talk(f"{before} -> stored 1")
     kept = (room.folder / "sent.3").read_bytes()
     room.lost(desk, line)
     (room.folder / "sent.3").write_bytes(kept)
     room.start()
     room.ask(3, end="").says(f"before: {line}: {shown}")
+    same("its records", [before, line, line][:records], [it.text for it in room.of_desk(3)])
 
 
 def test_half_of_a_line(room):
@@ -136,9 +134,7 @@ def test_half_of_a_line(room):
 def test_batch_is_not_the_last_line():
     """rows that were brought back are not taken for the last line, which is still repeated"""
     with running(Dying("zhcount-desk", DESK_MOMENTS)) as room:
-        desk = room.desk(3)
-        same("the batch", ["held 0", "held 1"], [desk.send(it) for it in ("open", "row 1 1 1 525")])
-        room.lost(desk, "return 3 1 1 90")
+        room.lost(room.desk(3).talk("open -> held 0", "row 1 1 1 525 -> held 1"), "return 3 1 1 90")
         room.start()
         for _ in ("open", "row"):
             room.arm(1)
@@ -159,7 +155,7 @@ def test_told_although_the_office_ends():
         room.ends(-9)
         room.start()
         desk.says("before: return 1 1 1 525: stored 1")
-        same("an answer", "none", desk.send("show 1 2"))
+        desk.talk("show 1 2 -> none")
 
 
 # Lost wake-ups
@@ -175,8 +171,7 @@ def test_stolen_bell(room):
     os.kill(run_process, signal.SIGCONT)
     same("the bell", b".", os.read(bell, 100))
     desk.kill(signal.SIGCONT)
-    until("the answer", lambda: desk.out)
-    same("the answer", ["stored 1"], desk.out)
+    same("the answer", "stored 1", desk.answer())
     os.close(bell)
 
 
@@ -195,7 +190,7 @@ def test_bytes_in_front(room):
         that(f"{line}: {answer}", re.fullmatch(wanted, answer))
     desks[3].says("no answer yet to return 3 1 1 90: waiting")
     same("its records", [("new", "unanswered"), ("again", desks[3].out[0])], [(it.mark, it.answer) for it in room.of_desk(3)])
-    same("the next line", "none", desks[4].send("show 1 1"))
+    desks[4].talk("show 1 1 -> none")
     room.check()
 
 
@@ -221,6 +216,15 @@ def test_stopped_office(room):
         that(f"nothing else is: {desk.said()}", "has ended" not in desk.said())
     same("the records of desk 3", [("new", "return 2 1 1 90")], [(it.mark, it.text) for it in room.of_desk(3)])
     room.check({3: ["return 2 1 1 90"], 4: ["return 3 1 1 90"]})
+
+
+def test_shown_once_it_is_synced(room):
+    """a desk syncs what it has read before it shows it, since the bell that it heard may have rung for something else"""
+    desk = room.process(Desk, room.traced("zhcount-desk", "1", room.folder)).talk("return 1 1 1 525 -> stored 1")
+    same("its end", 0, desk.end())
+    calls = [it[:2] for it in room.calls()]
+    sent, said = calls.index(["write", "lines.1"]), next(at for at, it in enumerate(calls) if it[0] == "said")
+    that(f"it is synced: {calls[sent:said]}", ["fsync", "protocol.1"] in calls[sent:said])
 
 
 # Streams
@@ -251,8 +255,7 @@ def test_endless_line(room):
     until("a greeting", lambda: desk.error)
 
     def memory():
-        with open(f"/proc/{desk.process.pid}/status", encoding="utf-8") as file:
-            return int(re.search(r"VmHWM:\s+(\d+) kB", file.read())[1])
+        return int(re.search(r"VmHWM:\s+(\d+) kB", pathlib.Path(f"/proc/{desk.process.pid}/status").read_text())[1])
 
     before = memory()
     for _ in range(24):
@@ -260,7 +263,7 @@ def test_endless_line(room):
     desk.write("\n")
     same("the answer", "not sent: a line has at most 3900 bytes", desk.answer())
     that(f"the memory: {before} kB, then {memory()} kB", memory() < before + 8000)
-    same("the next line", "none", desk.send("show 1 1"))
+    desk.talk("show 1 1 -> none")
 
 
 # Batches, and what is not repeated
@@ -271,11 +274,11 @@ def test_batch_is_left_open(room):
     text = "a batch is open; its rows: 1; 'commit' or 'drop' it"
     room.ask(5, "open", "row 1 1 1 525")
     room.ask(5, end="").says(text)
-    room.restart(signal.SIGKILL)
+    room.restart()
     desk = room.ask(5, "drop")
     desk.says(text)
     same("the answer", ["dropped 1"], desk.out)
-    room.restart(signal.SIGKILL)
+    room.restart()
     desk = room.ask(5, "commit")
     same("a batch that was dropped", ["refused nobatch"], desk.out)
     that(f"it is not spoken of: {desk.said()}", "batch" not in desk.said())
@@ -283,9 +286,7 @@ def test_batch_is_left_open(room):
 
 def test_batch_stays_open(room):
     """a batch whose repeated commit is refused stays open, which is said"""
-    desk = room.desk(5)
-    same("the batch", ["held 0", "held 1"], [desk.send(it) for it in ("open", "row 1 1 1 525")])
-    room.outlived(desk, "commit")
+    room.outlived(room.desk(5).talk("open -> held 0", "row 1 1 1 525 -> held 1"), "commit")
     room.start()
     same("a correction", ["stored 2"], room.ask(2, "return 1 1 2 530").out)
     desk = room.ask(5, "drop")
@@ -296,35 +297,14 @@ def test_batch_stays_open(room):
 
 def test_batch_is_lost(room):
     """a batch that can't be brought back is dropped for good, and its unanswered line is not repeated"""
-    desk = room.desk(5)
-    same("the batch", ["held 0", "held 1"], [desk.send(it) for it in ("open", "row 1 1 1 525")])
-    room.lost(desk, "commit")
+    room.lost(room.desk(5).talk("open -> held 0", "row 1 1 1 525 -> held 1"), "commit")
     room.edits_answers("s/held 1/refused memory/")
     room.start()
     room.ask(5, end="").says("the batch can't be brought back: it is dropped; open it, and send its rows again",
          "before: commit: not repeated: commit; its batch is lost")
     room.environment["ZHCOUNT"] = str(PROGRAM)
-    room.restart(signal.SIGKILL)
+    room.restart()
     same("it does not come back", ["none", "held 0"], room.ask(5, "show 1 1", "open").out)
-
-
-def test_reopen_is_not_repeated(room):
-    """an unanswered reopening is left to the person, also when the office comes twice"""
-    desk = room.desk(3)
-    same("before", "stored 1", desk.send("close 1"))
-    room.lost(desk, "reopen 1")
-    room.start()
-    room.ask(3, end="").says("before: reopen 1: not repeated: reopen 1; the last status: 1,0,3,closed,0,N")
-    same("its records", ["close 1", "reopen 1"], [it.text for it in room.of_desk(3)])
-
-
-def test_conflict_is_in_doubt(room):
-    """a repeated return that is in conflict with another is 'perhaps stored'"""
-    room.lost(room.desk(1), "return 1 1 1 525")
-    room.start()
-    same("the other", ["stored 1"], room.ask(2, "return 1 1 1 526").out)
-    room.ask(1, end="").says("before: return 1 1 1 525: perhaps stored: show it")
-    same("its records", ["unanswered", "refused conflict"], [it.answer for it in room.of_desk(1)])
 
 
 # The pages

@@ -1,5 +1,4 @@
-"""Tests of an office and its desks without ssh: kills at chosen moments, lines without their end, two at once, replays."""
-import concurrent.futures
+"""Tests of an office and its desks without ssh: kills at chosen moments, lines without their end, two at once."""
 import os
 import re
 import signal
@@ -9,16 +8,12 @@ import pytest
 
 from dying import DESK_MOMENTS, OFFICE_MOMENTS, START_MOMENTS, Dying
 from places import PROGRAM
-from room import MODES, running, same, stays, that, until
+from room import MODES, Room, running, same, stays, that, until
 
 
-def each(function, *arguments):
-    """Calls a function for each of these at the same time."""
-    with concurrent.futures.ThreadPoolExecutor(4) as pool:
-        list(pool.map(function, *arguments))
-
-
-def killed_office(moment):
+@pytest.mark.parametrize("moment", range(len(OFFICE_MOMENTS)))
+def test_office_is_killed(moment):
+    """kill -9 of the office at each moment of a line, with each kind of line"""
     with running(Dying("zhcount-office", OFFICE_MOMENTS)) as room:
         desk, sent = room.desk(1), ["return 1 1 1 525", "open", "row 2 1 1 240", "row 2 2 1 330"]
         same("before", ["stored 1", "held 0", "held 1", "held 2"], [desk.send(it) for it in sent])
@@ -39,19 +34,11 @@ def killed_office(moment):
         room.check({1: sent})
 
 
-def test_office_is_killed():
-    """kill -9 of the office at each moment of a line, with each kind of line"""
-    each(killed_office, range(len(OFFICE_MOMENTS)))
-
-
 def test_start_is_killed():
     """kill -9 of the office at each moment of a start"""
     with running(Dying("zhcount-office", START_MOMENTS)) as room:
         desk = room.desk(2)
-        os.kill(room.run_of_office(), signal.SIGSTOP)
-        desk.write("return 1 1 1 525\n")
-        until("the line is noted", lambda: [it for it in room.records("protocol") if it.is_line()])
-        os.kill(room.run_of_office(), signal.SIGKILL)
+        os.kill(room.unanswered(desk, "return 1 1 1 525"), signal.SIGKILL)
         room.ends(1)
         for moment in range(len(START_MOMENTS)):
             room.arm(moment)
@@ -63,7 +50,9 @@ def test_start_is_killed():
         that("the loss is said", "lost desk 2's unanswered return 1 1 1 525" in room.check())
 
 
-def killed_desk(moment):
+@pytest.mark.parametrize("moment", range(len(DESK_MOMENTS)))
+def test_desk_is_killed(moment):
+    """kill -9 of a desk before and after it sends a line: the next connection shows what became of it"""
     with running(Dying("zhcount-desk", DESK_MOMENTS)) as room:
         for line, wanted in [("return 1 1 1 525", r"stored 1"), ("show 1 1", "shows 1 525"),
                              ("close 1", r"stored 2" if moment else "not repeated: close 1; the last status: 1,0,3,open,0,N")]:
@@ -72,14 +61,9 @@ def killed_desk(moment):
             room.arm(moment)
             desk.write(line + "\n")
             same("the end of the desk", -9, desk.wait())
-            before = room.ask(3, "", end="").error
+            before = room.ask(3, end="").error
             that(f"what the next connection shows: {before}", f"zhcount-desk: before: {line}: {wanted}" in before)
         room.check({3: ["return 1 1 1 525", "show 1 1", "close 1"]})
-
-
-def test_desk_is_killed():
-    """kill -9 of a desk before and after it sends a line: the next connection shows what became of it"""
-    each(killed_desk, range(len(DESK_MOMENTS)))
 
 
 def test_batch_is_brought_back():
@@ -87,14 +71,14 @@ def test_batch_is_brought_back():
     with running(Dying("zhcount-desk", DESK_MOMENTS)) as room:
         sent = ["open", "row 1 1 1 525", "row 1 2 1 300", "commit"]
         room.ask(5, *sent[:3])
-        room.restart(signal.SIGKILL)
+        room.restart()
         for moment in (0, 1, 0, 1):
             room.arm(moment)
             same("the end of the desk", -9, room.desk(5).wait())
         same("the answer to commit", ["stored 1"], room.ask(5, "commit").out)
         again = [(it.text, it.answer) for it in room.of_desk(5) if it.mark == "again"]
         same("what was repeated", [("open", "held 0"), ("row 1 1 1 525", "held 1"), ("row 1 2 1 300", "held 2")], again)
-        room.restart(signal.SIGKILL)
+        room.restart()
         same("an answered commit is not repeated", ["shows 1 525"], room.ask(5, "show 1 1").out)
         same("its records", ["commit", "show 1 1"], [it.text for it in room.of_desk(5)[-2:]])
         room.check({5: [*sent, "show 1 1"]})
@@ -102,13 +86,11 @@ def test_batch_is_brought_back():
 
 def test_run_is_killed(room):
     """kill -9 of run, idle and at work: the office ends, and a new one goes on"""
-    desk = room.desk(1)
-    same("the answer", "stored 1", desk.send("return 1 1 1 525"))
+    desk = room.desk(1).talk("return 1 1 1 525 -> stored 1")
     os.kill(room.run_of_office(), signal.SIGKILL)
     room.ends(1, "zhcount run has ended: killed by signal 9")
     room.start()
-    room.unanswered(desk, "return 1 1 2 530")
-    os.kill(room.run_of_office(), signal.SIGKILL)
+    os.kill(room.unanswered(desk, "return 1 1 2 530"), signal.SIGKILL)
     room.ends(1, "desk 1: return 1 1 2 530")
     room.start()
     same("the answer", "stored 2", desk.answer())
@@ -123,8 +105,7 @@ def test_stop_keeps_a_command(room):
     desks[3].write("return 3 1 1 90\n")
     until("the lines are kept", lambda: all((room.folder / f"sent.{number}").read_bytes() for number in (2, 3)))
     room.stop(signal.SIGKILL)
-    room.start(is_awaited=False)
-    until("it waits for the disk", lambda: "another program has the disk" in room.office.said())
+    room.start(is_awaited=False).says("another program has the disk")
     os.kill(run_process, signal.SIGCONT)
     same("what was stored", "same", desks[1].answer())
     same("a closing", "not repeated: close 2; the last status: 2,0,3,open,0,M", desks[2].answer())
@@ -133,15 +114,17 @@ def test_stop_keeps_a_command(room):
     that("the replay says it", "kept desk 1's unanswered return 1 1 1 525" in room.check({2: ["close 2", "close 2"]}))
 
 
-def test_perhaps_stored(room):
-    """a repeated return that another desk has corrected meanwhile is 'perhaps stored'"""
-    room.outlived(room.desk(1), "return 1 1 1 525")
+@pytest.mark.parametrize("stop, held, stored, why", [(Room.outlived, "2 530", 2, "stale"), (Room.lost, "1 526", 1, "conflict")])
+def test_perhaps_stored(room, stop, held, stored, why):
+    """a repeated return is 'perhaps stored' where another desk has corrected it meanwhile, or has entered something else"""
+    stop(room, room.desk(1), "return 1 1 1 525")
     room.start()
-    same("the correction", ["stored 2"], room.ask(2, "return 1 1 2 530").out)
+    same("the other", [f"stored {stored}"], room.ask(2, f"return 1 1 {held}").out)
     desk = room.ask(1, "show 1 1")
     desk.says("before: return 1 1 1 525: perhaps stored: show it")
-    same("what is held", ["shows 2 530"], desk.out)
-    same("its record", ("again", "refused stale"), (room.of_desk(1)[1].mark, room.of_desk(1)[1].answer))
+    same("what is held", [f"shows {held}"], desk.out)
+    records = [(it.mark, it.answer) for it in room.of_desk(1)]
+    same("its records", [("new", "unanswered"), ("again", f"refused {why}"), ("new", f"shows {held}")], records)
     room.check()
 
 
@@ -188,20 +171,18 @@ def test_second_connection(room):
 def test_told_to_end(room):
     """TERM ends the office after the line at work, and a second one says what is unanswered"""
     desks = {number: room.desk(number) for number in (1, 2)}
-    room.unanswered(desks[1], "return 1 1 1 525")
+    run_process = room.unanswered(desks[1], "return 1 1 1 525")
     desks[2].write("return 2 1 1 240\n")
     until("the line is kept", lambda: (room.folder / "sent.2").read_bytes())
-    run_process = room.run_of_office()
     room.office.kill(signal.SIGTERM)
-    stays("it waits", lambda: room.office.process.poll() is None)
+    stays("it waits", lambda: not room.office.has_ended())
     os.kill(run_process, signal.SIGCONT)
     room.ends(0, "not looked at: desk 2: return 2 1 1 240")
     same("the answer", "stored 1", desks[1].answer())
     same("no pipe is left", [], [it.name for it in room.folder.iterdir() if stat.S_ISFIFO(it.stat().st_mode)])
     room.start()
     same("the answer of the next start", "stored 2", desks[2].answer())
-    room.unanswered(desks[1], "close 1")
-    run_process = room.run_of_office()
+    run_process = room.unanswered(desks[1], "close 1")
     room.office.kill(signal.SIGTERM)
     room.office.kill(signal.SIGINT)
     room.ends(0, "perhaps stored: desk 1: close 1")
@@ -212,38 +193,29 @@ def test_told_to_end(room):
 
 
 @pytest.mark.parametrize("edit, line, status, text", [
-    ("s/stored 2/refused device/", "return 1 1 2 530", 3, "refused device. Copy it before anything else"),
-    ("s/stored 2/refused reopen-disk/", "return 1 1 2 530", 3, "refused reopen-disk"),
+    ("s/stored 4/refused device/", "return 1 1 2 530", 3, "refused device. Copy it before anything else"),
+    ("s/stored 4/refused reopen-disk/", "return 1 1 2 530", 3, "refused reopen-disk"),
     ("/^constituency 2/Q", "sheet", 1, "zhcount run has ended"),
 ], ids=["device", "reopen-disk", "a sheet without its end"])
-def test_no_answers(new_room, edit, line, status, text):
+def test_no_answers(room, edit, line, status, text):
     """device, reopen-disk and a sheet without its end are no answers: the office stops, and says so"""
-    new_room.edits_answers(edit)
-    new_room.start()
-    desk = new_room.desk(1)
-    first = [f"return {m} {g} 1 {votes}" for m, g, votes in [(1, 1, 525), (2, 1, 240), (3, 1, 90)]]
-    same("the first", "stored 1", desk.send(first[0]))
-    if line == "sheet":
-        new_room.environment["ZHCOUNT"] = str(PROGRAM)
-        new_room.restart()
-        same("the others", ["stored 2", "stored 3"], [desk.send(it) for it in first[1:]])
-        new_room.stop()
-        new_room.edits_answers(edit)
-        new_room.start()
+    desk = room.desk(1).talk(*(f"return {municipality} 1 1 90 -> stored {municipality}" for municipality in (1, 2, 3)))
+    room.stop()
+    room.edits_answers(edit)
+    room.start()
     desk.write(line + "\n")
-    new_room.ends(status, text, f"desk 1: {line}")
-    new_room.environment["ZHCOUNT"] = str(PROGRAM)
-    new_room.start()
+    room.ends(status, text, f"desk 1: {line}")
+    room.environment["ZHCOUNT"] = str(PROGRAM)
+    room.start()
     that("the answer", re.match("same|1 sheet provisional 3\nhouse(.|\n)*\nend$", desk.answer(line)))
-    new_room.check()
+    room.check()
 
 
 def test_what_does_not_belong_together(room):
     """another office, another set-up, another disk, a folder that others may use: refused"""
     same("the answer", ["stored 1"], room.ask(1, "return 1 1 1 525").out)
     first = room.office
-    room.start(is_awaited=False)
-    room.ends(3, "another office has")
+    room.refuses("another office has")
     same("the first goes on", ["shows 1 525"], room.ask(1, "show 1 1").out)
     room.office = first
     room.stop()
@@ -252,11 +224,11 @@ def test_what_does_not_belong_together(room):
             (lambda: room.setup.write_text(text + "# other\n"), lambda: room.setup.write_text(text), "is another set-up"),
             (lambda: (room.disk.rename(old), room.zhcount("format")), lambda: old.rename(room.disk),
              "the disk has 0 commands, and the protocol 1"),
-            (lambda: room.folder.chmod(0o2755), lambda: room.folder.chmod(0o2750), "others may use"),
+            (lambda: room.folder.chmod(0o2755), lambda: room.folder.chmod(0o2750),
+             f"others may use {room.folder}: 'chmod 2750 {room.folder}' makes it right"),
             (lambda: room.disk.rename(old), lambda: old.rename(room.disk), "zhcount status: zhcount: disk device")]:
         change()
-        room.start(is_awaited=False)
-        room.ends(3, said)
+        room.refuses(said)
         restore()
     room.start()
     same("who may use what", MODES, room.modes())
@@ -272,33 +244,5 @@ def test_waits_for_an_office(new_room):
     same("the answer", "stored 1", desk.answer())
     new_room.stop()
     desk.says("the office has ended")
-    same("the end of the desk", 0, (new_room.start(), desk.end())[1])
-
-
-def test_replays(room):
-    """a replay says that a protocol is right, and where a forged one is not"""
-    room.ask(1, "return 1 1 1 525", "return 2 1 1 240", "return 3 1 1 90", "sheet", "withdraw 3 1 2",
-             "open", "row 1 2 1 300", "commit")
-    room.restart(signal.SIGKILL)
-    room.ask(2, "close 1", "return 1 1 2 5", "show 1 1", "last 1 1")
-    room.stop()
-    same("a replay", (0, "the same: the answers to 12 lines in 2 starts, and the export\n"), room.replay())
-    line = "return 1 1 1 525"
-    for said, *changes in [
-            ("start 1, line 4, desk 1: sheet: noted is 'list 1 1 votes 526",
-             ("protocol.1", "list 1 1 votes 525", "list 1 1 votes 526")),
-            ("desk 1: withdraw 3 1 2: noted is '1 refused gap', and here '1 stored 4'", ("protocol.1", "stored 4", "refused gap")),
-            ("start 1, line 1 is 'return 1 1 1 526', and in its desk's protocol", ("protocol", line, "return 1 1 1 526")),
-            ("noted is 'constituency 1 persons 5000 seats 5 votes 525",
-             ("protocol", line, "return 1 1 1 526"), ("protocol.1", line, "return 1 1 1 526")),
-            ("at the beginning of start 2: noted are 5 commands and the sum of an export, and here are 5 commands with another",
-             ("protocol", "row 1 2 1 300", "row 1 2 1 301"), ("protocol.1", "row 1 2 1 300", "row 1 2 1 301")),
-            ("held.csv is not the export", ("held.csv", "1,1,1,525", "1,1,1,526")),
-            ("protocol.2 has a line that is no record: 2026", ("protocol.2", "\tlast 1 1\t", "x\n"))]:
-        with room.edited(*changes):
-            status, found = room.replay()
-        that(f"{said}: {found}", status == 1 and said in found)
-    for name in ("protocol", "protocol.1"):
-        room.edit(name, "\treturn 3 1 1 90\t")  # taken out
-    status, found = room.replay()
-    that(f"a line taken out: {found}", status == 1 and "start 1, line 3 is missing" in found)
+    new_room.start()
+    same("the end of the desk", 0, desk.end())

@@ -1,5 +1,4 @@
 """Tests of what an office puts into its folder while it runs: the sheets, and `now`, with what follows from a copy of the disk."""
-import signal
 import stat
 import subprocess
 import time
@@ -14,32 +13,22 @@ ROOM = QuickRoom
 # Sheets
 
 
-def verdict(room, sheet, held):
-    path = room.path / "verdict.sheet"
-    path.write_text(sheet)
-    words = [PROGRAM, "check", "--setup", room.setup, "--sheet", path, "--held", held]
-    return subprocess.run(words, capture_output=True, text=True).stdout
-
-
 def test_sheets():
-    """what a desk shows as a sheet, and the sheet in the folder, are the sheet of run, and check says the same of them"""
+    """what a desk shows as a sheet, and the sheet in the folder, are the sheet of run, and check says that it is right"""
     with running(QuickRoom(every=NEVER)) as room:
         same("other answers have no desk", [f"stored {it}" for it in range(1, 10)] + ["shows 1 525", "refused notclosed 1"],
              room.ask(2, *RETURNS, "show 1 1", "final").out)
         held = room.path / "held.csv"
-        lines = [f"2 {it}" for it in RETURNS]
         for desk, before, line, name in [(2, [], "sheet", "sheet-9"), (1, CLOSINGS, "final", "sheet-final-12")]:
-            lines += [f"{desk} {it}" for it in before]
-            held.write_text(model(room, lines)["held.csv"])
-            ran = room.zhcount("run", disk=room.path / "model.disk", given=f"{desk} {line}\n")
-            shown = room.ask(desk, *before, line).out[len(before):]
-            same(f"the first line of {line}", ran.split("\n")[0], shown[0])
-            same(f"the answer to {line}", ran, "".join(f"{it}\n" for it in shown))
-            until(name, (room.folder / name).exists)
-            same(name, ran, (room.folder / name).read_text())
-            same("its mode", "-rw-r-----", stat.filemode((room.folder / name).stat().st_mode))
-            that("it is right", "sheet ok" in verdict(room, ran, held))
-            same("the verdict", verdict(room, ran, held), verdict(room, (room.folder / name).read_text(), held))
+            held.write_text(model(room, [*RETURNS, *before])["held.csv"])
+            ran = room.zhcount("run", disk=room.path / "other.disk", given=f"{desk} {line}\n")
+            same(f"the answer to {line}", ran.split("\n")[:-1], room.ask(desk, *before, line).out[len(before):])
+            sheet = room.folder / name
+            until(name, sheet.exists)
+            same(name, ran, sheet.read_text())
+            same("its mode", "-rw-r-----", stat.filemode(sheet.stat().st_mode))
+            words = [PROGRAM, "check", "--setup", room.setup, "--sheet", sheet, "--held", held]
+            that("it is right", b"sheet ok" in subprocess.run(words, stdout=subprocess.PIPE).stdout)
         same("the newest of each kind", {"sheet-9", "sheet-final-12"}, kept_sheets(room))
         same("another one", "3 sheet provisional 12", room.ask(3, "sheet").out[0])
         until("only the newest stays", lambda: kept_sheets(room) == {"sheet-12", "sheet-final-12"})
@@ -59,12 +48,10 @@ def kept_sheets(room):
 
 def test_files_of_a_copy(room):
     """the files of `now` are those of the model after as many commands, and the group may read them"""
-    compare(room, room.shows(0), [], "")
+    compare(room, [])
     lines = [*RETURNS[:1], *RETURNS[3:4], "return 3 1 1 20001", "withdraw 1 2 1", "close 2"]
     same("the answers", [f"stored {it}" for it in range(1, 6)], room.ask(1, *lines).out)
-    now = room.shows(5)
-    compare(room, now, [f"1 {it}" for it in lines],
-            "1,1,1,525,1,N,A\n1,2,1,withdrawn,1,N,B\n2,1,1,240,1,M,A\n3,1,1,20001,1,W,A\n")
+    now = compare(room, lines, "1,1,1,525,1,N,A\n1,2,1,withdrawn,1,N,B\n2,1,1,240,1,M,A\n3,1,1,20001,1,W,A\n")
     that("some are implausible", "3,1,20001," in (now / "implausible").read_text())
     same("only the newest stays", ["now", "now-5"], names_of_now(room))
     same("the modes", {"drwxr-s---", "-rw-r-----"}, {stat.filemode(it.stat().st_mode) for it in (now, *now.iterdir())})
@@ -77,16 +64,15 @@ def test_files_of_a_copy(room):
     room.check()
 
 
-def test_names_with_commas():
+def test_names_with_commas(new_room):
     """names that need quotation marks have them"""
-    with QuickRoom() as room:
-        room.setup.write_text(room.setup.read_text().replace('name = "N"', 'name = "N, \\"n\\""'))
-        room.disk.unlink()
-        room.zhcount("format")
-        room.start()
-        same("the answer", ["stored 1"], room.ask(1, RETURNS[0]).out)
-        same("the row", UNCONFIRMED + '1,1,1,525,1,"N, ""n""",A\n', (room.shows(1) / "unconfirmed").read_text())
-        room.stop()
+    new_room.setup.write_text(new_room.setup.read_text().replace('name = "N"', 'name = "N, \\"n\\""'))
+    new_room.disk.unlink()
+    new_room.zhcount("format")
+    new_room.start()
+    same("the answer", ["stored 1"], new_room.ask(1, RETURNS[0]).out)
+    same("the row", UNCONFIRMED + '1,1,1,525,1,"N, ""n""",A\n', (new_room.shows(1) / "unconfirmed").read_text())
+    new_room.stop()
 
 
 # Who has entered what
@@ -99,51 +85,46 @@ def test_unconfirmed_returns(new_room):
     same("what is loaded", "stored 1\n", new_room.zhcount("load", "--csv", loaded))
     new_room.start()
     desks = {it: new_room.desk(it) for it in range(1, 8)}
-    for desk, line, answer in [
-            (1, "return 1 1 1 525", "stored 2"), (1, "return 1 1 1 525", "same"),
-            (1, "return 1 2 1 300", "stored 3"), (2, "return 1 2 1 300", "same"),
-            (1, "return 1 3 1 175", "stored 4"), (2, "return 1 3 1 157", "refused conflict"),
-            (4, "open", "held 0"), (4, "row 2 1 1 240", "held 1"), (4, "row 2 2 1 330", "held 2"), (4, "commit", "stored 5"),
-            (5, "open", "held 0"), (5, "row 2 1 1 240", "held 1"), (5, "commit", "same"),
-            (6, "open", "held 0"), (6, "row 2 2 1 330", "held 1"),
-            (7, "open", "held 0"), (7, "row 2 2 1 330", "held 1"), (7, "drop", "dropped 1"),
-            (1, "withdraw 2 3 1", "stored 6"), (3, "return 3 1 1 90", "same")]:
-        same(f"{desk} {line}", answer, desks[desk].send(line))
+    for desk, *exchanges in [
+            (1, "return 1 1 1 525 -> stored 2", "return 1 1 1 525 -> same"),
+            (1, "return 1 2 1 300 -> stored 3"), (2, "return 1 2 1 300 -> same"),
+            (1, "return 1 3 1 175 -> stored 4"), (2, "return 1 3 1 157 -> refused conflict"),
+            (4, "open -> held 0", "row 2 1 1 240 -> held 1", "row 2 2 1 330 -> held 2", "commit -> stored 5"),
+            (5, "open -> held 0", "row 2 1 1 240 -> held 1", "commit -> same"), (6, "open -> held 0", "row 2 2 1 330 -> held 1"),
+            (7, "open -> held 0", "row 2 2 1 330 -> held 1", "drop -> dropped 1"),
+            (1, "withdraw 2 3 1 -> stored 6"), (3, "return 3 1 1 90 -> same")]:
+        desks[desk].talk(*exchanges)
     rows = ["1,1,1,525,1,N,A\n", "1,3,1,175,1,N,C\n", "2,2,1,330,4,M,B\n", "2,3,1,withdrawn,1,M,C\n", "3,2,1,60,-,W,B\n"]
     shows_unconfirmed(new_room, 6, rows)
     for desk, line in [(2, "return 1 1 1 525"), (3, "return 3 2 1 60"), (4, "withdraw 2 3 1")]:
-        same(f"{desk} {line}", "same", desks[desk].send(line))
+        desks[desk].talk(f"{line} -> same")
     shows_unconfirmed(new_room, 6, rows[1:3])
-    same("a batch with one new row", ["held 2", "stored 7"], [desks[6].send(it) for it in ("row 1 1 2 530", "commit")])
+    desks[6].talk("row 1 1 2 530 -> held 2", "commit -> stored 7")  # one row of the batch is new
     shows_unconfirmed(new_room, 7, ["1,1,2,530,6,N,A\n", rows[1]])
-    same("a confirmed correction", "same", desks[2].send("return 1 1 2 530"))
+    desks[2].talk("return 1 1 2 530 -> same")
     shows_unconfirmed(new_room, 7, rows[1:2])
     new_room.stop()
 
 
 def shows_unconfirmed(room, commands, rows):
-    text = UNCONFIRMED + "".join(rows)
-    try:
-        until("it is shown", lambda: room.shows(commands) and (room.folder / "now/unconfirmed").read_text() == text)
-    except AssertionError:
-        same("what is unconfirmed", text, (room.folder / "now/unconfirmed").read_text())
+    text, file = UNCONFIRMED + "".join(rows), room.folder / "now/unconfirmed"
+    until(lambda: f"it shows {text}, and not {file.read_text()}", lambda: room.shows(commands) and file.read_text() == text)
 
 
 def test_unconfirmed_after_a_stop(new_room):
     """what a desk repeats after a stop, which had kept it, it has not confirmed itself"""
-    new_room.stands_in(f"[ $1 = run ] && exec '{PROGRAM}' \"$@\" > >(exec sed -u '/stored [13]/d')")
+    new_room.edits_answers("/stored [13]/d")
     new_room.start()
     desk = new_room.desk(1)
     desk.write(f"{RETURNS[0]}\n")
     until("it is stored", lambda: new_room.records("protocol")[-1].is_line())
     time.sleep(0.3)
-    new_room.restart(signal.SIGKILL)
+    new_room.restart()
     same("the answer", "same", desk.answer())
-    same("the others", ["held 0", "held 1", "stored 2"], [desk.send(it) for it in ("open", "row 1 2 1 300", "commit")])
-    same("a batch", ["held 0", "held 1"], [desk.send(it) for it in ("open", "row 1 3 1 175")])
+    desk.talk("open -> held 0", "row 1 2 1 300 -> held 1", "commit -> stored 2", "open -> held 0", "row 1 3 1 175 -> held 1")
     new_room.note(desk, "commit")
     time.sleep(0.3)
-    new_room.restart(signal.SIGKILL)
+    new_room.restart()
     same("the answer", "same", desk.answer())
-    shows_unconfirmed(new_room, 3, [table_of([it], 1) for it in RETURNS[:3]])
+    shows_unconfirmed(new_room, 3, table_of(RETURNS[:3]))
     new_room.stop()

@@ -1,11 +1,10 @@
 """Tests of zhcount-office --rebuild: disks that are made anew from what a folder has, after stops that kept or lost a command."""
-import concurrent.futures
 import os
 import random
 
 import pytest
 
-from nights import Night, damage, load_by_chance, random_line
+from nights import TIME, Night, damage, load_by_chance, random_line
 from places import REHEARSAL
 from room import same, that
 
@@ -14,10 +13,8 @@ NIGHTS = int(os.environ.get("NIGHTS", "24"))
 
 def test_lost_line(night):
     """a line that a stop lost is left out, and what was answered later is held"""
-    night.begin()
-    night.send(["1 return 2 1 1 240", "1 close 1"], "lost")
-    night.begin()
-    night.send(["4 return 1 1 1 525"])
+    night.begin(["1 return 2 1 1 240", "1 close 1"], "lost")
+    night.begin(["4 return 1 1 1 525"])
     said, export = night.made()
     same("what is held", "municipality,list,number,votes\n1,1,1,525\n2,1,1,240\n", export)
     that(f"it says so: {said}", "start 1: the stop lost desk 1's unanswered close 1\n" in said)
@@ -27,12 +24,9 @@ def test_lost_line(night):
 
 def test_kept_line(night):
     """a line that a stop kept is run, whether anybody repeated it or not"""
-    night.begin()
-    night.send(["1 return 1 1 1 525", "1 return 1 1 2 530"], "kept")
-    night.begin()
-    night.send(["2 close 1"], "kept")
-    night.begin()
-    night.send(["3 return 1 1 3 90"])
+    night.begin(["1 return 1 1 1 525", "1 return 1 1 2 530"], "kept")
+    night.begin(["2 close 1"], "kept")
+    night.begin(["3 return 1 1 3 90"])
     said, export = night.made()
     same("what is held", night.count.export(), export)
     for line in ("desk 1's unanswered return 1 1 2 530", "desk 2's unanswered close 1"):
@@ -42,30 +36,19 @@ def test_kept_line(night):
 @pytest.mark.parametrize("fate, is_held", [("answered", True), ("kept", False), ("lost", False)])
 def test_last_line_without_its_answer(night, fate, is_held):
     """the very last line is run if it was answered, and left out if its desk's protocol has no answer"""
-    night.begin()
-    night.send(["3 return 1 1 1 525", "3 return 2 1 1 240"], fate)
+    night.begin(["3 return 1 1 1 525", "3 return 2 1 1 240"], fate)
     said, export = night.made()
     same(f"held, {fate}: {said}", is_held, "2,1,1,240" in export)
     that(f"the other is, {fate}", "1,1,1,525" in export)
     same(f"it says so, {fate}", not is_held, "desk 3: return 2 1 1 240 was not answered, and is left out\n" in said)
 
 
-def older(night):
-    night.edit("protocol.3", (night.folder / "protocol.3").read_text(), "")
-
-
-def without_an_earlier_answer(night):
-    text = (night.folder / "protocol.3").read_text()
-    night.edit("protocol.3", text, text[:text.index("\n") + 1])
-
-
-@pytest.mark.parametrize("change", [lambda night: (night.folder / "protocol.3").unlink(), older, without_an_earlier_answer],
-                         ids=["missing", "older", "without an earlier answer"])
-def test_last_line_in_doubt(night, change):
-    """the very last line is run where its desk's protocol is missing, or older: its answer may have been shown"""
-    night.begin()
-    night.send(["3 return 1 1 1 525", "3 return 2 1 1 240"])
-    change(night)
+@pytest.mark.parametrize("left", [None, 0, 1], ids=["missing", "older", "without an earlier answer"])
+def test_last_line_in_doubt(night, left):
+    """the very last line is run where its desk's protocol is missing, or has fewer records: its answer may have been shown"""
+    night.begin(["3 return 1 1 1 525", "3 return 2 1 1 240"])
+    path = night.folder / "protocol.3"
+    path.unlink() if left is None else path.write_text("".join(path.read_text().splitlines(keepends=True)[:left]))
     said, export = night.made()
     same("what is held", night.count.export(), export)
     that(f"it says so: {said}", "desk 3: whether return 2 1 1 240 was answered no protocol says; it was run\n" in said)
@@ -73,10 +56,8 @@ def test_last_line_in_doubt(night, change):
 
 def test_only_the_first_protocol(night):
     """the office's protocol alone gives all that was stored"""
-    night.begin()
-    night.send(["1 return 1 1 1 525", "2 open", "2 row 1 2 1 300", "2 row 2 2 1 330", "2 commit", "1 close 2"], "lost")
-    night.begin()
-    night.send(["3 return 2 1 1 240", "1 withdraw 1 1 2"])
+    night.begin(["1 return 1 1 1 525", "2 open", "2 row 1 2 1 300", "2 row 2 2 1 330", "2 commit", "1 close 2"], "lost")
+    night.begin(["3 return 2 1 1 240", "1 withdraw 1 1 2"])
     for desk in range(1, 9):
         (night.folder / f"protocol.{desk}").unlink()
     (night.folder / "held.csv").unlink()
@@ -86,15 +67,13 @@ def test_only_the_first_protocol(night):
 def test_loaded_between(night):
     """what was loaded or typed beside the office is asked for, with its place, and given by --before"""
     first = night.load(["1,1,1,525", "1,2,1,300"])
-    night.begin()
-    night.send(["1 return 2 1 1 240", "1 return 1 1 2 530"], "lost")
+    night.begin(["1 return 2 1 1 240", "1 return 1 1 2 530"], "lost")
     second = night.load(["3,1,1,90"])
     typed = night.path / "typed"
     typed.write_text("1 return 1 1 2 526\n1 close 3\n")
     for line in typed.read_text().split("\n")[:-1]:
         night.count.take(1, line[2:], night.answers([line])[0])
-    night.begin()
-    night.send(["2 return 2 2 1 330"])
+    night.begin(["2 return 2 2 1 330"])
     said = night.refused()
     place = "at the beginning of start 1: noted are 1 command and the sum of an export, and here are 0 commands"
     that(f"the place: {said}", f"not made: {place}\n" in said)
@@ -107,58 +86,26 @@ def test_loaded_between(night):
         that(f"{text}: {said}", text in said)
     that("an export with a number above 1", "at the beginning of start 1: " + str(night.folder / "held.csv") + ": refused gap" in
          night.refused("--before", "1", night.folder / "held.csv"))
-    that("a line that is refused", "other: 1 refused notclosed 3" in night.refused("--before", "1", made(night, "1 reopen 3")))
+    (night.path / "other").write_text("1 reopen 3\n")
+    that("a line that is refused", "other: 1 refused notclosed 3" in night.refused("--before", "1", night.path / "other"))
     that("one too many", "here are 4 commands or 3 commands" in night.refused("--before", "1", first, "--before", "2", second))
     that("no such start", "--before 3: no such start" in night.refused(*before, "--before", "3", second))
     same("what is held", night.count.export(), night.made(*before, "--before", "2", second, "--before", "2", typed)[1])
-    status, said = night.zhcount_office("--rebuild", night.folder, night.new, "--before", "1")
-    same("arguments that are none", (2, True), (status, "zhcount-office --rebuild FOLDER DISK" in said))
-
-
-def made(night, text):
-    path = night.path / "other"
-    path.write_text(text + "\n")
-    return path
+    that("arguments that are none", "zhcount-office --rebuild FOLDER DISK" in night.rebuild("--before", "1", status=2))
 
 
 def test_export_is_loaded(night):
     """an export of a moment does for a table that was loaded, if nothing stands in its way"""
     night.load(["1,1,1,525", "1,2,1,300"])
-    night.begin()
-    night.send(["1 return 2 1 1 240"], "lost")
+    night.begin(["1 return 2 1 1 240"], "lost")
     that("the folder has it", "held.csv is the export of that moment" in night.refused())
     export = night.made("--before", "1", night.folder / "held.csv")[1]
     same("what is held", "municipality,list,number,votes\n1,1,1,525\n1,2,1,300\n", export)
 
 
-def test_another_answer(night):
-    """another answer, another state, a line that is missing: it stops there, and nothing is made"""
-    night.begin()
-    night.send(["1 return 1 1 1 525", "2 return 2 1 1 240", "1 sheet"])
-    night.begin()
-    night.send(["2 return 3 1 1 90", "3 show 1 1"])
-    line = "\tnew\treturn 2 1 1 240\t"
-    for said, *changes in [
-            ("start 1, line 2, desk 2: return 2 1 1 240: noted is '2 stored 9', and here '2 stored 2'",
-             ("protocol.2", "stored 2", "stored 9")),
-            ("start 1, line 2 is 'return 2 1 1 241', and in its desk's protocol 'return 2 1 1 240'",
-             ("protocol", line, line.replace("0", "1"))),
-            ("at the beginning of start 2: noted are 4 commands and the sum of an export, and here are 2 commands",
-             ("protocol", "\tstate\t2 commands", "\tstate\t4 commands")),
-            ("at the beginning of start 2: noted are 2 commands and the sum of an export, and here are 2 commands with another export",
-             ("protocol", night.sum_of(2), "0" * 64)),
-            ("start 1, line 2 is missing", ("protocol", line), ("protocol.2", line)),
-            ("at the beginning of start 2: nothing is noted", ("protocol", "\tstate\t2 commands", "\tstart\t2 commands")),
-            ("protocol.3 has a line that is no record: 2026", ("protocol.3", "\tshow 1 1\t", "x\n"))]:
-        with night.edited(*changes):
-            found = night.refused()
-        that(f"{said}: {found}", f"not made: {said}" in found)
-
-
 def test_torn_ends(night):
     """a record without its end is none, in whatever protocol; a line that desks' protocols alone have is run"""
-    night.begin()
-    night.send(["1 return 1 1 1 525", "2 return 2 1 1 240", "3 return 3 1 1 90", "1 sheet"])
+    night.begin(["1 return 1 1 1 525", "2 return 2 1 1 240", "3 return 3 1 1 90", "1 sheet"])
     for name, cut in [("protocol.1", 200), ("protocol.1", 7), ("protocol.1", 1), ("protocol", 100), ("protocol", 160)]:
         with night.edited():
             data = (night.folder / name).read_bytes()
@@ -175,66 +122,48 @@ def test_torn_ends(night):
 
 def test_answered_after_all(night):
     """an answer counts, though a later start knew of none; a line before others was run, though nobody has its answer"""
-    night.begin()
-    night.send(["1 return 1 1 1 525", "2 return 2 1 1 240"])
-    night.open_line = {"name": "protocol.2", "mark": "new", "text": "return 2 1 1 240", "line": 2, "desk": 2, "turn": 1}
-    night.write(**night.open_line, answer="unanswered")
-    said, export = night.made()
-    same(f"what is held: {said}", night.count.export(), export)
+    night.begin(["1 return 1 1 1 525", "2 return 2 1 1 240"])
+    night.write("protocol.2", "new", "return 2 1 1 240", "unanswered", 2, 2, 1)
+    same("what is held", night.count.export(), night.made()[1])
     night.edit("protocol.1", "\tstored 1", "\tunanswered")
     same("what is held", night.count.export(), night.made()[1])
 
 
 def test_without_memory(night):
     """a line that was refused for want of memory changed nothing, and is passed over"""
-    night.begin()
-    night.send(["1 open", "1 row 1 1 1 525", "1 row 1 2 1 300", "1 commit"])
+    night.begin(["1 open", "1 row 1 1 1 525", "1 row 1 2 1 300", "1 commit"])
     night.end()
-    for line, name in [("\t4\t", "protocol"), ("\t4\t", "protocol.1")]:
-        text = (night.folder / name).read_text()
-        refused = "\tnew\trow 1 3 1 175\t" + ("refused memory" if name == "protocol.1" else "")
-        lines = text.split("\n")
-        place = next(at for at, it in enumerate(lines) if "\tcommit\t" in it)
-        before = lines[place].split("\tnew\t")[0]
-        lines[place] = lines[place].replace("\t4\t1\t4\t", "\t5\t1\t5\t")
-        lines.insert(place, before + refused)
-        (night.folder / name).write_text("\n".join(lines))
-    said, export = night.made()
-    same(f"what is held: {said}", night.count.export(), export)
-    same("a replay", 0, night.replay()[0])
+    for name, answer in [("protocol", ""), ("protocol.1", "refused memory")]:  # it came before the commit
+        row = night.record("new", "row 1 3 1 175", answer, 4, 1, 4).spelling().decode()
+        night.edit(name, f"{TIME}\t1\t4\t1\t4\tnew\tcommit", f"{row}{TIME}\t1\t5\t1\t5\tnew\tcommit")
+    same("what is held", night.count.export(), night.made()[1])
+    night.replay()
 
 
 def test_strange_names():
     """names with characters that some take for line ends are no difference"""
     setup = REHEARSAL.read_text().replace('"Nord"', '"No\u2028rd"').replace('"Mitte"', '"Mi\u0085t\u2029"')
     with Night(setup) as night:
-        night.begin()
-        night.send(["1 return 1 1 1 525", "1 return 2 1 1 240", "2 return 3 1 1 90", "1 sheet", "2 sheet"])
+        night.begin(["1 return 1 1 1 525", "1 return 2 1 1 240", "2 return 3 1 1 90", "1 sheet", "2 sheet"])
         night.end()
         same("what is held", night.count.export(), night.made()[1])
-        same("a replay", (0, "the same: the answers to 5 lines in 1 starts, and the export\n"), night.replay())
+        same("a replay", "the same: the answers to 5 lines in 1 starts, and the export\n", night.replay())
 
 
-def one_night(seed):
-    """Some starts, each with lines, a stop, and perhaps a table loaded before it. Then the disk is lost."""
+@pytest.mark.parametrize("seed", range(NIGHTS))
+def test_nights_by_chance(night, seed):
+    """nights by chance, of some starts, each with lines, a stop, and perhaps a table loaded before it, and then the disk is lost:
+    whatever was shown as stored is held, and nothing else, but for a last line in doubt"""
     chance, numbers, before = random.Random(seed), {}, []
-    with Night() as night:
-        starts, is_missing = chance.randint(1, 3), chance.random() < 0.3
-        for start in range(starts):
-            before += load_by_chance(chance, night) if chance.random() < 0.3 else []
-            night.begin()
-            lines = [random_line(chance, numbers) for _ in range(chance.randint(1, 25))]
-            fate = chance.choice(["answered", "kept", "lost"])
-            if start == starts - 1 and is_missing:  # the line will be run, whatever became of it
-                fate = "kept"
-            night.send(lines, fate)
-        damage(chance, night, int(lines[-1][0]), is_missing)
-        said, export = night.made(*before)
-        wanted = night.before_last if fate == "kept" and not is_missing else night.count.export()
-        same(f"what is held after night {seed}, {fate}, {lines[-1]}: {said}", wanted, export)
-
-
-def test_nights_by_chance():
-    """nights by chance: whatever was shown as stored is held, and nothing else, but for a last line in doubt"""
-    with concurrent.futures.ThreadPoolExecutor(4) as pool:
-        list(pool.map(one_night, range(NIGHTS)))
+    starts, is_missing = chance.randint(1, 3), chance.random() < 0.3
+    for start in range(starts):
+        before += load_by_chance(chance, night) if chance.random() < 0.3 else []
+        lines = [random_line(chance, numbers) for _ in range(chance.randint(1, 25))]
+        fate = chance.choice(["answered", "kept", "lost"])
+        if start == starts - 1 and is_missing:  # the line will be run, whatever became of it
+            fate = "kept"
+        night.begin(lines, fate)
+    damage(chance, night, int(lines[-1][0]), is_missing)
+    said, export = night.made(*before)
+    wanted = night.before_last if fate == "kept" and not is_missing else night.count.export()
+    same(f"what is held after {fate}, {lines[-1]}: {said}", wanted, export)

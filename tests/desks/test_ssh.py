@@ -4,6 +4,7 @@ is lost at 50 moments, with eight desks that are not, as 400 connections would t
 number of lines, LOSSES of losses."""
 import concurrent.futures
 import getpass
+import itertools
 import os
 import pathlib
 import re
@@ -18,8 +19,8 @@ import pytest
 
 from canton import Canton, Chance
 from office import Office
-from room import Process, Room, running, same, that, until
-from witnessed import Witnessed, night_that_is_lost
+from room import HAS_ENDED, Desk, Process, Room, running, same, that, until
+from witnessed import Witnessed, lines_at, night_that_is_lost, own_of
 
 LINES = int(os.environ.get("LINES", "2000"))
 LOSSES = int(os.environ.get("LOSSES", "50"))
@@ -56,8 +57,7 @@ class Ssh:
         (self.folder / "config").write_text(CONFIG.format(port=self.port, folder=self.folder))
         if os.geteuid() == 0:
             pathlib.Path("/run/sshd").mkdir(mode=0o755, exist_ok=True)
-        self.sshd = room.process(Process, [SSHD, "-D", "-e", "-f", self.folder / "config"])
-        until(f"sshd listens: {self.sshd.said()}", lambda: "Server listening" in self.sshd.said() or self.sshd.process.poll() is not None)
+        room.process(Process, [SSHD, "-D", "-e", "-f", self.folder / "config"]).says("Server listening")
 
     def make_key(self, name):
         """The public half of a new key."""
@@ -89,90 +89,43 @@ class Ssh:
         return ran.returncode, ran.stdout, ran.stderr
 
 
-def some_lines(canton, desk, count):
-    """What a desk sends, in its own municipalities and in one that all share."""
-    chance, lines, numbers = Chance(1000 + desk), [], {}
-    own = [m for m in canton.municipalities() if m % 8 == desk - 1]
+class Client:
+    """Somebody at a desk over ssh, who sends a line when the one before is answered, and once more what is not repeated."""
 
-    def place():
-        m = own[chance.below(len(own))] if chance.below(20) else 1
-        return m, canton.lists_in(m)[chance.below(len(canton.lists_in(m)))]
-
-    def entry(word, m, g):
-        number = numbers[m, g] = numbers.get((m, g), 0) + (0 if chance.once_in(40) and (m, g) in numbers else 1)
-        return f"{word} {m} {g} {number + chance.once_in(30)}" + (f" {chance.below(5000)}" if word != "withdraw" else "")
-
-    while len(lines) < count:
-        draw, (m, g) = chance.below(100), place()
-        if draw < 4:
-            places = {place() for _ in range(chance.between(1, 25))}
-            lines += ["open", *(entry("row", *it) for it in sorted(places)), chance.shuffled(["commit", "commit", "drop"])[0], "drop"]
-        elif draw < 6:
-            lines += [f"close {m}", f"return {m} {g} 1 5", f"reopen {m}"]
-        else:
-            lines.append(f"show {m} {g}" if draw < 20 else f"last {m} {g}" if draw < 25 else entry("withdraw", m, g) if draw < 28
-                         else "sheet" if draw < 29 and chance.once_in(3) else entry("return", m, g))
-    return lines[:count]
-
-
-class Client(threading.Thread):
-    """A desk's program: it sends a line when the one before is answered, and keeps it until then."""
-
-    def __init__(self, ssh, desk, lines):
-        super().__init__(daemon=True)
-        self.ssh, self.desk, self.lines = ssh, desk, lines
-        self.sent, self.done, self.fault, self.said = [], 0, None, ""
+    def __init__(self, ssh, canton, number):
+        self.ssh, self.number, self.sent, self.done = ssh, number, [], 0
+        self.lines = itertools.islice(lines_at(canton, own_of(canton, number), Chance(1000 + number), shared=1), LINES)
         self.connect()
 
     def connect(self):
-        how = dict(stdin=subprocess.PIPE, stdout=subprocess.PIPE, stderr=subprocess.PIPE, bufsize=0)
-        self.process = subprocess.Popen(self.ssh.words(self.desk, ["-T"]), **how)
-        greeting, last = "", f"before: {self.sent[-1]}" if self.sent else ", start "
-        while last not in greeting and "another connection" not in greeting:
-            more = self.process.stderr.readline().decode()
-            greeting += more
-            if not more:
-                raise OSError(f"desk {self.desk} is not connected: {greeting}")
-        self.said += greeting
-        if "another connection" in greeting:  # the one that was cut has not let go yet
-            self.process.wait()
-            time.sleep(0.2)
-            self.connect()
+        """Connects once a connection that was cut has let go. The desk says what became of the last line."""
+        greeting = f"before: {self.sent[-1]}" if self.sent else ", start "
+
+        def is_greeted():
+            self.desk = self.ssh.room.process(Desk, self.ssh.words(self.number, ["-T"]))
+            until(lambda: f"a greeting: {self.desk.said()}", lambda: greeting in self.desk.said() or self.desk.has_ended())
+            return greeting in self.desk.said()
+        until(lambda: f"desk {self.number} is connected: {self.desk.said()}", is_greeted)
 
     def run(self):
-        try:
-            for number, line in enumerate(self.lines):
-                if number == CUT.get(self.desk):
-                    self.process.stdin.write(line[:len(line) // 2].encode())
-                    time.sleep(0.3)
-                    self.process.kill()
-                    self.process.wait()
-                    self.connect()
-                while self.ask(line).startswith("not repeated: "):
-                    pass
-                self.done = number + 1
-            self.process.stdin.close()
-            same("the end of a desk", 0, self.process.wait())
-        except (OSError, AssertionError) as fault:
-            self.fault = fault
-
-    def ask(self, line):
-        self.sent.append(line)
-        self.process.stdin.write(line.encode() + b"\n")
-        return self.answer()
-
-    def answer(self):
-        first = self.process.stdout.readline().decode()
-        if not first:
-            raise OSError(f"desk {self.desk}: the connection ended")
-        line = first if re.match(r"\d sheet (provisional|final) \d+$", first) else "end\n"
-        while line != "end\n":
-            line = self.process.stdout.readline().decode()
-        return first
+        for line in self.lines:
+            if self.done == CUT.get(self.number):
+                self.desk.write(line[:len(line) // 2])
+                time.sleep(0.3)
+                self.desk.kill()
+                self.desk.wait()
+                self.connect()
+            answer = "not repeated: "
+            while answer.startswith("not repeated: "):
+                self.sent.append(line)
+                answer = self.desk.send(line)
+            that(f"desk {self.number} is connected: {self.desk.said()}", answer != HAS_ENDED)
+            self.done += 1
+        same("the end of a desk", 0, self.desk.end())
 
 
 def compare_with_the_manual(room, canton, desks):
-    """Each answer is that of the manual, in the order of the lines. How many."""
+    """Each answer is that of the manual, in the order of the lines."""
     office, start = Office(canton), 0
     found = {it.start: int(it.text.split()[0]) for it in reversed(room.records("protocol")) if it.mark == "state"}
     records = sorted((it for desk in desks for it in room.of_desk(desk) if it.line), key=lambda it: (it.start, it.line))
@@ -186,32 +139,26 @@ def compare_with_the_manual(room, canton, desks):
         wanted, answer = office.answer(f"{record.desk} {record.text}"), f"{record.desk} {first_line}"
         if record.answer != "unanswered" and answer != wanted and not (" sheet " in wanted and " sheet " not in answer):
             raise AssertionError(f"start {start}, line {record.line}: {record.desk} {record.text}: {answer}, and not {wanted}")
-    return len(records)
 
 
 def test_side_by_side():
     """eight desks over ssh, two connections cut in the middle of a line, the office killed twice"""
     canton = Canton(Chance(2027))
-    with running(Room(setup=canton.setup())) as room:
+    with running(Room(setup=canton.setup())) as room, concurrent.futures.ThreadPoolExecutor(8) as pool:
         ssh = Ssh(room).let_desks_in()
-        clients = {desk: Client(ssh, desk, some_lines(canton, desk, LINES)) for desk in range(1, 9)}
-        for it in clients.values():
-            it.start()
+        clients = {desk: Client(ssh, canton, desk) for desk in range(1, 9)}
+        runs = [pool.submit(it.run) for it in clients.values()]
         for lines in KILLS:
-            until(f"{lines} lines", lambda: sum(it.done for it in clients.values()) >= lines or have_faults(clients), 300)
-            room.restart(signal.SIGKILL)
-        for it in clients.values():
-            it.join(300)
-            same(f"the fault of desk {it.desk}", None, it.fault)
-            same(f"the lines of desk {it.desk}", LINES, it.done)
+            until(f"{lines} lines", lambda: sum(it.done for it in clients.values()) >= lines
+                  or any(it.done() and it.exception() for it in runs), 300)
+            room.restart()
+        for it in runs:
+            it.result(300)
+        same("lines", [LINES] * 8, [it.done for it in clients.values()])
         same("the end of the office", 0, room.stop())
-        same("lines that were cut", 2, sum(it.said.count("before: ") for it in clients.values()))
-        print("      " + room.check({desk: it.sent for desk, it in clients.items()}).strip().replace("\n", "\n      "))
-        print(f"      {compare_with_the_manual(room, canton, clients)} answers are those of the manual")
-
-
-def have_faults(clients):
-    return any(it.fault for it in clients.values())
+        same("desks whose connection was cut", [*CUT], [desk for desk, it in clients.items() if "before: " in it.desk.said()])
+        room.check({desk: it.sent for desk, it in clients.items()})
+        compare_with_the_manual(room, canton, clients)
 
 
 def test_a_key_is_a_desk(room):
@@ -231,15 +178,9 @@ def test_a_key_is_a_desk(room):
         same(f"no port by {options}: {out}", 255, status)
         that(f"that is said: {error}", "prohibited" in error or "remote port forwarding failed" in error)
     same("another key", 255, ssh.ask(9)[0])
-    dead = subprocess.Popen(ssh.words(5, ["-T"]), stdin=subprocess.PIPE, stdout=subprocess.PIPE, stderr=subprocess.DEVNULL)
-    dead.stdin.write(b"show 1 1\n")
-    dead.stdin.flush()
-    same("the first connection of desk 5", b"shows 1 525\n", dead.stdout.readline())
-    dead.send_signal(signal.SIGSTOP)
+    room.process(Desk, ssh.words(5, ["-T"])).talk("show 1 1 -> shows 1 525").kill(signal.SIGSTOP)
     that("the second", "another connection has this desk" in ssh.ask(5, text="show 1 1\n")[2])
     until("it is let in when the first is dead", lambda: ssh.ask(5, text="show 1 1\n")[1] == "shows 1 525\n", 60)
-    dead.kill()
-    dead.wait()
     room.check()
 
 
@@ -254,15 +195,9 @@ def test_machine_is_lost():
                 return ssh.words(f"witness{seed}", ["-T"])
             return night_that_is_lost(seed, words)
 
-        begun = time.monotonic()
         with concurrent.futures.ThreadPoolExecutor(6) as pool:
             shown = list(pool.map(night, range(LOSSES)))
-        print(f"      {LOSSES} losses in {time.monotonic() - begun:.0f} s, after {min(shown)} to {max(shown)} answers")
         that(f"answers were shown: {shown}", sum(shown) > 20 * LOSSES)
-
-
-def parent_of(pid):
-    return int(re.search(r"PPid:\t(\d+)", pathlib.Path(f"/proc/{pid}/status").read_text())[1])
 
 
 @pytest.mark.xdist_group("times")
@@ -273,20 +208,18 @@ def test_network_hangs():
         ssh.let_in("witness", room.command)
         room.options[1] = shlex.join(ssh.words("witness", ["-T"]))
         room.start()
-        desk = room.desk(1)
-        same("the answer", "stored 1", desk.send("return 1 1 1 525"))
-        hung = parent_of(room.witness())
+        desk = room.desk(1).talk("return 1 1 1 525 -> stored 1")
+        hung = int(re.search(r"PPid:\t(\d+)", pathlib.Path(f"/proc/{room.witness()}/status").read_text())[1])
         that("it is sshd", b"sshd" in pathlib.Path(f"/proc/{hung}/cmdline").read_bytes())
         os.kill(hung, signal.SIGSTOP)
         try:
             begun = time.monotonic()
-            same("the answer", "stored 2", desk.send("return 1 1 2 530"))
+            desk.talk("return 1 1 2 530 -> stored 2")
             that(f"after some ten seconds: {time.monotonic() - begun}", 5 < time.monotonic() - begun < 20)
             until("the desk says it", lambda: "no witness since" in desk.said(), 3)
             room.office.says("it has said nothing for 10 seconds")
             until("it is there again", lambda: room.office.said().count("the witness is there since") == 2, 60)
         finally:
             os.kill(hung, signal.SIGCONT)
-        same("the answer", "stored 3", desk.send("return 2 1 1 240"))
-        room.stop()
-        same("what differs", [], room.differing())
+        desk.talk("return 2 1 1 240 -> stored 3")
+        room.check()

@@ -3,17 +3,17 @@ file; and the same night after a power cut at each of these moments, with what w
 started again, and the night goes on to its end: what the desks were shown, the protocols, the replay, the disk made anew and the export
 have to agree, and each line has to have taken effect once."""
 import concurrent.futures
+import copy
+import functools
 import os
 import re
-import signal
 import subprocess
-import threading
 
 import pytest
 
-from room import same, that
+from room import that
 from two_desks import Night
-from watch import Device, QuickRoom, WatchedRoom, restore
+from watch import CompiledRoom, Device, Stop, WatchedRoom, prepare, restore
 
 # Each has more processes than there are processors, so they come one after the other.
 pytestmark = [pytest.mark.long, pytest.mark.xdist_group("stops")]
@@ -37,111 +37,83 @@ def note_passing_on(night, call):
             shown.is_passed_on = shown.is_passed_on or kept.endswith(b" " + shown.lines[-1][0].encode())
 
 
-class Stop:
-    """A night with a stop before the call of this number."""
+def has_its_end(night, title):
+    """Goes on with a night to its end, and looks at what there is."""
+    try:
+        night.go_on()
+        night.check()
+    except (AssertionError, OSError, subprocess.SubprocessError) as fault:
+        raise AssertionError(f"{title()}: {fault}") from None
+
+
+class StopOf(Stop):
+    """A night with a stop of the office, or of a desk."""
 
     def __init__(self, place, who, number):
-        self.place, self.who, self.number, self.calls, self.call = place, who, number, 0, None
+        super().__init__(place, number)
+        self.who = who
 
-    def goes_on(self, call):
+    def before(self, call):
         note_passing_on(self.night, call)
-        if call.who != self.who or not is_counted(self.night.room, call):
-            return True
-        self.calls += 1
-        if self.calls == self.number:
-            self.call = call
-            os.kill(call.pid, signal.SIGKILL)
-        return self.calls != self.number
+        super().before(call)
+
+    def counts(self, call):
+        return call.who == self.who and is_counted(self.night.room, call)
 
     def run(self):
-        with WatchedRoom(self.place, self.goes_on) as room:
+        with WatchedRoom(self.place, self.before) as room:
             self.night = Night(room)
-            try:
-                self.night.go_on()
-                self.night.check()
-            except AssertionError as fault:
-                raise AssertionError(f"{self.who} stopped before call {self.number}, {self.described()}: {fault}") from None
+            has_its_end(self.night, lambda: f"{self.who} stopped before call {self.number}, {self.call}")
         return self
 
-    def described(self):
-        return f"{self.call.name} {self.call.file}" if self.call else "which is not made"
 
-
-def each(jobs, many=3):
-    """Runs these side by side, those that are near to each other not soon after each other. Where some have failed it ends early, with
-    what they say."""
-    faults, lock = [], threading.Lock()
+def each(jobs):
+    """Runs these side by side, those that are near to each other not soon after each other. After a fault no more are begun."""
     spread = sorted(range(len(jobs)), key=lambda it: it * 0.618 % 1)
-
-    def run(job):
-        if len(faults) < many:
-            try:
-                job()
-            except (AssertionError, OSError, subprocess.SubprocessError) as fault:
-                with lock:
-                    faults.append(str(fault))
-
     with concurrent.futures.ThreadPoolExecutor(AT_ONCE) as pool:
-        list(pool.map(run, [jobs[it] for it in spread]))
-    same(f"{len(jobs)} nights: {faults[:many]}", 0, len(faults))
+        list(pool.map(lambda it: jobs[it](), spread))
 
 
 @pytest.mark.parametrize("who", ["office", "desk 1"])
-def test_stopped(who, place):
+def test_stopped(who, tmp_path):
     """kill -9 of the office, or of a desk, at each of its calls"""
-    whole = Stop(place, who, 0).run()
-    that(f"calls of {who}", whole.calls > 20)
-    each([Stop(place, who, number).run for number in range(1, whole.calls + 1)])
-
-
-class Cut:
-    """A power cut: what it left, what the desks had been shown by then, and how far the night was."""
-
-    def __init__(self, place, night, call, image, what):
-        self.place, self.path, self.image, self.done = place, night.room.path, image, night.done
-        self.shown = {desk: it.copy() for desk, it in night.shown.items()}
-        self.title = f"a cut before {call.who}: {call.name} {call.file}, in line {night.done + 1}, {what}"
-
-    def key(self):
-        return self.image, self.done, tuple(it.key() for it in self.shown.values())
-
-    def run(self):
-        with QuickRoom(self.place) as room:
-            restore(self.image, room, self.path)
-            try:
-                night = Night(room, self.done, self.shown)
-                night.go_on()
-                night.check()
-            except AssertionError as fault:
-                raise AssertionError(f"{self.title}: {fault}") from None
+    place = prepare(tmp_path)
+    calls = StopOf(place, who, 0).run().calls
+    that(f"calls of {who}", calls > 20)
+    each([StopOf(place, who, number).run for number in range(1, calls + 1)])
 
 
 class Recorder:
-    """A night in which nothing is stopped, with what a power cut would leave before each call."""
+    """A night in which nothing is stopped, with each power cut that there may be: what it leaves, how far the night is, its
+    title, and what the desks were shown."""
 
     def __init__(self, place):
-        self.place, self.device, self.cuts = place, None, {}
+        self.place, self.cuts = place, {}
 
-    def goes_on(self, call):
-        note_passing_on(self.night, call)
-        if is_counted(self.night.room, call):
+    def before(self, call):
+        night = self.night
+        note_passing_on(night, call)
+        if is_counted(night.room, call):
             for image, what in zip(self.device.images(), ("names and bytes as synced", "bytes as synced", "a write is torn")):
-                cut = Cut(self.place, self.night, call, image, what)
-                self.cuts.setdefault(cut.key(), cut)
+                title = f"a cut before {call.who}: {call.name} {call.file}, in line {night.done + 1}, {what}"
+                self.cuts.setdefault((image, night.done, repr(night.shown)), (title, copy.deepcopy(night.shown)))
         if call.name == "sync":
             self.device.sync(call.path)
-        return True
 
     def run(self):
-        with WatchedRoom(self.place, self.goes_on) as room:
-            self.device, self.night = Device(room.path), Night(room)
-            self.night.go_on()
-            self.night.check()
-        return [*self.cuts.values()]
+        with WatchedRoom(self.place, self.before) as room:
+            self.path, self.device, self.night = room.path, Device(room.path), Night(room)
+            has_its_end(self.night, lambda: "without a cut")
+
+    def go_on_after(self, image, done, title, shown):
+        with CompiledRoom(self.place) as room:
+            restore(image, room, self.path)
+            has_its_end(Night(room, done, shown), lambda: title)
 
 
-def test_power_is_cut(place):
+def test_power_is_cut(tmp_path):
     """a power cut before each call of the office and of the desks"""
-    cuts = Recorder(place).run()
-    that("cuts", len(cuts) > 50)
-    each([it.run for it in cuts])
+    recorder = Recorder(prepare(tmp_path))
+    recorder.run()
+    that("cuts", len(recorder.cuts) > 50)
+    each([functools.partial(recorder.go_on_after, *key[:2], *cut) for key, cut in recorder.cuts.items()])

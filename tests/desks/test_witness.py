@@ -1,10 +1,10 @@
 """Tests of an office with a witness: a second folder, reached by a command, which may be lost, stopped, slow or another office's."""
 import os
+import re
 import resource
 import shlex
 import shutil
 import signal
-import subprocess
 import sys
 import tempfile
 import time
@@ -24,20 +24,17 @@ def test_mirrored(room):
     same("the answers", ["stored 1", "held 0", "held 1", "stored 2"],
          room.ask(1, "return 1 1 1 525", "open", "row 2 1 1 240", "commit").out)
     room.has_all()
-    room.restart(signal.SIGKILL)
+    room.restart()
     same("the answer", ["stored 3"], room.ask(2, "return 3 1 1 90").out)
     same("the end", 0, room.stop())
-    same("what differs", [], room.differing())
-    same("the export", room.zhcount("export"), room.zhcount("export", disk=room.rebuilt_from_witness()))
     room.check()
+    same("the export", room.zhcount("export"), room.zhcount("export", disk=room.rebuilt_from_witness()))
 
 
 def test_nothing_before():
     """no answer is shown before the witness has it, while other desks' lines are answered on the disk; a silent one is waited for"""
     with running(Witnessed("--witness-required")) as room:
-        desks = [room.desk(1), room.desk(2)]
-        same("the answer", "none", desks[0].send("show 1 1"))
-        same("the answer", "none", desks[1].send("show 1 1"))
+        desks = [room.desk(number).talk("show 1 1 -> none") for number in (1, 2)]
         room.signal(signal.SIGSTOP)
         desks[0].write("return 1 1 1 525\n")
         desks[1].write("return 2 1 1 240\n")
@@ -45,35 +42,28 @@ def test_nothing_before():
         stays("no answer is shown", lambda: len(room.of_desk(1)) == len(room.of_desk(2)) == 1 and len(desks[0].out) == len(desks[1].out) == 1)
         room.signal(signal.SIGCONT)
         same("the answers", ["stored 1", "stored 2"], sorted(it.answer() for it in desks))
-        room.has_all()
         room.check()
 
 
 def test_goes_on_without(room):
     """without its witness the office goes on, and says so; the witness then gets what it lacks"""
-    desk = room.desk(1)
-    same("the answer", "stored 1", desk.send("return 1 1 1 525"))
+    desk = room.desk(1).talk("return 1 1 1 525 -> stored 1")
     room.lose_witness()
-    same("the answer", "stored 2", desk.send("return 1 1 2 530"))
+    desk.talk("return 1 1 2 530 -> stored 2")
     room.office.says("no witness since")
     that("the folder says it", (room.folder / "witness").read_text().startswith("no witness since"))
-    same("the answer", "none", desk.send("show 2 1"))
-    desk.says("no witness since")
+    desk.talk("show 2 1 -> none").says("no witness since")
     room.away.unlink()
     room.has_all()
     until("the log says it", lambda: room.office.said().count("the witness is there since") == 2)
-    same("the answer", "stored 3", desk.send("return 2 1 1 240"))
-    desk.says("the witness is there since")
-    room.stop()
-    same("what differs", [], room.differing())
+    desk.talk("return 2 1 1 240 -> stored 3").says("the witness is there since")
     room.check()
 
 
 def test_waits_for_it():
     """where the witness is required no answer is shown while it is away"""
     with running(Witnessed("--witness-required")) as room:
-        desk = room.desk(1)
-        same("the answer", "stored 1", desk.send("return 1 1 1 525"))
+        desk = room.desk(1).talk("return 1 1 1 525 -> stored 1")
         room.lose_witness()
         room.office.says("waiting for the witness since")
         room.note(desk, "return 1 1 2 530")
@@ -104,8 +94,7 @@ def test_answer_that_it_alone_has(is_away):
     """an answer that the witness alone has, as the office is killed between the acknowledgement and its own note of it, is taken over
     by the next start; where that does without the witness, it is put aside"""
     with running(DyingWithWitness("zhcount-office", ["self.folder.note_answer(record)"])) as room:
-        desk = room.desk(1)
-        same("the answer", "stored 1", desk.send("return 1 1 1 525"))
+        desk = room.desk(1).talk("return 1 1 1 525 -> stored 1")
         room.arm(0)
         desk.write("return 1 1 2 530\n")
         room.ends(-9)
@@ -121,9 +110,8 @@ def test_answer_that_it_alone_has(is_away):
         room.has_all()
         if is_away:
             that("what was not shown is put aside", b"stored 2" in (room.copy / "protocol.1.aside").read_bytes())
-        room.stop()
-        same("the export", room.zhcount("export"), room.zhcount("export", disk=room.rebuilt_from_witness()))
         room.check()
+        same("the export", room.zhcount("export"), room.zhcount("export", disk=room.rebuilt_from_witness()))
 
 
 def test_another_office():
@@ -133,16 +121,14 @@ def test_another_office():
         same("the answer", ["stored 1"], first.ask(1, "return 1 1 1 525").out)
         first.stop()
         second.options = first.options
-        second.start(is_awaited=False)
-        second.ends(3, "the witness has another protocol")
+        second.refuses("the witness has another protocol")
 
 
 def test_torn_record(room):
     """a torn record at the witness is cut off, and sent again"""
-    desk = room.desk(1)
-    same("the answer", "stored 1", desk.send("return 1 1 1 525"))
+    desk = room.desk(1).talk("return 1 1 1 525 -> stored 1")
     room.lose_witness()
-    same("the answer", "stored 2", desk.send("return 1 1 2 530"))
+    desk.talk("return 1 1 2 530 -> stored 2")
     torn = (room.folder / "protocol").read_bytes()[len((room.copy / "protocol").read_bytes()):][:40]
     with open(room.copy / "protocol", "ab") as file:
         file.write(torn or b"2026-11-28T0")
@@ -151,44 +137,44 @@ def test_torn_record(room):
     room.stop()
 
 
-TRACED = '''
-import os, runpy, sys
-real = {it: getattr(os, it) for it in ("fsync", "write")}
-def traced(name):
-    def call(fd, *more):
-        at = os.readlink(f"/proc/self/fd/{fd}")
-        found = real[name](fd, *more)
-        word = "said" if (name, fd) == ("write", 1) else name
-        real["write"](trace, f"{word} {os.path.basename(at)} {more[0][:30] if fd == 1 and more else ''}\\n".encode())
-        return found
-    return call
-trace = os.open(os.environ["TRACE"], os.O_WRONLY | os.O_CREAT | os.O_APPEND)
-for it in real:
-    setattr(os, it, traced(it))
-sys.argv = sys.argv[1:]
-runpy.run_path(sys.argv[0], run_name="__main__")
-'''
-
-
 def test_each_piece_is_synced(new_room):
     """the witness acknowledges a piece once it has synced it"""
-    wrapper, trace = new_room.path / "traced.py", new_room.path / "trace"
-    wrapper.write_text(TRACED)
-    new_room.options = ["--witness", f"env TRACE={trace} {sys.executable} {wrapper} {new_room.scripts / 'zhcount-witness'} {new_room.copy}"]
+    new_room.options = ["--witness", shlex.join(map(str, new_room.traced("zhcount-witness", new_room.copy)))]
     new_room.start()
     same("the answers", ["stored 1", "shows 1 525"], new_room.ask(1, "return 1 1 1 525", "show 1 1").out)
     new_room.stop()
     written, said = set(), 0
-    for line in trace.read_text().splitlines():
-        word, name, *more = line.split(" ")
+    for word, name, text in new_room.calls():
         if word == "write":
             written.add(name)
         elif word == "fsync":
             written.discard(name)
-        elif "has" in more[0] and len(more) == 3:
+        elif has := re.match(r"b'has (\S+) \d+\\n", text):
             said += 1
-            that(f"{more[1]} is synced when it is acknowledged", more[1] not in written)
+            that(f"{has[1]} is synced when it is acknowledged", has[1] not in written)
     that(f"pieces were acknowledged: {said}", said >= 4)
+
+
+def test_in_pieces(new_room):
+    """a witness that lacks much gets it in pieces, so that none takes longer than it may be silent"""
+    witnessed, new_room.options, came = new_room.options, [], new_room.path / "came"
+    new_room.start()
+    new_room.ask(1, *["x" * 3900] * 40)
+    new_room.stop()
+    new_room.options = ["--witness", f"sh -c \"tee '{came}' | '{witnessed[1]}'\""]
+    new_room.start()
+    new_room.has_all()
+    sizes = [int(it) for it in re.findall(rb"append protocol(?:\.1)? (\d+)\n", came.read_bytes())]
+    that(f"pieces: {sizes}", sum(sizes) > 300_000 and max(sizes) <= 65536)
+
+
+def test_told_at_once(new_room):
+    """a new connection is told that there is no witness before it is shown an answer"""
+    new_room.away.touch()
+    new_room.start().says("no witness since")
+    desk = new_room.desk(1)
+    desk.says("no witness since")
+    same("what it was shown", [], desk.out)
 
 
 def test_slow_witness(new_room):
@@ -209,13 +195,12 @@ def test_slow_witness(new_room):
 
 def test_full_volume(room):
     """a witness without room ends, and says why; the office goes on, and says it too"""
-    desk = room.desk(1)
-    same("the answer", "stored 1", desk.send("return 1 1 1 525"))
+    desk = room.desk(1).talk("return 1 1 1 525 -> stored 1")
     room.has_all()
     size = (room.copy / "protocol").stat().st_size
     resource.prlimit(room.witness(), resource.RLIMIT_FSIZE, (size + 30, resource.RLIM_INFINITY))
     room.away.touch()
-    same("the answer", "stored 2", desk.send("return 1 1 2 530"))
+    desk.talk("return 1 1 2 530 -> stored 2")
     room.office.says("no witness since", f": it has ended: zhcount-witness: {room.copy}: File too large")
     same("the size of its protocol", size, (room.copy / "protocol").stat().st_size)
     room.away.unlink()
@@ -236,8 +221,7 @@ def test_no_such_command(new_room, words, why):
     until(f"it says why, {why}", lambda: any("no witness" in it and it.endswith(f": {why}") for it in new_room.office.error))
     same("the end", 0, new_room.stop())
     for nothing in ("", " ", "ssh 'other"):
-        status, _ = new_room.zhcount_office("--witness", nothing, new_room.setup, new_room.disk, new_room.folder)
-        same(f"the status with '{nothing}'", 2, status)
+        new_room.zhcount_office("--witness", nothing, new_room.setup, new_room.disk, new_room.folder, status=2)
 
 
 def test_folder_of_another_witness(new_room):
@@ -245,18 +229,15 @@ def test_folder_of_another_witness(new_room):
     first = new_room.process(Process, new_room.script("zhcount-witness", new_room.copy))
     until("it is ready", lambda: "ready" in first.out)
     begun = time.monotonic()
-    same("a rebuilding meanwhile", (1, f"not made: an office or a witness runs in {new_room.copy}: end it first\n"),
-         new_room.zhcount_office("--rebuild", new_room.copy, new_room.other / "new"))
-    new_room.start()
-    refused = f"it has ended: zhcount-witness: {new_room.copy}: another witness, or an office, has this folder"
-    until("it says so", lambda: refused in new_room.office.said())
+    same("a rebuilding meanwhile", f"not made: an office or a witness runs in {new_room.copy}: end it first\n",
+         new_room.zhcount_office("--rebuild", new_room.copy, new_room.other / "new", status=1))
+    new_room.start().says(f"it has ended: zhcount-witness: {new_room.copy}: another witness, or an office, has this folder")
     same("the answer", ["stored 1"], new_room.ask(1, "return 1 1 1 525").out)
     same(f"the status of the first: {first.said()}", 1, first.wait())
     that(f"not before 15 seconds: {time.monotonic() - begun}", time.monotonic() - begun > 15)
     same("what it says", f"zhcount-witness: {new_room.copy}: nothing has come for 20 seconds", first.said())
-    until("the other has the folder", lambda: "the witness is there since" in new_room.office.said())
-    new_room.stop()
-    same("what differs", [], new_room.differing())
+    new_room.office.says("the witness is there since")
+    new_room.check()
 
 
 def test_refused_folder(new_room):
@@ -272,27 +253,15 @@ def test_refused_folder(new_room):
         that(f"it says so: {refused.said()}", refused.said().startswith(f"zhcount-witness: {folder}: {said}"))
 
 
-SLOW_LOCK = '''
-import fcntl, runpy, sys
-real = fcntl.flock
-def slow(*words):
-    open(sys.argv[1] + "/protocol", "a").write(RECORD)
-    return real(*words)
-fcntl.flock = slow
-sys.argv = sys.argv[1:]
-runpy.run_path(sys.argv[0], run_name="__main__")
-'''
-
-
 def test_lock_before_the_files(new_room):
     """what a witness still wrote while the next one waited for the folder stays"""
     record = "2026-11-29T18:00:00.000+01:00\t1\t1\t1\t1\tnew\tclose 1\t\n"
-    (new_room.other / "slow.py").write_text(SLOW_LOCK.replace("RECORD", repr(record)))
-    new_room.copy.mkdir(0o750)
-    words = [sys.executable, new_room.other / "slow.py", *new_room.script("zhcount-witness", new_room.copy)[-2:]]
-    ran = subprocess.run(words, stdin=subprocess.DEVNULL, capture_output=True, text=True)
-    same(f"what it has: {ran.stderr}", record, (new_room.copy / "protocol").read_text())
-    that(f"what it says: {ran.stdout}", f"has protocol {len(record)} " in ran.stdout)
+    late = f"open(self.path + '/protocol', 'a').write({record!r})"
+    new_room.edit_script("zhcount-witness", r"^( *)(?=return fcntl\.flock)", lambda found: f"{found[1]}{late}\n{found[1]}")
+    witness = new_room.process(Process, new_room.script("zhcount-witness", new_room.copy))
+    same(f"its end: {witness.said()}", 0, witness.end())
+    same("what it has", record, (new_room.copy / "protocol").read_text())
+    that(f"what it says: {witness.out}", any(it.startswith(f"has protocol {len(record)} ") for it in witness.out))
 
 
 def test_start_waits_for_it():
@@ -310,31 +279,27 @@ def test_start_waits_for_it():
         room.start(is_awaited=False)
         room.away.unlink()
         same("the answer", "stored 1", desk.answer())
-        room.stop()
-        same("what differs", [], room.differing())
         room.check()
 
 
 def test_spoilt_in_the_night(room):
     """a witness that has something else in the middle of a night is none, and the office goes on"""
-    desk = room.desk(1)
-    same("the answer", "stored 1", desk.send("return 1 1 1 525"))
+    desk = room.desk(1).talk("return 1 1 1 525 -> stored 1")
     room.has_all()
     room.lose_witness()
-    same("the answer", "stored 2", desk.send("return 1 1 2 530"))
+    desk.talk("return 1 1 2 530 -> stored 2")
     path = room.copy / "protocol.1"
     path.write_bytes(path.read_bytes().replace(b"525", b"526"))
     room.away.unlink()
     room.office.says("still no witness: the witness has another protocol.1")
-    same("the answer", "stored 3", desk.send("return 1 1 3 540"))
+    desk.talk("return 1 1 3 540 -> stored 3")
     same("the end", 0, room.stop())
 
 
 def test_unanswered_at_the_end():
     """an answer that the witness does not have at the end is shown to nobody, and given after the next start"""
     with running(Witnessed("--witness-required")) as room:
-        desk = room.desk(1)
-        same("the answer", "stored 1", desk.send("return 1 1 1 525"))
+        desk = room.desk(1).talk("return 1 1 1 525 -> stored 1")
         room.lose_witness()
         room.office.says("waiting for the witness since")
         room.note(desk, "return 1 1 2 530")
@@ -344,8 +309,6 @@ def test_unanswered_at_the_end():
         room.away.unlink()
         room.start()
         same("the answer", "same", desk.answer())
-        room.stop()
-        same("what differs", [], room.differing())
         room.check()
 
 
@@ -381,7 +344,7 @@ def test_either_is_lost():
         room.lose_witness()
         shutil.rmtree(room.copy)
         wait_for_answers(room, entering, 200)
-        until("the log says that there is none", lambda: "no witness since" in room.office.said())
+        room.office.says("no witness since")
         room.away.unlink()
         until("the log says that it is there", lambda: room.office.said().count("the witness is there since") == 2)
         wait_for_answers(room, entering, 300)

@@ -1,9 +1,10 @@
 """The night of two desks, whose lines are each sent once the one before is answered, whatever is stopped meanwhile."""
+import dataclasses
 import re
 import signal
 import zlib
 
-from room import final_answers, same, that, until
+from room import HAS_ENDED, final_answers, same, that, until
 
 # The lines of the night: the desk, the line, and its answer where nothing is stopped. Between two parts the office is told to end, and
 # started again.
@@ -38,12 +39,11 @@ def final(answer):
     return "refused closed" if first == "perhaps stored: show it" else re.sub(r"^\d (?=sheet )", "", first)
 
 
+@dataclasses.dataclass
 class Shown:
     """What a person at a desk knows: the lines typed there, and what was shown for each."""
-
-    def __init__(self):
-        self.lines = []  # each with its answer, None as long as none was shown
-        self.is_passed_on = True  # whether the desk has passed the last line on to the office
+    lines: list = dataclasses.field(default_factory=list)  # each with its answer, None as long as none was shown
+    is_passed_on: bool = True  # whether the desk has passed the last line on to the office
 
     def type(self, line):
         self.lines.append([line, None])
@@ -52,14 +52,6 @@ class Shown:
     def known(self):
         """The lines that the desk has to know after any stop: those that were answered, and one that was passed on."""
         return [it for it in self.lines if it[1] is not None or it is self.lines[-1] and self.is_passed_on]
-
-    def copy(self):
-        other = Shown()
-        other.lines, other.is_passed_on = [[*it] for it in self.lines], self.is_passed_on
-        return other
-
-    def key(self):
-        return tuple(map(tuple, self.lines)), self.is_passed_on
 
 
 class Night:
@@ -72,7 +64,7 @@ class Night:
     def go_on(self):
         """Goes through what is left of the night."""
         number = 0
-        self.start()
+        self.room.start(is_awaited=False)
         for part, lines in enumerate(NIGHT):
             for desk, line, wanted in lines:
                 number += 1
@@ -81,40 +73,29 @@ class Night:
                     self.done = number
             if number >= self.done and part + 1 < len(NIGHT):
                 self.end_office()
-                self.start()
+                self.room.start(is_awaited=False)
         self.end_office()
         for it in self.desks.values():
+            same("nothing else is shown", [], it.out[it.taken:])
             it.process.stdin.close()
 
     # The office
 
-    def start(self):
-        self.room.start(is_awaited=False)
-
     def look_after_office(self):
         """Starts the office again where it was stopped."""
-        status = self.room.office.process.poll()
-        if status is None:
-            return
-        self.room.office.wait()
-        same(f"the end of the office: {self.room.office.said()}", -signal.SIGKILL, status)
-        self.start()
+        if self.room.office.has_ended():
+            self.room.ends(-signal.SIGKILL)
+            self.room.start(is_awaited=False)
 
     def end_office(self):
         """Tells the office to end once it serves, as often as it is stopped on the way."""
         for _ in range(TRIES):
-            until(f"an office: {self.room.office.said()}", self.serves)
-            self.room.office.kill(signal.SIGTERM)
-            status = self.room.office.wait()
-            if not status:
+            until(lambda: f"an office: {self.room.office.said()}", lambda: self.look_after_office() or self.room.serves())
+            if not self.room.stop():
                 that(f"every line is answered: {self.room.office.said()}", "every line is answered" in self.room.office.said())
                 return
             self.look_after_office()
         raise AssertionError("the office can't be told to end")
-
-    def serves(self):
-        self.look_after_office()
-        return "desks can send lines" in self.room.office.said()
 
     # The desks
 
@@ -142,44 +123,31 @@ class Night:
 
     def answer(self, desk, line):
         """Has a line answered once; None where its connection ends."""
-        process = self.desks.get(desk)
+        process, answer = self.desks.get(desk), None
         if process is None:
             process = self.desks[desk] = self.room.desk(desk)
-            before = self.greeting(desk, process)
-            if process.process.poll() is not None:
-                return self.forget(desk)
-            if before:
-                return before
-        process.write(line + "\n")
-        return self.await_answer(desk, process, line)
-
-    def await_answer(self, desk, process, line):
-        def found():
-            self.look_after_office()
-            lines = process.out[process.taken:]
-            if lines and lines[0].startswith("1 sheet ") and "end" not in lines:
-                lines = []
-            return "\n".join(lines) or process.process.poll() is not None
-        answer = until(f"an answer to {line}", found)
-        if answer is True:
-            return self.forget(desk)
-        process.taken = len(process.out)
+            answer = self.greeting(desk, process)
+        if process.has_ended():
+            answer = HAS_ENDED
+        elif answer is None:
+            process.write(line + "\n")
+            answer = process.answer(line, self.look_after_office)
+        if answer == HAS_ENDED:
+            del self.desks[desk]
+            same(f"the end of desk {desk}: {process.said()}", -signal.SIGKILL, process.wait())
+            return None
         return answer
-
-    def forget(self, desk):
-        process = self.desks.pop(desk)
-        same(f"the end of desk {desk}: {process.said()}", -signal.SIGKILL, process.wait())
 
     def greeting(self, desk, process):
         """What a new connection says of the last line, where that is the one that is typed; else None."""
+        def says(what, found):
+            return until(lambda: f"{what}: {process.said()}", lambda: self.look_after_office() or found() or process.has_ended())
         shown = self.shown[desk]
         known = shown.known()
-        until(f"a greeting of desk {desk}: {process.said()}", lambda: self.look_after_office() or "start " in process.said()
-              or process.process.poll() is not None)
+        says(f"a greeting of desk {desk}", lambda: "start " in process.said())
         if not known and not self.has_record(desk):
             return None
-        found = until(f"desk {desk} speaks of {known[-1:]}: {process.said()}", lambda: self.look_after_office()
-                      or BEFORE.search(process.said()) or process.process.poll() is not None)
+        found = says(f"desk {desk} speaks of {known[-1:]}", lambda: BEFORE.search(process.said()))
         if found is True:
             return None
         line, answer = found[1], found[2]
@@ -205,10 +173,5 @@ class Night:
             same(f"what is noted of desk {desk}", [(line, final(answer)) for line, answer in it.lines], noted)
         same("the export", EXPORT, room.zhcount("export"))
         same("the commands", ("state", "10 commands"), (last.mark, last.text))
-        self.check_rebuilt()
-
-    def check_rebuilt(self):
-        """The disk made anew from the protocols has the same export."""
-        disk = self.room.path / "rebuilt.disk"
-        self.room.rebuilt(self.room.folder, disk)
-        same("the export of the disk made anew", EXPORT, self.room.zhcount("export", disk=disk))
+        room.zhcount_office("--rebuild", room.folder, room.path / "rebuilt.disk")
+        same("the export of the disk made anew", EXPORT, room.zhcount("export", disk=room.path / "rebuilt.disk"))

@@ -6,6 +6,7 @@ import dataclasses
 import os
 import pathlib
 import shutil
+import signal
 import socket
 import stat
 import subprocess
@@ -19,20 +20,20 @@ HERE = pathlib.Path(__file__).resolve().parent
 LIBRARY, COMPILED = "watched.so", "scripts"
 
 
-def prepare(place):
-    """Puts what is preloaded, and the scripts, compiled, into a folder."""
+def prepare(place, scripts=SCRIPTS):
+    """Puts what is preloaded, and scripts, compiled, into a folder."""
     subprocess.run(["cc", "-shared", "-fPIC", "-O1", "-o", place / LIBRARY, HERE / "watched.c", "-ldl"], check=True)
-    shutil.copytree(SCRIPTS, place / COMPILED)
+    shutil.copytree(scripts, place / COMPILED)
     compileall.compile_dir(place / COMPILED, quiet=1)
     return place
 
 
-class QuickRoom(Room):
+class CompiledRoom(Room):
     """A room whose scripts start soon, as they are compiled and no packages are looked for. The disk has a folder of its own."""
 
     def __init__(self, place):
-        super().__init__(scripts=place / COMPILED)
-        made, self.disk = self.disk, self.path / "disks/night.disk"
+        super().__init__()
+        self.scripts, made, self.disk = place / COMPILED, self.disk, self.path / "disks/night.disk"
         self.disk.parent.mkdir()
         made.rename(self.disk)
 
@@ -53,70 +54,55 @@ class Call:
         return os.path.basename(self.path)
 
 
-class Watch(threading.Thread):
-    """Hears of each call, and lets it go on where `goes_on` says so. The process waits meanwhile; one that does not go on waits until
-    it is killed."""
+class WatchedRoom(CompiledRoom):
+    """A room whose office and desks are watched: `before` hears of each call, while the process waits, unless that kills it."""
 
-    def __init__(self, goes_on):
-        super().__init__(daemon=True)
-        self.goes_on, self.fault, self.held = goes_on, None, []
-        self.folder = tempfile.TemporaryDirectory(prefix="watch-")
-        self.path = f"{self.folder.name}/socket"
+    def __init__(self, place, before):
+        super().__init__(place)
+        self.before, self.library, self.pids, self.starting = before, place / LIBRARY, set(), threading.Lock()
+        self.beside = tempfile.TemporaryDirectory(prefix="watch-")
         self.socket = socket.socket(socket.AF_UNIX)
-        self.socket.bind(self.path)
+        self.socket.bind(f"{self.beside.name}/socket")
         self.socket.listen(64)
-        self.start()
+        threading.Thread(target=self.watch, daemon=True).start()
 
-    def run(self):
+    def watch(self):
         with contextlib.suppress(OSError):  # it was closed
             while True:
-                asking = self.socket.accept()[0]
-                self.hear(asking)
-
-    def hear(self, asking):
-        try:
-            pid, *fields = asking.recv(65536).decode().split("\n")[:-1] or "0"
-            if not fields or self.goes_on(Call(int(pid), *fields)):  # a process that is killed as it asks says nothing
-                asking.send(b".")
-                asking.close()
-            else:
-                self.held.append(asking)
-        except OSError as fault:
-            self.fault = fault
-
-    def close(self):
-        self.socket.shutdown(socket.SHUT_RDWR)
-        self.socket.close()
-        for it in self.held:
-            it.close()
-        self.folder.cleanup()
-
-
-class WatchedRoom(QuickRoom):
-    """A room whose office and desks are watched."""
-
-    def __init__(self, place, goes_on):
-        super().__init__(place)
-        self.library = place / LIBRARY
-        self.pids, self.starting = set(), threading.Lock()
-        self.watch = Watch(lambda call: self.hear(call, goes_on))
-
-    def hear(self, call, goes_on):
-        """Asks whether a call goes on, once it is known of whom it is."""
-        with self.starting:
-            return goes_on(call)
+                with self.socket.accept()[0] as asking, contextlib.suppress(OSError):
+                    pid, *fields = asking.recv(65536).decode().split("\n")[:-1] or "0"
+                    with self.starting:  # until it is known whose process it is
+                        if fields:  # a process that is killed as it asks says nothing
+                            self.before(Call(int(pid), *fields))
 
     def __exit__(self, *fault):
         super().__exit__(*fault)
-        self.watch.close()
+        self.socket.shutdown(socket.SHUT_RDWR)
+        self.socket.close()
+        self.beside.cleanup()
 
     def process(self, kind, words):
-        who = f"desk {words[3]}" if kind is Desk else "office"
-        watched = {"LD_PRELOAD": str(self.library), "WATCHED": str(self.path), "WATCHER": self.watch.path, "WATCHED_AS": who}
+        watched = {"LD_PRELOAD": str(self.library), "WATCHED": str(self.path), "WATCHER": self.socket.getsockname(),
+                   "WATCHED_AS": f"desk {words[3]}" if kind is Desk else "office"}
         with self.starting:
-            self.processes.append(kind(words, {**self.environment, **watched}))
-            self.pids.add(self.processes[-1].process.pid)
-        return self.processes[-1]
+            process = kind(words, {**self.environment, **watched})
+            self.processes.append(process)
+            self.pids.add(process.process.pid)
+        return process
+
+
+class Stop:
+    """A stop (kill -9) before the call of this number, of those that count; where it is 0, none."""
+
+    def __init__(self, place, number):
+        self.place, self.number, self.calls, self.call = place, number, 0, None
+
+    def before(self, call):
+        if self.counts(call):
+            self.calls += 1
+            if self.calls == self.number:
+                self.call = call
+                os.kill(call.pid, signal.SIGKILL)
 
 
 class Device:

@@ -1,7 +1,8 @@
 """A room whose office has a witness, and nights in which the machine of the one or of the other is lost."""
+import contextlib
 import os
 import pathlib
-import random
+import re
 import shlex
 import shutil
 import signal
@@ -12,7 +13,7 @@ import time
 
 from canton import Canton, Chance
 from office import Office
-from room import Desk, Room, same, that, until
+from room import HAS_ENDED, Room, same, that, until
 
 MIRRORED = ("setup.toml", "protocol", *(f"protocol.{desk}" for desk in range(1, 9)))
 # A witness that isn't there while a file says so, and that says which process it is.
@@ -55,9 +56,9 @@ class Witnessed(Room):
 
     def lose_office(self):
         """The office's machine burns: its processes, its folder and its disk. The witness, if it stands beside, stays."""
-        lost = [self.office.process.pid, *descendants(self.office.process.pid, self.witness())]
-        for it in lost:
-            kill(it)
+        for it in [self.office.process.pid, *descendants(self.office.process.pid, self.witness())]:
+            with contextlib.suppress(ProcessLookupError):
+                os.kill(it, signal.SIGKILL)
         self.office.wait()
         shutil.rmtree(self.folder)
         self.disk.unlink()
@@ -73,27 +74,58 @@ class Witnessed(Room):
         """A disk that is made anew from the witness, once that has ended."""
         disk = self.other / f"rebuilt-{time.monotonic_ns()}"
         until("the witness has ended", lambda: not self.witness())
-        self.rebuilt(self.copy, disk)
+        self.zhcount_office("--rebuild", self.copy, disk)
         same("its set-up", self.setup.read_bytes(), (self.copy / "setup.toml").read_bytes())
         return disk
 
-
-def kill(pid):
-    try:
-        os.kill(pid, signal.SIGKILL)
-    except ProcessLookupError:
-        pass
+    def check(self, sent=()):
+        """As of each room; and the witness has all that the office has."""
+        said = super().check(sent)
+        same("what differs", [], self.differing())
+        return said
 
 
 def descendants(pid, but):
     """The processes below one, without this other one."""
     found = []
     for path in pathlib.Path(f"/proc/{pid}/task").glob("*/children"):
-        try:
+        with contextlib.suppress(FileNotFoundError, ProcessLookupError):
             found += [int(it) for it in path.read_text().split() if int(it) != but]
-        except (FileNotFoundError, ProcessLookupError):
-            continue
     return [it for child in found for it in (child, *descendants(child, but))]
+
+
+def own_of(canton, desk):
+    return [it for it in canton.municipalities() if it % 8 == desk - 1]
+
+
+def lines_at(canton, own, chance, shared=None):
+    """What a desk sends, without end: entries in its own municipalities or a shared one, and mistakes; it looks at any."""
+    office = Office(canton)  # as if the desk were alone
+
+    def place():
+        municipality = shared if shared and chance.once_in(20) else own[chance.below(len(own))]
+        return municipality, chance.shuffled(canton.lists_in(municipality))[0]
+
+    def entry(word, *at):
+        number = max(1, office.held.get(at, (0, None))[0] + 1 + chance.once_in(30) - chance.once_in(40))
+        return f"{word} {at[0]} {at[1]} {number}" + (f" {chance.below(5000)}" if word != "withdraw" else "")
+
+    def some():
+        draw, (m, g) = chance.below(100), place()
+        if draw < 4:
+            rows = [entry("row", *it) for it in sorted({place() for _ in range(chance.between(1, 25))})]
+            return ["open", *rows, chance.shuffled(["commit", "commit", "drop"])[0], "drop"]
+        if draw < 8:
+            return [f"close {m}", f"return {m} {g} 1 5", f"reopen {m}"]
+        if draw < 26:
+            return [f"show {chance.between(1, 24)} 1" if draw < 22 else f"last {m} {g}"]
+        return ["sheet" if chance.once_in(200) else entry("withdraw" if draw < 29 else "return", m, g)]
+
+    while True:
+        for line in some():
+            if not line.startswith("last"):
+                office.answer(f"1 {line}")
+            yield line
 
 
 class Entering(threading.Thread):
@@ -101,41 +133,15 @@ class Entering(threading.Thread):
 
     def __init__(self, room, canton, number, seed):
         super().__init__(daemon=True)
-        self.canton, self.number, self.chance = canton, number, random.Random(f"{seed} {number}")
-        self.own = [it for it in canton.municipalities() if it % 8 == number - 1]
-        self.desk, self.sent, self.numbers = room.process(Desk, room.script("zhcount-desk", str(number), room.folder)), [], {}
+        self.canton, self.number, self.own = canton, number, own_of(canton, number)
+        self.desk, self.sent, self.lines = room.desk(number), [], lines_at(canton, self.own[:3], Chance(1000 * seed + number))
 
     def run(self):
-        for line in self.lines():
-            self.sent.append(line)
-            try:
-                if self.desk.send(line) == "(it has ended)":
+        with contextlib.suppress(AssertionError):  # nothing for a long while: what was shown is looked at all the same
+            for line in self.lines:
+                self.sent.append(line)
+                if self.desk.send(line) == HAS_ENDED:
                     return
-            except AssertionError:  # nothing for a long while: what was shown is looked at all the same
-                return
-
-    def lines(self):
-        while True:
-            draw = self.chance.random()
-            if draw < 0.1:
-                yield from ["open", *(self.entry("row", *it) for it in {self.place() for _ in range(4)}), "commit"]
-            elif draw < 0.2:
-                municipality, _ = self.place()
-                yield f"close {municipality}"
-                yield f"reopen {municipality}" if self.chance.random() < 0.7 else f"show {municipality} 1"
-            elif draw < 0.4:
-                yield f"show {self.chance.randint(1, 16)} 1"
-            else:
-                yield self.entry("return" if draw < 0.95 else "withdraw", *self.place())
-
-    def place(self):
-        municipality = self.chance.choice(self.own[:3])
-        return municipality, self.chance.choice(self.canton.lists_in(municipality))
-
-    def entry(self, word, municipality, group):
-        before = self.numbers.get((municipality, group), 0)
-        number = self.numbers[municipality, group] = before + (not before or self.chance.random() < 0.95)
-        return f"{word} {municipality} {group} {number}" + (f" {self.chance.randint(1, 999)}" if word != "withdraw" else "")
 
     def shown(self):
         return self.sent[:len(self.desk.out)]
@@ -144,7 +150,8 @@ class Entering(threading.Thread):
         """What is held of the desk's own municipalities after these lines, and which of these are closed."""
         office = Office(self.canton)
         for place, line in enumerate(lines):
-            wanted = "" if line.startswith("show ") else office.answer(f"{self.number} {line}")[2:].split(" ")[0]
+            is_own = not re.match("show|last|sheet", line)
+            wanted = office.answer(f"{self.number} {line}")[2:].split(" ")[0] if is_own else ""
             if wanted and place < len(self.desk.out):
                 same(f"desk {self.number}'s answer to {line}", wanted, self.desk.out[place].split(" ")[0])
         return office.held, office.closed
@@ -174,10 +181,7 @@ def wait_for_answers(room, entering, count):
     """Waits until desks were shown so many answers."""
     def shown():
         return sum(len(it.desk.out) for it in entering)
-    try:
-        return until(f"{count} answers", lambda: shown() >= count, 120)
-    except AssertionError as it:
-        raise AssertionError(f"{it}, but {shown()}: {room.office.said()}") from None
+    until(lambda: f"{count} answers, but {shown()}: {room.office.said()}", lambda: shown() >= count, 120)
 
 
 def leave(entering):
@@ -204,14 +208,14 @@ def check_what_is_held(room, entering, disk):
 
 def night_that_is_lost(seed, words=None, device=None):
     """A night whose office's machine is lost at some moment; the disk made anew from the witness has what was shown. How many answers."""
-    canton, chance = Canton(Chance(2027)), random.Random(seed)
+    canton, chance = Canton(Chance(2027)), Chance(seed)
     with Witnessed("--witness-required", setup=canton.setup(), device=device) as room:
         if words:
             room.options[1] = shlex.join(words(room))
         room.start()
         entering = enter(room, canton, seed)
-        wait_for_answers(room, entering, chance.randint(1, 200))
-        time.sleep(chance.random() / 50)
+        wait_for_answers(room, entering, chance.between(1, 200))
+        time.sleep(chance.below(20) / 1000)
         room.lose_office()
         count = leave(entering)
         check_what_is_held(room, entering, room.rebuilt_from_witness())
