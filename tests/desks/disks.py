@@ -18,53 +18,49 @@ def put(disk, place, data):
     return disk[:place] + data + disk[place + len(data):]
 
 
-def lines_of(path):
-    return [it.partition("#")[0].strip() for it in repeated(path.read_text().split("\n"))]
+def found_in(path, pattern):
+    """What this regular expression finds in the lines of a file of cases."""
+    return re.findall(pattern, "\n".join(it.partition("#")[0].strip() for it in repeated(path.read_text().split("\n"))), re.M)
 
 
 def kept_images():
     """Each file that a case writes as a disk, with its title."""
     for path in sorted(CASES.glob("*.case")):
-        if not re.search(r"^\s*write \S+\.disk ", path.read_text(), re.M):
-            continue
         images = []
-        for line in lines_of(path):
-            made = re.fullmatch(r"(write|append) (\S+\.disk) (.*)", line)
-            if made and made[1] == "write":
-                images.append((made[2], [coded(made[3].split())]))
-            elif made:
-                next(parts for name, parts in reversed(images) if name == made[2]).append(coded(made[3].split()))
-        yield from ((f"{path.name}: {name}", b"".join(parts)) for name, parts in images)
+        for word, name, data in found_in(path, r"^(write|append) (\S+\.disk) (.*)$"):
+            if word == "write":
+                images.append([name, b""])
+            next(it for it in reversed(images) if it[0] == name)[1] += coded(data.split())
+        yield from ((f"{path.name}: {name}", image) for name, image in images)
 
 
 def named_damages():
     """The bytes that the cases put on a disk, each with its place and its title."""
     found = {}
     for path in (CASES / "damages.case", CASES / "migrations.case"):
-        for line in lines_of(path):
-            damage = re.fullmatch(r"(?:damage|poke) ([a-z]\S*?|\d+)(?:\+(\d+))? ([0-9a-f* ]+?)(?: *->.*)?", line)
-            if damage:
-                place = PLACES[damage[1]] if damage[1] in PLACES else int(damage[1])
-                found[line.partition("->")[0].strip()] = (place + int(damage[2] or 0), coded(damage[3].split()))
+        pattern = r"^((?:damage|poke) ([a-z]\S*?|\d+)(?:\+(\d+))? ([0-9a-f* ]+?))(?: *->.*)?$"
+        for title, place, further, data in found_in(path, pattern):
+            found[title] = (PLACES[place] if place in PLACES else int(place)) + int(further or 0), coded(data.split())
     return found
 
 
 def setup_of(disk):
     """The set-up bytes of a disk as a text for the program; None if they are not of that form."""
-    data = disk[4096:4096 + int.from_bytes(disk[11:15], "big")]
+    data = bytearray(disk[4096:4096 + int.from_bytes(disk[11:15], "big")])
+
+    def taken(size):
+        found = bytes(data[:size])
+        del data[:size]
+        return found
 
     def number(size):
-        nonlocal data
-        taken, data = data[:size], data[size:]
-        if len(taken) < size:
+        found = taken(size)
+        if len(found) < size:
             raise ValueError
-        return int.from_bytes(taken, "big")
+        return int.from_bytes(found, "big")
 
     def name():
-        nonlocal data
-        size = number(1)
-        taken, data = data[:size], data[size:]
-        return f"name = {json.dumps(taken.decode(), ensure_ascii=False)}"
+        return f"name = {json.dumps(taken(number(1)).decode(), ensure_ascii=False)}"
 
     try:
         lines = [f"house = {number(2)}"]

@@ -17,7 +17,7 @@ import disks
 import places
 from disks import DISK_BYTES, FORMAT_BYTE, PLACES, put
 from places import PROGRAM, ZURICH
-from room import SCRIPTS, same
+from room import SCRIPTS, Desk, Room, same
 
 READER = SCRIPTS / "zhcount-read"
 REHEARSAL = places.REHEARSAL.read_text()
@@ -36,8 +36,8 @@ WIDEST = "\n".join(["version = 1", "house = 400", *(f'[[constituency]]\nname = "
                     *(f'[[group]]\nname = "{it:040}"\nstands = {list(range(1, 33))}' for it in range(32))])
 
 
-def run(words, **streams):
-    return subprocess.run([str(it) for it in words], **{"stdout": subprocess.PIPE, "stderr": subprocess.PIPE, **streams})
+def run(words, **more):
+    return subprocess.run([str(it) for it in words], capture_output=True, **more)
 
 
 def said(words):
@@ -85,15 +85,12 @@ def compare(title, disk, setup=None):
 
 def formatted(setup, *parts):
     """The disk of this set-up after each part of these lines, which have to be stored."""
-    with tempfile.TemporaryDirectory() as room:
-        place, disk = pathlib.Path(room, "setup"), pathlib.Path(room, "disk")
-        place.write_text(setup)
-        same("the status of format", 0, run([PROGRAM, "format", "--setup", place, "--disk", disk]).returncode)
-        yield disk.read_bytes()
+    with Room(setup) as room:
+        yield room.disk.read_bytes()
         for part in parts:
-            answers = run([PROGRAM, "run", "--setup", place, "--disk", disk], input="\n".join(part).encode()).stdout.decode()
+            answers = room.zhcount("run", given="\n".join(part))
             same("the answers that do not store", [], re.findall(r"\d (?!stored|held).*", answers))
-            yield disk.read_bytes()
+            yield room.disk.read_bytes()
 
 
 def fresh(setup):
@@ -108,7 +105,7 @@ def returned(chance, count):
         if line % 50 in (48, 49):
             lines.append([f"1 {'close' if line % 50 == 48 else 'reopen'} 2"])
             continue
-        groups = (1, 2, 3) if line % 17 == 3 and line % 50 < 48 else (group,)
+        groups = (1, 2, 3) if line % 17 == 3 else (group,)
         for each in groups:
             numbers[municipality, each] += 1
         if len(groups) == 3:
@@ -123,8 +120,7 @@ def returned(chance, count):
 
 def kept():
     """Images that the cases keep."""
-    for title, image in disks.kept_images():
-        yield title, image
+    return disks.kept_images()
 
 
 def empty():
@@ -275,64 +271,41 @@ DISKS = {
 @pytest.mark.parametrize("source", DISKS, ids=lambda it: it.__name__)
 def test_disks(source):
     """Each disk of a source, and that there are those of each outcome."""
-    outcomes, found = collections.Counter(), []
     with concurrent.futures.ThreadPoolExecutor(4) as pool:
-        comparisons = [pool.submit(compare, *it) for it in source()]
-        for comparison in comparisons:
-            try:
-                outcomes[comparison.result()] += 1
-            except AssertionError as different:
-                found.append(str(different))
-            if len(found) == 5:  # enough to go by
-                for it in comparisons:
-                    it.cancel()
-                break
-    same(f"{dict(outcomes)}, and differences", [], found)
-    same("outcomes that there have to be", set(), DISKS[source] - set(outcomes))
+        outcomes = set(pool.map(lambda it: compare(*it), source()))
+    same(f"{outcomes}, and outcomes that there have to be", set(), DISKS[source] - outcomes)
 
 
-def test_kinds_of_files():
+def test_kinds_of_files(tmp_path):
     """Paths at which there is no disk."""
-    with tempfile.TemporaryDirectory() as room:
-        folder = pathlib.Path(room)
-        os.mkfifo(folder / "pipe")
-        (folder / "link").symlink_to("nothing")
-        (folder / "setup").write_text(REHEARSAL)
-        for path in (folder, folder / "pipe", folder / "link", folder / "none", folder / "setup" / "disk", pathlib.Path("/dev/null")):
-            words = [PROGRAM, "export", "--setup", folder / "setup", "--disk", path]
-            same(f"what is read at {path}", said(words), said([sys.executable, READER, path]))
-        (folder / "disk").write_bytes(fresh(REHEARSAL))
-        (folder / "other").symlink_to("disk")
-        (folder / "disk").chmod(0o400)
-        same("what is read through a link", ("", b"municipality,list,number,votes\n"), read(folder / "other"))
-        same("the folder", ["disk", "link", "other", "pipe", "setup"], sorted(it.name for it in folder.iterdir()))
+    os.mkfifo(tmp_path / "pipe")
+    (tmp_path / "link").symlink_to("nothing")
+    (tmp_path / "setup").write_text(REHEARSAL)
+    for path in (*(tmp_path / it for it in (".", "pipe", "link", "none", "setup/disk")), pathlib.Path("/dev/null")):
+        words = [PROGRAM, "export", "--setup", tmp_path / "setup", "--disk", path]
+        same(f"what is read at {path}", said(words), said([sys.executable, READER, path]))
+    (tmp_path / "disk").write_bytes(fresh(REHEARSAL))
+    (tmp_path / "other").symlink_to("disk")
+    (tmp_path / "disk").chmod(0o400)
+    same("what is read through a link", ("", b"municipality,list,number,votes\n"), read(tmp_path / "other"))
+    same("the folder", ["disk", "link", "other", "pipe", "setup"], sorted(it.name for it in tmp_path.iterdir()))
 
 
-def test_arguments_and_streams():
+def test_arguments_and_streams(tmp_path):
     """Wrong arguments, and a standard output that takes nothing."""
     for words in ([], ["a", "b"], ["--help"], ["-h"], ["--disk", "a"]):
         ran = run([sys.executable, READER, *words])
-        same(f"the status with {words}", 2, ran.returncode)
-        same(f"what {words} gets", (b"", b"usage: zhcount-read DISK\n"), (ran.stdout, ran.stderr))
-    with tempfile.NamedTemporaryFile() as file:
-        file.write(fresh(REHEARSAL))
-        file.flush()
-        for end in ("> /dev/full", ">&-"):
-            ran = run(["sh", "-c", f'exec "$0" "$1" "$2" {end}', sys.executable, READER, file.name])
-            same(f"a fault with {end}", (1, b"zhcount-read: write\n"), (ran.returncode, ran.stderr))
+        same(f"what {words} gets", (2, b"", b"usage: zhcount-read DISK\n"), (ran.returncode, ran.stdout, ran.stderr))
+    (tmp_path / "disk").write_bytes(fresh(REHEARSAL))
+    for end in ("> /dev/full", ">&-"):
+        ran = run(["sh", "-c", f'exec "$0" "$1" "$2" {end}', sys.executable, READER, tmp_path / "disk"])
+        same(f"a fault with {end}", (1, b"zhcount-read: write\n"), (ran.returncode, ran.stderr))
 
 
-def test_beside_a_run():
+def test_beside_a_run(new_room):
     """What `run` has acknowledged is read while it has the disk."""
-    with tempfile.TemporaryDirectory() as room:
-        disk, setup = pathlib.Path(room, "disk"), pathlib.Path(room, "setup")
-        disk.write_bytes(fresh(REHEARSAL))
-        setup.write_text(REHEARSAL)
-        words = [str(it) for it in (PROGRAM, "run", "--setup", setup, "--disk", disk)]
-        with subprocess.Popen(words, stdin=subprocess.PIPE, stdout=subprocess.PIPE, bufsize=0) as office:
-            for votes in range(1, 4):
-                office.stdin.write(b"1 return 1 1 %d %d\n" % (votes, votes))
-                same("the answer", b"1 stored %d\n" % votes, office.stdout.readline())
-                same("what is read", ("", b"municipality,list,number,votes\n1,1,%d,%d\n" % (votes, votes)), read(disk))
-            office.stdin.close()
-        same("the status of run", 0, office.returncode)
+    office = new_room.process(Desk, [PROGRAM, "run", "--setup", new_room.setup, "--disk", new_room.disk])
+    for votes in range(1, 4):
+        office.talk(f"1 return 1 1 {votes} {votes} -> 1 stored {votes}")
+        same("what is read", ("", b"municipality,list,number,votes\n1,1,%d,%d\n" % (votes, votes)), read(new_room.disk))
+    same("the status of run", 0, office.end())
