@@ -37,7 +37,7 @@ def of_desks(test, folder, _):
 
 def of_the_page(_, folder, room):
     page = room / "index.html"
-    page.write_text(seals.loaded().sealed(folder))
+    page.write_text(seals.SEAL.sealed(folder))
     return {**os.environ, "PAGE": page}
 
 

@@ -2,6 +2,8 @@
 import os
 import unittest
 
+import pytest
+
 import browser
 import model
 import sheets
@@ -31,6 +33,8 @@ end
 """
 EXAMPLE_SETUP = sheets.setup("rehearsal")
 ROWS = model.Election(10, [5000, 3000, 2000], [[525, 300, 175], [240, 330, 30], [90, 60, 50]]).held()
+# The set-up and the rows, as they stand after a sheet of the example.
+OTHERS = (EXAMPLE_SETUP, ROWS)
 LARGEST = model.made_up(1, 32, 32, 400, quorum=1)
 HEADINGS = {"wrong": "✗ Wrong: ", "mismatch": "≠ Does not match the ", "damaged": "! This file is "}
 # German words beside those that a desk, an entry, the office, a sheet, a set-up and a verdict have; and what a Swiss office does not write.
@@ -45,11 +49,15 @@ def changed(text, old, new):
 
 
 WRONG = changed(EXAMPLE, "list 1 1 votes 525 voters 105 seats 3", "list 1 1 votes 525 voters 105 seats 2")
+WRONG_KEY = changed(sheets.ZURICH.sheet, "seats key 38000/38", "seats key 38000/39")
 
 
 class Case(unittest.TestCase):
-    """Tests with one browser for a whole class."""
+    """Tests with one browser for a whole class, which is one process's therefore."""
     language = "en-GB"
+
+    def __init_subclass__(cls):
+        cls.pytestmark = pytest.mark.xdist_group(cls.__name__)
 
     @classmethod
     def setUpClass(cls):
@@ -65,6 +73,15 @@ class Case(unittest.TestCase):
         screen = {"width": width, "height": height, "deviceScaleFactor": scale, "mobile": is_mobile}
         self.driver.execute_cdp_cmd("Emulation.setDeviceMetricsOverride", screen)
         self.addCleanup(self.driver.execute_cdp_cmd, "Emulation.clearDeviceMetricsOverride", {})
+
+    def has_medium(self, medium="", scheme="light"):
+        """Gives the browser another medium, as 'print', and light or dark colours, until the end of the test."""
+        features = [{"name": "prefers-color-scheme", "value": scheme}]
+        self.driver.execute_cdp_cmd("Emulation.setEmulatedMedia", {"media": medium, "features": features})
+        self.addCleanup(self.driver.execute_cdp_cmd, "Emulation.setEmulatedMedia", {"media": "", "features": []})
+
+    def bar_is(self, state, heading):
+        self.assertEqual((self.page.state(), self.page.text("#verdict")), (state, heading))
 
     def holds(self, sheet, setup=None, held=None):
         """The page's own check says right. Which colour the bar has depends on what was given (test_bar.py)."""
@@ -86,3 +103,10 @@ class Case(unittest.TestCase):
         self.assertRegex(page.text(".fault pre"), rf"^{line}: ")
         self.assertEqual(page.failing()[:1], [] if part is None else [part])
         return page
+
+    def unread(self, line, reason, setup, held=None):
+        """Beside the example the set-up, or where there are rows they, can't be read, at this line (None: any) and for this reason."""
+        page = self.page.sheet(EXAMPLE, setup, held)
+        self.assertEqual((page.state(), page.own()), ("unsure", "right"))
+        self.assertIn(f"! {'Returns' if held else 'Set-up'} not understood: line {line or ''}", page.text("#ticks"))
+        self.assertIn(reason, page.text(".fault .reason"))

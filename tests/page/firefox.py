@@ -1,4 +1,4 @@
-"""Firefox without a window on the page, driven by its own Marionette: Debian has no other driver for it."""
+"""Firefox without a window, to which selenium speaks by Firefox's own Marionette: Debian has no geckodriver."""
 import json
 import pathlib
 import shutil
@@ -7,19 +7,24 @@ import subprocess
 import tempfile
 import time
 
+from selenium import webdriver
+from selenium.webdriver.remote.file_detector import UselessFileDetector
+
+from browser import PATIENCE
+
 FIREFOX = "/usr/bin/firefox-esr"
-# So many seconds mean that nothing comes any more.
-PATIENCE = 600
-ELEMENT = "element-6066-11e4-a52e-4f735466cecf"
 PREFS = {
     "marionette.port": 0, "app.update.enabled": False, "browser.shell.checkDefaultBrowser": False,
     "network.captive-portal-service.enabled": False, "datareporting.policy.dataSubmissionEnabled": False,
     "toolkit.telemetry.reportingpolicy.firstRun": False,
 }
+# Commands of selenium that Marionette calls otherwise.
+COMMANDS = {"quit": "Marionette:Quit", "get": "WebDriver:Navigate", "sendKeysToElement": "WebDriver:ElementSendKeys",
+            "w3cExecuteScript": "WebDriver:ExecuteScript", "w3cExecuteScriptAsync": "WebDriver:ExecuteAsyncScript"}
 
 
-class Firefox:
-    """A browser that has opened nothing."""
+class Marionette:
+    """A Firefox that has opened nothing, and takes commands of selenium."""
 
     def __init__(self):
         self.profile = pathlib.Path(tempfile.mkdtemp())
@@ -28,11 +33,9 @@ class Firefox:
         self.process = subprocess.Popen(
             [FIREFOX, "--headless", "--marionette", "--no-remote", "--profile", str(self.profile)],
             stdout=subprocess.DEVNULL, stderr=subprocess.DEVNULL, env={"HOME": str(self.profile), "MOZ_HEADLESS": "1"})
-        self.socket = socket.create_connection(("127.0.0.1", self.port()), PATIENCE)
+        self.stream = socket.create_connection(("127.0.0.1", self.port()), PATIENCE).makefile("rwb")
         self.number = 0
         self.message()
-        self.version = self.ask("NewSession", capabilities={})["capabilities"]["browserVersion"]
-        self.ask("SetTimeouts", script=PATIENCE * 1000, pageLoad=PATIENCE * 1000)
 
     def port(self):
         """The port that it listens on, which it writes into its profile."""
@@ -47,49 +50,32 @@ class Firefox:
 
     def message(self):
         """The next message: its length in digits, a colon, and JSON."""
-        length = b""
-        while not length.endswith(b":"):
-            length += self.socket.recv(1)
-        data = b""
-        while len(data) < int(length[:-1]):
-            data += self.socket.recv(int(length[:-1]) - len(data))
-        return json.loads(data)
+        digits = b""
+        while (digit := self.stream.read(1)) not in (b":", b""):
+            digits += digit
+        return json.loads(self.stream.read(int(digits)))
 
-    def ask(self, command, **parameters):
-        """What the browser answers to a command."""
+    def execute(self, command, parameters):
+        """What the browser answers to a command. A script runs among those of the page."""
         self.number += 1
-        data = json.dumps([0, self.number, f"WebDriver:{command}", parameters]).encode()
-        self.socket.sendall(b"%d:%s" % (len(data), data))
+        name = COMMANDS.get(command, f"WebDriver:{command[0].upper()}{command[1:]}")
+        data = json.dumps([0, self.number, name, {**parameters, "newSandbox": False, "sandbox": None}]).encode()
+        self.stream.write(b"%d:%s" % (len(data), data))
+        self.stream.flush()
         _, _, error, result = self.message()
         if error:
-            raise AssertionError(f"{command}: {error['error']}: {error['message']}")
+            raise AssertionError(f"{name}: {error['error']}: {error['message']}")
         return result
 
-    def get(self, address):
-        self.ask("Navigate", url=address)
-
-    def execute_script(self, script, *arguments):
-        return self.ask("ExecuteScript", script=script, args=list(arguments), newSandbox=False, sandbox=None)["value"]
-
-    def execute_async_script(self, script, *arguments):
-        return self.ask("ExecuteAsyncScript", script=script, args=list(arguments), newSandbox=False, sandbox=None)["value"]
-
-    def wait(self, condition):
-        """Waits until this script returns true."""
-        for _ in range(50 * PATIENCE):
-            if self.execute_script(condition):
-                return
-            time.sleep(0.02)
-        raise AssertionError(condition)
-
-    def choose(self, css, paths):
-        """Chooses these files at an input."""
-        found = self.ask("FindElement", using="css selector", value=css)["value"][ELEMENT]
-        for path in paths:
-            self.ask("ElementSendKeys", id=found, text=str(path))
-
-    def quit(self):
-        self.socket.close()
+    def close(self):
+        self.stream.close()
         self.process.terminate()
         self.process.wait()
         shutil.rmtree(self.profile, ignore_errors=True)
+
+
+def started():
+    driver = webdriver.Remote(Marionette(), file_detector=UselessFileDetector())
+    driver.set_script_timeout(PATIENCE)
+    driver.set_page_load_timeout(PATIENCE)
+    return driver

@@ -6,10 +6,6 @@ from fractions import Fraction
 MILLION = 1_000_000
 
 
-class Tied(ValueError):
-    """The seats are tied, so there is no sheet."""
-
-
 def fit(weights, total):
     """The seats of these weights, given one by one to whom the next is worth most, and their key."""
     seats = [0] * len(weights)
@@ -18,7 +14,7 @@ def fit(weights, total):
         seats[best] += 1
     a, b = key(weights, seats)
     if any(abs(Fraction(w * b, a) - s) >= Fraction(1, 2) for w, s in zip(weights, seats)):
-        raise Tied(total)
+        raise ValueError("the seats are tied, so there is no sheet")
     return seats, (a, b)
 
 
@@ -80,6 +76,10 @@ class Election:
     def held(self):
         rows = [f"{d + 1},{g + 1},1,{v}" for d, row in enumerate(self.votes) for g, v in enumerate(row) if v is not None]
         return "\n".join(["municipality,list,number,votes"] + rows) + "\n"
+
+    def files(self, **more):
+        """The sheet, the set-up, and the rows held."""
+        return self.sheet(**more), self.setup(), self.held()
 
     def takes_part(self, g):
         totals = [sum(v or 0 for v in row) for row in self.votes]

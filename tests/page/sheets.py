@@ -1,11 +1,14 @@
 """The sheets of this repository with their set-ups and the rows that were held: those of the cases, which were computed by
 hand or by another program, and the election of 2006."""
 import re
+from collections import namedtuple
 
+import places
 from cases import repeated, turns
-from places import CASES, REHEARSAL, ZURICH
+from places import CASES, REHEARSAL
 
-HEAD = "municipality,list,number,votes"
+Files = namedtuple("Files", "sheet setup held")
+ZURICH = Files(*((places.ZURICH / name).read_text() for name in ("sheet", "setup.toml", "held.csv")))
 
 
 def setup(name):
@@ -24,21 +27,17 @@ class Held:
         words = words[words[0] == "refuse":]
         if expected.startswith("closed"):
             return
-        if words[0].isdigit() and words[1:2] == ["return"] and " stored " in expected:
-            self.rows[words[2], words[3]] = [words[4], words[5]]
-        elif words[0].isdigit() and words[1:2] == ["withdraw"] and " stored " in expected:
-            self.rows[words[2], words[3]] = [words[4], "withdrawn"]
+        if words[0].isdigit() and words[1:2] in (["return"], ["withdraw"]) and " stored " in expected:
+            self.rows[int(words[2]), int(words[3])] = words[4], "withdrawn" if words[1] == "withdraw" else words[5]
         elif words[0] == "csv" and expected.startswith("stored"):
             rows = re.findall(r"^(\d+),(\d+),(\d+),(\w+)\r?$", files.get(words[1], b"").decode(errors="replace"), re.M)
-            self.rows.update({(municipality, group): entry for municipality, group, *entry in rows})
+            self.rows.update({(int(municipality), int(group)): entry for municipality, group, *entry in rows})
         elif words[1:2] == ["commit"] or words[0] in ("poke", "load", "stop", "sweep", "serve", "hex"):
             self.known = False
 
     def csv(self):
-        if not self.known:
-            return None
-        rows = sorted(self.rows.items(), key=lambda row: (int(row[0][0]), int(row[0][1])))
-        return "\n".join([HEAD] + [",".join([*key, *value]) for key, value in rows]) + "\n"
+        rows = [",".join(map(str, (*key, *entry))) for key, entry in sorted(self.rows.items())]
+        return "\n".join(["municipality,list,number,votes", *rows, ""]) if self.known else None
 
 
 def of_cases(path):
@@ -62,17 +61,4 @@ def of_cases(path):
 def all_sheets():
     for path in sorted(CASES.glob("*.case")):
         yield from of_cases(path)
-    yield "the election of 2006", zurich(), zurich_setup(), zurich_held()
-
-
-def zurich():
-    return (ZURICH / "sheet").read_text()
-
-
-def zurich_setup():
-    return (ZURICH / "setup.toml").read_text()
-
-
-def zurich_held():
-    rows = [line.split()[2:6] for line in (ZURICH / "lines").read_text().splitlines() if " return " in line]
-    return "\n".join([HEAD] + [",".join(row) for row in rows]) + "\n"
+    yield "the election of 2006", *ZURICH

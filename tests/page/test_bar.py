@@ -3,7 +3,7 @@ import itertools
 
 import model
 from browser import By
-from case import EXAMPLE, EXAMPLE_SETUP, OTHER_WORDS, ROWS, Case, changed
+from case import EXAMPLE, EXAMPLE_SETUP, OTHERS, ROWS, Case, changed
 
 FAULT = {"line": 7, "reason": "nobody", "values": {}}
 KINDS = [{"colour": colour, "heading": {"key": "isSeats"}, "sentence": [{"fault": FAULT}]} for colour in ("wrong", "mismatch")]
@@ -19,46 +19,46 @@ REFUSALS = (("tied seats", "The seats of the constituencies are tied"), ("noseat
 
 
 class Bar(Case):
-    def bars(self, found):
-        return self.page.open().driver.execute_script("return arguments[0].map(barOf)", found)
-
     def test_green_only_where_all_was_given_and_both_say_right(self):
         """Every combination."""
         found = [{"own": own, "proved": {"state": proved, "why": "time"}, "setup": setup, "rows": rows,
                   "returns": {"rows": held, "possible": 9, "missing": [{"name": "Nord", "lists": ["A"]}]}}
                  for own, proved, setup, rows, held in itertools.product(OWN, PROVED, SETUP, GIVEN, (0, 8, 9))]
-        for one, said in zip(found, self.bars(found), strict=True):
+        bars = self.page.open().run("return arguments[0].map(barOf)", found)
+        for one, said in zip(found, bars, strict=True):
             own, proved = one["own"]["verdict"], one["proved"]["state"]
-            whole = one["setup"]["is"] == "read" and one["rows"]["is"] == "compared" and one["returns"]["rows"] == 9
+            is_read, is_whole = one["setup"]["is"] == "read", one["rows"]["is"] == "compared" and one["returns"]["rows"] == 9
+            differ = {own, proved} == {"right", "wrong"}
+            if differ:
+                colour = "wrong"
+            elif "wrong" in (own, proved):
+                colour = one["own"]["kind"]["colour"]
+            else:
+                colour = "right" if is_read and is_whole and proved == "right" else "unsure"
             with self.subTest(one):
-                differ = own == "wrong" and proved == "right" or proved == "wrong" and own == "right"
-                if "wrong" in (own, proved):
-                    self.assertEqual(said["colour"], "wrong" if differ else one["own"]["kind"]["colour"])
-                else:
-                    self.assertEqual(said["colour"], "right" if whole and proved == "right" else "unsure")
+                self.assertEqual(said["colour"], colour)
                 self.assertGreater(len(said["sentence"]), 0)
-                ticks = [tick["state"] for tick in said["ticks"]]
-                self.assertEqual(len(ticks), 3)
-                self.assertEqual(ticks[0] == "right", one["setup"]["is"] == "read")
-                self.assertEqual(ticks[1] == "right", one["rows"]["is"] == "compared" and one["returns"]["rows"] == 9)
-                self.assertEqual(ticks[2], said["colour"] if "wrong" in (own, proved) else "right" if proved == "right" else "unsure")
-                self.assertEqual(said["heading"]["key"] == "barDiffer", own == "wrong" and proved == "right" or
-                                 proved == "wrong" and own == "right" and one["setup"]["is"] == "read"
-                                 and one["rows"]["is"] in ("compared", "none"))
+                of_setup, of_rows, of_checks = (tick["state"] for tick in said["ticks"])
+                self.assertEqual((of_setup == "right", of_rows == "right"), (is_read, is_whole))
+                self.assertEqual(of_checks, colour if "wrong" in (own, proved) else "right" if proved == "right" else "unsure")
+                self.assertEqual(said["heading"]["key"] == "barDiffer",
+                                 differ and (own == "wrong" or is_read and one["rows"]["is"] in ("compared", "none")))
 
-    def bar(self, *files):
+    def unsure(self, heading, ticks, *files):
         page = self.page.sheet(*files)
-        return page.state(), page.text("#verdict"), page.text("#ticks")
+        self.bar_is("unsure", f"! Not fully checked: {heading}")
+        self.assertIn(ticks, page.text("#ticks"))
+        return page
 
     def test_a_sheet_alone(self):
-        state, heading, why = self.bar(EXAMPLE)
-        self.assertEqual((state, heading), ("unsure", "! Not fully checked: the seats fit the votes on the sheet"))
-        self.assertEqual(self.page.text("#why .caveat"),
+        page = self.unsure("the seats fit the votes on the sheet",
+                           "number of seats, names, persons, quorum and lists are not checked: a list too many or too few would not show",
+                           EXAMPLE)
+        self.assertEqual(page.text("#why .caveat"),
                          "You have not opened the set-up and the returns: whether these are the votes that were reported is not checked.")
-        self.assertEqual(self.page.text("#parliament h2"), "The parliament as this sheet has it: not fully checked")
-        self.assertIn("number of seats, names, persons, quorum and lists are not checked: a list too many or too few would not show", why)
-        self.assertRegex(why, r"(?s)! Not opened: the set-up.*! Not opened: the returns\nWhether these .* is not checked\..*! One check")
-        self.assertIn("One check of two says: right\nThe proved check needs the set-up.", why)
+        self.assertEqual(page.text("#parliament h2"), "The parliament as this sheet has it: not fully checked")
+        self.assertRegex(page.text("#ticks"), r"(?s)! Not opened: the set-up.*! Not opened: the returns\nWhether these .* is not checked\."
+                         r".*! One check of two says: right\nThe proved check needs the set-up\.")
 
     def test_a_list_too_many_passes_alone(self):
         more = changed(EXAMPLE, "list 3 3 votes 50 voters 25 seats 0\n",
@@ -70,33 +70,29 @@ class Bar(Case):
         self.assertEqual(self.page.sheet(more, EXAMPLE_SETUP).state(), "mismatch")
 
     def test_without_rows(self):
-        state, heading, why = self.bar(EXAMPLE, EXAMPLE_SETUP)
-        self.assertEqual((state, heading), ("unsure", "! Not fully checked: right for the votes on the sheet"))
-        self.assertIn("✓ Set-up opened\n! Not opened: the returns", why)
+        self.unsure("right for the votes on the sheet", "✓ Set-up opened\n! Not opened: the returns", EXAMPLE, EXAMPLE_SETUP)
 
     def test_rows_without_a_set_up(self):
-        state, heading, why = self.bar(EXAMPLE, None, ROWS)
-        self.assertEqual((state, heading), ("unsure", "! Not fully checked: the seats fit the votes on the sheet"))
-        self.assertIn("! Returns opened, but not compared\nTo compare them, the page needs the set-up.", why)
-        self.assertNotIn("(compared with", self.page.text("#parts"))
+        page = self.unsure("the seats fit the votes on the sheet",
+                           "! Returns opened, but not compared\nTo compare them, the page needs the set-up.", EXAMPLE, None, ROWS)
+        self.assertNotIn("(compared with", page.text("#parts"))
 
     def test_rows_that_are_not_understood(self):
-        state, heading, why = self.bar(EXAMPLE, EXAMPLE_SETUP, ROWS + "x\n")
-        self.assertEqual((state, heading), ("unsure", "! Not fully checked: right for the votes on the sheet"))
-        self.assertIn("! Returns not understood: line 11\nThe votes are compared with nothing.", why)
+        self.unsure("right for the votes on the sheet", "! Returns not understood: line 11\nThe votes are compared with nothing.",
+                    EXAMPLE, EXAMPLE_SETUP, ROWS + "x\n")
 
     def test_returns_that_are_missing(self):
         election = model.Election(10, [5000, 3000, 2000], [[525, 300, 175], [240, 330, 30], [90, 60, 0]])
-        sheet, setup, rows = election.sheet(), election.setup(), election.held()
+        sheet, setup, rows = election.files()
         self.page.sheet(sheet, setup, rows).proved("right")
-        self.assertEqual((self.page.state(), self.page.text("#verdict")), ("right", "✓ Right"))
+        self.bar_is("right", "✓ Right")
         few = changed(rows, "3,3,1,0\n", "")
         page = self.page.sheet(sheet, setup, few)
-        self.assertEqual((page.state(), page.text("#verdict")), ("unsure", "! 1 of 9 returns is missing; right so far"))
+        self.bar_is("unsure", "! 1 of 9 returns is missing; right so far")
         self.assertIn("! Returns opened: 8 of 9\n", page.text("#ticks"))
         self.assertEqual(page.texts("#why p")[:2], ["The missing returns can still change the seats.", "Missing: District 3: Group 3."])
         self.assertEqual(page.text("#parliament h2"), "The parliament so far: 8 of 9 returns")
-        listed = page.driver.find_elements(By.CSS_SELECTOR, "#checks details li")
+        listed = page.all("#checks details li")
         self.assertEqual([one.get_property("textContent") for one in listed], ["District 3: Group 3"])
         self.assertEqual(page.proved("right").state(), "unsure")
         self.assertIn("✓ Both checks say: right", page.text("#ticks"))
@@ -107,7 +103,7 @@ class Bar(Case):
     def test_lists_that_are_missing_stand_by_municipality(self):
         setup = model.made_up(1, 5, 6, 60).setup()
         rows = "".join(f"{m},{g},1,7\n" for m in (1, 2, 5) for g in range(1, 7) if (m, g) not in ((1, 4), (5, 6)) and (m != 2 or g == 3))
-        said = self.page.open().driver.execute_script("""
+        said = self.page.open().run("""
             const { rows, possible, missing } = readHeld(arguments[1], readSetup(arguments[0]));
             const said = make('p', {}, reasonOf(words('barMissingAre', { missingRows: { rows: missing } })));
             return [rows, possible, said.textContent];
@@ -115,8 +111,7 @@ class Bar(Case):
         self.assertEqual(said, [11, 30, "Missing: District 1: Group 4; District 2: 5 lists; District 3: all lists; 2 more."])
 
     def test_both_checks(self):
-        page = self.page.sheet(EXAMPLE, EXAMPLE_SETUP, ROWS)
-        self.assertEqual(page.proved("absent").state(), "unsure")
+        page = self.page.sheet(EXAMPLE, *OTHERS)
         for state, colour, heading, why in (
                 ("right", "right", "✓ Right", "these are the votes of all 9 returns."),
                 ("wrong", "wrong", "✗ The two checks differ", "own check says right, the proved check says wrong"),
@@ -125,12 +120,12 @@ class Bar(Case):
                 ("failed", "unsure", "! Not fully checked: right by one check of two", "The proved check did not run: no memory")):
             with self.subTest(state):
                 page.proved(state, "no memory")
-                self.assertEqual((page.state(), page.text("#verdict")), (colour, heading))
+                self.bar_is(colour, heading)
                 self.assertIn(why, page.text("#why") + page.text("#ticks"))
         page.sheet(changed(EXAMPLE, "house 10", "house 11"), EXAMPLE_SETUP).proved("right")
-        self.assertEqual((page.state(), page.text("#verdict")), ("wrong", "✗ The two checks differ"))
+        self.bar_is("wrong", "✗ The two checks differ")
         page.sheet(EXAMPLE, EXAMPLE_SETUP.replace("[1, 2, 3]", "[1,\n2, 3]", 1), ROWS).proved("wrong")
-        self.assertEqual((page.state(), page.text("#verdict")), ("wrong", "✗ Wrong by the proved check"))
+        self.bar_is("wrong", "✗ Wrong by the proved check")
 
     def test_what_toml_has_and_this_page_does_not_understand_is_said(self):
         page = self.page.sheet(EXAMPLE, EXAMPLE_SETUP.replace("[1, 2, 3]", "[1,\n2, 3]", 1), ROWS).proved("right")
@@ -147,12 +142,12 @@ class Bar(Case):
                 "de": ("Das Resultatblatt nennt sich «endgültig»", "Das Parlament nach einem Resultatblatt, das sich «endgültig» nennt",
                        "Nie geprüft: dass es endgültig ist, wie viele Einträge der Pulte es zählt (nach eigener Angabe 9) und welches "
                        "Pult es verlangt hat (nach eigener Angabe Pult 1).")}
-        for colour, *files in (("right", final, EXAMPLE_SETUP, ROWS), ("unsure", final), ("wrong", wrong, EXAMPLE_SETUP, ROWS),
+        for colour, *files in (("right", final, *OTHERS), ("unsure", final), ("wrong", wrong, *OTHERS),
                                ("mismatch", final, EXAMPLE_SETUP, changed(ROWS, "1,1,1,525", "1,1,1,526"))):
             page = self.page.sheet(*files)
             for language, (called, picture, never) in said.items():
                 with self.subTest(colour, language=language):
-                    page.driver.find_element(By.CSS_SELECTOR, f"#languages button[lang={language}]").click()
+                    page.speak(language)
                     self.assertEqual((page.state(), page.text("#kind"), page.texts("#why p")[-1]), (colour, called, never))
                     self.assertEqual(page.text("#parliament h2") == picture, colour == "right")
 
@@ -184,36 +179,7 @@ class Bar(Case):
         self.assertEqual(page.text("#count"), "9 checks fail.")
         # All that is wrong with one line stands together.
         page.sheet(changed(EXAMPLE, "votes 525 voters 105 seats 3", "votes 525 voters 104 seats 4"), EXAMPLE_SETUP)
-        box = page.driver.find_elements(By.CSS_SELECTOR, ".fault")
+        box = page.all(".fault")
         self.assertIn(["525 / 5, rounded, is 105 voters, and not 104",
                        "525 / (205.000000 × 1.000000) = 2.560.. rounds to 3, and not to 4 seats"],
                       [[reason.text for reason in one.find_elements(By.CSS_SELECTOR, ".reason")] for one in box])
-
-
-class GermanBar(Case):
-    language = "de-CH"
-
-    def test_the_set_up_has_its_german_word(self):
-        page = self.page.sheet(EXAMPLE)
-        for css in ("body", "#why", "#checks"):
-            self.assertNotIn("Set-up", page.text(css))
-        self.assertIn("Ohne Grunddaten sind Sitzzahl, Namen, Personen, Quorum und Listen nicht geprüft", page.text("#ticks"))
-        page.sheet(EXAMPLE, EXAMPLE_SETUP)
-        self.assertEqual(page.text(".had .setup .what"), "Grunddaten")
-
-    def test_each_thing_has_one_word(self):
-        """Those of the card for a desk are the same, and no other (test_card.py)."""
-        words = self.page.open().driver.execute_script("return Object.values(WORDS).map(([, german]) => german)")
-        self.assertGreater(len(words), 200)
-        for one in words:
-            self.assertNotRegex(one, OTHER_WORDS)
-
-    def test_thousands(self):
-        page = self.page.sheet(changed(EXAMPLE, "205.000000", "210.000000").replace("votes 1000", "votes 1001"), EXAMPLE_SETUP)
-        self.assertIn("die Stimmen seiner Listen ergeben 1’000 und nicht 1’001", page.text("#problems"))
-
-    def test_a_refusal(self):
-        page = self.page.sheet("1 refused tied seats\n")
-        self.assertEqual(page.text("#verdict"), "i Die Auszählungsstelle gibt keine Sitze an und sagt, warum")
-        self.assertIn("und die Seite prüft diese Antwort nicht", page.text("#why"))
-        self.assertIn("Gleichstand bei den Sitzen der Wahlkreise", page.text("#why"))

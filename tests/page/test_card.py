@@ -68,7 +68,7 @@ class Card(unittest.TestCase):
         self.assertEqual(codes[0], codes[1])
 
     def test_each_thing_has_one_german_word(self):
-        """The same as on the page (test_bar.py)."""
+        """The same as on the page (test_use.py)."""
         self.assertNotRegex(seen(SIDES["de"]), OTHER_WORDS)
         for word in ("Pult", "Eintrag", "Auszählungsstelle", "unterbrochen", "provisorische Sitze", "Zeile nicht verstanden",
                      "Tausendertrennzeichen"):

@@ -1,23 +1,24 @@
 """What kind of wrong a sheet is, with both values, whether seats change, and what the first screen has of it."""
 import model
 import sheets
-from browser import By
-from case import EXAMPLE, EXAMPLE_SETUP, LARGEST, ROWS, WRONG, Case, changed
-
-ALL = (EXAMPLE_SETUP, ROWS)
+from case import EXAMPLE, EXAMPLE_SETUP, LARGEST, OTHERS, ROWS, WRONG, WRONG_KEY, Case, changed
+from sheets import ZURICH
 
 
-def moved(place, seats):
-    """The line of a list of the example with other seats, as it was and is."""
-    line = next(line for line in EXAMPLE.splitlines() if line.startswith(f"list {place} "))
-    return line + "\n", f"{line[:line.rindex(' ')]} {seats}\n"
+def moved(*seats):
+    """The example with other seats of some lists: (place, seats) each."""
+    sheet = EXAMPLE
+    for place, number in seats:
+        line = next(line for line in EXAMPLE.splitlines() if line.startswith(f"list {place} "))
+        sheet = changed(sheet, line + "\n", f"{line[:line.rindex(' ')]} {number}\n")
+    return sheet
 
 
 class Kinds(Case):
     def says(self, heading, *sentences, files, state="wrong"):
         sign = {"wrong": "✗", "mismatch": "≠", "damaged": "!"}[state]
         page = self.page.sheet(*files)
-        self.assertEqual((page.state(), page.text("#verdict")), (state, f"{sign} {heading}"))
+        self.bar_is(state, f"{sign} {heading}")
         for one in sentences:
             self.assertIn(one, page.text("#why"))
         return page
@@ -26,46 +27,41 @@ class Kinds(Case):
         """The seats are right, and the table's panel says so too."""
         page = self.says("Wrong: a divisor; the seats are right",
                          "The divisor of Nord is 150.000000 on the sheet; between 200 and 210 it would give these seats.",
-                         "No seat changes.", files=(changed(EXAMPLE, "205.000000", "150.000000"), *ALL))
+                         "No seat changes.", files=(changed(EXAMPLE, "205.000000", "150.000000"), *OTHERS))
         self.assertEqual(page.text("#parliament h2"), "The parliament as this sheet has it")
         self.assertIn("✗ Both checks say: wrong\nThey are the proved check and this page’s own. By the latter: a divisor, not "
                       "the seats.", page.text("#ticks"))
         self.assertIn("2 checks fail. No seat changes.", page.text("#count"))
-        page.driver.find_element(By.CSS_SELECTOR, "#seats tbody td button.bad").click()
+        page.click("#seats tbody td button.bad")
         self.assertIn("Right by this page’s count\n3 seats", page.text("#detail").replace("  ", "\n"))
         self.says("Wrong: a divisor; the seats are right", "The divisor of A is 1.500000 on the sheet; between ",
-                  files=(changed(EXAMPLE, "1.000000 A", "1.500000 A"), *ALL))
+                  files=(changed(EXAMPLE, "1.000000 A", "1.500000 A"), *OTHERS))
         # What fails first is named.
         voters = changed(changed(EXAMPLE, "525 voters 105", "525 voters 104"), "205.000000", "150.000000")
-        page = self.says("Wrong: a number of voters; the seats are right", "Line 11 of the sheet: Nord, A: 525 / 5", files=(voters, *ALL))
+        page = self.says("Wrong: a number of voters; the seats are right", "Line 11 of the sheet: Nord, A: 525 / 5", files=(voters, *OTHERS))
         self.assertNotIn("would give these seats", page.text("#why"))
         # Of two that are wrong none is named.
         two = changed(changed(EXAMPLE, "205.000000", "150.000000"), "190.000000", "100.000000")
         page = self.says("Wrong: a divisor; the seats are right", "Line 11 of the sheet: Nord, A: 525 / (150",
-                         "No seat changes.", files=(two, *ALL))
+                         "No seat changes.", files=(two, *OTHERS))
         self.assertNotIn("would give these seats", page.text("#why"))
 
     def test_a_group_without_a_divisor(self):
-        page = self.page.sheet(changed(EXAMPLE, "seats 5 divisor 1.000000 A", "seats 5 divisor - A"), *ALL)
-        self.assertEqual((page.state(), page.text("#verdict")), ("wrong", "✗ Wrong: a divisor; the seats are right"))
-        both = changed(EXAMPLE, "seats 5 divisor 1.000000 A", "seats 5 divisor - A").replace("divisor 1.000000", "divisor -")
-        self.assertEqual(self.page.sheet(both, *ALL).state(), "wrong")
-        only = changed(EXAMPLE, "205.000000", "0.000000")
-        self.assertEqual(self.page.sheet(only, *ALL).state(), "wrong")
+        one = changed(EXAMPLE, "seats 5 divisor 1.000000 A", "seats 5 divisor - A")
+        self.says("Wrong: a divisor; the seats are right", files=(one, *OTHERS))
+        for sheet in (one.replace("divisor 1.000000", "divisor -"), changed(EXAMPLE, "205.000000", "0.000000")):
+            self.assertEqual(self.page.sheet(sheet, *OTHERS).state(), "wrong")
 
     def test_seats(self):
         page = self.says("Wrong: 1 seat", "Seats change.", "other seats follow from the returns: Nord, A 3, not 2.",
-                         files=(WRONG, *ALL))
+                         files=(WRONG, *OTHERS))
         self.assertEqual(page.text("#parliament h2"), "The parliament as this sheet has it: with wrong seats")
         self.says("Wrong: 1 seat", "other seats follow from the votes on the sheet: Nord, A 3, not 2.", files=(WRONG,))
-        forged = EXAMPLE
-        for place, seats in (("1 1", 2), ("1 2", 2), ("2 1", 2), ("2 2", 1), ("3 1", 0)):
-            forged = changed(forged, *moved(place, seats))
-        page = self.says("Wrong: 3 seats", "Nord, A 3, not 2; Nord, B 1, not 2; Mitte, A 1, not 2; 2 more.", files=(forged, *ALL))
-        one = changed(changed(EXAMPLE, *moved("1 1", 2)), *moved("1 2", 2))
-        self.says("Wrong: 1 seat", "In Nord the sheet gives B 1 seat that belongs to A.", files=(one, *ALL))
+        forged = moved(("1 1", 2), ("1 2", 2), ("2 1", 2), ("2 2", 1), ("3 1", 0))
+        self.says("Wrong: 3 seats", "Nord, A 3, not 2; Nord, B 1, not 2; Mitte, A 1, not 2; 2 more.", files=(forged, *OTHERS))
+        self.says("Wrong: 1 seat", "In Nord the sheet gives B 1 seat that belongs to A.", files=(moved(("1 1", 2), ("1 2", 2)), *OTHERS))
         total = changed(EXAMPLE, "voters 230 seats 5", "voters 230 seats 6")
-        page = self.says("Wrong: a total of seats", "A in total 5, not 6", files=(total, *ALL))
+        page = self.says("Wrong: a total of seats", "A in total 5, not 6", files=(total, *OTHERS))
         self.assertEqual(page.texts(".legend li")[0].split("\n")[-1].replace("1 A 6 ", ""), "right: 5")
 
     def test_votes_of_other_rows(self):
@@ -107,8 +103,8 @@ class Kinds(Case):
             page = self.says("Wrong: 1 seat", "Seats change.", "other seats follow from the votes on the sheet: Nord, A 3, not 2.",
                              "Nor does it match the other files:", files=(WRONG, setup, held))
             self.assertEqual(page.text("#why .caveat"), "")
-        page = self.says("Wrong: a divisor; the seats are right", "No seat changes.", "Nor does it match the other files:",
-                         files=(changed(EXAMPLE, "205.000000", "150.000000"), others[0], ROWS))
+        self.says("Wrong: a divisor; the seats are right", "No seat changes.", "Nor does it match the other files:",
+                  files=(changed(EXAMPLE, "205.000000", "150.000000"), others[0], ROWS))
 
     def test_other_numbers(self):
         for heading, said, old, new in (
@@ -119,12 +115,12 @@ class Kinds(Case):
                 ("who takes part", "Line 10 of the sheet: C: by its votes this group takes part (quorum yes); the sheet says no",
                  "quorum yes voters 70", "quorum no voters 70")):
             with self.subTest(heading):
-                self.says(f"Wrong: {heading}; the seats are right", said, "No seat changes.", files=(changed(EXAMPLE, old, new), *ALL))
+                self.says(f"Wrong: {heading}; the seats are right", said, "No seat changes.", files=(changed(EXAMPLE, old, new), *OTHERS))
 
     def test_what_can_not_be_read(self):
         for heading, said, sheet in (("damaged", "it ends in a carriage return", EXAMPLE.replace("\n", "\r\n")),
                                      ("cut off", "the sheet is cut off within", EXAMPLE[:300])):
-            page = self.says(f"This file is {heading}: get it again", said, files=(sheet, *ALL), state="damaged")
+            page = self.says(f"This file is {heading}: get it again", said, files=(sheet, *OTHERS), state="damaged")
             self.assertTrue(page.text("#why .caveat").startswith("The seats are not checked, and nothing is said against"))
             self.assertEqual(page.texts("#ticks li"), [])
             self.assertTrue(page.text("#proved p").startswith("It finds no whole sheet in this file. “sheet wrong” in its last line"))
@@ -142,14 +138,14 @@ class Kinds(Case):
                     ("de", "! Von einem Pult kopiert: Die Nummer des Pults fehlt",
                      "Zeile 1 des Resultatblatts: die Nummer des Pults fehlt; setzen Sie sie und ein Leerzeichen vor diese Zeile (für Pult "
                      "1: «1 sheet provisional 9»)")):
-                page.driver.find_element(By.CSS_SELECTOR, f"#languages button[lang={language}]").click()
-                self.assertEqual((page.state(), page.text("#verdict")), ("damaged", heading))
+                page.speak(language)
+                self.bar_is("damaged", heading)
                 self.assertIn(said, page.text("#why"))
         self.holds(f"1 {copied}", EXAMPLE_SETUP, ROWS)
         self.says("This file is damaged: get it again", "it ends in a carriage return", files=(copied.replace("\n", "\r\n"),),
                   state="damaged")
         for other in (copied.replace("provisional", "official"), f"9 {copied}", f" {copied}"):
-            self.says("Wrong: this is no sheet", "Line 1 of the sheet: it does not belong here", files=(other, *ALL))
+            self.says("Wrong: this is no sheet", "Line 1 of the sheet: it does not belong here", files=(other, *OTHERS))
 
     def test_seats_that_are_not_found(self):
         """At a tie, and where the votes of a list are not known, no seats are said to follow."""
@@ -160,35 +156,28 @@ class Kinds(Case):
         page = self.page.sheet(tied)
         self.assertEqual(page.own(), "wrong")
         self.assertIn("Whether seats change is not known", page.text("#why"))
-        page = self.page.sheet(changed(EXAMPLE, "list 1 3 votes 175 voters 35 seats 1\n", ""), EXAMPLE_SETUP)
-        self.assertIn("Whether seats change is not known", page.text("#why"))
-        self.assertEqual(page.text("#verdict"), "✗ Wrong: a sum of votes")
-
-    def follow(self, sheet, setup=None, held=None):
-        """Where the page finds other seats than a sheet has; null where it finds none."""
-        return self.page.driver.execute_script("""
-            const [sheet, text, rows] = arguments;
-            const setup = text === null ? null : readSetup(text);
-            const follow = seatsThatFollow(readSheet(sheet), setup, rows === null ? null : readHeld(rows, setup));
-            return follow && otherSeats(readSheet(sheet), follow).map(({ names, is, should }) => `${names} ${is} ${should}`);
-        """, sheet, setup, held)
+        self.says("Wrong: a sum of votes", "Whether seats change is not known",
+                  files=(changed(EXAMPLE, "list 1 3 votes 175 voters 35 seats 1\n", ""), EXAMPLE_SETUP))
 
     def test_the_seats_that_follow_are_those_of_right_sheets(self):
         self.page.open()
-        for title, sheet, setup, held in sheets.all_sheets():
-            for given in ((), (setup,), (setup, held)):
-                with self.subTest(title, given=len(given)):
-                    self.assertEqual(self.follow(sheet, *given), [])
+        given = [found[:count] for _, *found in sheets.all_sheets() for count in (1, 2, 3)]
         sizes = ((9, 8, 125, None), (18, 9, 180, 30), (4, 3, 20, 30), (1, 5, 40, None), (20, 13, 180, 1))
-        for seed, (rows, columns, house, quorum) in enumerate(sizes):
-            election = model.made_up(seed, rows, columns, house, quorum=quorum)
-            self.assertEqual(self.follow(election.sheet(), election.setup(), election.held()), [])
-        self.assertEqual(self.follow(LARGEST.sheet(), LARGEST.setup(), LARGEST.held()), [])
+        given += [model.made_up(seed, *size, quorum=quorum).files() for seed, (*size, quorum) in enumerate(sizes)]
+        for files in [*given, LARGEST.files()]:
+            with self.subTest(files[0][:400], given=len(files)):
+                # Null where none are found, and else where they are other than the sheet's.
+                self.assertEqual(self.page.run("""
+                    const [sheet, text, rows] = arguments;
+                    const setup = text == null ? null : readSetup(text);
+                    const follow = seatsThatFollow(readSheet(sheet), setup, rows == null ? null : readHeld(rows, setup));
+                    return follow && otherSeats(readSheet(sheet), follow).map(({ names, is, should }) => `${names} ${is} ${should}`);
+                """, *files), [])
 
     def test_one_and_more(self):
         page = self.page.sheet("hello\n", EXAMPLE_SETUP)
         self.assertIn("1 line\n", page.text(".had .sheet").replace(" Remove", "\n"))
-        self.assertEqual(page.driver.execute_script("""
+        self.assertEqual(page.run("""
             return [1, 2, 1n].flatMap((count) => LANGUAGES.map((one) => { language = one; return [say('lines', { count }),
               say('holds', { count }), say('tickRows', { possible: count })].join(', '); }));
         """), ["1 line, 1 check holds, Returns opened: the only one",
@@ -201,13 +190,12 @@ class Kinds(Case):
     def test_the_first_screen(self):
         """Verdict, election, ticks and parliament are seen at 1280 x 900 without scrolling."""
         self.has_screen(1280, 900, 1, False)
-        zurich = sheets.zurich(), sheets.zurich_setup(), sheets.zurich_held()
-        for files in ((EXAMPLE, *ALL), (EXAMPLE,), (WRONG, *ALL), (EXAMPLE, EXAMPLE_SETUP, changed(ROWS, "1,1,1,525", "1,1,1,526")), zurich,
-                      zurich[:1], (changed(zurich[0], "seats key 38000/38", "seats key 38000/39"), *zurich[1:])):
+        for files in ((EXAMPLE, *OTHERS), (EXAMPLE,), (WRONG, *OTHERS), (EXAMPLE, EXAMPLE_SETUP, changed(ROWS, "1,1,1,525", "1,1,1,526")),
+                      ZURICH, (ZURICH.sheet,), (WRONG_KEY, ZURICH.setup, ZURICH.held)):
             for language in ("en", "de"):
                 page = self.page.sheet(*files)
-                page.driver.find_element(By.CSS_SELECTOR, f"#languages button[lang={language}]").click()
-                ends = page.driver.execute_script("""
+                page.speak(language)
+                ends = page.run("""
                     return ['#verdict', '#title', '#election', '#ticks', '.arc', '.legend'].map((css) => {
                       const { top, bottom } = document.querySelector(css).getBoundingClientRect();
                       return [css, top, bottom];

@@ -1,111 +1,162 @@
-"""The proved check in the page: its answers are those of the program."""
-import pathlib
+"""The two checks of the page against `zhcount check`: its own says right or wrong as that does, and the proved one answers byte for byte
+what the program does."""
+import base64
 import random
-import tempfile
-import unittest
+import re
 
 import browser
-import checks
 import firefox
 import model
 import program
 import sheets
-from case import EXAMPLE, EXAMPLE_SETUP, LARGEST, PATH, ROWS, WRONG, Case
+from case import EXAMPLE, EXAMPLE_SETUP, LARGEST, OTHERS, PATH, ROWS, WRONG, Case
+from cases import turns
+from places import CASES
 from program import utf8
-from test_program import SAMPLE, SEED, changes
 
-CASES = ("checked_lines.case", "checked_numbers.case", "program_checks.case")
+CHECKED = ("checked_lines.case", "checked_numbers.case", "program_checks.case")
 # Of so many cases one is asked in a worker of its own too, as the page asks.
 WORKER = 10
+# So many changes of each larger sheet, from this seed. Of the smallest all are taken.
+SAMPLE, SEED = 20, 2027
 
 
-def same(test, driver, cases):
-    """The page that is open answers each of these as the program does, byte for byte; and some of them in a worker."""
-    for some, in_worker in ((cases, False), (cases[::WORKER], True)):
-        for case, answer, wanted in zip(some, browser.proved(driver, some, in_worker), program.answers(some), strict=True):
-            with test.subTest(case[1][:400]):
-                test.assertEqual(answer, wanted)
+def changes(sheet):
+    """A sheet with each line left out, twice there, or after the next one, each number changed, a group in or out, and
+    other ends."""
+    lines = sheet.splitlines(keepends=True)
+    for at, line in enumerate(lines):
+        after = "".join(lines[at + 1:at + 2])
+        for put in ("", line + line, after + line):
+            yield "".join(lines[:at] + [put] + lines[at + 1 + (put == after + line):])
+        for number in re.finditer(r"\d+", line):
+            for put in (int(number[0]) - 1, int(number[0]) + 1, 0, f"0{number[0]}", 2**64, "-"):
+                yield "".join(lines[:at] + [f"{line[:number.start()]}{put}{line[number.end():]}"] + lines[at + 1:])
+        for old, new in ((" yes ", " no "), (" no ", " yes "), (" - ", " 0 "), (" - ", " 1.000000 ")):
+            for place in re.finditer(old, line):
+                yield "".join(lines[:at] + [line[:place.start()] + new + line[place.end():]] + lines[at + 1:])
+    yield from (sheet[:-1], sheet + "\n", sheet + sheet, sheet.replace("\n", "\r\n"), "\ufeff" + sheet, "")
 
 
-class Proved(Case):
-    def same(self, cases):
-        """The page answers each of these as the program does, byte for byte."""
-        same(self, self.page.open().driver, cases)
-
-    def test_each_check_of_the_cases(self):
-        for name, least in zip(CASES, (80, 80, 200)):
-            cases = list(dict.fromkeys(checks.checks(name)))
-            self.assertGreaterEqual(len(cases), least)
-            self.same(cases)
-
-    def test_each_set_up_of_the_cases(self):
-        setups = list(dict.fromkeys(checks.setups("program_setups.case")))
-        self.assertGreaterEqual(len(setups), 30)
-        self.same([(setup, EXAMPLE.encode(), None) for setup in setups])
+class Compared:
+    """What each check of the page is compared with the program on: `same` has sheets with one set-up, and the rows held or None."""
 
     def test_each_sheet_of_the_repository(self):
-        cases = [utf8(setup, sheet, rows) for _, sheet, setup, held in sheets.all_sheets() for rows in {None, held}]
-        self.assertGreaterEqual(len(cases), 28)
-        self.same(cases)
+        found = [*sheets.all_sheets()]
+        self.assertGreaterEqual(len(found), 28)
+        self.same(*(([sheet], setup, rows) for _, sheet, setup, held in found for rows in {None, held}))
 
     def test_each_change_of_a_sheet(self):
-        self.same([utf8(EXAMPLE_SETUP, sheet, None) for sheet in changes(EXAMPLE)])
+        self.same((list(changes(EXAMPLE)), EXAMPLE_SETUP, None))
 
     def test_changes_of_other_sheets(self):
         chance = random.Random(SEED)
         few = model.Election(10, [1000], [[600, 370, 30]])
-        for sheet, setup, held in [(few.sheet(), few.setup(), few.held())] + [found[1:] for found in sheets.all_sheets()]:
-            self.same([utf8(setup, text, held) for text in chance.sample(list(changes(sheet)), SAMPLE)])
+        found = [few.files()] + [found[1:] for found in sheets.all_sheets()]
+        self.same(*((chance.sample(list(changes(sheet)), SAMPLE), setup, held) for sheet, setup, held in found))
 
     def test_forged_quorums_and_rows(self):
         election = model.made_up(3, 6, 5, 60)
-        forged = election.sheet(part=[True] * 3 + [False, True])
-        self.same([utf8(election.setup(), sheet, election.held()) for sheet in (election.sheet(), forged)])
-        rows = (ROWS, ROWS.replace("525", "526"), ROWS.replace("3,3,1,50", "3,3,2,withdrawn"), ROWS.replace("1,1,1,525\n", ""),
-                ROWS.replace("1,3,1,175", "1,2,1,175"), ROWS.replace("1,2,1,300", "1,4,1,300"), ROWS.replace("3,3,", "9,3,"),
-                ROWS.replace("525", "x"), ROWS.replace("525", "1000000001"), ROWS.replace("525", "4294967296"),
-                ROWS.replace("\n", "\r\n"), "")
-        self.same([utf8(EXAMPLE_SETUP, EXAMPLE, held) for held in rows])
+        self.same(([election.sheet(), election.sheet(part=[True] * 3 + [False, True])], election.setup(), election.held()),
+                  *(([EXAMPLE], EXAMPLE_SETUP, held) for held in (
+                      ROWS, ROWS.replace("525", "526"), ROWS.replace("3,3,1,50", "3,3,2,withdrawn"), ROWS.replace("1,1,1,525\n", ""))))
+
+
+class Own(Compared, Case):
+    def same(self, *found):
+        for texts, setup, held in found:
+            answers = program.answers([utf8(setup, text, held) for text in texts])
+            for text, state, (status, answer) in zip(texts, self.page.states(texts, setup, held), answers, strict=True):
+                with self.subTest(text[:400]):
+                    self.assertTrue(status == 0 or status == 1 and answer.endswith(b"sheet wrong\n"), answer)
+                    self.assertEqual(state, "wrong" if status else "right")
+
+
+def answers_of(driver, cases, in_worker):
+    """What the proved check of the page that is open answers on each of these cases, as the page asks it: in a worker of its own; or
+    the same call in the page, with the module compiled once, which is faster."""
+    coded = [[None if text is None else base64.b64encode(text).decode() for text in case] for case in cases]
+    answers = driver.execute_async_script("""
+        const [cases, inWorker, done] = arguments;
+        const bytes = (text) => (text === null ? null : Uint8Array.from(atob(text), (c) => c.charCodeAt(0)));
+        const coded = (text) => btoa(Array.from(text, (c) => String.fromCharCode(c)).join(''));
+        (async () => {
+          const answers = [];
+          const module = inWorker ? null : await WebAssembly.compile(moduleBytes());
+          const ask = inWorker ? asked : (texts) => provedCheck(module, texts);
+          for (const [setup, sheet, held] of cases) {
+            const { status, text } = await ask({ setup: bytes(setup), sheet: bytes(sheet), held: bytes(held) });
+            answers.push([status, coded(text)]);
+          }
+          return answers;
+        })().then(done, (fault) => done(String(fault)));
+    """, coded, in_worker)
+    if isinstance(answers, str):
+        raise AssertionError(answers)
+    return [(status, base64.b64decode(text)) for status, text in answers]
+
+
+def checks(name):
+    """The set-up, the sheet, and the rows held or None, of each `zhcount check` of a file of cases whose files are there
+    (docs/CASES.md, "Turns on files")."""
+    for line, files in turns(CASES / name):
+        found = re.match(r"zhcount check ((?:--\w+ \S+ *)+)(?:->|$)", line)
+        named = dict(re.findall(r"--(\w+) (\S+)", found[1])) if found else {}
+        if {"setup", "sheet"} <= named.keys() and all(file in files for file in named.values()):
+            yield files[named["setup"]], files[named["sheet"]], files[named["held"]] if "held" in named else None
+
+
+class Proved:
+    """The proved check in a browser, which has opened the page."""
+
+    def setUp(self):
+        self.page.open()
+
+    def same_answers(self, cases):
+        """The page answers each of these as the program does, byte for byte; and some of them in a worker."""
+        for some, in_worker in ((cases, False), (cases[::WORKER], True)):
+            for case, answer, wanted in zip(some, answers_of(self.driver, some, in_worker), program.answers(some), strict=True):
+                with self.subTest(case[1][:400]):
+                    self.assertEqual(answer, wanted)
+
+    def test_each_check_of_the_cases(self):
+        for name, least in zip(CHECKED, (80, 80, 200)):
+            cases = list(dict.fromkeys(checks(name)))
+            self.assertGreaterEqual(len(cases), least)
+            self.same_answers(cases)
+
+
+class Chromium(Proved, Compared, Case):
+    def same(self, *found):
+        self.same_answers([utf8(setup, text, held) for texts, setup, held in found for text in texts])
+
+    def test_each_set_up_of_the_cases(self):
+        setups = dict.fromkeys(files[found[1]] for line, files in turns(CASES / "program_setups.case")
+                               if (found := re.search(r"--setup (\S+)", line)) and found[1] in files)
+        self.assertGreaterEqual(len(setups), 30)
+        self.same_answers([(setup, EXAMPLE.encode(), None) for setup in setups])
+
+    def test_rows_that_are_refused(self):
+        self.same(*(([EXAMPLE], EXAMPLE_SETUP, held) for held in (
+            ROWS.replace("1,3,1,175", "1,2,1,175"), ROWS.replace("1,2,1,300", "1,4,1,300"), ROWS.replace("3,3,", "9,3,"),
+            ROWS.replace("525", "x"), ROWS.replace("525", "1000000001"), ROWS.replace("525", "4294967296"), ROWS.replace("\n", "\r\n"), "")))
 
     def test_the_largest_and_the_longest(self):
-        self.same([utf8(LARGEST.setup(), LARGEST.sheet(), LARGEST.held()), utf8(EXAMPLE_SETUP, "x" * 300_000, None),
-                   utf8(EXAMPLE_SETUP, EXAMPLE * 700, None), utf8("#" * 1_048_577, EXAMPLE, None), utf8("[" * 500_000, EXAMPLE, None),
-                   utf8(EXAMPLE_SETUP, "", ""), utf8("", "", None), utf8(EXAMPLE_SETUP, "1 sheet " + "9" * 270_000, ROWS),
-                   (EXAMPLE_SETUP.encode(), EXAMPLE.encode().replace(b"Mitte", b"Mitt\xe9"), None)])
+        sheet, *others = LARGEST.files()
+        self.same(([sheet], *others), (["x" * 300_000, EXAMPLE * 700], EXAMPLE_SETUP, None), ([EXAMPLE], "#" * 1_048_577, None),
+                  ([EXAMPLE], "[" * 500_000, None), ([""], EXAMPLE_SETUP, ""), ([""], "", None), (["1 sheet " + "9" * 270_000], *OTHERS))
+        self.same_answers([(EXAMPLE_SETUP.encode(), EXAMPLE.encode().replace(b"Mitte", b"Mitt\xe9"), None)])
 
 
-class Firefox(unittest.TestCase):
-    """The same in Firefox."""
-
+class Firefox(Proved, Case):
     @classmethod
     def setUpClass(cls):
-        cls.driver = firefox.Firefox()
-
-    @classmethod
-    def tearDownClass(cls):
-        cls.driver.quit()
-
-    def shown(self, *texts):
-        """The state of the page with these files, what it says of the proved check, and its verdict."""
-        self.driver.get(pathlib.Path(PATH).as_uri())
-        with tempfile.TemporaryDirectory() as room:
-            paths = [pathlib.Path(room, name) for name in ("setup.toml", "sheet.txt", "held.csv")[:len(texts)]]
-            for path, text in zip(paths, texts):
-                path.write_text(text)
-                self.driver.execute_script("document.body.dataset.shown = ''")
-                self.driver.choose("#pick", [path])
-                self.driver.wait("return document.body.dataset.shown !== '' && document.body.dataset.proved !== 'runs'")
-        return self.driver.execute_script("""
-            const text = (css) => document.querySelector(css)?.textContent ?? '';
-            return [document.body.dataset.state, text('#verdict'), text('#proved pre')];
-        """)
+        cls.driver = firefox.started()
+        cls.page = browser.Page(cls.driver, PATH)
 
     def test_right_and_wrong(self):
         for sheet, state, said in ((EXAMPLE, "right", "✓ Right"), (WRONG, "wrong", "✗ Wrong: 1 seat")):
-            text = program.answer(*utf8(EXAMPLE_SETUP, sheet, ROWS))[1].decode()
-            self.assertEqual(self.shown(EXAMPLE_SETUP, sheet, ROWS), [state, said, text])
-
-    def test_each_check_of_the_cases(self):
-        self.driver.get(pathlib.Path(PATH).as_uri())
-        for name in CASES:
-            same(self, self.driver, list(dict.fromkeys(checks.checks(name))))
+            page = self.page.sheet(sheet, *OTHERS)
+            self.bar_is(state, said)
+            shown = page.one("#proved pre").get_property("textContent")
+            self.assertEqual((int(state == "wrong"), shown.encode()), program.answer(*utf8(EXAMPLE_SETUP, sheet, ROWS)))

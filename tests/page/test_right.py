@@ -1,37 +1,27 @@
 """Sheets that are right, and what the page shows of them."""
-import os
-import pathlib
 import re
 
 import model
 import sheets
 from browser import By
 from case import EXAMPLE, EXAMPLE_SETUP, Case
+from sheets import ZURICH
 
 
 class Right(Case):
     def test_each_sheet_of_the_repository(self):
-        count = 0
-        for title, sheet, setup, held in sheets.all_sheets():
-            count += 1
+        found = [*sheets.all_sheets()]
+        self.assertGreaterEqual(len(found), 28)
+        for title, sheet, setup, held in found:
             with self.subTest(title):
                 self.holds(sheet, setup, held)
                 self.assertEqual("(compared with" in self.page.text("#parts"), held is not None)
                 self.holds(sheet)
-        self.assertGreaterEqual(count, 28)
-
-    def test_other_sheets(self):
-        """Those of a folder of set-ups, replies and rows, where SHEETS names one."""
-        for path in sorted(pathlib.Path(os.environ.get("SHEETS", "/nowhere")).glob("*.replies")):
-            for sheet in re.findall(r"^[1-8] sheet (?:provisional|final) .*?^end\n", path.read_text(), re.M | re.S):
-                with self.subTest(path.name):
-                    self.holds(sheet, path.with_suffix(".toml").read_text())
 
     def test_made_up_elections_with_other_divisors(self):
-        for seed, (rows, columns, house, quorum) in enumerate([(9, 8, 125, None), (18, 9, 180, None), (4, 3, 20, 30), (1, 5, 40, None)]):
-            election = model.made_up(seed, rows, columns, house, quorum=quorum)
+        for seed, (*size, quorum) in enumerate([(9, 8, 125, None), (18, 9, 180, None), (4, 3, 20, 30), (1, 5, 40, None)]):
             with self.subTest(seed):
-                self.holds(election.sheet(), election.setup(), election.held())
+                self.holds(*model.made_up(seed, *size, quorum=quorum).files())
 
     def test_of_equal_worth_the_first_has_the_key(self):
         for persons, key in (([1000, 3000], "4000/3"), ([3000, 5000], "8000/3")):
@@ -45,21 +35,21 @@ class Right(Case):
         self.holds(election.sheet(), election.setup())
 
     def test_the_election_of_2006(self):
-        page = self.holds(sheets.zurich(), sheets.zurich_setup(), sheets.zurich_held())
+        page = self.holds(*ZURICH)
         self.assertEqual(page.text("#kind"), "The sheet calls itself “final”")
         self.assertIn("compared with all 72 returns", page.text("#parts"))
         totals = [page.texts(f"#seats {part}")[-1].split() for part in ("thead tr", "tfoot tr")]
         self.assertEqual(totals[0][-1:] + totals[1], ["Total", "Total", "44", "24", "19", "14", "10", "6", "5", "3", "125"])
         rows = [row.split()[1:] for row in page.texts("#seats tbody tr")]
         wanted = [["0"] * 8 for _ in range(9)]
-        for d, g, seats in re.findall(r"^list (\d) (\d) .* seats (\d+)$", sheets.zurich(), re.M):
+        for d, g, seats in re.findall(r"^list (\d) (\d) .* seats (\d+)$", ZURICH.sheet, re.M):
             wanted[int(d) - 1][int(g) - 1] = seats
         self.assertEqual([row[:-1] for row in rows], wanted)
         self.assertEqual([row[-1] for row in rows], ["12", "16", "13", "10", "17", "16", "12", "19", "10"])
 
     def test_the_parliament_has_each_seat(self):
-        page = self.holds(sheets.zurich())
-        blocks = page.driver.find_elements(By.CSS_SELECTOR, ".arc g")
+        page = self.holds(ZURICH.sheet)
+        blocks = page.all(".arc g")
         counts = [len(block.find_elements(By.CSS_SELECTOR, ".seat")) for block in blocks]
         self.assertEqual(counts, [44, 24, 19, 14, 10, 6, 5, 3])
         for number, block in enumerate(blocks, 1):
@@ -78,5 +68,5 @@ class Right(Case):
 
     def test_a_canton_wide_quorum(self):
         page = self.holds(*next(found[1:] for found in sheets.all_sheets() if "canton alone, with a seat" in found[0]))
-        page.driver.find_elements(By.CSS_SELECTOR, "#seats thead button")[2].click()
+        page.all("#seats thead button")[2].click()
         self.assertIn("reached in the canton", page.text("#detail"))

@@ -7,15 +7,14 @@ import browser
 import model
 import program
 import seals
-from browser import By
-from case import EXAMPLE, EXAMPLE_SETUP, PATH, ROWS, WRONG, Case, changed
+from case import EXAMPLE, EXAMPLE_SETUP, OTHERS, PATH, ROWS, WRONG, Case, changed
 from places import TOP
 from program import utf8
 
+TEXT = pathlib.Path(PATH).read_text()
+
 
 class Shown(Case):
-    """What the page says of it."""
-
     def shows(self, state, said, *files):
         """The colour of the bar, and how what is said of the proved check begins."""
         page = self.page.sheet(*files)
@@ -23,13 +22,9 @@ class Shown(Case):
         self.assertTrue(page.text("#proved p").startswith(said), page.text("#proved"))
         return page
 
-    def given(self, *files):
-        """Chooses files, and waits for nothing."""
-        self.page.driver.find_element(By.ID, "pick").send_keys("\n".join(self.page.file(*file) for file in files))
-
     def test_right_and_wrong(self):
-        page = self.shows("right", "It says that the sheet is right. ", EXAMPLE, EXAMPLE_SETUP, ROWS)
-        shown = page.driver.find_element(By.CSS_SELECTOR, "#proved pre").get_property("textContent")
+        page = self.shows("right", "It says that the sheet is right. ", EXAMPLE, *OTHERS)
+        shown = page.one("#proved pre").get_property("textContent")
         self.assertEqual((0, shown.encode()), program.answer(*utf8(EXAMPLE_SETUP, EXAMPLE, ROWS)))
         self.assertEqual(page.text("#verdict"), "✓ Right")
         page = self.shows("wrong", "It says that the sheet is wrong. ", WRONG, EXAMPLE_SETUP)
@@ -41,17 +36,12 @@ class Shown(Case):
         self.assertTrue(self.page.text("#proved pre").endswith(end), self.page.text("#proved pre"))
 
     def test_the_verdict_is_that_of_this_sheet(self):
-        page = self.shows("right", "It says that the sheet is right. ", EXAMPLE, EXAMPLE_SETUP, ROWS)
-        page.choose(("sheet.txt", WRONG))
-        self.is_now("wrong", "sheet wrong")
-        page.choose(("sheet.txt", EXAMPLE))
-        self.is_now("right", "no other seats follow from these votes")
-        page.choose(("held.csv", ROWS.replace("525", "526")))
-        self.is_now("mismatch", "sheet wrong")
-        page.choose(("held.csv", ROWS))
-        self.is_now("right", "no other seats follow from these votes")
-        page.choose(("setup.toml", EXAMPLE_SETUP.replace("5000", "5001")))
-        self.is_now("mismatch", "sheet wrong")
+        page = self.shows("right", "It says that the sheet is right. ", EXAMPLE, *OTHERS)
+        for name, text, state in (("sheet.txt", WRONG, "wrong"), ("sheet.txt", EXAMPLE, "right"),
+                                  ("held.csv", ROWS.replace("525", "526"), "mismatch"), ("held.csv", ROWS, "right"),
+                                  ("setup.toml", EXAMPLE_SETUP.replace("5000", "5001"), "mismatch")):
+            page.choose((name, text))
+            self.is_now(state, "no other seats follow from these votes" if state == "right" else "sheet wrong")
 
     def test_returns_that_are_missing(self):
         election = model.Election(10, [5000, 3000, 2000], [[525, 300, 175], [240, 330, 30], [90, 60, 0]])
@@ -61,27 +51,27 @@ class Shown(Case):
 
     def test_an_answer_that_comes_late_is_not_shown(self):
         page = self.page.open()
-        page.driver.execute_script("""
+        page.run("""
             const first = asked;
             window.late = [];
             asked = (texts) => new Promise((is) => { first(texts).then((answer) => window.late.push(() => is(answer))); });
         """)
-        self.given(("setup.toml", EXAMPLE_SETUP), ("sheet.txt", EXAMPLE))
+        page.give(("setup.toml", EXAMPLE_SETUP), ("sheet.txt", EXAMPLE))
         page.wait("return window.late.length === 1")
-        self.given(("wrong.txt", WRONG))
+        page.give(("wrong.txt", WRONG))
         page.wait("return window.late.length === 2")
-        page.driver.execute_script("window.late[0]()")
-        self.assertEqual((page.driver.execute_script("return document.body.dataset.proved"), page.state()), ("runs", "wrong"))
-        page.driver.execute_script("window.late[1]()")
+        page.run("window.late[0]()")
+        self.assertEqual((page.run("return document.body.dataset.proved"), page.state()), ("runs", "wrong"))
+        page.run("window.late[1]()")
         page.wait("return document.body.dataset.proved === 'wrong'")
         self.is_now("wrong", "sheet wrong")
 
     def test_while_it_runs_nothing_is_green(self):
         page = self.page.open()
-        page.driver.execute_script("asked = () => new Promise(() => {})")
-        self.given(("setup.toml", EXAMPLE_SETUP), ("sheet.txt", EXAMPLE), ("held.csv", ROWS))
+        page.run("asked = () => new Promise(() => {})")
+        page.give(("setup.toml", EXAMPLE_SETUP), ("sheet.txt", EXAMPLE), ("held.csv", ROWS))
         page.wait("return document.body.dataset.own === 'right'")
-        self.assertEqual((page.state(), page.driver.execute_script("return document.body.dataset.proved")), ("unsure", "runs"))
+        self.assertEqual((page.state(), page.run("return document.body.dataset.proved")), ("unsure", "runs"))
 
     def test_without_a_set_up(self):
         self.shows("unsure", "It did not run: it needs the set-up.", EXAMPLE)
@@ -96,24 +86,22 @@ class Shown(Case):
 
     def test_where_the_two_differ(self):
         for sheet, status in ((EXAMPLE, 1), (WRONG, 0)):
-            page = self.page.open()
-            page.driver.execute_script("const [status] = arguments; asked = async () => ({ status, text: new Uint8Array(3) })", status)
-            page.choose(("sheet.txt", sheet), ("setup.toml", EXAMPLE_SETUP), ("held.csv", ROWS))
-            self.assertEqual((page.state(), page.text("#verdict")), ("wrong", "✗ The two checks differ"))
+            self.page.sheet(sheet, *OTHERS, before=f"asked = async () => ({{ status: {status}, text: new Uint8Array(3) }})")
+            self.bar_is("wrong", "✗ The two checks differ")
 
     def test_the_verdict_is_saved(self):
         sheet = EXAMPLE.encode().replace(b"Mitte", b"Mitt\xe9")
         page = self.page.sheet(sheet, EXAMPLE_SETUP)
-        page.driver.execute_script("""
+        page.run("""
             const first = URL.createObjectURL;
             URL.createObjectURL = (blob) => {
               blob.arrayBuffer().then((it) => { window.saved = Array.from(new Uint8Array(it)); });
               return first(blob);
             };
         """)
-        page.driver.find_element(By.ID, "save").click()
+        page.click("#save")
         page.wait("return window.saved !== undefined")
-        self.assertEqual(bytes(page.driver.execute_script("return window.saved")), program.answer(EXAMPLE_SETUP.encode(), sheet)[1])
+        self.assertEqual(bytes(page.run("return window.saved")), program.answer(EXAMPLE_SETUP.encode(), sheet)[1])
 
     def test_which_page_this_is(self):
         """Its foot says of which version it is, and how that is found out: by a command, with the sum in README. It shows no sum itself."""
@@ -126,8 +114,8 @@ class Shown(Case):
         self.assertEqual(re.findall("[0-9a-f]{8,}", self.page.text("body")), [])
 
     def test_german(self):
-        page = self.shows("right", "It says", EXAMPLE, EXAMPLE_SETUP, ROWS)
-        page.driver.find_element(By.CSS_SELECTOR, "#languages button[lang=de]").click()
+        page = self.shows("right", "It says", EXAMPLE, *OTHERS)
+        page.speak("de")
         self.assertEqual((page.state(), page.text("#proved h2")), ("right", "Die bewiesene Prüfung"))
         self.is_now("right", "no other seats follow from these votes")
 
@@ -135,12 +123,9 @@ class Shown(Case):
 class Failing(Case):
     """The proved check does not run: the page says so, and is never green."""
 
-    def fails_with(self, why, page=None, before=None):
-        page = page or self.page.open()
-        if before:
-            page.driver.execute_script(before)
-        page.choose(("sheet.txt", EXAMPLE), ("setup.toml", EXAMPLE_SETUP), ("held.csv", ROWS))
-        self.assertEqual((page.state(), page.text("#verdict")), ("unsure", "! Not fully checked: right by one check of two"))
+    def fails_with(self, why, page=None, before=""):
+        page = (page or self.page).sheet(EXAMPLE, *OTHERS, before=before)
+        self.bar_is("unsure", "! Not fully checked: right by one check of two")
         self.assertRegex(page.text("#ticks"), "The proved check did not run: " + why)
         self.assertRegex(page.text("#proved p"), "^It did not run: " + why)
         page.choose(("sheet.txt", WRONG))
@@ -150,43 +135,39 @@ class Failing(Case):
         """No verdict of the files before stays."""
         for part in ("judge", "showBar", "seatsTable"):
             with self.subTest(part):
-                page = self.page.sheet(EXAMPLE, EXAMPLE_SETUP, ROWS)
+                page = self.page.sheet(EXAMPLE, *OTHERS)
                 self.assertEqual(page.state(), "right")
-                page.driver.execute_script(f"{part} = () => {{ throw new Error('a fault') }}")
+                page.run(f"{part} = () => {{ throw new Error('a fault') }}")
                 page.choose(("sheet.txt", WRONG))
-                self.assertEqual((page.state(), page.own()), ("unsure", "failed"))
-                self.assertEqual(page.text("#verdict"), "! This page failed: no verdict")
+                self.bar_is("unsure", "! This page failed: no verdict")
+                self.assertEqual(page.own(), "failed")
                 self.assertEqual(page.text("#why"), "Nothing that it said of these files counts: Error: a fault")
                 self.assertEqual(page.texts("#ticks li, #shown section, #signatures p"), [])
 
-    def with_module(self, module, **policy):
-        """The page with another module, and with other words in its policy."""
-        text = seals.with_module(pathlib.Path(PATH).read_text(), module)
-        for old, new in policy.values():
-            text = changed(text, old, new)
+    def another(self, text):
+        """A page with this text."""
         path = pathlib.Path(self.page.room.name, "other.html")
         path.write_text(text)
         return browser.Page(self.driver, path)
 
     def test_the_module_is_taken_out(self):
-        self.fails_with("its module is missing from this page", self.with_module(b""))
+        self.fails_with("its module is missing from this page", self.another(seals.with_module(TEXT, b"")))
 
     def test_the_module_is_cut_or_another(self):
-        module = seals.loaded().module_in(pathlib.Path(PATH))
+        module = seals.SEAL.module_in(pathlib.Path(PATH))
         for other in (module[:-1], module[:1000], b"\0asm\1\0\0\0", b"no module"):
             with self.subTest(len(other)):
-                self.fails_with(".", self.with_module(other))
+                self.fails_with(".", self.another(seals.with_module(TEXT, other)))
 
     def test_the_browser_has_no_webassembly(self):
         self.fails_with("this browser has no WebAssembly", before="delete window.WebAssembly")
 
     def test_the_policy_forbids_it(self):
-        module = seals.loaded().module_in(pathlib.Path(PATH))
-        self.fails_with(".", self.with_module(module, wasm=(" 'wasm-unsafe-eval'", "")))
+        self.fails_with(".", self.another(changed(TEXT, " 'wasm-unsafe-eval'", "")))
 
     def test_memory(self):
-        self.fails_with("there was too little memory", before="asked = async () => ({ status: 4, text: new Uint8Array(0) })")
-        self.fails_with("there was too little memory", before="asked = async () => { throw new RangeError('memory'); }")
+        for asked in ("({ status: 4, text: new Uint8Array(0) })", "{ throw new RangeError('memory'); }"):
+            self.fails_with("there was too little memory", before=f"asked = async () => {asked}")
 
     def test_time(self):
         self.fails_with("it took longer than 60 seconds", before="""
@@ -196,17 +177,13 @@ class Failing(Case):
         """)
 
     def test_rows_that_are_too_long(self):
-        page = self.page.open().choose(("sheet.txt", EXAMPLE), ("setup.toml", EXAMPLE_SETUP), ("held.csv", ROWS + "\n" * 1_048_577))
+        page = self.page.sheet(EXAMPLE, EXAMPLE_SETUP, ROWS + "\n" * 1_048_577)
         self.assertEqual(page.state(), "unsure")
         self.assertIn("the returns are too long", page.text("#proved"))
 
     def test_without_a_worker_it_runs_in_the_page(self):
-        module = seals.loaded().module_in(pathlib.Path(PATH))
-        page = self.with_module(module, worker=("worker-src blob:", "worker-src 'none'"))
-        page.choose(("sheet.txt", EXAMPLE), ("setup.toml", EXAMPLE_SETUP), ("held.csv", ROWS))
-        self.assertEqual((page.state(), page.text("#verdict")), ("right", "✓ Right"))
-        page = self.page.open()
-        page.driver.execute_script("window.Worker = class { constructor() { throw new Error('none'); } }")
-        page.choose(("sheet.txt", WRONG), ("setup.toml", EXAMPLE_SETUP))
+        self.another(changed(TEXT, "worker-src blob:", "worker-src 'none'")).sheet(EXAMPLE, *OTHERS)
+        self.bar_is("right", "✓ Right")
+        page = self.page.sheet(WRONG, EXAMPLE_SETUP, before="window.Worker = class { constructor() { throw new Error('none'); } }")
         self.assertEqual(page.state(), "wrong")
         self.assertTrue(page.text("#proved pre").endswith("sheet wrong"))

@@ -1,10 +1,10 @@
 """What is seen: names, edges, totals, words and panels, on a screen and on a phone."""
+import itertools
 import re
 
 import model
-import sheets
-from browser import By
-from case import EXAMPLE, EXAMPLE_SETUP, LARGEST, ROWS, Case, changed
+from case import EXAMPLE, EXAMPLE_SETUP, LARGEST, OTHERS, ROWS, Case, changed
+from sheets import ZURICH
 
 TURNED, HEBREW = "\u202eX 11", "\u05d0\u05d1 11"
 
@@ -25,11 +25,11 @@ class Sight(Case):
         return self.page.sheet(*files)
 
     def click(self, css):
-        self.page.driver.execute_script("document.querySelector(arguments[0]).click()", css)
+        self.page.run("document.querySelector(arguments[0]).click()", css)
 
     def outside(self, name):
         """The texts with this name in them that do not stand in an element that isolates them; and such attributes."""
-        return self.page.driver.execute_script("""
+        return self.page.run("""
             const [name] = arguments;
             const found = [];
             const texts = document.createTreeWalker(document.body, NodeFilter.SHOW_TEXT);
@@ -57,13 +57,13 @@ class Sight(Case):
                         self.assertEqual(self.outside(seen), [])
                     page.choose(("other", changed(EXAMPLE, "votes 525", "votes 526")))
                     self.assertEqual(self.outside(seen), [])
-                    self.assertNotIn("\u202e", page.driver.find_element(By.TAG_NAME, "body").get_attribute("outerHTML"))
+                    self.assertNotIn("\u202e", page.one("body").get_attribute("outerHTML"))
 
     def test_a_name_turns_no_number_round(self):
         """11 seats after a name are read as 11, and stand on its right."""
         page = self.page.sheet(changed(EXAMPLE, "Nord", HEBREW))
         self.click("#seats tbody th button")
-        name, after = page.driver.execute_script("""
+        name, after = page.run("""
             const heading = document.querySelector('#detail h2');
             const end = document.createRange();
             const text = [...heading.childNodes].find((node) => node.nodeType === 3 && node.data.includes('seats'));
@@ -77,37 +77,37 @@ class Sight(Case):
         self.page.open().choose(("a\u202etxt.toml", EXAMPLE))
         self.assertEqual(self.page.text(".had .file bdi"), "a<U+202E>txt.toml")
 
-    def edges(self, page):
-        """Each seat has an edge or a fill that stands out from the ground, 3 to 1."""
-        shapes = page.driver.execute_script("""
-            return [...document.querySelectorAll('.arc .seat, .arc .hole, .swatch .seat')].map((shape) => {
-              const { fill, stroke } = getComputedStyle(shape);
-              return [shape.getAttribute('class'), fill, stroke];
-            });
-        """)
-        ground = page.driver.find_element(By.TAG_NAME, "body").value_of_css_property("background-color")
-        self.assertGreater(len(shapes), 400)
-        for name, fill, stroke in set(map(tuple, shapes)):
-            self.assertGreaterEqual(contrast(stroke, ground), 3, (name, stroke, ground))
-
     def test_edges_of_seats(self):
-        self.edges(self.page.sheet(LARGEST.sheet()))
-        for features in ([{"name": "prefers-color-scheme", "value": "dark"}], []):
-            for media in ("screen", "print"):
-                self.driver.execute_cdp_cmd("Emulation.setEmulatedMedia", {"media": media, "features": features})
-                self.addCleanup(self.driver.execute_cdp_cmd, "Emulation.setEmulatedMedia", {"media": "", "features": []})
-                self.edges(self.page)
+        """Each seat has an edge that stands out from the ground, 3 to 1, on a screen and on paper, light and dark."""
+        page = self.page.sheet(LARGEST.sheet())
+        for medium, scheme in itertools.product(("screen", "print"), ("light", "dark")):
+            self.has_medium(medium, scheme)
+            shapes = page.run("""
+                return [...document.querySelectorAll('.arc .seat, .arc .hole, .swatch .seat')].map((shape) =>
+                  [shape.getAttribute('class'), getComputedStyle(shape).stroke]);
+            """)
+            ground = page.one("body").value_of_css_property("background-color")
+            self.assertGreater(len(shapes), 400)
+            for name, stroke in set(map(tuple, shapes)):
+                self.assertGreaterEqual(contrast(stroke, ground), 3, (name, stroke, ground))
+
+    def test_dark(self):
+        self.has_medium(scheme="dark")
+        body = self.page.sheet(EXAMPLE).one("body")
+        ground, letters = (sum(int(part) for part in re.findall(r"\d+", body.value_of_css_property(name))[:3])
+                           for name in ("background-color", "color"))
+        self.assertLess(ground, 120)
+        self.assertGreater(letters, 600)
 
     def test_the_totals_stay_in_sight(self):
-        for files in ((sheets.zurich(),), (LARGEST.sheet(),)):
-            page = self.phone(*files)
-            page.driver.execute_script("document.getElementById('seats-part').scrollIntoView({ block: 'end' })")
+        for sheet in (ZURICH.sheet, LARGEST.sheet()):
+            page = self.phone(sheet)
+            page.run("document.getElementById('seats-part').scrollIntoView({ block: 'end' })")
             for left, top in ((0, 0), (90, 60), (99999, 99999)):
-                page.driver.execute_script("document.getElementById('seats-part').scrollTo(arguments[0], arguments[1])", left, top)
-                box, right, foot, name = page.driver.execute_script("""
-                    const box = (css) => { const { left, right, top, bottom } = document.querySelector(css).getBoundingClientRect();
-                      return { left, right, top, bottom }; };
-                    return ['#seats-part', '#seats thead .sum', '#seats tfoot th', '#seats .corner'].map(box);
+                page.run("document.getElementById('seats-part').scrollTo(arguments[0], arguments[1])", left, top)
+                box, right, foot, name = page.run("""
+                    return ['#seats-part', '#seats thead .sum', '#seats tfoot th', '#seats .corner'].map(
+                      (css) => document.querySelector(css).getBoundingClientRect().toJSON());
                 """)
                 self.assertLessEqual(right["right"], box["right"] + 1)
                 self.assertGreaterEqual(right["left"], box["left"])
@@ -117,88 +117,81 @@ class Sight(Case):
 
     def test_a_table_that_goes_on_says_so(self):
         self.assertEqual(self.page.sheet(EXAMPLE).text("#scrolls"), "")
-        page = self.phone(sheets.zurich())
-        self.assertIn("The table goes on: scroll it.", page.text("#scrolls"))
+        self.assertIn("The table goes on: scroll it.", self.phone(ZURICH.sheet).text("#scrolls"))
 
     def test_tables_have_names(self):
-        page = self.page.sheet(sheets.zurich()).choose(("two", sheets.zurich().replace("81", "82", 1)))
+        page = self.page.sheet(ZURICH.sheet).choose(("two", ZURICH.sheet.replace("81", "82", 1)))
         # What is far out of sight is not laid out, and has no name yet.
-        page.driver.execute_script("document.getElementById('changes').scrollIntoView()")
+        page.run("document.getElementById('changes').scrollIntoView()")
         for css, name in (("#parts", "Checks"), ("#changes table", "What changed"), ("#seats", "Seats by constituency and group")):
-            self.assertEqual(page.driver.find_element(By.CSS_SELECTOR, css).accessible_name, name)
+            self.assertEqual(page.one(css).accessible_name, name)
 
     def test_the_panel_leaves_half_of_a_phone(self):
-        for files in ((sheets.zurich(), sheets.zurich_setup()), (LARGEST.sheet(), LARGEST.setup())):
+        for files in (ZURICH[:2], LARGEST.files()[:2]):
             page = self.phone(*files)
             for css in ("#seats tbody th button", "#seats thead button", "#seats tbody td button"):
                 self.click(css)
-                self.assertLessEqual(page.driver.execute_script("return document.getElementById('detail').offsetHeight"), 667 / 2)
-
-    def broken(self, page):
-        """The parts of names that stand on two lines although no hyphen or blank parts them."""
-        return page.driver.execute_script("""
-            const found = [];
-            for (const name of document.querySelectorAll('.legend .name bdi, #seats:not(.crowded) .name bdi, #seats tbody .name bdi')) {
-              const text = name.firstChild;
-              for (const { 0: part, index } of text.data.matchAll(/[^\\s\\u00ad-]+/gu)) {
-                const rects = (at) => {
-                  const range = document.createRange();
-                  range.setStart(text, at);
-                  range.setEnd(text, at + 1);
-                  return [...range.getClientRects()].filter(({ width }) => width > 0);
-                };
-                // A hyphen that is seen belongs to the letter beside it.
-                const [first, last] = [rects(index).at(-1), rects(index + part.length - 1)[0]];
-                if (Math.abs(first.top - last.top) > 4) found.push(part);
-              }
-            }
-            return found;
-        """)
+                self.assertLessEqual(page.run("return document.getElementById('detail').offsetHeight"), 667 / 2)
 
     def test_words_are_not_broken(self):
+        """No part of a name stands on two lines where no hyphen or blank parts it."""
         names = ["Winterthur-Land", "Dietikon und Urdorf", "Bezirk Pfäffikon", "Affoltern", "Horgen, Thalwil und Wädenswil"]
         groups = ["Sozialdemokratische Partei", "Schweizerische Volkspartei", "FDP.Die Liberalen", "Grünliberale Partei",
                   "Eidgenössisch-Demokratische", "Alternative Liste"]
-        election = model.made_up(2, 5, 6, 40, names=names, groups=groups)
-        self.assertEqual(self.broken(self.page.sheet(election.sheet())), [])
-        self.assertEqual(self.broken(self.phone(election.sheet())), [])
+        sheet = model.made_up(2, 5, 6, 40, names=names, groups=groups).sheet()
+        for shown in (self.page.sheet, self.phone):
+            self.assertEqual(shown(sheet).run("""
+                const found = [];
+                for (const name of document.querySelectorAll('.legend .name bdi, #seats:not(.crowded) .name bdi, #seats tbody .name bdi')) {
+                  const text = name.firstChild;
+                  for (const { 0: part, index } of text.data.matchAll(/[^\\s\\u00ad-]+/gu)) {
+                    const rects = (at) => {
+                      const range = document.createRange();
+                      range.setStart(text, at);
+                      range.setEnd(text, at + 1);
+                      return [...range.getClientRects()].filter(({ width }) => width > 0);
+                    };
+                    // A hyphen that is seen belongs to the letter beside it.
+                    const [first, last] = [rects(index).at(-1), rects(index + part.length - 1)[0]];
+                    if (Math.abs(first.top - last.top) > 4) found.push(part);
+                  }
+                }
+                return found;
+            """), [])
 
     def test_thousands_are_set_apart(self):
-        self.assertEqual(self.page.open().driver.execute_script(
+        self.assertEqual(self.page.open().run(
             "return ['999', '1000', '1234567.1234567', '28518 / (7242.666666 × 1.007187)', '10000/10', '3909..', '+30000'].map(grouped)"),
             ["999", "1,000", "1,234,567.1234567", "28,518 / (7,242.666666 × 1.007187)", "10,000/10", "3,909..", "+30,000"])
         page = self.page.sheet(EXAMPLE.replace("provisional 9", "provisional 18446744073709551615").replace("Nord", "N 2027"))
         self.assertIn("(18,446,744,073,709,551,615, it says)", page.text("#why"))
         self.assertEqual(page.texts("#seats tbody th")[0], "N 2027")
 
-
-class Readable(Case):
-    def readable(self, css, ground):
+    def readable(self, ground, *texts):
         """Each text there stands out from its ground, 4.5 to 1."""
-        found = self.page.driver.execute_script("""
-            const [css, ground] = arguments;
-            return [...document.querySelectorAll(css)].map((one) => [getComputedStyle(one).color,
-              getComputedStyle(one.closest(ground) ?? document.querySelector(ground)).backgroundColor, one.textContent]);
-        """, css, ground)
-        self.assertGreater(len(found), 0, css)
-        for colour, behind, text in found:
-            self.assertGreaterEqual(contrast(colour, behind), 4.5, (css, text))
+        for css in texts:
+            found = self.page.run("""
+                const [css, ground] = arguments;
+                return [...document.querySelectorAll(css)].map((one) => [getComputedStyle(one).color,
+                  getComputedStyle(one.closest(ground) ?? document.querySelector(ground)).backgroundColor, one.textContent]);
+            """, css, ground)
+            self.assertGreater(len(found), 0, css)
+            for colour, behind, text in found:
+                self.assertGreaterEqual(contrast(colour, behind), 4.5, (css, text))
 
     def test_the_bar_and_the_ticks_can_be_read(self):
         """In each colour, light and dark."""
-        for features in ([{"name": "prefers-color-scheme", "value": "dark"}], [{"name": "prefers-color-scheme", "value": "light"}]):
-            self.driver.execute_cdp_cmd("Emulation.setEmulatedMedia", {"features": features})
-            self.page.sheet(EXAMPLE, EXAMPLE_SETUP, ROWS)
+        for scheme in ("dark", "light"):
+            self.has_medium(scheme=scheme)
+            self.page.sheet(EXAMPLE, *OTHERS)
             for state in ("right", "wrong", "absent"):
                 self.page.proved(state)
-                for css in ("#verdict", "#why p", "#kind"):
-                    self.readable(css, "#bar")
-                self.readable("#ticks p, #ticks .mark", "li")
-                self.readable("#election", "body")
+                self.readable("#bar", "#verdict", "#why p", "#kind")
+                self.readable("li", "#ticks p, #ticks .mark")
+                self.readable("body", "#election")
             self.page.sheet(EXAMPLE).proved("alone")
-            self.readable("#ticks .hint, #ticks .mark", "li")
+            self.readable("li", "#ticks .hint, #ticks .mark")
             self.page.sheet("1 refused nogroup\n")
-            for css in ("#verdict", "#verdict .mark", "#why p", "#kind .kind"):
-                self.readable(css, "#bar")
+            self.readable("#bar", "#verdict", "#verdict .mark", "#why p", "#kind .kind")
             self.page.sheet(changed(EXAMPLE, "voters 230 seats 5", "voters 230 seats 6"), EXAMPLE_SETUP)
-            self.readable(".legend .said.wrong", "body")
+            self.readable("body", ".legend .said.wrong")

@@ -1,11 +1,9 @@
 """The page in use: hostile names, no network, keys, drops, meaning, languages, a phone, and its size."""
 import re
-import unittest
 
-import browser
-import sheets
-from browser import By, Keys
-from case import EXAMPLE, HOSTILE, LARGEST, PATH, Case, changed
+from browser import Keys
+from case import EXAMPLE, EXAMPLE_SETUP, HOSTILE, LARGEST, OTHER_WORDS, WRONG_KEY, Case, changed
+from sheets import ZURICH
 
 
 class Use(Case):
@@ -14,11 +12,11 @@ class Use(Case):
         page = self.holds(changed(EXAMPLE, "1.000000 A", f"1.000000 {HOSTILE}").replace("Nord", "<b>N</b>"))
         self.assertIn(HOSTILE, page.text(".legend"))
         self.assertIn(HOSTILE, page.text("#seats thead"))
-        page.driver.find_element(By.CSS_SELECTOR, "#seats tbody td button").click()
+        page.click("#seats tbody td button")
         self.assertIn(f"<b>N</b>, {HOSTILE}", page.text("#detail"))
         page.choose(("second", EXAMPLE))
         self.assertIn(HOSTILE, page.text("#changes"))
-        self.assertEqual(page.driver.find_elements(By.CSS_SELECTOR, "img, b, iframe, [onerror]"), [])
+        self.assertEqual(page.all("img, b, iframe, [onerror]"), [])
         self.fails(None, 1, "it does not belong here", f"{HOSTILE}\n")
         self.assertIn(HOSTILE, page.text(".fault pre"))
         self.assertEqual(page.complaints(), [])
@@ -28,22 +26,22 @@ class Use(Case):
         page = self.page.open()
         page.complaints(), page.requests()
         markup = "<img src=https://example.org/x onerror='document.title = 1'><div onclick='document.title = 2' id=d>x</div>"
-        page.driver.execute_script("document.body.insertAdjacentHTML('beforeend', arguments[0])", markup)
-        page.driver.execute_script("document.getElementById('d').click()")
+        page.run("document.body.insertAdjacentHTML('beforeend', arguments[0])", markup)
+        page.run("document.getElementById('d').click()")
         said = []
 
         def is_decided():
             said.extend(text for text in page.complaints() if "Content Security Policy" in text)
             return len(said) >= 2 or page.driver.title in ("1", "2")
-        page.until(is_decided)
+        page.wait(is_decided)
         self.assertNotIn(page.driver.title, ("1", "2"))
         self.assertGreaterEqual(len(said), 2)
 
     def test_no_request_is_made(self):
         self.page.requests(), self.page.complaints()
-        page = self.holds(sheets.zurich(), sheets.zurich_setup(), sheets.zurich_held())
-        page.driver.find_element(By.CSS_SELECTOR, "#seats tbody td button").click()
-        page.driver.find_element(By.CSS_SELECTOR, "#languages button[lang=de]").click()
+        page = self.holds(*ZURICH)
+        page.click("#seats tbody td button")
+        page.speak("de")
         # The worker's text comes from the page itself.
         asked = {address for address in page.requests() if not address.startswith("blob:")}
         self.assertEqual(asked, {page.path.as_uri()})
@@ -51,7 +49,7 @@ class Use(Case):
 
     def test_the_keyboard_alone(self):
         page = self.page.open()
-        page.driver.find_element(By.TAG_NAME, "body").send_keys(Keys.TAB)
+        page.one("body").send_keys(Keys.TAB)
         page.press(Keys.TAB, Keys.TAB)
         self.assertEqual(self.focus("id"), "pick")
         page.press(Keys.TAB, Keys.ENTER, Keys.TAB)
@@ -68,11 +66,10 @@ class Use(Case):
         page.press(Keys.ENTER)
         self.assertIn("Mitte, B: 2 seats", page.text("#detail h2"))
         page.press(Keys.ESCAPE)
-        self.assertFalse(page.driver.find_element(By.ID, "detail").is_displayed())
+        self.assertFalse(page.one("#detail").is_displayed())
         self.assertEqual(self.focus("aria-label"), "Mitte, B: 2, holds")
         page.press(Keys.HOME)
         self.assertEqual(self.focus("aria-label"), "Constituency Mitte, holds")
-        page.press(Keys.ARROW_UP, Keys.ARROW_UP)
 
     def focus(self, attribute):
         """Of the element that has the focus; without the characters that isolate names."""
@@ -80,7 +77,7 @@ class Use(Case):
 
     def test_a_file_that_is_dropped(self):
         page = self.page.open()
-        page.driver.execute_script("""
+        page.run("""
             const data = new DataTransfer();
             data.items.add(new File([arguments[0]], 'a sheet'));
             document.querySelector('.drop').dispatchEvent(new DragEvent('drop', { dataTransfer: data, bubbles: true, cancelable: true }));
@@ -90,32 +87,28 @@ class Use(Case):
 
     def test_the_table_has_its_meaning(self):
         page = self.holds(EXAMPLE)
-        heads = page.driver.find_elements(By.CSS_SELECTOR, "#seats thead th")
-        self.assertEqual({head.get_attribute("scope") for head in heads}, {"col"})
-        heads = page.driver.find_elements(By.CSS_SELECTOR, "#seats tbody th")
-        self.assertEqual({head.get_attribute("scope") for head in heads}, {"row"})
-        self.assertEqual(page.driver.find_element(By.ID, "seats").accessible_name, "Seats by constituency and group")
-        self.assertEqual(page.driver.find_element(By.ID, "seats").aria_role, "table")
-        self.assertEqual(page.driver.find_element(By.CSS_SELECTOR, ".arc").accessible_name,
-                         "The parliament: 10 seats, from left to right by group")
-        self.assertEqual(page.driver.find_element(By.ID, "verdict").aria_role, "status")
-        self.assertEqual(page.driver.find_element(By.ID, "pick").accessible_name, "Choose files")
+        for part, scope in (("thead", "col"), ("tbody", "row")):
+            self.assertEqual({head.get_attribute("scope") for head in page.all(f"#seats {part} th")}, {scope})
+        for css, name in (("#seats", "Seats by constituency and group"), ("#pick", "Choose files"),
+                          (".arc", "The parliament: 10 seats, from left to right by group")):
+            self.assertEqual(page.one(css).accessible_name, name)
+        self.assertEqual((page.one("#seats").aria_role, page.one("#verdict").aria_role), ("table", "status"))
 
     def test_german_and_english(self):
         page = self.holds(EXAMPLE)
-        page.driver.find_element(By.CSS_SELECTOR, "#languages button[lang=de]").click()
-        self.assertEqual(page.driver.find_element(By.TAG_NAME, "html").get_attribute("lang"), "de")
+        page.speak("de")
+        self.assertEqual(page.one("html").get_attribute("lang"), "de")
         self.assertEqual(page.text("#verdict"), "! Nicht vollständig geprüft: Die Sitze passen zu seinen Stimmen")
         self.assertEqual(page.text("#kind"), "Das Resultatblatt nennt sich «provisorisch»")
         self.assertEqual(page.driver.switch_to.active_element.text, "Deutsch")
-        page.driver.find_element(By.CSS_SELECTOR, "#languages button[lang=en]").click()
+        page.speak("en")
         self.assertEqual(page.text("#verdict"), "! Not fully checked: the seats fit the votes on the sheet")
 
     def test_the_empty_page_names_what_is_published(self):
         page = self.page.open()
         self.assertEqual(page.texts(".drop dt"), ["Sheet", "Set-up file", "File of returns"])
         self.assertEqual(page.text("#choose"), "Choose the sheet. If you have them, add the set-up file and the file of returns.")
-        page.driver.find_element(By.CSS_SELECTOR, "#languages button[lang=de]").click()
+        page.speak("de")
         self.assertEqual(page.texts(".drop dt"), ["Resultatblatt", "Grunddaten", "Meldungen"])
         self.assertEqual(page.text("#choose"),
                          "Wählen Sie das Resultatblatt. Fügen Sie, wenn vorhanden, die Grunddaten und die Meldungen hinzu.")
@@ -129,36 +122,23 @@ class Use(Case):
         self.assertIn("more than 280,064 bytes", page.text(".fault .reason"))
 
     def test_the_kind_stays_in_sight(self):
-        page = self.holds(LARGEST.sheet(), LARGEST.setup())
-        page.driver.execute_script("window.scrollTo(0, document.body.scrollHeight)")
-        top = page.driver.execute_script("return document.getElementById('kind').getBoundingClientRect().top")
+        page = self.holds(*LARGEST.files())
+        page.run("window.scrollTo(0, document.body.scrollHeight)")
+        top = page.run("return document.getElementById('kind').getBoundingClientRect().top")
         self.assertGreaterEqual(top, 0)
         self.assertLess(top, 60)
         self.assertEqual("The sheet calls itself “final”", page.text("#kind"))
 
     def test_a_phone(self):
-        page = self.holds(sheets.zurich())
         self.has_screen(360, 740, 2, True)
-        for sheet in (sheets.zurich(), LARGEST.sheet(), changed(sheets.zurich(), "seats key 38000/38", "seats key 38000/39")):
-            page.sheet(sheet)
-            self.assertLessEqual(page.driver.execute_script("return document.documentElement.scrollWidth"), 360)
+        for sheet in (ZURICH.sheet, LARGEST.sheet(), WRONG_KEY):
+            self.page.sheet(sheet)
+            self.assertLessEqual(self.page.run("return document.documentElement.scrollWidth"), 360)
 
     def test_the_largest_sheet(self):
-        """Its time is printed, and not judged: it depends on the machine. The elements do not."""
-        page = self.holds(LARGEST.sheet(), LARGEST.setup(), LARGEST.held())
-        self.assertEqual(len(page.driver.find_elements(By.CSS_SELECTOR, ".arc .seat")), 400)
-        elements = page.driver.execute_script("return document.querySelectorAll('*').length")
-        self.assertLess(elements, 10 * 32 * 32)
-        took = page.driver.execute_script("""
-            const times = Array.from({ length: 5 }, () => {
-              const begun = performance.now();
-              show();
-              document.body.getBoundingClientRect();
-              return performance.now() - begun;
-            });
-            return Math.min(...times);
-        """)
-        print(f"32 x 32 with 400 seats: read, checked, drawn and laid out in {took:.0f} ms, the shortest of five times", flush=True)
+        page = self.holds(*LARGEST.files())
+        self.assertEqual(len(page.all(".arc .seat")), 400)
+        self.assertLess(page.run("return document.querySelectorAll('*').length"), 10 * 32 * 32)
 
 
 class German(Case):
@@ -171,20 +151,28 @@ class German(Case):
         self.assertEqual(page.text("#kind"), "Das Resultatblatt nennt sich «provisorisch»")
 
     def test_each_text_has_its_values(self):
-        page = self.page.sheet(changed(EXAMPLE, "205.000000", "210.000000"))
-        self.assertIn("525 / (210.000000 × 1.000000) = 2.5 liegt auf einem Halben", page.text(".fault .reason"))
+        page = self.page.sheet(changed(EXAMPLE, "205.000000", "210.000000").replace("votes 1000", "votes 1001"), EXAMPLE_SETUP)
+        self.assertIn("525 / (210.000000 × 1.000000) = 2.5 liegt auf einem Halben", page.text("#problems"))
+        self.assertIn("die Stimmen seiner Listen ergeben 1’000 und nicht 1’001", page.text("#problems"))
         self.assertNotRegex(page.text("body"), r"[{}]|undefined|null")
 
+    def test_the_set_up_has_its_german_word(self):
+        page = self.page.sheet(EXAMPLE)
+        for css in ("body", "#why", "#checks"):
+            self.assertNotIn("Set-up", page.text(css))
+        self.assertIn("Ohne Grunddaten sind Sitzzahl, Namen, Personen, Quorum und Listen nicht geprüft", page.text("#ticks"))
+        page.sheet(EXAMPLE, EXAMPLE_SETUP)
+        self.assertEqual(page.text(".had .setup .what"), "Grunddaten")
 
-class Dark(unittest.TestCase):
-    def test_dark(self):
-        driver = browser.started(dark=True)
-        try:
-            browser.Page(driver, PATH).sheet(EXAMPLE)
-            body = driver.find_element(By.TAG_NAME, "body")
-            shades = [sum(int(part) for part in re.findall(r"\d+", body.value_of_css_property(name))[:3])
-                      for name in ("background-color", "color")]
-            self.assertLess(shades[0], 120)
-            self.assertGreater(shades[1], 600)
-        finally:
-            driver.quit()
+    def test_each_thing_has_one_word(self):
+        """Those of the card for a desk are the same, and no other (test_card.py)."""
+        words = self.page.open().run("return Object.values(WORDS).map(([, german]) => german)")
+        self.assertGreater(len(words), 200)
+        for one in words:
+            self.assertNotRegex(one, OTHER_WORDS)
+
+    def test_a_refusal(self):
+        page = self.page.sheet("1 refused tied seats\n")
+        self.assertEqual(page.text("#verdict"), "i Die Auszählungsstelle gibt keine Sitze an und sagt, warum")
+        self.assertIn("und die Seite prüft diese Antwort nicht", page.text("#why"))
+        self.assertIn("Gleichstand bei den Sitzen der Wahlkreise", page.text("#why"))

@@ -2,14 +2,14 @@
 import re
 
 import model
-import sheets
-from case import EXAMPLE, EXAMPLE_SETUP, ROWS, Case, changed
+from case import EXAMPLE, EXAMPLE_SETUP, OTHERS, Case, changed
+from sheets import ZURICH
 
 
 class Wrong(Case):
     def test_a_wrong_seat(self):
-        sheet = changed(sheets.zurich(), "list 1 1 votes 28518 voters 2377 seats 4", "list 1 1 votes 28518 voters 2377 seats 5")
-        self.fails("lists", 22, "28,518 / (7,242.666666 × 1.007187) = 3.909.. rounds to 4", sheet, sheets.zurich_setup())
+        self.fails("lists", 22, "28,518 / (7,242.666666 × 1.007187) = 3.909.. rounds to 4",
+                   changed(ZURICH.sheet, "list 1 1 votes 28518 voters 2377 seats 4", "list 1 1 votes 28518 voters 2377 seats 5"), ZURICH.setup)
 
     def test_seats_exchanged_so_that_all_totals_are_met(self):
         sheet = EXAMPLE
@@ -27,66 +27,51 @@ class Wrong(Case):
         self.assertEqual(page.texts(".fault .reason")[1:], ["the seats of its lists make 5, and not 4"])
 
     def test_a_half(self):
-        self.fails("lists", 11, "525 / (210.000000 × 1.000000) = 2.5 lies on a half", changed(EXAMPLE, "205.000000", "210.000000"))
-        self.fails("lists", 11, "525 / (150.000000 × 1.000000) = 3.5 lies on a half", changed(EXAMPLE, "205.000000", "150.000000"))
+        for divisor, quotient in (("210.000000", "2.5"), ("150.000000", "3.5")):
+            self.fails("lists", 11, f"525 / ({divisor} × 1.000000) = {quotient} lies on a half", changed(EXAMPLE, "205.000000", divisor))
 
     def test_the_ends_of_each_apportionment(self):
         """Seats by keys and by persons, on each side."""
-        self.fails("seats", 3, "the key should be 10,000/10, and not 10,000/9", changed(EXAMPLE, "seats key 10000/10", "seats key 10000/9"))
-        self.fails("seats", 3, "the key should be 10,000/10", changed(EXAMPLE, "seats key 10000/10", "seats key 1000/1"))
-        self.fails("seats", 3, "the key should be 10,000/10", changed(EXAMPLE, "seats key 10000/10", "seats key 10001/10"))
-        self.fails("groups", 4, "the key should be 300/6", changed(EXAMPLE, "upper key 300/6", "upper key 50/1"))
-        self.fails("seats", 5, "5,000 / (10,000/10) = 5 rounds to 5", changed(EXAMPLE, "persons 5000 seats 5", "persons 5000 seats 6"))
-        self.fails("seats", 5, "5,000 / (10,000/10) = 5 rounds to 5", changed(EXAMPLE, "persons 5000 seats 5", "persons 5000 seats 4"))
-        self.fails("groups", 8, "230 / (300/6) = 4.6 rounds to 5", changed(EXAMPLE, "voters 230 seats 5", "voters 230 seats 4"))
-        self.fails("groups", 8, "230 / (300/6) = 4.6 rounds to 5", changed(EXAMPLE, "voters 230 seats 5", "voters 230 seats 6"))
-        self.fails("seats", 2, "the seats make 10, and the house has 11", changed(EXAMPLE, "house 10", "house 11"))
+        for part, line, reason, old, *others in (
+                ("seats", 3, "the key should be 10,000/10, and not 10,000/9", "10000/10", "10000/9"),
+                ("seats", 3, "the key should be 10,000/10", "10000/10", "1000/1", "10001/10"),
+                ("groups", 4, "the key should be 300/6", "300/6", "50/1"),
+                ("seats", 5, "5,000 / (10,000/10) = 5 rounds to 5", "persons 5000 seats 5", "persons 5000 seats 6", "persons 5000 seats 4"),
+                ("groups", 8, "230 / (300/6) = 4.6 rounds to 5", "voters 230 seats 5", "voters 230 seats 4", "voters 230 seats 6"),
+                ("seats", 2, "the seats make 10, and the house has 11", "house 10", "house 11")):
+            for new in others:
+                with self.subTest(new):
+                    self.fails(part, line, reason, changed(EXAMPLE, old, new))
 
     def test_a_forged_quorum(self):
         election = model.made_up(3, 6, 5, 60)
         self.assertTrue(all(election.takes_part(g) for g in range(5)))
-        self.holds(election.sheet(), election.setup())
-        page = self.fails("participation", 14, "by its votes this group takes part", election.sheet(part=[True] * 3 + [False, True]),
-                          election.setup(), election.held())
-        self.assertEqual(page.failing(), ["participation"])
         few = model.Election(10, [1000], [[600, 370, 30]])
-        self.holds(few.sheet(), few.setup())
-        page = self.fails("participation", 8, "by its votes this group takes no part", few.sheet(part=[True] * 3), few.setup())
-        self.assertEqual(page.failing(), ["participation"])
+        for whole, line, does, part in ((election, 14, "part", [True] * 3 + [False, True]), (few, 8, "no part", [True] * 3)):
+            self.holds(whole.sheet(), whole.setup())
+            page = self.fails("participation", line, f"by its votes this group takes {does}", *whole.files(part=part))
+            self.assertEqual(page.failing(), ["participation"])
 
     def test_the_quorum_to_the_vote(self):
         for votes, part, quorum in ((50, True, None), (49, False, None), (49, True, 49), (48, False, 49)):
             with self.subTest(votes=votes, quorum=quorum):
-                election, sheet, forged = self.both(votes, part, quorum)
+                election = model.Election(10, [1000], [[613, 387 - votes, votes]], quorum=quorum)
                 self.assertEqual(election.takes_part(2), part)
-                self.holds(sheet, election.setup())
+                self.holds(election.sheet(), election.setup())
+                forged = election.sheet(part=[True, True, not part])
                 self.assertEqual(self.page.sheet(forged, election.setup()).failing(), ["participation"])
 
-    @staticmethod
-    def both(votes, part, quorum):
-        """An election of 1000 votes, its sheet, and the sheet with the other quorum, in the first house without a tie."""
-        for house in range(10, 40):
-            election = model.Election(house, [1000], [[613, 387 - votes, votes]], quorum=quorum)
-            try:
-                return election, election.sheet(), election.sheet(part=[True, True, not part])
-            except model.Tied:
-                pass
-        raise AssertionError("each house is tied")
-
     def test_a_list_that_vanished(self):
-        self.fails("form", 13, "before it the line “list 1 3 ..” is missing", self.without(EXAMPLE, 13), EXAMPLE_SETUP)
-        self.fails("votes", 5, "the votes of its lists make 825", self.without(EXAMPLE, 13))
-        self.fails("form", 19, "before it the line “list 3 3 ..” is missing", self.without(EXAMPLE, 19), EXAMPLE_SETUP)
+        without = changed(EXAMPLE, "list 1 3 votes 175 voters 35 seats 1\n", "")
+        self.fails("form", 13, "before it the line “list 1 3 ..” is missing", without, EXAMPLE_SETUP)
+        self.fails("votes", 5, "the votes of its lists make 825", without)
+        without = changed(EXAMPLE, "list 3 3 votes 50 voters 25 seats 0\n", "")
+        self.fails("form", 19, "before it the line “list 3 3 ..” is missing", without, EXAMPLE_SETUP)
         whole = model.made_up(3, 6, 5, 60)
+        setup = whole.setup()
         whole.votes[5][1] = None
-        page = self.fails("form", 41, "before it the line “list 6 2 ..” is missing", whole.sheet(), model.made_up(3, 6, 5, 60).setup(),
-                          state="mismatch")
+        page = self.fails("form", 41, "before it the line “list 6 2 ..” is missing", whole.sheet(), setup, state="mismatch")
         self.assertEqual(page.failing(), ["form"])
-
-    @staticmethod
-    def without(sheet, line):
-        lines = sheet.splitlines(keepends=True)
-        return "".join(lines[:line - 1] + lines[line:])
 
     def test_a_cut_sheet(self):
         lines = EXAMPLE.splitlines(keepends=True)
@@ -105,9 +90,8 @@ class Wrong(Case):
         self.fails(None, 6, "it is not UTF-8", EXAMPLE.encode().replace(b"Mitte", b"Mitt\xe9"))
 
     def test_what_follows_and_what_is_no_line(self):
-        self.fails(None, 21, "something follows the line “end”", EXAMPLE + "\n")
-        self.fails(None, 21, "something follows the line “end”", EXAMPLE + EXAMPLE)
-        self.fails(None, 21, "something follows the line “end”", EXAMPLE + "x")
+        for more in ("\n", EXAMPLE, "x"):
+            self.fails(None, 21, "something follows the line “end”", EXAMPLE + more)
         for line, old, new in ((1, "1 sheet", "0 sheet"), (1, "1 sheet", "9 sheet"), (1, "provisional", "preliminary"),
                                (2, "house 10", "house 010"), (2, "house 10", "house  10"), (5, "205.000000", "205.00000"),
                                (8, "yes voters 230", "maybe voters 230"),
@@ -122,19 +106,17 @@ class Wrong(Case):
 
     def test_each_number_changed_by_one(self):
         """Only the desk, K and divisors may be others."""
-        lines, changes = EXAMPLE.splitlines(keepends=True), []
-        for at, line in enumerate(lines):
-            for match in re.finditer(r"\d+", line):
-                for number in (int(match[0]) - 1, int(match[0]) + 1):
-                    text = f"{line[:match.start()]}{number}{line[match.end():]}"
-                    if at == 0 and number >= 1:
-                        changes.append((text, at, "right"))
-                    elif "divisor" not in line[:match.start()]:
-                        changes.append((text, at, "wrong"))
+        changes = []
+        for match in re.finditer(r"\d+", EXAMPLE):
+            before, after = EXAMPLE[:match.start()], EXAMPLE[match.end():]
+            for number in (int(match[0]) - 1, int(match[0]) + 1):
+                if "\n" not in before and number >= 1:
+                    changes.append((f"{before}{number}{after}", "right"))
+                elif "divisor" not in before.rpartition("\n")[2]:
+                    changes.append((f"{before}{number}{after}", "wrong"))
         self.assertGreater(len(changes), 140)
-        states = self.page.states(["".join(lines[:at] + [text] + lines[at + 1:]) for text, at, _ in changes], EXAMPLE_SETUP, ROWS)
-        for (text, _, wanted), state in zip(changes, states, strict=True):
-            with self.subTest(text):
+        for (sheet, wanted), state in zip(changes, self.page.states([it[0] for it in changes], *OTHERS), strict=True):
+            with self.subTest(sheet):
                 self.assertEqual(state, wanted)
 
     def test_limits(self):
