@@ -3,51 +3,65 @@
 # failing WHAT NUMBER COMMAND..: runs it where the call of a file of this number fails (FAIL), or the allocation (REFUSE), or where so
 # many bytes are taken (OUTPUT, ERRORS). It writes to replies and faults, and to reached if a call or an allocation failed.
 failing() {
-    local what=$1 number=$2
-    shift 2
-    env "$what=$number" LD_PRELOAD="$folder/refuse.so" "$@" > replies 2> faults 3> reached
+    [ -e "$folder/refuse.so" ] || cc -shared -fPIC -O1 -o "$folder/refuse.so" "$here/../refuse.c" -ldl
+    env "$1=$2" LD_PRELOAD="$folder/refuse.so" "${@:3}" > replies 2> faults 3> reached
 }
 
-# each_call FAULTS REPLIES TASK ARGUMENT..: each call of a file fails in turn. The task does without it and writes just what
-# it does with all calls, or it writes nothing or one of these replies, and these faults come, in this order. Then the disk
-# kinds/d is as it was, or, of a task that stores, holds the return of lines and returns.csv.
-each_call() {
-    local wanted=$1 replies=$2 number=0 status said found=""
-    shift 2
-    room_for before
+# each_failing WHAT BYTES JUDGE TASK ARGUMENT..: of a task on the lines each call (FAIL) or allocation (REFUSE) fails in turn, where the
+# disk kinds/d has these bytes, or is not there. It does without it and says just what it says with all, or JUDGE is asked.
+each_failing() {
+    local what=$1 bytes=$2 judge=$3 number=0 status said
+    shift 3
+    room_for "$bytes"
     said=$("$program" "$@" --setup "$setup" < lines 2>&1)
     while number=$((number + 1)); do
-        room_for before
-        failing FAIL $number "$program" "$@" --setup "$setup" < lines
+        room_for "$bytes"
+        failing "$what" $number "$program" "$@" --setup "$setup" < lines
         status=$?
         [ -s reached ] || break
         if [ $status -eq 0 ]; then
-            same "what $* writes without call $number" "$said" "$(cat replies faults)"
-            continue
+            same "what $* says where it does without $what $number" "$said" "$(cat replies faults)"
+        else
+            $judge "$@"
         fi
-        same "the status of $* without call $number" 1 $status
-        [ ! -s replies ] || [[ "$replies" = *"$(cat replies)"* ]] || same "the reply of $* without call $number" "$replies" "$(cat replies)"
-        found+="$(head -n 1 faults)"$'\n'
-        # (a reply may say it instead)
-        [ -s replies ] && [ ! -s faults ] || same "the lines of the fault of $* without call $number" 2 "$(wc -l < faults)"
-        same "a call that failed is no missing file, nor a folder" "" "$(tail -n 1 faults | grep -E ': (there is|is a)')"
-        if [ -z "$replies" ]; then same_bytes kinds/d before; else shows_one_of_two; fi
     done
-    same "the status of $* with all calls" 0 $status
-    same "the faults of $*" "$wanted" "$(printf %s "${found//zhcount: /}" | grep . | uniq | paste -sd ,)"
+    same "the status of $* where nothing fails" 0 $status
     note+="${note:+, }$((number - 1)) of $1"
 }
 
-# After a failed call the disk holds what it held, or the return of lines and returns.csv.
-shows_one_of_two() {
+# A folder with a disk d of these bytes; without one where none are given.
+room_for() {
+    rm -rf kinds
+    mkdir kinds
+    [ -z "$1" ] || cp "$1" kinds/d
+}
+
+# each_call FAULTS REPLIES TASK ARGUMENT..: where a call fails the task writes nothing or one of these replies, and these faults come, in
+# this order. Then the disk is as it was, or, of a task that stores, holds the return of lines and returns.csv.
+each_call() {
+    local wanted=$1 replies=$2 found=""
+    each_failing FAIL before call_failed "${@:3}"
+    same "the faults of ${*:3}" "$wanted" "$(printf %s "${found//zhcount: /}" | grep . | uniq | paste -sd ,)"
+}
+
+call_failed() {
     local shown
-    shown=$(run kinds/d <<< "1 show 1 1")
-    [ "$shown" = "1 shows 1 525" ] || same "what is held after $number calls" "1 shows 2 530" "$shown"
+    same "the status of $* without call $number" 1 $status
+    [ ! -s replies ] || [[ "$replies" = *"$(cat replies)"* ]] || same "the reply of $* without call $number" "$replies" "$(cat replies)"
+    found+="$(head -n 1 faults)"$'\n'
+    # (a reply may say it instead)
+    [ -s replies ] && [ ! -s faults ] || same "the lines of the fault of $* without call $number" 2 "$(wc -l < faults)"
+    same "a call that failed is no missing file, nor a folder" "" "$(tail -n 1 faults | grep -E ': (there is|is a)')"
+    if [ -z "$replies" ]; then
+        same_bytes kinds/d before
+    else
+        shown=$(run kinds/d <<< "1 show 1 1")
+        [ "$shown" = "1 shows 1 525" ] || same "what is held after $number calls" "1 shows 2 530" "$shown"
+    fi
 }
 
 each_failed_call() {
     local opened="setup file,disk device"
-    cc -shared -fPIC -O1 -o refuse.so "$here/../refuse.c" -ldl
     sheet_and_rows
     cp d before
     echo "1 return 1 1 2 530" > lines
@@ -89,7 +103,6 @@ each_byte() {
 }
 
 closed_at_each_byte() {
-    cc -shared -fPIC -O1 -o refuse.so "$here/../refuse.c" -ldl
     sheet_and_rows
     cp d before
     printf 'municipality,list,number,votes\n1,1,1,14\n' > refused.csv

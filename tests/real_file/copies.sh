@@ -28,8 +28,7 @@ copies_beside_a_run() {
 ask_copy() {
     local held
     echo "1 show 1 1" > lines
-    run "$1" < lines > shown 2> faults
-    if [ $? -eq 0 ]; then
+    if run "$1" < lines > shown 2> faults; then
         held=$(cut -d ' ' -f 3 shown)
         same "what a copy shows" "$(shows "$held")" "$(cat shown)"
         that "the returns in a copy" "$2 <= held && held <= $3"

@@ -1,24 +1,20 @@
 # kill -9 at random moments.
 
-# killed FROM SPAN COMMAND..: runs the command in the background, and kills it at a random moment of so many
-# microseconds, which count from its start or from its first answer. It writes to replies and faults.
+# killed TASK FROM SPAN: begins a task on the disk d and the lines, and kills it at a random moment of so many microseconds, which count
+# from its start or from its first answer. It writes to replies and faults.
 killed() {
-    local from=$1 pid end
-    draw "$2"
-    shift 2
+    local pid end
+    draw "$3"
     : > replies
     : > faults
-    "$@" 9<&- &
+    "$program" "$1" --setup "$setup" --disk d < lines > replies 2> faults 9<&- &
     pid=$!
     end=$((SECONDS + 10))
-    until [ "$from" = start ] || [ -s replies ] || [ $SECONDS -gt $end ]; do :; done
+    until [ "$2" = start ] || [ -s replies ] || [ $SECONDS -gt $end ]; do :; done
     pause "$moment"
     kill -9 $pid 2> /dev/null
     wait $pid 2> /dev/null
 }
-
-run_to_kill() { exec "$program" run --setup "$setup" --disk d < lines > replies 2> faults; }
-format_to_kill() { exec "$program" format --setup "$setup" --disk d > replies 2> faults; }
 
 # How long a new disk takes to answer the lines, in microseconds, at most 100,000.
 measure() {
@@ -55,7 +51,7 @@ killed_runs() {
         [ "$held" -lt 500 ] || { new_disk d; held=0; }
         spaced_returns $((held + 1)) 1000 > lines
         if ((kill % 2)); then from=start; else from=answer; fi
-        killed $from "$span" run_to_kill
+        killed run $from "$span"
         answered=$(grep -c stored replies)
         same "the replies" "$(seq -f '1 stored %.0f' $((held + 1)) $((held + answered)))" "$(grep -v none replies)"
         same "the fault" "" "$(cat faults)"
@@ -90,7 +86,7 @@ killed_switches() {
     for ((kill = 0; kill < 40; kill++)); do
         cp used d
         returns 1 1025 1030 > lines
-        killed start "$span" run_to_kill
+        killed run start "$span"
         answered=$(grep -c stored replies)
         same "the replies" "$(seq -f '1 stored %.0f' 1025 $((1024 + answered)))" "$(cat replies)"
         [ "$answered" -gt 0 ] || within=$((within + 1))
@@ -124,7 +120,7 @@ killed_batches() {
     for ((kill = 0; kill < 10; kill++)); do
         new_disk d
         cp batches lines
-        killed answer "$span" run_to_kill
+        killed run answer "$span"
         answered=$(grep -c stored replies)
         [ "$answered" -eq 500 ] || between=$((between + 1))
         held_one_of "$answered" $((answered + 1))
@@ -138,18 +134,16 @@ killed_batches() {
 }
 
 killed_formats() {
-    local kill span status anew=0
+    local kill span anew=0
     : > lines
     measure
     for ((kill = 0; kill < 20; kill++)); do
         rm -f d d-wal
-        killed start "$span" format_to_kill
-        format d 2> faults
-        status=$?
-        if [ $status -eq 0 ]; then
+        killed format start "$span"
+        if format d 2> faults; then
             anew=$((anew + 1))
         else
-            same "the fault" $'1 zhcount: disk inuse\nd' "$status $(cat faults)"
+            same "the fault" $'1 zhcount: disk inuse\nd' "$? $(cat faults)"
         fi
         serves d $'1 show 1 1\n1 return 1 1 1 7' $'1 none\n1 stored 1'
         same "d-wal" "" "$(ls | grep d-wal)"

@@ -15,17 +15,18 @@ look_at() {
     ls -A "$(dirname "$1")" 2>&1
 }
 
-other_kind() {
-    local why="there is no such file"
-    case $1 in
-        folder) mkdir kinds/d; why="is a folder" ;;
-        FIFO) mkfifo kinds/d; why="is no ordinary file" ;;
-        device) refused "disk device" /dev/null "is no ordinary file"; return ;;
-        'link to nothing') ln -s nothing kinds/d ;;
-        'file in no folder') refused "disk device" kinds/none/d "$why"; return ;;
-        'file in a file') : > kinds/none; refused "disk device" kinds/none/d "a part of its path is no folder"; return ;;
-    esac
-    refused "disk device" kinds/d "$why"
+other_kinds() {
+    local none="there is no such file"
+    mkdir kinds/folder
+    mkfifo kinds/fifo
+    ln -s nothing kinds/link
+    : > kinds/file
+    refused "disk device" kinds/folder "is a folder"
+    refused "disk device" kinds/fifo "is no ordinary file"
+    refused "disk device" /dev/null "is no ordinary file"
+    refused "disk device" kinds/link "$none"
+    refused "disk device" kinds/none/d "$none"
+    refused "disk device" kinds/file/d "a part of its path is no folder"
 }
 
 second_name() {
@@ -135,40 +136,36 @@ zeros() {
 
 # Who may not open a file is told so: of each file that a task is given, and of a folder in which none can be made.
 no_permission() {
-    local as=() there=denied
-    sheet_and_rows
+    local as=() setup=$setup
     if [ "$(id -u)" -eq 0 ]; then
-        if ! setpriv --reuid=65534 --regid=65534 --clear-groups true 2> /dev/null; then
+        as=(setpriv --reuid=65534 --regid=65534 --clear-groups)
+        if ! "${as[@]}" true 2> /dev/null; then
             untried="as root, and no other user can be taken"
             return
         fi
-        as=(setpriv --reuid=65534 --regid=65534 --clear-groups)
     fi
     chmod 755 "$folder"
     cp "$program" "$setup" kinds
     chmod 755 kinds kinds/*
-    new_disk $there
-    for file in disk setup csv sheet held; do
-        : > $there.$file
-    done
-    chmod 000 $there $there.*
+    new_disk denied
+    : > denied.setup
+    : > denied.sheet
+    chmod 000 denied denied.*
+    setup=kinds/${setup##*/}
     denied() { ends 1 "$1"$'\n'"$2: no permission" "" timeout 120 "${as[@]}" kinds/zhcount "${@:3}"; }
-    denied "disk device" $there export --setup "kinds/$(basename "$setup")" --disk $there
-    denied "disk device" kinds/new format --setup "kinds/$(basename "$setup")" --disk kinds/new
-    denied "setup file" $there.setup list --setup $there.setup --of groups
-    denied "sheet file" $there.sheet check --setup "kinds/$(basename "$setup")" --sheet $there.sheet
-    chmod 700 "$folder"
-    chmod 600 $there
-    rm -f $there $there.*
+    denied "disk device" denied export --setup "$setup" --disk denied
+    denied "disk device" kinds/new format --setup "$setup" --disk kinds/new
+    denied "setup file" denied.setup list --setup denied.setup --of groups
+    denied "sheet file" denied.sheet check --setup "$setup" --sheet denied.sheet
 }
 
 # What a fault says of a path: the path as it was given, its control characters as question marks.
 shown_paths() {
     local name=$'a\tb\nc\x7fd\xc2\x85e\xef\xbb\xbff'
-    ends 1 $'setup file\na?b?c?d?e?f: there is no such file' "" timeout 120 "$program" list --setup "$name" --of groups
+    setup=$name ends 1 $'setup file\na?b?c?d?e?f: there is no such file' "" list groups
     ends 1 $'disk device\n./d\xc3\xbcr/../x: there is no such file' "" run $'./d\xc3\xbcr/../x' < /dev/null
     name=$(printf 'x%.0s' {1..4200})
-    ends 1 $'setup file\n'"${name:0:4096}: the name is too long" "" timeout 120 "$program" list --setup "$name" --of groups
+    setup=$name ends 1 $'setup file\n'"${name:0:4096}: the name is too long" "" list groups
 }
 
 # A record that has no end is read no further than a record may go on: by a load, a dry run and a check.
@@ -177,10 +174,8 @@ records_without_end() {
     cp d before
     ends 1 "" "refused csv" load d /dev/zero
     ends 1 "" "row 1: $(printf '%3000s' | tr ' ' '?') refused csv"$'\nrefused 1 of 1 records' dry_run d /dev/zero
-    { echo municipality,list,number,votes; echo 1,1,1,7; printf '1,2,1,"'; cat /dev/zero; } 2> none | load d /dev/stdin > replies 2> faults
-    same "the replies to a field without end" "refused csv" "$(cat replies)"
-    same "the faults of a field without end" "" "$(cat faults)"
-    { echo municipality,list,number,votes; echo 1,1,1,7; printf '1,2,1,"'; yes ''; } 2> none | dry_run d /dev/stdin > replies 2> faults
+    ends 1 "" "refused csv" load d /dev/stdin < <(printf 'municipality,list,number,votes\n1,1,1,7\n1,2,1,"'; cat /dev/zero 2> /dev/null)
+    ends 1 "" .. dry_run d /dev/stdin < <(printf 'municipality,list,number,votes\n1,1,1,7\n1,2,1,"'; yes '' 2> /dev/null)
     same "the last line of a dry run of a field without end" "refused 1 of 2 records" "$(tail -n 1 replies)"
     same_bytes d before
 }
@@ -190,5 +185,5 @@ files_of_a_load() {
     new_disk d
     ends 1 $'csv file\nkinds/none.csv: there is no such file' "" load d kinds/none.csv
     ends 1 $'csv file\nkinds: is a folder' "" load d kinds
-    ends 1 $'setup file\nkinds: is a folder' "" timeout 120 "$program" list --setup kinds --of groups
+    setup=kinds ends 1 $'setup file\nkinds: is a folder' "" list groups
 }

@@ -1,53 +1,38 @@
 # The tables of a set-up.
 
-list() { timeout 120 "$program" list --setup "$1" --of "$2"; }
-
 # The 10 seats of the rehearsal: 5,000, 3,000 and 2,000 persons over 1,000.
 all_tables() {
-    ends 0 "" $'number,name,persons,seats\n1,Nord,5000,5\n2,Mitte,3000,3\n3,West,2000,2' list "$setup" constituencies
-    ends 0 "" $'number,name,constituency\n1,N,1\n2,M,2\n3,W,3' list "$setup" municipalities
-    ends 0 "" $'number,name\n1,A\n2,B\n3,C' list "$setup" groups
-    ends 0 "" .. list "$setup" lists
+    ends 0 "" $'number,name,persons,seats\n1,Nord,5000,5\n2,Mitte,3000,3\n3,West,2000,2' list constituencies
+    ends 0 "" $'number,name,constituency\n1,N,1\n2,M,2\n3,W,3' list municipalities
+    ends 0 "" $'number,name\n1,A\n2,B\n3,C' list groups
+    ends 0 "" .. list lists
     same "the lists and the names of their columns" 10 "$(wc -l < replies)"
     same "the last list" "3,3,West,C" "$(tail -n 1 replies)"
-    ends 0 "" "problem,number,name" list "$setup" problems
-}
-
-# A run keeps its disk to itself, and a table needs none.
-table_beside_a_run() {
-    new_disk d
-    start_with "1 return 1 1 1 7"
-    ends 0 "" $'number,name\n1,A\n2,B\n3,C' list "$setup" groups
-    finish "1 stored 1"
-}
-
-unwritten_tables() {
-    unwritten list "$setup" groups
-    unwritten list "$setup" lists
+    ends 0 "" "problem,number,name" list problems
 }
 
 missing_setup() {
-    local table
+    local table setup=none.toml
     for table in constituencies municipalities groups lists problems returns; do
-        ends 1 $'setup file\nnone.toml: there is no such file' "" list none.toml "$table"
+        ends 1 $'setup file\nnone.toml: there is no such file' "" list "$table"
     done
     same "what was made" "" "$(ls none.toml 2> /dev/null)"
 }
 
 seats_without_a_table() {
     sed 's/^persons = 5000/persons = 3000/; s/^house = 10/house = 1/' "$setup" > tied.toml
-    ends 1 "tied seats" "" list tied.toml constituencies
+    setup=tied.toml ends 1 "tied seats" "" list constituencies
     sed 's/^house = 10/house = 1/' "$setup" > few.toml
-    ends 1 "noseat 2" "" list few.toml constituencies
-    ends 0 "" $'number,name\n1,A\n2,B\n3,C' list few.toml groups
+    setup=few.toml ends 1 "noseat 2" "" list constituencies
+    setup=few.toml ends 0 "" $'number,name\n1,A\n2,B\n3,C' list groups
 }
 
 # Problems are named, and told where a disk is made, which they don't prevent.
 problems_are_told() {
+    local setup=$setup
     seats_without_a_table
-    ends 0 "" $'problem,number,name\ntied seats,1,Nord\ntied seats,2,Mitte' list tied.toml problems
-    ends 0 "" $'problem,number,name\nno seat,2,Mitte\nno seat,3,West' list few.toml problems
-    local setup
+    setup=tied.toml ends 0 "" $'problem,number,name\ntied seats,1,Nord\ntied seats,2,Mitte' list problems
+    setup=few.toml ends 0 "" $'problem,number,name\nno seat,2,Mitte\nno seat,3,West' list problems
     for setup in tied.toml few.toml; do
         rm -f d
         ends 0 "problems of the set-up: 2, named by list --of problems" "" format d
@@ -62,7 +47,7 @@ problems_are_told() {
 # The table of returns with its last column filled in.
 returns_filled_in() {
     new_disk d
-    ends 0 "" .. list "$setup" returns
+    ends 0 "" .. list returns
     cp replies due.csv
     sed '2,$s/$/7/' due.csv > filled.csv
     ends 0 "" "stored 1" load d filled.csv
@@ -84,8 +69,8 @@ two_lists_in() {
 returns_to_be_split() {
     two_lists_in 500 > thousand.toml
     two_lists_in 501 > more.toml
-    ends 0 "" .. list thousand.toml returns
+    setup=thousand.toml ends 0 "" .. list returns
     same "the lines of 1,000 returns" 1001 "$(wc -l < replies)"
-    ends 0 "more than 1,000 returns, to be split by --constituency or --municipality" .. list more.toml returns
+    setup=more.toml ends 0 "more than 1,000 returns, to be split by --constituency or --municipality" .. list returns
     same "the lines of 1,002 returns" 1003 "$(wc -l < replies)"
 }

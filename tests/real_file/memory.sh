@@ -1,45 +1,26 @@
 # Refused allocations.
 
-# A folder with a disk d of these bytes; without one where none are given.
-room_for() {
-    rm -rf kinds
-    mkdir kinds
-    [ -z "$1" ] || cp "$1" kinds/d
+# each_refused BYTES TASK ARGUMENT..: where an allocation is refused the task says memory, and the disk is as it was.
+each_refused() {
+    local refused=0
+    echo "1 show 1 1" > lines
+    each_failing REFUSE "$1" allocation_refused "${@:2}"
+    that "refusals that ended ${*:2}" "refused > 0"
 }
 
-# each_refused BYTES TASK ARGUMENT..: each allocation of a task is refused in turn, where the disk kinds/d has these bytes or
-# is not there. The task does without it and says just what it does with all memory, or it says memory and the disk is as
-# it was.
-each_refused() {
-    local bytes=$1 number=0 status said wanted refused=0
-    shift
-    room_for "$bytes"
-    said=$("$program" "$@" --setup "$setup" <<< "1 show 1 1" 2>&1)
-    while number=$((number + 1)); do
-        room_for "$bytes"
-        failing REFUSE $number "$program" "$@" --setup "$setup" <<< "1 show 1 1"
-        status=$?
-        [ -s reached ] || break
-        if [ "$status" -eq 0 ]; then
-            same "what $* says without allocation $number" "$said" "$(cat replies faults)"
-            continue
-        fi
-        refused=$((refused + 1))
-        case "$1 $(cat replies)$(cat faults)" in
-            "load refused memory") wanted="1 refused memory" ;; # no room for the rows of a file
-            "seats zhcount: refused memory") wanted="1 zhcount: refused memory" ;; # nor for a search
-            *) wanted="1 zhcount: memory" ;;
-        esac
-        same "the end of $* without allocation $number" "$wanted" "$status $(cat replies faults)"
-        if [ -n "$bytes" ]; then same_bytes kinds/d "$bytes"; else new_disk_over kinds/d; fi
-    done
-    same "the status of $* with all memory" 0 $status
-    that "refusals that ended $*" "refused > 0"
-    note+="${note:+, }$refused of $1"
+allocation_refused() {
+    local wanted
+    refused=$((refused + 1))
+    case "$1 $(cat replies faults)" in
+        "load refused memory") wanted="1 refused memory" ;; # no room for the rows of a file
+        "seats zhcount: refused memory") wanted="1 zhcount: refused memory" ;; # nor for a search
+        *) wanted="1 zhcount: memory" ;;
+    esac
+    same "the end of $* without allocation $number" "$wanted" "$status $(cat replies faults)"
+    if [ -n "$bytes" ]; then same_bytes kinds/d "$bytes"; else new_disk_over kinds/d; fi
 }
 
 each_allocation() {
-    cc -shared -fPIC -O1 -o refuse.so "$here/../refuse.c" -ldl
     new_disk d
     serves d "$(returns 1 1 1)" "1 stored 1"
     cp d before
@@ -52,7 +33,6 @@ each_allocation() {
 
 # The tasks that change no disk, or need none.
 each_allocation_of_a_reader() {
-    cc -shared -fPIC -O1 -o refuse.so "$here/../refuse.c" -ldl
     sheet_and_rows
     cp d before
     printf 'municipality,list,number,votes\n1,1,2,14\n2,2,2,15\n' > returns.csv
@@ -69,7 +49,6 @@ each_allocation_of_a_reader() {
 # A rehearsal has its disk in memory: an allocation refused to that is a fault of the disk.
 each_allocation_of_a_rehearsal() {
     local number=0 status refused=0 remark="zhcount: rehearsal, nothing is kept" line
-    cc -shared -fPIC -O1 -o refuse.so "$here/../refuse.c" -ldl
     line=$'1 return 1 1 1 525\n1 show 1 1'
     while number=$((number + 1)); do
         failing REFUSE $number "$program" <<< "$line"

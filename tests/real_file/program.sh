@@ -1,28 +1,33 @@
-# The program, and what a check asks of a run.
+# The program at each of its tasks, and what a check asks of a run.
 
-format() { timeout 120 "$program" format --setup "$setup" --disk "$1"; }
-run() { timeout 120 "$program" run --setup "$setup" --disk "$1"; }
-load() { timeout 120 "$program" load --setup "$setup" --disk "$1" --csv "$2"; }
-export_csv() { timeout 120 "$program" export --setup "$setup" --disk "$1"; }
+task() { timeout 120 "$program" "$1" --setup "$setup" "${@:2}"; }
+format() { task format --disk "$1"; }
+run() { task run --disk "$1"; }
+load() { task load --disk "$1" --csv "$2"; }
+dry_run() { task load --dry-run --disk "$1" --csv "$2"; }
+export_csv() { task export --disk "$1"; }
+status() { task status --disk "$@"; }
+seats() { task seats "$@"; }
+check_sheet() { task check --sheet "$@"; }
+list() { task list --of "$1"; }
 
 # A new disk at this path, and nothing else.
 new_disk() {
     rm -rf -- "$1"
-    format "$1" > replies 2> faults
-    same "the status of format" 0 $?
-    same "what format writes" "" "$(cat replies faults)"
+    ends 0 "" "" format "$1"
 }
 
-# ends STATUS FAULT REPLIES COMMAND..: the command ends with this status, this fault on standard error
-# (without its 'zhcount: '; none if it is empty) and these replies, or any if they are '..'. It writes to replies and faults.
-ends() {
-    local status=$1 fault=$2 replies=$3
-    shift 3
-    "$@" > replies 2> faults
-    same "the status of $*" "$status" $?
-    same "the fault of $*" "${fault:+zhcount: $fault}" "$(cat faults)"
-    [ "$replies" = .. ] || same "the replies of $*" "$replies" "$(cat replies)"
+# says STATUS REMARK REPLIES COMMAND..: the command ends with this status, this text on standard error and these replies, or any if they
+# are '..'. It writes to replies and faults.
+says() {
+    "${@:4}" > replies 2> faults
+    same "the status of ${*:4}" "$1" $?
+    same "what ${*:4} says on standard error" "$2" "$(cat faults)"
+    [ "$3" = .. ] || same "the replies of ${*:4}" "$3" "$(cat replies)"
 }
+
+# ends STATUS FAULT REPLIES COMMAND..: the same with a fault, without its 'zhcount: ', or with none.
+ends() { says "$1" "${2:+zhcount: $2}" "${@:3}"; }
 
 # untouched FILE COMMAND..: it leaves the file as it is.
 untouched() {

@@ -1,7 +1,5 @@
 # The check of a published sheet: that of the election whose seats are known, and of the rehearsal.
 
-check_sheet() { timeout 120 "$program" check --setup "$1" --sheet "$2" "${@:3}"; }
-
 # A disk of the rehearsal with all its returns, the rows held and the sheet.
 sheet_and_rows() {
     new_disk d
@@ -18,21 +16,21 @@ readonly RIGHT=$'form ok\nvotes not compared\nseats ok\nparticipation ok\nvoters
 readonly WORTH="sheet ok for these votes; that they were returned is not checked"
 
 checked_sheets() {
-    ends 0 "" "$RIGHT"$'\n'"not checked: final, commands 81, desk 1"$'\n'"$WORTH" check_sheet "$election/setup.toml" "$election/sheet"
+    setup=$election/setup.toml ends 0 "" "$RIGHT"$'\n'"not checked: final, commands 81, desk 1"$'\n'"$WORTH" check_sheet "$election/sheet"
     sheet_and_rows
-    ends 0 "" "$RIGHT"$'\n'"not checked: provisional, commands 9, desk 1"$'\n'"$WORTH" check_sheet "$setup" sheet
-    check_sheet "$setup" sheet --held held.csv > verdict
-    same "the status with the rows held" 0 $?
-    same "what is said of the votes" "votes ok: the sums of 9 of 9 rows" "$(sed -n 2p verdict)"
-    same "the last line" "sheet ok: no other seats follow from these votes" "$(tail -n 1 verdict)"
+    ends 0 "" "$RIGHT"$'\n'"not checked: provisional, commands 9, desk 1"$'\n'"$WORTH" check_sheet sheet
+    ends 0 "" .. check_sheet sheet --held held.csv
+    same "what is said of the votes" "votes ok: the sums of 9 of 9 rows" "$(sed -n 2p replies)"
+    same "the last line" "sheet ok: no other seats follow from these votes" "$(tail -n 1 replies)"
+    cp replies verdict
     rm d
-    check_sheet "$setup" sheet --held held.csv > again
-    same_bytes again verdict
+    ends 0 "" .. check_sheet sheet --held held.csv
+    same_bytes replies verdict
 }
 
 # says_wrong FILE [LINE]: the sheet is wrong, and the first line says so.
 says_wrong() {
-    ends 1 "" .. check_sheet "$setup" "$1"
+    ends 1 "" .. check_sheet "$1"
     same "the last line of $1" "sheet wrong" "$(tail -n 1 replies)"
     [ $# -eq 1 ] || same "the first line of $1" "$2" "$(head -n 1 replies)"
 }
@@ -64,17 +62,10 @@ spoilt_sheets() {
 
 unreadable_sheets() {
     sheet_and_rows
-    ends 1 $'sheet file\nkinds: is a folder' "" check_sheet "$setup" kinds
-    ends 1 $'held file\nkinds: is a folder' "" check_sheet "$setup" sheet --held kinds
-    ends 1 $'sheet file\nnone: there is no such file' "" check_sheet "$setup" none --held none
-    ends 1 $'setup file\nnone: there is no such file' "" check_sheet none none --held none
-    ends 1 $'held csv\nsheet' "" check_sheet "$setup" sheet --held sheet
-    ends 1 $'held csv\n/dev/zero' "" check_sheet "$setup" sheet --held /dev/zero
-}
-
-unwritten_verdict() {
-    sheet_and_rows
-    unwritten check_sheet "$setup" sheet
-    sed 's/house 10/house 11/' sheet > wrong
-    unwritten check_sheet "$setup" wrong
+    ends 1 $'sheet file\nkinds: is a folder' "" check_sheet kinds
+    ends 1 $'held file\nkinds: is a folder' "" check_sheet sheet --held kinds
+    ends 1 $'sheet file\nnone: there is no such file' "" check_sheet none --held none
+    setup=none ends 1 $'setup file\nnone: there is no such file' "" check_sheet none --held none
+    ends 1 $'held csv\nsheet' "" check_sheet sheet --held sheet
+    ends 1 $'held csv\n/dev/zero' "" check_sheet sheet --held /dev/zero
 }

@@ -17,19 +17,13 @@ disk_with_a_line() {
     printf '\n1 return 1 1 2 14\n' | dd of=d bs=1 seek=100 conv=notrunc status=none
 }
 
-closed_output() {
+# unwritten_replies STREAM: a return whose reply can't be written is the last that the disk holds.
+unwritten_replies() {
     disk_with_a_line
     echo "1 show 1 1" > lines
-    untouched d ends 1 write "" closed '>&-' run d < lines
+    untouched d ends 1 write "" closed "$1" run d < lines
     returns 1 2 9 > lines
-    ends 1 write "" closed '>&-' run d < lines
-    serves d "1 show 1 1" "$(shows 2)"
-}
-
-full_output() {
-    disk_with_a_line
-    returns 1 2 9 > lines
-    ends 1 write "" closed '>/dev/full' run d < lines
+    ends 1 write "" closed "$1" run d < lines
     serves d "1 show 1 1" "$(shows 2)"
 }
 
@@ -48,11 +42,9 @@ closed_error() {
 }
 
 all_closed() {
-    local task
     disk_with_a_line
-    for task in run format; do
-        untouched d ends 1 "" "" closed "$ALL" $task d
-    done
+    untouched d ends 1 "" "" closed "$ALL" run d
+    untouched d ends 1 "" "" closed "$ALL" format d
 }
 
 closed_format() {

@@ -27,21 +27,19 @@ in_use() {
 another_setup() {
     new_disk d
     sed 's/persons = 3000/persons = 3001/' "$setup" > other.toml
-    untouched d ends 1 $'disk differs\nd' "" timeout 120 "$program" run --setup other.toml --disk d < /dev/null
-    untouched d ends 1 $'disk inuse\nd' "" timeout 120 "$program" format --setup other.toml --disk d
+    setup=other.toml untouched d ends 1 $'disk differs\nd' "" run d < /dev/null
+    setup=other.toml untouched d ends 1 $'disk inuse\nd' "" format d
 }
 
 # misplaced EDIT FAULT PLACE: a set-up with this edit is refused with this fault and its place, and the disk d is untouched.
 misplaced() {
     sed "$1" "$setup" > bad.toml
-    ends 1 "$2"$'\n'"bad.toml: $3" "" timeout 120 "$program" run --setup bad.toml --disk d < /dev/null
-    ends 1 "$2"$'\n'"bad.toml: $3" "" timeout 120 "$program" list --setup bad.toml --of groups
-    same_bytes d before
+    setup=bad.toml untouched d ends 1 "$2"$'\n'"bad.toml: $3" "" run d < /dev/null
+    setup=bad.toml ends 1 "$2"$'\n'"bad.toml: $3" "" list groups
 }
 
 places_of_faults() {
     new_disk d
-    cp d before
     misplaced '/^house = 10$/d' "setup missing" house
     misplaced '/^persons = 3000$/d' "setup missing" "constituency 2, persons"
     misplaced '/^name = "C"$/a colour = 1' "setup unknown" "group 3, colour"
@@ -49,7 +47,7 @@ places_of_faults() {
     misplaced 's/^persons = 2000$/persons = 0/' "setup range" "constituency 3, persons: 1 to 10000000"
     misplaced 's/^name = "M"$/name = "N"/' "setup double" "municipality 2, name"
     sed 's/^name = "Mitte"$/name = Mitte/' "$setup" > bad.toml
-    timeout 120 "$program" run --setup bad.toml --disk d < /dev/null 2> faults
+    setup=bad.toml run d < /dev/null 2> faults
     same "the status of no TOML" 1 $?
     same "the fault of no TOML" $'zhcount: setup text\nbad.toml: line 7' "$(sed 's/, column [0-9]*$//' faults)"
 }
@@ -69,11 +67,9 @@ no_arguments() {
 }
 
 refused_arguments() {
-    timeout 120 "$program" run --setup "$setup" > replies 2> faults < /dev/null
+    task run > replies 2> faults < /dev/null
     same "the status without a disk" 2 $?
     same "the replies" "" "$(cat replies)"
     same "the fault" "error: the following required arguments were not provided:" "$(head -n 1 faults)"
-    timeout 120 "$program" run --setup "$setup" --disk $'\xff' > replies 2> faults < /dev/null
-    same "the status of an argument that is not UTF-8" 2 $?
-    same "the fault" "error: an argument is not UTF-8" "$(cat faults)"
+    says 2 "error: an argument is not UTF-8" "" run $'\xff' < /dev/null
 }

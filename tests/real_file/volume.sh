@@ -91,7 +91,6 @@ small_volume() {
 # Each call of a file failing under a format: what is left is nothing, an empty file, or one that has its space.
 failed_fills() {
     local number=0 length emptied=0
-    cc -shared -fPIC -O1 -o refuse.so "$here/../refuse.c" -ldl
     while number=$((number + 1)); do
         rm -f d d-wal
         failing FAIL $number "$program" format --setup "$setup" --disk d
