@@ -1,5 +1,6 @@
 # Tasks that only tell something: what a load would do, how far the returns have come in, and the seats, by a count or by a sheet.
 
+# Check: what a load would do
 forecasts() {
     new_disk d
     serves d "1 return 1 1 1 7" "1 stored 1"
@@ -11,6 +12,7 @@ forecasts() {
     ends 0 "" "same" dry_run d good.csv
 }
 
+# Check: how far the returns have come in
 status_of_a_disk() {
     local remark="1 of 9 returns, 0 of 3 municipalities closed, 1 commands; final would not be of all returns"
     new_disk d
@@ -22,6 +24,7 @@ status_of_a_disk() {
     same "the first that is missing" "1,2,N,B" "$(sed -n 2p replies)"
 }
 
+# Check: the seats by a count, and by its sheet
 seats_of_both() {
     local seats=$'         A    B    C  total\nNord     3    1    1      5\nMitte    1    2    0      3\n'
     seats+=$'West     1    1    0      2\ntotal    5    4    1     10'
@@ -47,7 +50,7 @@ seats_of_both() {
     same "the records that are final" 9 "$(grep -c ,final,12, replies)"
 }
 
-# Another task has to wait for the disk, asks a copy of it, or does without it.
+# Check: other tasks while run has the disk
 tasks_beside_a_run() {
     sheet_and_rows
     new_disk d
@@ -63,6 +66,7 @@ tasks_beside_a_run() {
     finish "1 stored 1"
 }
 
+# Check: tasks that only tell something, with the output closed or full: the fault is write
 # (Standard error may be full.)
 unwritten_answers() {
     sheet_and_rows

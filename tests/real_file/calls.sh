@@ -60,6 +60,7 @@ call_failed() {
     fi
 }
 
+# Check: each call of a file failing: the fault names the file, and the disk is whole
 each_failed_call() {
     local opened="setup file,disk device"
     sheet_and_rows
@@ -102,6 +103,7 @@ each_byte() {
     note+="${note:+, }$length of $1"
 }
 
+# Check: output and standard error closed at each byte
 closed_at_each_byte() {
     sheet_and_rows
     cp d before

@@ -1,5 +1,6 @@
 # Copies of a disk, made while a run goes on.
 
+# Check: copies while run has the disk
 # A copy has all that was answered before the copying began, and no more than what came before it ended; or it is refused.
 # The run goes through a journal of 1,024 pages and into the next. The pipe holds all of its lines.
 copies_beside_a_run() {

@@ -43,6 +43,7 @@ spaced_returns() {
     for ((n = $1; n <= $2; n++)); do echo "1 return 1 1 $n $((7 * n))$shows"; done
 }
 
+# Check: kill -9 of run, 50 times
 killed_runs() {
     local kill from span held=1000 answered between=0 all=0
     spaced_returns 1 300 > lines
@@ -63,6 +64,7 @@ killed_runs() {
     note="$between of them between two answers, $all returns acknowledged, moments below $span us"
 }
 
+# Check: 3,000 returns on one disk
 # A journal has 1,024 pages, and a return takes one: after 1,024 of them the next goes into the other slot.
 many_returns() {
     new_disk d
@@ -72,6 +74,7 @@ many_returns() {
     same "the length of the disk" $DISK "$(stat -c %s d)"
 }
 
+# Check: kill -9 around a switch, 40 times
 # Most of the time to the next answers is that of the switch.
 killed_switches() {
     local kill begin span answered within=0
@@ -108,6 +111,7 @@ batches() {
     done
 }
 
+# Check: kill -9 within batches, 10 times
 # After a stop all rows of a batch are there, or none. 30 rows take two pages.
 killed_batches() {
     local kill span held m answered between=0 setup=$folder/ten.toml
@@ -133,6 +137,7 @@ killed_batches() {
     note="$between of them before the last answer"
 }
 
+# Check: kill -9 of format, 20 times
 killed_formats() {
     local kill span anew=0
     : > lines

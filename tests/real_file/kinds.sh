@@ -15,6 +15,7 @@ look_at() {
     ls -A "$(dirname "$1")" 2>&1
 }
 
+# Check: refused: a folder, a FIFO, a device, and where no file can be
 other_kinds() {
     local none="there is no such file"
     mkdir kinds/folder
@@ -29,6 +30,7 @@ other_kinds() {
     refused "disk device" kinds/file/d "a part of its path is no folder"
 }
 
+# Check: refused: a file with a second name
 second_name() {
     new_disk d
     mv d kinds/d
@@ -41,6 +43,7 @@ second_name() {
     serves kinds/d "$(returns 1 1 1)" "1 stored 1"
 }
 
+# Check: a link leads to its disk
 through_a_link() {
     new_disk kinds/d
     ln -s kinds/d link
@@ -52,6 +55,7 @@ through_a_link() {
     rm -f link
 }
 
+# Check: refused: a file of another length
 another_length() {
     local length
     for length in 1 $((DISK - 1)) $((DISK + 1)) $((2 * DISK)); do
@@ -60,6 +64,7 @@ another_length() {
     done
 }
 
+# Check: an empty file: format takes it, run does not
 empty_file() {
     : > d
     ends 1 "disk size"$'\n'"d: 0 bytes instead of $DISK" "" run d < /dev/null
@@ -67,6 +72,7 @@ empty_file() {
     new_disk_over d
 }
 
+# Check: files beside the disk
 # The empty file that an opening makes beside the disk: a stop may leave it, and one that holds something stays.
 beside() {
     new_disk kinds/d
@@ -89,6 +95,7 @@ beside() {
     serves kinds/d "1 show 1 1" "$(shows 1)"
 }
 
+# Check: a name of 247 bytes is a disk, a longer one is not
 # Beside a name there has to be one with -journal.
 long_name() {
     local name
@@ -101,7 +108,7 @@ long_name() {
     refused "disk device" "kinds/x$name" "the name is too long"
 }
 
-# None of the tasks that open a disk makes one.
+# Check: a missing file: run, load and export make none
 missing_file() {
     local missing=$'disk device\nkinds/d: there is no such file'
     echo "municipality,list,number,votes" > returns.csv
@@ -111,7 +118,8 @@ missing_file() {
     same "the folder" "" "$(ls -A kinds)"
 }
 
-# A disk that is made is for its owner alone, whatever the umask allows; a file that is there keeps its mode.
+# Check: a disk that is made is for its owner alone
+# A file that is there keeps its mode.
 modes() {
     (
         umask 0
@@ -126,7 +134,7 @@ modes() {
     same "the mode of a file that was there" 640 "$(stat -c %a kinds/empty)"
 }
 
-# A disk that was made is that of a file of zeros.
+# Check: a disk that is made is of zeros
 zeros() {
     new_disk d
     head -c $DISK /dev/zero > zeroed
@@ -134,7 +142,7 @@ zeros() {
     same_bytes d zeroed
 }
 
-# Who may not open a file is told so: of each file that a task is given, and of a folder in which none can be made.
+# Check: no permission for a file, or its folder
 no_permission() {
     local as=() setup=$setup
     if [ "$(id -u)" -eq 0 ]; then
@@ -159,7 +167,7 @@ no_permission() {
     denied "sheet file" denied.sheet check --setup "$setup" --sheet denied.sheet
 }
 
-# What a fault says of a path: the path as it was given, its control characters as question marks.
+# Check: a fault shows its path as it was given, without control characters
 shown_paths() {
     local name=$'a\tb\nc\x7fd\xc2\x85e\xef\xbb\xbff'
     setup=$name ends 1 $'setup file\na?b?c?d?e?f: there is no such file' "" list groups
@@ -168,7 +176,8 @@ shown_paths() {
     setup=$name ends 1 $'setup file\n'"${name:0:4096}: the name is too long" "" list groups
 }
 
-# A record that has no end is read no further than a record may go on: by a load, a dry run and a check.
+# Check: a record without an end is refused
+# It is read no further than a record may go on, by a load and a dry run.
 records_without_end() {
     new_disk d
     cp d before
@@ -180,7 +189,7 @@ records_without_end() {
     same_bytes d before
 }
 
-# The files of a load, and of a folder that is given for one.
+# Check: a load of a file that is missing, or a folder
 files_of_a_load() {
     new_disk d
     ends 1 $'csv file\nkinds/none.csv: there is no such file' "" load d kinds/none.csv

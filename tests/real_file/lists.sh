@@ -1,5 +1,6 @@
 # The tables of a set-up.
 
+# Check: the tables of a set-up
 # The 10 seats of the rehearsal: 5,000, 3,000 and 2,000 persons over 1,000.
 all_tables() {
     ends 0 "" $'number,name,persons,seats\n1,Nord,5000,5\n2,Mitte,3000,3\n3,West,2000,2' list constituencies
@@ -11,6 +12,7 @@ all_tables() {
     ends 0 "" "problem,number,name" list problems
 }
 
+# Check: a table of a set-up that is not there
 missing_setup() {
     local table setup=none.toml
     for table in constituencies municipalities groups lists problems returns; do
@@ -19,6 +21,7 @@ missing_setup() {
     same "what was made" "" "$(ls none.toml 2> /dev/null)"
 }
 
+# Check: no table of constituencies without seats
 seats_without_a_table() {
     sed 's/^persons = 5000/persons = 3000/; s/^house = 10/house = 1/' "$setup" > tied.toml
     setup=tied.toml ends 1 "tied seats" "" list constituencies
@@ -27,7 +30,7 @@ seats_without_a_table() {
     setup=few.toml ends 0 "" $'number,name\n1,A\n2,B\n3,C' list groups
 }
 
-# Problems are named, and told where a disk is made, which they don't prevent.
+# Check: problems are named, and told where a disk is made
 problems_are_told() {
     local setup=$setup
     seats_without_a_table
@@ -44,7 +47,7 @@ problems_are_told() {
     done
 }
 
-# The table of returns with its last column filled in.
+# Check: the returns are listed, filled in and loaded
 returns_filled_in() {
     new_disk d
     ends 0 "" .. list returns
@@ -65,6 +68,7 @@ two_lists_in() {
     printf '[[group]]\nname = "A"\nstands = [1]\n[[group]]\nname = "B"\nstands = [1]\n'
 }
 
+# Check: more returns than one loading takes
 # A loading takes 1,000 rows.
 returns_to_be_split() {
     two_lists_in 500 > thousand.toml

@@ -20,6 +20,7 @@ allocation_refused() {
     if [ -n "$bytes" ]; then same_bytes kinds/d "$bytes"; else new_disk_over kinds/d; fi
 }
 
+# Check: each allocation refused: the fault is memory, and the disk is untouched
 each_allocation() {
     new_disk d
     serves d "$(returns 1 1 1)" "1 stored 1"
@@ -31,7 +32,7 @@ each_allocation() {
     each_refused before load --disk kinds/d --csv returns.csv
 }
 
-# The tasks that change no disk, or need none.
+# Check: each allocation refused under the tasks that change no disk
 each_allocation_of_a_reader() {
     sheet_and_rows
     cp d before
@@ -46,6 +47,7 @@ each_allocation_of_a_reader() {
     each_refused before list --of returns --municipality 2
 }
 
+# Check: each allocation refused under a rehearsal
 # A rehearsal has its disk in memory: an allocation refused to that is a fault of the disk.
 each_allocation_of_a_rehearsal() {
     local number=0 status refused=0 remark="zhcount: rehearsal, nothing is kept" line

@@ -15,6 +15,7 @@ sheet_and_rows() {
 readonly RIGHT=$'form ok\nvotes not compared\nseats ok\nparticipation ok\nvoters ok\ngroups ok\nlists ok'
 readonly WORTH="sheet ok for these votes; that they were returned is not checked"
 
+# Check: a sheet is checked, with the rows held and without
 checked_sheets() {
     setup=$election/setup.toml ends 0 "" "$RIGHT"$'\n'"not checked: final, commands 81, desk 1"$'\n'"$WORTH" check_sheet "$election/sheet"
     sheet_and_rows
@@ -35,6 +36,7 @@ says_wrong() {
     [ $# -eq 1 ] || same "the first line of $1" "$2" "$(head -n 1 replies)"
 }
 
+# Check: a sheet that was spoilt is wrong
 # What downloads and editors do to a sheet.
 spoilt_sheets() {
     local line
@@ -60,6 +62,7 @@ spoilt_sheets() {
     note="80 sheets with lines left out, twice, cut off and exchanged"
 }
 
+# Check: a sheet or an export that can't be read
 unreadable_sheets() {
     sheet_and_rows
     ends 1 $'sheet file\nkinds: is a folder' "" check_sheet kinds

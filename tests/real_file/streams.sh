@@ -17,22 +17,28 @@ disk_with_a_line() {
     printf '\n1 return 1 1 2 14\n' | dd of=d bs=1 seek=100 conv=notrunc status=none
 }
 
-# unwritten_replies STREAM: a return whose reply can't be written is the last that the disk holds.
+# Check: standard output closed or full: the fault is write, and the disk is whole
+# A return whose reply can't be written is the last that it holds.
 unwritten_replies() {
-    disk_with_a_line
-    echo "1 show 1 1" > lines
-    untouched d ends 1 write "" closed "$1" run d < lines
-    returns 1 2 9 > lines
-    ends 1 write "" closed "$1" run d < lines
-    serves d "1 show 1 1" "$(shows 2)"
+    local stream
+    for stream in '>&-' '>/dev/full'; do
+        disk_with_a_line
+        echo "1 show 1 1" > lines
+        untouched d ends 1 write "" closed "$stream" run d < lines
+        returns 1 2 9 > lines
+        ends 1 write "" closed "$stream" run d < lines
+        serves d "1 show 1 1" "$(shows 2)"
+    done
 }
 
+# Check: standard input closed: the fault is read, and the disk is untouched
 closed_input() {
     disk_with_a_line
     untouched d ends 1 read "" closed '<&-' run d
     serves d "1 show 1 1" "$(shows 1)"
 }
 
+# Check: standard error closed: run serves, and a fault leaves the disk untouched
 closed_error() {
     disk_with_a_line
     returns 1 2 3 > lines
@@ -41,12 +47,14 @@ closed_error() {
     untouched d ends 1 "" "" closed '2>&-' format d
 }
 
+# Check: all streams closed: the disk is untouched
 all_closed() {
     disk_with_a_line
     untouched d ends 1 "" "" closed "$ALL" run d
     untouched d ends 1 "" "" closed "$ALL" format d
 }
 
+# Check: format makes a disk with streams closed
 closed_format() {
     local stream
     for stream in '<&-' '>&-' '2>&-' "$ALL"; do

@@ -1,5 +1,6 @@
 # Formatting and running, and the arguments.
 
+# Check: format and run make a disk, and nothing beside it
 a_night() {
     new_disk kinds/d
     same "the length" $DISK "$(stat -c %s kinds/d)"
@@ -8,7 +9,7 @@ a_night() {
     same "the folder" d "$(ls kinds)"
 }
 
-# The election of examples/zurich2006, and its sheet.
+# Check: the sheet of an election whose seats are known
 known_election() {
     local setup=$election/setup.toml
     new_disk election
@@ -17,6 +18,7 @@ known_election() {
     same_bytes "$election/sheet" found
 }
 
+# Check: format leaves a disk that is in use
 in_use() {
     new_disk d
     untouched d ends 1 $'disk inuse\nd' "" format d
@@ -24,6 +26,7 @@ in_use() {
     untouched d ends 1 $'disk inuse\nd' "" format d
 }
 
+# Check: a disk of another set-up is refused
 another_setup() {
     new_disk d
     sed 's/persons = 3000/persons = 3001/' "$setup" > other.toml
@@ -38,6 +41,7 @@ misplaced() {
     setup=bad.toml ends 1 "$2"$'\n'"bad.toml: $3" "" list groups
 }
 
+# Check: a fault of the set-up names its place
 places_of_faults() {
     new_disk d
     misplaced '/^house = 10$/d' "setup missing" house
@@ -52,6 +56,7 @@ places_of_faults() {
     same "the fault of no TOML" $'zhcount: setup text\nbad.toml: line 7' "$(sed 's/, column [0-9]*$//' faults)"
 }
 
+# Check: a blank disk and a damaged one are refused
 blank_and_damaged() {
     rm -f d
     truncate -s $DISK d
@@ -61,11 +66,13 @@ blank_and_damaged() {
     untouched d ends 1 $'disk damaged\nd' "" run d < /dev/null
 }
 
+# Check: without arguments: a rehearsal
 no_arguments() {
     echo "1 show 1 1" > lines
     ends 0 "rehearsal, nothing is kept" "1 none" timeout 120 "$program" < lines
 }
 
+# Check: arguments that ask for nothing: status 2
 refused_arguments() {
     task run > replies 2> faults < /dev/null
     same "the status without a disk" 2 $?

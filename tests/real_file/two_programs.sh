@@ -26,6 +26,7 @@ finish() {
     same "the replies of the first" "$1" "$(cat first.out)"
 }
 
+# Check: a second program ends with disk busy, and the first goes on
 second_program() {
     new_disk kinds/d
     ln -s kinds/d link
@@ -48,6 +49,7 @@ one_of_two() {
     echo $? > "status.$1"
 }
 
+# Check: two programs at once, 20 times
 two_at_once() {
     local pair m left held=(0 0 0) stored=0 refused=0
     new_disk d

@@ -10,6 +10,7 @@ limited() {
     )
 }
 
+# Check: run on a full volume keeps what it acknowledged
 full_run() {
     local pages=$(((340 * 1024 - JOURNAL) / PAGE))
     new_disk d
@@ -21,7 +22,8 @@ full_run() {
     note="$pages returns stored, the next refused"
 }
 
-# The disk fails under a return, and later the output, where its file may not grow either: `write` is reported.
+# Check: the disk full, then the output: the fault is write
+# The disk fails under a return, and later the output, where its file may not grow either.
 full_disk_and_output() {
     local pages=$(((340 * 1024 - JOURNAL) / PAGE))
     new_disk d
@@ -36,6 +38,7 @@ full_disk_and_output() {
     serves d "1 show 1 1" "$(shows $pages)"
 }
 
+# Check: format on a full volume can be done again
 full_format() {
     rm -f d
     ends 1 $'disk device\nd: a call failed' "" limited 500 format d
@@ -55,6 +58,7 @@ has_its_space() {
     that "blocks cover the length of $1" "$(stat -c '%b * %B' "$1") >= $DISK"
 }
 
+# Check: format takes the space that a disk takes
 space_is_taken() {
     new_disk d
     has_its_space d
@@ -69,7 +73,8 @@ space_is_taken() {
     same_bytes d long
 }
 
-# A volume that is too small for a disk, and then grows. It is mounted for the processes of this test alone, and goes with them.
+# Check: format on a small volume, which then grows
+# It is mounted for the processes of this test alone, and goes with them.
 small_volume() {
     mkdir -p volume
     if [ -z "${HAS_OWN_MOUNTS:-}" ] || ! mount -t tmpfs -o size=1m none volume 2> /dev/null; then
@@ -88,7 +93,7 @@ small_volume() {
     umount volume
 }
 
-# Each call of a file failing under a format: what is left is nothing, an empty file, or one that has its space.
+# Check: each call of a file failing under format: the file is empty, or has its space
 failed_fills() {
     local number=0 length emptied=0
     while number=$((number + 1)); do
@@ -110,7 +115,8 @@ new_disk_over() {
     serves "$1" $'1 show 1 1\n1 return 1 1 1 7' $'1 none\n1 stored 1'
 }
 
-# In as much memory as the program can be loaded in, but not run, the fault is memory, and the disk is as it was.
+# Check: too little memory: the fault is memory, and the disk is untouched
+# So much that the program can be loaded, but not run.
 little_memory() {
     local kibibytes status fault refused=0 has_loader=
     new_disk d
