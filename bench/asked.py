@@ -52,15 +52,6 @@ class Decided(ctypes.Structure):
                 ("too_few", ctypes.c_int * LINES)]
 
 
-def library(folder):
-    """The C of bench/ that finds and decides, compiled into this folder."""
-    path, sources = Path(folder) / "search.so", [BENCH / f"{it}.c" for it in SOURCES]
-    subprocess.run([CC, "-O2", "-std=gnu11", "-shared", "-fPIC", *sources, "-o", path], check=True)
-    found = ctypes.CDLL(str(path))
-    found.line.restype = ctypes.c_uint64
-    return found
-
-
 def question(row_totals, column_totals, votes):
     found = Question(len(row_totals), len(column_totals))
     found.votes[:len(votes)] = votes
@@ -81,10 +72,13 @@ def listed(word, cells, columns):
 
 
 class Asked:
-    """What C says of questions, as the cases say it."""
+    """What C says of questions, as the cases say it; the C of bench/ that finds and decides is compiled into this folder."""
 
     def __init__(self, folder):
-        self.c = library(folder)
+        path, sources = Path(folder) / "search.so", [BENCH / f"{it}.c" for it in SOURCES]
+        subprocess.run([CC, "-O2", "-std=gnu11", "-shared", "-fPIC", *sources, "-o", path], check=True)
+        self.c = ctypes.CDLL(str(path))
+        self.c.line.restype = ctypes.c_uint64
 
     def matrix(self, word, q, cells):
         return listed(word, cells[:q.rows * q.columns], q.columns)
@@ -126,10 +120,6 @@ class Asked:
         self.c.lot(ctypes.byref(q), ctypes.byref(o), least, most)
         return f"{self.matrix('least', q, least)}; {self.matrix('most', q, most)}"
 
-    def line(self, votes, others, seats):
-        """The divisor of a line."""
-        return self.c.line(len(votes), Divisors(*votes), Divisors(*others), seats, ctypes.c_uint64(MOST))
-
     def turns(self, text):
         """Each turn of a file of cases that asks for something: what it says, the answer, and the one that is wanted."""
         files = dict(re.findall(r"^file (\S+)\n((?:  .*\n)*)end file$", text, re.M))
@@ -144,8 +134,9 @@ class Asked:
             if (o.half_steps, self.searched(q, o)) != (half_steps, wanted):
                 yield f"{asked}: {self.searched(q, o)}, in {o.half_steps} half-steps"
         for votes, others, seats, wanted in WORKED_LINES:
-            if self.line(votes, others, seats) != wanted:
-                yield f"a line, {votes} {others}: {self.line(votes, others, seats)}"
+            found = self.c.line(len(votes), Divisors(*votes), Divisors(*others), seats, ctypes.c_uint64(MOST))
+            if found != wanted:
+                yield f"a line, {votes} {others}: {found}"
         for path in paths:
             turns = [*self.turns(path.read_text())]
             yield from [] if turns else [f"{path.name} asks nothing"]

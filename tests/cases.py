@@ -4,21 +4,18 @@ import re
 
 def repeated(lines):
     """Lines in which `repeat n = 1 to 3` .. `end repeat` are written out (docs/CASES.md, "Repetitions")."""
-    written = []
-    at = 0
-    while at < len(lines):
-        match = re.match(r"\s*repeat (\w+) = (.+?)\s*$", lines[at])
+    lines, written = iter(lines), []
+    for line in lines:
+        match = re.match(r"\s*repeat (\w+) = (.+?)\s*$", line)
         if not match:
-            written.append(lines[at])
-            at += 1
+            written.append(line)
             continue
-        depth, end = 1, at
+        depth, inside = 1, []
         while depth > 0:
-            end += 1
-            depth += bool(re.match(r"\s*repeat ", lines[end])) - (lines[end].strip() == "end repeat")
+            inside.append(next(lines))
+            depth += bool(re.match(r"\s*repeat ", inside[-1])) - (inside[-1].strip() == "end repeat")
         for value in values(match[2]):
-            written += repeated([put(line, match[1], value) for line in lines[at + 1:end]])
-        at = end + 1
+            written += repeated([put(it, match[1], value) for it in inside[:-1]])
     return written
 
 

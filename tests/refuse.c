@@ -78,35 +78,18 @@ int statx(int folder, const char *restrict path, int flags, unsigned int mask, s
     return fails(folder == AT_FDCWD ? 4 : folder) ? -1 : next(folder, path, flags, mask, found);
 }
 
-ssize_t read(int file, void *bytes, size_t length) {
-    NEXT(read);
-    return fails(file) ? -1 : next(file, bytes, length);
-}
-
-ssize_t pread(int file, void *bytes, size_t length, off_t place) {
-    NEXT(pread);
-    return fails(file) ? -1 : next(file, bytes, length, place);
-}
-
-ssize_t pwrite(int file, const void *bytes, size_t length, off_t place) {
-    NEXT(pwrite);
-    return fails(file) ? -1 : next(file, bytes, length, place);
-}
-
-int fsync(int file) {
-    NEXT(fsync);
-    return fails(file) ? -1 : next(file);
-}
-
-int fdatasync(int file) {
-    NEXT(fdatasync);
-    return fails(file) ? -1 : next(file);
-}
-
-int ftruncate(int file, off_t length) {
-    NEXT(ftruncate);
-    return fails(file) ? -1 : next(file, length);
-}
+/* A call of a file, which fails or is passed on. */
+#define CALL(type, name, parameters, ...) \
+    type name parameters { \
+        NEXT(name); \
+        return fails(file) ? -1 : next(__VA_ARGS__); \
+    }
+CALL(ssize_t, read, (int file, void *bytes, size_t length), file, bytes, length)
+CALL(ssize_t, pread, (int file, void *bytes, size_t length, off_t place), file, bytes, length, place)
+CALL(ssize_t, pwrite, (int file, const void *bytes, size_t length, off_t place), file, bytes, length, place)
+CALL(int, fsync, (int file), file)
+CALL(int, fdatasync, (int file), file)
+CALL(int, ftruncate, (int file, off_t length), file, length)
 
 ssize_t write(int file, const void *bytes, size_t length) {
     static long left[3] = {0, -1, -1};

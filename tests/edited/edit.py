@@ -17,10 +17,6 @@ class Edit:
     path: Path
     crate: Path
 
-    @property
-    def name(self):
-        return self.path.stem
-
     @cached_property
     def text(self):
         return self.path.read_text(encoding="utf-8")

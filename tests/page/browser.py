@@ -1,5 +1,4 @@
 """A headless browser on the page, driven as somebody would drive it: files are chosen, texts pasted, keys pressed."""
-import base64
 import json
 import pathlib
 import re
@@ -9,7 +8,6 @@ from selenium import webdriver
 from selenium.common.exceptions import WebDriverException
 from selenium.webdriver.chrome.service import Service
 from selenium.webdriver.common.by import By
-from selenium.webdriver.common.keys import Keys
 from selenium.webdriver.support.ui import WebDriverWait
 
 from places import TOP

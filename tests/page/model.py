@@ -92,12 +92,8 @@ class Election:
         part = part or [self.takes_part(g) for g in range(len(self.groups))]
         seats, seats_key = fit(self.persons, self.house)
         voters = [[None if v is None else (2 * v + s) // (2 * s) for v in row] for row, s in zip(self.votes, seats)]
-        taking = [g for g in range(len(self.groups)) if part[g]]
         sums = [sum(row[g] or 0 for row in voters) for g in range(len(self.groups))]
-        given, upper_key = fit([sums[g] for g in taking], self.house)
-        upper = [0] * len(self.groups)
-        for g, number in zip(taking, given):
-            upper[g] = number
+        upper, upper_key = fit([number if takes else 0 for number, takes in zip(sums, part)], self.house)
         columns = [g for g in range(len(self.groups)) if upper[g]]
         question = [[row[g] or 0 for g in columns] for row in self.votes]
         x, y = divisors(question, seats, [upper[g] for g in columns])

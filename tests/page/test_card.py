@@ -2,9 +2,6 @@
 import html
 import re
 import subprocess
-import unittest
-
-import pytest
 
 from case import OTHER_WORDS
 from places import TOP
@@ -36,40 +33,42 @@ def refusals():
     return set(names[names.index("syntax"):])
 
 
-class Card(unittest.TestCase):
-    @pytest.mark.usefixtures("program")
-    def test_its_dialogue_is_what_a_screen_shows(self):
-        lines = dialogue(SIDES["de"])
-        self.assertEqual((len(lines), dialogue(SIDES["en"])), (5, lines))
-        typed = "".join(f"{text}\n" for text, is_typed in lines if is_typed)
-        with Room() as room:
-            room.start()
-            desk = subprocess.run(room.script("zhcount-desk", "3", room.folder), input=typed, stdout=subprocess.PIPE, stderr=subprocess.STDOUT,
-                                  text=True)
-        self.assertEqual(desk.stdout.splitlines(), [text for text, is_typed in lines if not is_typed])
+def test_its_dialogue_is_what_a_screen_shows(program):
+    lines = dialogue(SIDES["de"])
+    assert len(lines) == 5 and dialogue(SIDES["en"]) == lines
+    typed = "".join(f"{text}\n" for text, is_typed in lines if is_typed)
+    with Room() as room:
+        room.start()
+        desk = subprocess.run(room.script("zhcount-desk", "3", room.folder), input=typed, stdout=subprocess.PIPE, stderr=subprocess.STDOUT,
+                              text=True)
+    assert desk.stdout.splitlines() == [text for text, is_typed in lines if not is_typed]
 
-    def test_what_a_desk_shows_has_a_row(self):
-        source = (TOP / "desks" / "zhcount-desk").read_text()
-        for side in SIDES.values():
-            named = {name for names in re.findall("<code>refused ([^<]*)</code>", side) for name in names.split(", ")}
-            for reason in refusals() - OTHERS:
-                word = "no.." if reason.startswith("no") and reason not in ("nobatch", "notclosed") else reason.split(" ")[0]
-                self.assertIn(word, {name.split(" ")[0] for name in named})
-            for message in MESSAGES:
-                self.assertIn(message, source)
-                self.assertIn(message, seen(side))
 
-    def test_a_commit_that_is_refused(self):
-        self.assertIn("refused .. auf commit | nichts ist gespeichert, der Stapel bleibt | die Zeile mit show suchen.", seen(SIDES["de"]))
-        self.assertIn("refused .. to commit | nothing is stored, and the batch stays | find the row by show.", seen(SIDES["en"]))
+def test_what_a_desk_shows_has_a_row():
+    source = (TOP / "desks" / "zhcount-desk").read_text()
+    for side in SIDES.values():
+        named = {name.split(" ")[0] for names in re.findall("<code>refused ([^<]*)</code>", side) for name in names.split(", ")}
+        for reason in refusals() - OTHERS:
+            word = "no.." if reason.startswith("no") and reason not in ("nobatch", "notclosed") else reason.split(" ")[0]
+            assert word in named
+        for message in MESSAGES:
+            assert message in source and message in seen(side)
 
-    def test_both_sides_say_the_same(self):
-        codes = [re.findall("<code[^>]*>(.*?)</code>", side) for side in SIDES.values()]
-        self.assertEqual(codes[0], codes[1])
 
-    def test_each_thing_has_one_german_word(self):
-        """The same as on the page (test_use.py)."""
-        self.assertNotRegex(seen(SIDES["de"]), OTHER_WORDS)
-        for word in ("Pult", "Eintrag", "Auszählungsstelle", "unterbrochen", "provisorische Sitze", "Zeile nicht verstanden",
-                     "Tausendertrennzeichen"):
-            self.assertIn(word, seen(SIDES["de"]))
+def test_a_commit_that_is_refused():
+    assert "refused .. auf commit | nichts ist gespeichert, der Stapel bleibt | die Zeile mit show suchen." in seen(SIDES["de"])
+    assert "refused .. to commit | nothing is stored, and the batch stays | find the row by show." in seen(SIDES["en"])
+
+
+def test_both_sides_say_the_same():
+    codes = [re.findall("<code[^>]*>(.*?)</code>", side) for side in SIDES.values()]
+    assert codes[0] == codes[1]
+
+
+def test_each_thing_has_one_german_word():
+    """The same as on the page (test_use.py)."""
+    text = seen(SIDES["de"])
+    assert not re.search(OTHER_WORDS, text)
+    for word in ("Pult", "Eintrag", "Auszählungsstelle", "unterbrochen", "provisorische Sitze", "Zeile nicht verstanden",
+                 "Tausendertrennzeichen"):
+        assert word in text

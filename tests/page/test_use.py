@@ -1,7 +1,8 @@
 """The page in use: hostile names, no network, keys, drops, meaning, languages, a phone, and its size."""
 import re
 
-from browser import Keys
+from selenium.webdriver.common.keys import Keys
+
 from case import EXAMPLE, EXAMPLE_SETUP, HOSTILE, LARGEST, OTHER_WORDS, WRONG_KEY, Case, changed
 from sheets import ZURICH
 
