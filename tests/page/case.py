@@ -105,7 +105,7 @@ class Case(unittest.TestCase):
         return page
 
     def unread(self, line, reason, setup, held=None):
-        """Beside the example the set-up, or where there are rows they, can't be read, at this line (None: any) and for this reason."""
+        """The set-up, or the rows where they are given, can't be read, at this line (None: any), for this reason."""
         page = self.page.sheet(EXAMPLE, setup, held)
         self.assertEqual((page.state(), page.own()), ("unsure", "right"))
         self.assertIn(f"! {'Returns' if held else 'Set-up'} not understood: line {line or ''}", page.text("#ticks"))

@@ -51,14 +51,13 @@ class Bar(Case):
         return page
 
     def test_a_sheet_alone(self):
-        page = self.unsure("the seats fit the votes on the sheet",
-                           "number of seats, names, persons, quorum and lists are not checked: a list too many or too few would not show",
-                           EXAMPLE)
+        page = self.unsure("the seats fit the votes on the sheet", "number of seats, names, persons, quorum and lists are not "
+                           "checked: a list too many or too few would not show", EXAMPLE)
         self.assertEqual(page.text("#why .caveat"),
                          "You have not opened the set-up and the returns: whether these are the votes that were reported is not checked.")
         self.assertEqual(page.text("#parliament h2"), "The parliament as this sheet has it: not fully checked")
-        self.assertRegex(page.text("#ticks"), r"(?s)! Not opened: the set-up.*! Not opened: the returns\nWhether these .* is not checked\."
-                         r".*! One check of two says: right\nThe proved check needs the set-up\.")
+        self.assertRegex(page.text("#ticks"), r"(?s)! Not opened: the set-up.*! Not opened: the returns\nWhether these .* is not "
+                         r"checked\..*! One check of two says: right\nThe proved check needs the set-up\.")
 
     def test_a_list_too_many_passes_alone(self):
         more = changed(EXAMPLE, "list 3 3 votes 50 voters 25 seats 0\n",

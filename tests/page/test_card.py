@@ -39,8 +39,8 @@ def test_its_dialogue_is_what_a_screen_shows(program):
     typed = "".join(f"{text}\n" for text, is_typed in lines if is_typed)
     with Room() as room:
         room.start()
-        desk = subprocess.run(room.script("zhcount-desk", "3", room.folder), input=typed, stdout=subprocess.PIPE, stderr=subprocess.STDOUT,
-                              text=True)
+        desk = subprocess.run(room.script("zhcount-desk", "3", room.folder), input=typed, stdout=subprocess.PIPE,
+                              stderr=subprocess.STDOUT, text=True)
     assert desk.stdout.splitlines() == [text for text, is_typed in lines if not is_typed]
 
 

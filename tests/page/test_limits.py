@@ -104,7 +104,7 @@ class Hostile(Case):
     """Each takes a time in the order of its length: less than a second, where the machine is free."""
 
     def quick(self, title, *files):
-        """These files, (name, text) each, take little time: the first time that is below the limit, or the shortest of some times."""
+        """These files, (name, text) each, take little time: the first that is below the limit, or the shortest of some times."""
         with self.subTest(title):
             self.assertLess(self.page.open().run("""
                 const [named, limit, yardstick, times] = arguments;
@@ -171,8 +171,8 @@ class Hostile(Case):
                             ("an array of blanks", "stands = [1" + " " * 500_000 + "," + " " * 500_000 + "x]"),
                             ("an array of numbers", "[[group]]\nstands = [1" + ",1" * 500_000 + "]\n"),
                             ("a text without an end", 'name = "' + "x" * (MIB - 20)), ("escapes", 'name = "' + "\\\\" * 500_000),
-                            ("a long key", "x" * (MIB - 10) + " = 1"), ("a long comment", "#" * MIB), ("tables", "[[group]]\n" * 100_000),
-                            ("brackets", "[" * MIB), ("carriage returns", "\r" * MIB)):
+                            ("a long key", "x" * (MIB - 10) + " = 1"), ("a long comment", "#" * MIB),
+                            ("tables", "[[group]]\n" * 100_000), ("brackets", "[" * MIB), ("carriage returns", "\r" * MIB)):
             self.quick(f"a set-up: {title}", ("sheet", EXAMPLE), ("setup.toml", text))
 
     def test_rows(self):

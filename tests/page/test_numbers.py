@@ -23,15 +23,15 @@ class Numbers(Case):
                   "525 / (205.000000 × 1.000000) = 2.560.., which rounds to 3", "more than 512.5 and less than 717.5 votes",
                   "2 × 525 = 1,050 lies between 5 × 205.000000 × 1.000000 = 1,025 and 7 × 205.000000 × 1.000000 = 1,435 ✓",
                   "Line 11 of the sheet: list 1 1 votes 525 voters 105 seats 3")
-        self.says("tbody tr:nth-child(2) td:nth-child(4)", "Mitte, C: 0 seats ✓", "= 0.157.., which rounds to 0", "less than 95 votes",
-                  "60 is less than 1 × ")
+        self.says("tbody tr:nth-child(2) td:nth-child(4)", "Mitte, C: 0 seats ✓", "= 0.157.., which rounds to 0",
+                  "less than 95 votes", "60 is less than 1 × ")
 
     def test_a_constituency_and_a_group(self):
         self.page.sheet(EXAMPLE)
         self.says("tbody tr:nth-child(1) th", "Nord: 5 seats ✓", "5,000 / (10,000/10) = 5, which rounds to 5",
                   "more than 4,500 and less than 5,500 persons", "3 + 1 + 1 = 5 ✓", "525 + 300 + 175 = 1,000 ✓")
-        self.says("thead th:nth-child(4)", "C: 1 seat ✓", "reached in Nord, Mitte, West ✓", "70 / (300/6) = 1.4, which rounds to 1",
-                  "more than 25 and less than 75 voters", "1 + 0 + 0 = 1 ✓")
+        self.says("thead th:nth-child(4)", "C: 1 seat ✓", "reached in Nord, Mitte, West ✓",
+                  "70 / (300/6) = 1.4, which rounds to 1", "more than 25 and less than 75 voters", "1 + 0 + 0 = 1 ✓")
 
     def test_each_interval_of_2006_is_exact(self):
         page = self.page.sheet(ZURICH.sheet)
@@ -62,7 +62,7 @@ class Panels(Case):
     """A cell's mark and its panel have one source."""
 
     def same(self, *files):
-        """How many cells the table marks as wrong, each of which its panel has so, with reasons; no other panel has a red mark."""
+        """How many cells the table marks as wrong, and of how many: their panels have them so, with reasons, and no others."""
         self.page.sheet(*files)
         found = self.page.run("""
             return [...document.querySelectorAll('#seats button')].map((button) => {

@@ -14,7 +14,8 @@ class Others(Case):
                 ("form", 5, '"Nord"', '"Norden"', "the set-up says Norden, the sheet Nord"),
                 ("form", 9, '"B"', '"BB"', "the set-up says BB, the sheet B"),
                 ("form", 19, '"C"\nstands = [1, 2, 3]', '"C"\nstands = [1, 2]', "no list 3 3 stands"),
-                ("form", 5, "version = 1", "version = 2\ncanton_quorum = 49", "canton-wide quorum of 49 per mille, the sheet none"),
+                ("form", 5, "version = 1", "version = 2\ncanton_quorum = 49",
+                 "canton-wide quorum of 49 per mille, the sheet none"),
                 ("form", 10, '"C"', '"C"\nstands = [1, 2, 3]\n[[group]]\nname = "D"', "“D” should follow"),
                 ("seats", 5, "5000", "5001", "the set-up says 5,001 persons, the sheet 5,000")):
             with self.subTest(new):

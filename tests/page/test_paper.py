@@ -41,8 +41,9 @@ class Paper(Case):
 
     def test_what_is_not_right_is_not_to_be_signed(self):
         wrong = ZURICH._replace(sheet=WRONG_KEY)
-        for files, proved, said in ((wrong, "wrong", "Wrong: a key; the seats are right"), (wrong, "right", "The two checks differ"),
-                                    (ZURICH, "wrong", "The two checks differ"), (ZURICH, "failed", "right by one check of two"),
+        for files, proved, said in ((wrong, "wrong", "Wrong: a key; the seats are right"),
+                                    (wrong, "right", "The two checks differ"), (ZURICH, "wrong", "The two checks differ"),
+                                    (ZURICH, "failed", "right by one check of two"),
                                     (ZURICH[:2], "right", "right for the votes on the sheet"),
                                     (ZURICH[:1], "alone", "the seats fit the votes on the sheet")):
             with self.subTest(files=len(files), proved=proved):

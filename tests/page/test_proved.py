@@ -1,5 +1,5 @@
-"""The two checks of the page against `zhcount check`: its own says right or wrong as that does, and the proved one answers byte for byte
-what the program does."""
+"""The two checks of the page against `zhcount check`: its own says right or wrong as that does, and the proved one answers byte
+for byte what that does."""
 import base64
 import random
 import re
@@ -39,7 +39,7 @@ def changes(sheet):
 
 
 class Compared:
-    """What each check of the page is compared with the program on: `same` has sheets with one set-up, and the rows held or None."""
+    """What both checks are compared with the program on: `same` is given sheets with one set-up, and the rows held or None."""
 
     def test_each_sheet_of_the_repository(self):
         found = [*sheets.all_sheets()]
@@ -57,9 +57,9 @@ class Compared:
 
     def test_forged_quorums_and_rows(self):
         election = model.made_up(3, 6, 5, 60)
+        rows = ROWS, ROWS.replace("525", "526"), ROWS.replace("3,3,1,50", "3,3,2,withdrawn"), ROWS.replace("1,1,1,525\n", "")
         self.same(([election.sheet(), election.sheet(part=[True] * 3 + [False, True])], election.setup(), election.held()),
-                  *(([EXAMPLE], EXAMPLE_SETUP, held) for held in (
-                      ROWS, ROWS.replace("525", "526"), ROWS.replace("3,3,1,50", "3,3,2,withdrawn"), ROWS.replace("1,1,1,525\n", ""))))
+                  *(([EXAMPLE], EXAMPLE_SETUP, held) for held in rows))
 
 
 class Own(Compared, Case):
@@ -137,14 +137,16 @@ class Chromium(Proved, Compared, Case):
         self.same_answers([(setup, EXAMPLE.encode(), None) for setup in setups])
 
     def test_rows_that_are_refused(self):
-        self.same(*(([EXAMPLE], EXAMPLE_SETUP, held) for held in (
-            ROWS.replace("1,3,1,175", "1,2,1,175"), ROWS.replace("1,2,1,300", "1,4,1,300"), ROWS.replace("3,3,", "9,3,"),
-            ROWS.replace("525", "x"), ROWS.replace("525", "1000000001"), ROWS.replace("525", "4294967296"), ROWS.replace("\n", "\r\n"), "")))
+        rows = [ROWS.replace(old, new) for old, new in (
+            ("1,3,1,175", "1,2,1,175"), ("1,2,1,300", "1,4,1,300"), ("3,3,", "9,3,"), ("525", "x"), ("525", "1000000001"),
+            ("525", "4294967296"), ("\n", "\r\n"))]
+        self.same(*(([EXAMPLE], EXAMPLE_SETUP, held) for held in [*rows, ""]))
 
     def test_the_largest_and_the_longest(self):
         sheet, *others = LARGEST.files()
         self.same(([sheet], *others), (["x" * 300_000, EXAMPLE * 700], EXAMPLE_SETUP, None), ([EXAMPLE], "#" * 1_048_577, None),
-                  ([EXAMPLE], "[" * 500_000, None), ([""], EXAMPLE_SETUP, ""), ([""], "", None), (["1 sheet " + "9" * 270_000], *OTHERS))
+                  ([EXAMPLE], "[" * 500_000, None), ([EXAMPLE], EXAMPLE_SETUP, ""), ([""], EXAMPLE_SETUP, ""), ([""], "", None),
+                  (["1 sheet " + "9" * 270_000], *OTHERS))
         self.same_answers([(EXAMPLE_SETUP.encode(), EXAMPLE.encode().replace(b"Mitte", b"Mitt\xe9"), None)])
 
 

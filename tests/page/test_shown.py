@@ -184,6 +184,6 @@ class Failing(Case):
     def test_without_a_worker_it_runs_in_the_page(self):
         self.another(changed(TEXT, "worker-src blob:", "worker-src 'none'")).sheet(EXAMPLE, *OTHERS)
         self.bar_is("right", "✓ Right")
-        page = self.page.sheet(WRONG, EXAMPLE_SETUP, before="window.Worker = class { constructor() { throw new Error('none'); } }")
+        page = self.page.sheet(WRONG, EXAMPLE_SETUP, before="Worker = class { constructor() { throw new Error('none'); } }")
         self.assertEqual(page.state(), "wrong")
         self.assertTrue(page.text("#proved pre").endswith("sheet wrong"))

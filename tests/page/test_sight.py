@@ -142,7 +142,8 @@ class Sight(Case):
         for shown in (self.page.sheet, self.phone):
             self.assertEqual(shown(sheet).run("""
                 const found = [];
-                for (const name of document.querySelectorAll('.legend .name bdi, #seats:not(.crowded) .name bdi, #seats tbody .name bdi')) {
+                const names = '.legend .name bdi, #seats:not(.crowded) .name bdi, #seats tbody .name bdi';
+                for (const name of document.querySelectorAll(names)) {
                   const text = name.firstChild;
                   for (const { 0: part, index } of text.data.matchAll(/[^\\s\\u00ad-]+/gu)) {
                     const rects = (at) => {

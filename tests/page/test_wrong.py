@@ -8,8 +8,8 @@ from sheets import ZURICH
 
 class Wrong(Case):
     def test_a_wrong_seat(self):
-        self.fails("lists", 22, "28,518 / (7,242.666666 × 1.007187) = 3.909.. rounds to 4",
-                   changed(ZURICH.sheet, "list 1 1 votes 28518 voters 2377 seats 4", "list 1 1 votes 28518 voters 2377 seats 5"), ZURICH.setup)
+        sheet = changed(ZURICH.sheet, "votes 28518 voters 2377 seats 4", "votes 28518 voters 2377 seats 5")
+        self.fails("lists", 22, "28,518 / (7,242.666666 × 1.007187) = 3.909.. rounds to 4", sheet, ZURICH.setup)
 
     def test_seats_exchanged_so_that_all_totals_are_met(self):
         sheet = EXAMPLE
@@ -28,7 +28,8 @@ class Wrong(Case):
 
     def test_a_half(self):
         for divisor, quotient in (("210.000000", "2.5"), ("150.000000", "3.5")):
-            self.fails("lists", 11, f"525 / ({divisor} × 1.000000) = {quotient} lies on a half", changed(EXAMPLE, "205.000000", divisor))
+            self.fails("lists", 11, f"525 / ({divisor} × 1.000000) = {quotient} lies on a half",
+                       changed(EXAMPLE, "205.000000", divisor))
 
     def test_the_ends_of_each_apportionment(self):
         """Seats by keys and by persons, on each side."""
@@ -36,8 +37,8 @@ class Wrong(Case):
                 ("seats", 3, "the key should be 10,000/10, and not 10,000/9", "10000/10", "10000/9"),
                 ("seats", 3, "the key should be 10,000/10", "10000/10", "1000/1", "10001/10"),
                 ("groups", 4, "the key should be 300/6", "300/6", "50/1"),
-                ("seats", 5, "5,000 / (10,000/10) = 5 rounds to 5", "persons 5000 seats 5", "persons 5000 seats 6", "persons 5000 seats 4"),
-                ("groups", 8, "230 / (300/6) = 4.6 rounds to 5", "voters 230 seats 5", "voters 230 seats 4", "voters 230 seats 6"),
+                ("seats", 5, "5,000 / (10,000/10) = 5 rounds to 5", "5000 seats 5", "5000 seats 6", "5000 seats 4"),
+                ("groups", 8, "230 / (300/6) = 4.6 rounds to 5", "230 seats 5", "230 seats 4", "230 seats 6"),
                 ("seats", 2, "the seats make 10, and the house has 11", "house 10", "house 11")):
             for new in others:
                 with self.subTest(new):

@@ -7,8 +7,8 @@ failing() {
     env "$1=$2" LD_PRELOAD="$folder/refuse.so" "${@:3}" > replies 2> faults 3> reached
 }
 
-# each_failing WHAT BYTES JUDGE TASK ARGUMENT..: of a task on the lines each call (FAIL) or allocation (REFUSE) fails in turn, where the
-# disk kinds/d has these bytes, or is not there. It does without it and says just what it says with all, or JUDGE is asked.
+# each_failing WHAT BYTES JUDGE TASK ARGUMENT..: of a task on the lines each call (FAIL) or allocation (REFUSE) fails in turn,
+# where the disk kinds/d has these bytes, or is not there. It does without and says just what it says with all, or JUDGE is asked.
 each_failing() {
     local what=$1 bytes=$2 judge=$3 number=0 status said
     shift 3
@@ -36,8 +36,8 @@ room_for() {
     [ -z "$1" ] || cp "$1" kinds/d
 }
 
-# each_call FAULTS REPLIES TASK ARGUMENT..: where a call fails the task writes nothing or one of these replies, and these faults come, in
-# this order. Then the disk is as it was, or, of a task that stores, holds the return of lines and returns.csv.
+# each_call FAULTS REPLIES TASK ARGUMENT..: where a call fails the task writes nothing or one of these replies, and these faults
+# come, in this order. Then the disk is as it was, or, of a task that stores, holds the return of lines and returns.csv.
 each_call() {
     local wanted=$1 replies=$2 found=""
     each_failing FAIL before call_failed "${@:3}"
@@ -46,8 +46,9 @@ each_call() {
 
 call_failed() {
     local shown
+    shown=$(cat replies)
     same "the status of $* without call $number" 1 $status
-    [ ! -s replies ] || [[ "$replies" = *"$(cat replies)"* ]] || same "the reply of $* without call $number" "$replies" "$(cat replies)"
+    [ ! -s replies ] || [[ "$replies" = *"$shown"* ]] || same "the reply of $* without call $number" "$replies" "$shown"
     found+="$(head -n 1 faults)"$'\n'
     # (a reply may say it instead)
     [ -s replies ] && [ ! -s faults ] || same "the lines of the fault of $* without call $number" 2 "$(wc -l < faults)"

@@ -1,7 +1,7 @@
 # kill -9 at random moments.
 
-# killed TASK FROM SPAN: begins a task on the disk d and the lines, and kills it at a random moment of so many microseconds, which count
-# from its start or from its first answer. It writes to replies and faults.
+# killed TASK FROM SPAN: begins a task on the disk d and the lines, and kills it at a random moment of so many microseconds, which
+# count from its start or from its first answer. It writes to replies and faults.
 killed() {
     local pid end
     draw "$3"

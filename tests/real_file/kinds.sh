@@ -183,8 +183,9 @@ records_without_end() {
     cp d before
     ends 1 "" "refused csv" load d /dev/zero
     ends 1 "" "row 1: $(printf '%3000s' | tr ' ' '?') refused csv"$'\nrefused 1 of 1 records' dry_run d /dev/zero
-    ends 1 "" "refused csv" load d /dev/stdin < <(printf 'municipality,list,number,votes\n1,1,1,7\n1,2,1,"'; cat /dev/zero 2> /dev/null)
-    ends 1 "" .. dry_run d /dev/stdin < <(printf 'municipality,list,number,votes\n1,1,1,7\n1,2,1,"'; yes '' 2> /dev/null)
+    printf 'municipality,list,number,votes\n1,1,1,7\n1,2,1,"' > begun
+    ends 1 "" "refused csv" load d /dev/stdin < <(cat begun /dev/zero 2> none)
+    ends 1 "" .. dry_run d /dev/stdin < <(cat begun; yes '' 2> none)
     same "the last line of a dry run of a field without end" "refused 1 of 2 records" "$(tail -n 1 replies)"
     same_bytes d before
 }

@@ -17,8 +17,8 @@ new_disk() {
     ends 0 "" "" format "$1"
 }
 
-# says STATUS REMARK REPLIES COMMAND..: the command ends with this status, this text on standard error and these replies, or any if they
-# are '..'. It writes to replies and faults.
+# says STATUS REMARK REPLIES COMMAND..: the command ends with this status, this text on standard error and these replies, or any
+# if they are '..'. It writes to replies and faults.
 says() {
     "${@:4}" > replies 2> faults
     same "the status of ${*:4}" "$1" $?

@@ -17,7 +17,8 @@ readonly WORTH="sheet ok for these votes; that they were returned is not checked
 
 # Check: a sheet is checked, with the rows held and without
 checked_sheets() {
-    setup=$election/setup.toml ends 0 "" "$RIGHT"$'\n'"not checked: final, commands 81, desk 1"$'\n'"$WORTH" check_sheet "$election/sheet"
+    setup=$election/setup.toml ends 0 "" "$RIGHT"$'\n'"not checked: final, commands 81, desk 1"$'\n'"$WORTH" \
+        check_sheet "$election/sheet"
     sheet_and_rows
     ends 0 "" "$RIGHT"$'\n'"not checked: provisional, commands 9, desk 1"$'\n'"$WORTH" check_sheet sheet
     ends 0 "" .. check_sheet sheet --held held.csv
