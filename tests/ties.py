@@ -6,6 +6,8 @@ The matrices that may be drawn are those that have the totals and the greatest p
 found here by writing down every matrix. Which questions come to a tie of the search is asked of the C program of bench/.
 The lines that are printed stand in crates/zh_cases/data/ties.case.
 """
+import itertools
+import math
 import random
 import sys
 import tempfile
@@ -16,35 +18,20 @@ sys.path.insert(0, str(Path(__file__).resolve().parent.parent / "bench"))
 from asked import TIED, Asked, listed, question as question_of_c
 
 
-def rows_with(total, most):
-    """All rows with this sum and no more than so much in each column."""
-    if not most:
-        if total == 0:
-            yield ()
-        return
-    for seats in range(min(total, most[0]) + 1):
-        for rest in rows_with(total - seats, most[1:]):
-            yield (seats, *rest)
-
-
 def matrices(row_totals, column_totals):
     """All matrices with these totals, row by row."""
     if not row_totals:
         if not any(column_totals):
             yield ()
         return
-    for row in rows_with(row_totals[0], column_totals):
-        left = [total - seats for total, seats in zip(column_totals, row)]
-        for rest in matrices(row_totals[1:], left):
-            yield row + rest
+    for row in itertools.product(*(range(total + 1) for total in column_totals)):
+        if sum(row) == row_totals[0]:
+            for rest in matrices(row_totals[1:], [total - seats for total, seats in zip(column_totals, row)]):
+                yield row + rest
 
 
 def product(votes, seats):
-    value = Fraction(1)
-    for of_cell, number in zip(votes, seats):
-        for seat in range(1, number + 1):
-            value *= Fraction(of_cell, 2 * seat - 1)
-    return value
+    return math.prod(Fraction(of_cell, 2 * seat - 1) for of_cell, number in zip(votes, seats) for seat in range(1, number + 1))
 
 
 def drawn(row_totals, column_totals, votes):

@@ -88,6 +88,8 @@ class Bar(Case):
         few = changed(rows, "3,3,1,0\n", "")
         page = self.page.sheet(sheet, setup, few)
         self.bar_is("unsure", "! 1 of 9 returns is missing; right so far")
+        self.assertTrue(page.text("#proved p").startswith("It says that the sheet is right. "))
+        self.assertTrue(page.text("#proved pre").endswith("sheet ok for 8 of 9 rows: 1 returns are missing"))
         self.assertIn("! Returns opened: 8 of 9\n", page.text("#ticks"))
         self.assertEqual(page.texts("#why p")[:2], ["The missing returns can still change the seats.", "Missing: District 3: Group 3."])
         self.assertEqual(page.text("#parliament h2"), "The parliament so far: 8 of 9 returns")

@@ -65,9 +65,12 @@ class Limits(Case):
 
     def test_the_longest_sheet_and_rows(self):
         self.assertLess(len(LARGEST.sheet().encode()), LONGEST_SHEET)
-        for length, reason in ((LONGEST_SHEET, "something follows"), (LONGEST_SHEET + 1, "more than 280,064 bytes")):
+        for length, reason in ((LONGEST_SHEET, "something follows"), (LONGEST_SHEET + 1, "more than 280,064 bytes"),
+                               (4_000_000, "more than 280,064 bytes")):
             page = self.page.sheet(EXAMPLE + "x" * (length - len(EXAMPLE)))
             self.assertIn(reason, page.text(".fault .reason"))
+            self.bar_is("wrong", "✗ Wrong: this is no sheet")
+            self.assertEqual(page.text("#kind"), "NOT READABLE AS A SHEET")
         longest = sum(len(f"{m},{g},4294967295,1000000000\n") for m in range(1, 513) for g in range(1, 33)) + len(ROWS.split("\n")[0]) + 1
         self.assertEqual(longest + 32 * 512 + 1, LONGEST_ROWS)
         self.holds(EXAMPLE, EXAMPLE_SETUP, ROWS + "\n" * (LONGEST_ROWS - len(ROWS)))

@@ -4,7 +4,6 @@ import re
 import subprocess
 
 import browser
-import model
 import program
 import seals
 from case import EXAMPLE, EXAMPLE_SETUP, OTHERS, PATH, ROWS, WRONG, Case, changed
@@ -42,12 +41,6 @@ class Shown(Case):
                                   ("setup.toml", EXAMPLE_SETUP.replace("5000", "5001"), "mismatch")):
             page.choose((name, text))
             self.is_now(state, "no other seats follow from these votes" if state == "right" else "sheet wrong")
-
-    def test_returns_that_are_missing(self):
-        election = model.Election(10, [5000, 3000, 2000], [[525, 300, 175], [240, 330, 30], [90, 60, 0]])
-        self.shows("unsure", "It says that the sheet is right. ", election.sheet(), election.setup(),
-                   changed(election.held(), "3,3,1,0\n", ""))
-        self.is_now("unsure", "sheet ok for 8 of 9 rows: 1 returns are missing")
 
     def test_an_answer_that_comes_late_is_not_shown(self):
         page = self.page.open()

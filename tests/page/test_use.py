@@ -117,11 +117,6 @@ class Use(Case):
     def test_the_proved_check_is_named(self):
         self.assertIn("The proved check is that of the program, zhcount check", self.page.open().text("#opinion"))
 
-    def test_a_file_that_is_too_long(self):
-        page = self.page.sheet(EXAMPLE + "x" * 4_000_000)
-        self.assertEqual((page.text("#kind"), page.text("#verdict")), ("NOT READABLE AS A SHEET", "✗ Wrong: this is no sheet"))
-        self.assertIn("more than 280,064 bytes", page.text(".fault .reason"))
-
     def test_the_kind_stays_in_sight(self):
         page = self.holds(*LARGEST.files())
         page.run("window.scrollTo(0, document.body.scrollHeight)")
