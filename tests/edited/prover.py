@@ -11,8 +11,8 @@ import threading
 from pathlib import Path
 
 from edited.report import Report
+from edited.tree import PARTS
 
-PARTS = ("src", "specs", "proofs")
 # (so that a check that does not end is noticed)
 SECONDS = 45 * 60
 KILLED = -9

@@ -70,10 +70,14 @@ class Report:
             found = ["::".join(it) for it in found or [it for it in method if it[-2].startswith(function.of)]]
         return found + [it for it in self.verdicts if f"::fn::{function.name}::" in it]
 
+    def errors_of(self, names):
+        """What the proof files of these functions get wrong."""
+        folders = tuple(f"proofs/{'/'.join(it.split('::')[1:])}/" for it in names)
+        return [said for file, said in self.errors if file.startswith(folders)]
+
     def breaks_at_a_goal(self, names, spans):
         """Whether a goal of one of these functions is refused, and what was said: `spans` are a file and the lines from and to."""
-        folders = tuple(f"proofs/{'/'.join(it.split('::')[1:])}/" for it in names)
-        own = [said for file, said in self.errors if file.startswith(folders)] if folders else []
+        own = self.errors_of(names)
         gone = {kind_of(it) for said in own if GONE.search(said) for it in GONE_GOAL.findall(said)}
         answers = [said for said in own if not GONE.search(said)]
         opened = [(goals, said) for file, line, goals, said in self.open_goals for it in spans if it[0] == file and it[1] <= line <= it[2]]
@@ -87,5 +91,4 @@ class Report:
 
     def lacks_names(self, names):
         """Whether these functions are refused because names in proofs are gone."""
-        folders = tuple(f"proofs/{'/'.join(it.split('::')[1:])}/" for it in names)
-        return any(GONE.search(said) and file.startswith(folders) for file, said in self.errors) if folders else False
+        return any(GONE.search(said) for said in self.errors_of(names))

@@ -57,6 +57,7 @@ class Case(unittest.TestCase):
     language = "en-GB"
 
     def __init_subclass__(cls):
+        super().__init_subclass__()
         cls.pytestmark = pytest.mark.xdist_group(cls.__name__)
 
     @classmethod
