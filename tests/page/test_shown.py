@@ -21,15 +21,6 @@ class Shown(Case):
         self.assertTrue(page.text("#proved p").startswith(said), page.text("#proved"))
         return page
 
-    def test_right_and_wrong(self):
-        page = self.shows("right", "It says that the sheet is right. ", EXAMPLE, *OTHERS)
-        shown = page.one("#proved pre").get_property("textContent")
-        self.assertEqual((0, shown.encode()), program.answer(*utf8(EXAMPLE_SETUP, EXAMPLE, ROWS)))
-        self.assertEqual(page.text("#verdict"), "✓ Right")
-        page = self.shows("wrong", "It says that the sheet is wrong. ", WRONG, EXAMPLE_SETUP)
-        self.assertIn("rounds to 3", page.text("#proved pre"))
-        self.assertEqual(page.text("#verdict"), "✗ Wrong: 1 seat")
-
     def is_now(self, state, end):
         self.assertEqual(self.page.state(), state)
         self.assertTrue(self.page.text("#proved pre").endswith(end), self.page.text("#proved pre"))
