@@ -103,7 +103,7 @@ def checks(name):
         found = re.match(r"zhcount check ((?:--\w+ \S+ *)+)(?:->|$)", line)
         named = dict(re.findall(r"--(\w+) (\S+)", found[1])) if found else {}
         if {"setup", "sheet"} <= named.keys() and all(file in files for file in named.values()):
-            yield files[named["setup"]], files[named["sheet"]], files[named["held"]] if "held" in named else None
+            yield files[named["setup"]], files[named["sheet"]], files.get(named.get("held"))
 
 
 class Proved:
