@@ -56,16 +56,18 @@ class Marionette:
         return json.loads(self.stream.read(int(digits)))
 
     def execute(self, command, parameters):
-        """What the browser answers to a command. A script runs among those of the page."""
+        """What the browser answers to a command. A script, which has arguments, runs among those of the page."""
         self.number += 1
         name = COMMANDS.get(command, f"WebDriver:{command[0].upper()}{command[1:]}")
-        data = json.dumps([0, self.number, name, {**parameters, "newSandbox": False, "sandbox": None}]).encode()
+        given = {key: it for key, it in parameters.items() if key != "sessionId"}
+        given |= {"newSandbox": False, "sandbox": None} if "args" in given else {}
+        data = json.dumps([0, self.number, name, given]).encode()
         self.stream.write(b"%d:%s" % (len(data), data))
         self.stream.flush()
         _, _, error, result = self.message()
         if error:
             raise AssertionError(f"{name}: {error['error']}: {error['message']}")
-        return result
+        return result if isinstance(result, dict) else {"value": result}
 
     def close(self):
         self.stream.close()
