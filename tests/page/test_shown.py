@@ -8,7 +8,6 @@ import program
 import seals
 from case import EXAMPLE, EXAMPLE_SETUP, OTHERS, PATH, ROWS, WRONG, Case, changed
 from places import TOP
-from program import utf8
 
 TEXT = pathlib.Path(PATH).read_text()
 
