@@ -159,7 +159,7 @@ def test_many_changed(tree):
 
 def test_part_of_a_crate(tree, tmp_path):
     """Of a crate with more wrong bodies than are tried at once half are tried in each turn."""
-    tree.spoil(tmp_path / "tool", "tree.py", "MOST_OF_A_CRATE = 30", "MOST_OF_A_CRATE = 3")
+    tree.spoil(tmp_path / "tool", "tree.py", "MOST_OF_A_CRATE = 6", "MOST_OF_A_CRATE = 3")
     refused = tree.top / "crates/zh_low/out/refused"
     refused.unlink()
     tree.commit()

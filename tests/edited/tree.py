@@ -12,7 +12,7 @@ PARTS = ("src", "specs", "proofs")
 # A line of a comment: what is refused does not depend on it.
 COMMENT = re.compile(r"(?m)^[ \t]*(?://|--).*\n")
 # So many wrong bodies are tried of a crate that did not change.
-MOST_OF_A_CRATE = 30
+MOST_OF_A_CRATE = 6
 
 
 class Tree:
