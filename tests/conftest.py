@@ -1,13 +1,17 @@
 """What all tests share. `pytest tests` runs them all, but for `rt ci` and what is slow; -k and -m choose some (docs/CONTRIBUTING.md)."""
+import compileall
 import os
+import pathlib
 import re
 import shutil
 import signal
+import subprocess
 import sys
+import tempfile
 
 import pytest
 
-from places import PROGRAM
+from places import PROGRAM, TOP
 
 sys.dont_write_bytecode = True
 os.environ["PYTHONDONTWRITEBYTECODE"] = "1"  # of the scripts that are run
@@ -23,15 +27,25 @@ def pytest_xdist_auto_num_workers():
 
 
 def pytest_configure(config):
-    """A shell that starts the tests in the background has INT ignored; an office would be started so, and not hear it."""
-    if not hasattr(config, "workerinput"):  # a worker inherits it, and may not be in its main thread
-        signal.signal(signal.SIGINT, signal.default_int_handler)
+    """A shell that starts the tests in the background has INT ignored; an office would be started so, and not hear it. The scripts of
+    desks/ are tested in a copy, whose modules are compiled: a script starts in half the time."""
+    if hasattr(config, "workerinput"):  # a worker inherits both, and may not be in its main thread
+        return
+    signal.signal(signal.SIGINT, signal.default_int_handler)
+    if "DESKS" not in os.environ:
+        config.room = tempfile.TemporaryDirectory(prefix="zhcount-")
+        os.environ["DESKS"] = str(shutil.copytree(TOP / "desks", pathlib.Path(config.room.name, "desks")))
+        compileall.compile_dir(os.environ["DESKS"], quiet=1)
 
 
+@pytest.hookimpl(tryfirst=True)
 def pytest_collection_modifyitems(items):
-    """What takes minutes begins first, so that nothing waits for it at the end. Browsers come last, as they leave little to the processes
-    of an office that have the lowest priority."""
-    items.sort(key=lambda it: 0 if it.get_closest_marker("long") else 2 if re.search(r"tests/page/|\[page-", it.nodeid) else 1)
+    """What takes minutes begins first, so that nothing waits for it at the end. The page is tried beside the proofs, but for what needs the
+    program."""
+    items.sort(key=lambda it: not it.get_closest_marker("long"))
+    for it in items:
+        if re.search(r"tests/page/|\[page-", it.nodeid) and "program" not in it.fixturenames and not it.get_closest_marker("sources"):
+            it.add_marker(pytest.mark.beside)
 
 
 @pytest.fixture
@@ -47,3 +61,11 @@ def program():
     if not os.access(PROGRAM, os.X_OK):
         pytest.fail(f"there is no program {PROGRAM}: make build makes it")
     return PROGRAM
+
+
+@pytest.fixture(scope="session")
+def library(tmp_path_factory):
+    """What tests/refusing.py preloads."""
+    path = tmp_path_factory.mktemp("refuse") / "refuse.so"
+    subprocess.run(["cc", "-shared", "-fPIC", "-O1", "-o", path, TOP / "tests/refuse.c", "-ldl"], check=True)
+    return path

@@ -1,7 +1,7 @@
 /* Preloaded under a program, it refuses the allocation whose number is in REFUSE, or fails the call of a file whose number is in FAIL,
- * and then writes a byte to descriptor 3. Where WITHIN has the name of a file, those allocations count alone that are made while it is
- * open. And it takes as many bytes of the standard output as are in OUTPUT, of standard error as in ERRORS, and then fails each write
- * there. Descriptors up to 3 are no files. */
+ * and then makes the file REACHED. Where WITHIN has the name of a file, those allocations count alone that are made while it is open,
+ * each time from 1 on; of TURNS times one after the other, only at the one with the number TURN, from 0 on. And it takes as many bytes of
+ * the standard output as are in OUTPUT, of standard error as in ERRORS, and then fails each write there. Descriptors up to 2 are no files. */
 #define _GNU_SOURCE
 #include <dlfcn.h>
 #include <errno.h>
@@ -14,6 +14,8 @@
 #include <unistd.h>
 
 static int marked = -1;
+/* How many allocations are left up to the one that is refused; below 0, that is not known. */
+static long left_of_memory = -1;
 
 static long number(const char *name, long none) {
     const char *text = getenv(name);
@@ -23,18 +25,17 @@ static long number(const char *name, long none) {
 /* Whether this call is the one whose number a variable has; `left` counts those up to it. */
 static int is_the_one(const char *name, long *left) {
     if (*left < 0) *left = number(name, 0);
-    return *left > 0 && --*left == 0 && syscall(SYS_write, 3, "r", 1) == 1;
+    return *left > 0 && --*left == 0 && syscall(SYS_close, syscall(SYS_open, getenv("REACHED"), O_CREAT | O_WRONLY, 0600)) == 0;
 }
 
 static int is_refused(void) {
-    static long left = -1;
-    return (marked >= 0 || !getenv("WITHIN")) && is_the_one("REFUSE", &left);
+    return (marked >= 0 || !getenv("WITHIN")) && is_the_one("REFUSE", &left_of_memory);
 }
 
 /* Whether this call of a file is the one that fails. */
 static int fails(int file) {
     static long left = -1;
-    if (file <= 3 || !is_the_one("FAIL", &left)) return 0;
+    if (file <= 2 || !is_the_one("FAIL", &left)) return 0;
     errno = EIO;
     return 1;
 }
@@ -52,8 +53,12 @@ int open(const char *path, int flags, ...) {
     va_end(more);
     NEXT(open);
     const char *within = getenv("WITHIN");
-    int file = fails(4) ? -1 : next(path, flags, mode);
-    if (within && !strcmp(path, within)) marked = file;
+    int file = fails(3) ? -1 : next(path, flags, mode);
+    if (within && !strcmp(path, within)) {
+        static long times;
+        marked = file;
+        left_of_memory = times++ % number("TURNS", 1) == number("TURN", 0) ? -1 : 0;
+    }
     return file;
 }
 
@@ -75,7 +80,7 @@ void *realloc(void *old, size_t size) {
 
 int statx(int folder, const char *restrict path, int flags, unsigned int mask, struct statx *restrict found) {
     NEXT(statx);
-    return fails(folder == AT_FDCWD ? 4 : folder) ? -1 : next(folder, path, flags, mask, found);
+    return fails(folder == AT_FDCWD ? 3 : folder) ? -1 : next(folder, path, flags, mask, found);
 }
 
 /* A call of a file, which fails or is passed on. */

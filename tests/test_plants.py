@@ -8,14 +8,17 @@ tests/PART/plants, each in a file that is named after the mistake:
   says: what the test has to say of it; this line may be left out
 
 Where a mistake can't change what anybody sees, 'changes nothing:' and the reason stand in place of 'seen by:', and no test is run."""
+import collections
 import contextlib
 import glob
+import importlib
 import os
 import re
 import shutil
 import subprocess
 import sys
 import time
+import unittest
 
 import pytest
 
@@ -27,21 +30,32 @@ FIELDS = {"file", "seen by", "says", "changes nothing", "old", "new"}
 SEEN = re.compile(r"^FAILED .*? - (?:AssertionError|Failed|FileNotFoundError|PermissionError|BrokenPipeError|subprocess\.\w+): (.*)", re.MULTILINE)
 
 
-# What has the tests try the copy of a folder; a room is theirs.
+def ran(part, tests, top, environment):
+    """What pytest says of these tests of a part."""
+    words = [sys.executable, "-m", "pytest", "-n0", "-x", "-rf", "--tb=no", "-p", "no:cacheprovider", *(f"tests/{part}/{it}" for it in tests)]
+    environment = {name: str(it) for name, it in environment.items()} | {"CI": "has lines of any length"}
+    return subprocess.run(words, cwd=top, env=environment, stdout=subprocess.PIPE, stderr=subprocess.STDOUT, text=True)
 
 
-def of_desks(test, folder, _):
+# What a test of each part says that does not pass on the copy of a folder.
+
+
+def fault(done):
+    found = SEEN.search(done.stdout)
+    return found[1] if done.returncode == 1 and found else pytest.fail(f"it does not see it: {done.stdout[-2000:]}", pytrace=False)
+
+
+def of_desks(test, folder, room, request):
+    request.getfixturevalue("program")
     seconds = "60" if test.startswith("test_stops.py") else "15"  # a whole night, or what has to happen at once
-    return {"PATIENCE": seconds, **os.environ, "DESKS": folder}
+    return fault(ran("desks", [test], TOP, {"PATIENCE": seconds, **os.environ, "DESKS": folder}))
 
 
-def of_the_page(_, folder, room):
-    page = room / "index.html"
-    page.write_text(seals.SEAL.sealed(folder))
-    return {**os.environ, "PAGE": page}
+def of_the_operating_system(test, folder, room, _):
+    return fault(ran("real_file", [test], folder.parents[1], {**os.environ, "ZHCOUNT": compiled(folder, room)}))
 
 
-def of_the_operating_system(_, folder, room):
+def compiled(folder, room):
     """The program of the crates that `folder` stands among, compiled unproved. It goes with its first run, but for another name."""
     said, program = room / "said", room / "zhcount"
     (room / "try").mkdir()
@@ -53,14 +67,52 @@ def of_the_operating_system(_, folder, room):
                     os.link(it, program)
             time.sleep(0.01)
     assert program.exists(), f"it does not compile: {said.read_text()[-2000:]}"
-    return {**os.environ, "ZHCOUNT": program}
+    return program
 
 
-# The folder whose files are changed, the folder that is copied for it, and the environment of the tests.
+class Result(unittest.TestResult):
+    """What a test says first that fails, at which it ends."""
+
+    def __init__(self):
+        super().__init__()
+        self.failfast, self.said = True, None
+
+    def addFailure(self, test, fault):
+        super().addFailure(test, fault)
+        self.said = self.said or str(fault[1])
+
+    def addSubTest(self, test, subtest, fault):
+        super().addSubTest(test, subtest, fault)
+        self.said = self.said or fault and str(fault[1])
+
+
+@pytest.fixture(scope="session")
+def browsers():
+    """A browser for each language, which stays for all mistakes that a process tries, since it takes long to start."""
+    browser, started = importlib.import_module("browser"), {}
+    yield lambda language: started.get(language) or started.setdefault(language, browser.started(language))
+    for it in started.values():
+        it.quit()
+
+
+def of_the_page(test, folder, room, request):
+    page, browsers = room / "index.html", request.getfixturevalue("browsers")
+    page.write_text(seals.SEAL.sealed(folder))
+    file, name, method = test.split("::")
+    tested = getattr(importlib.import_module(file.removesuffix(".py")), name)
+    kind = type(name, (tested,), {"path": page, "started": browsers(tested.language), "tearDownClass": classmethod(lambda _: None)})
+    result = Result()
+    unittest.TestSuite([kind(method)]).run(result)
+    if result.errors or result.skipped or not result.said:
+        pytest.fail(f"it does not see it: {result.errors}", pytrace=False)
+    return result.said
+
+
+Part = collections.namedtuple("Part", "folder whole fault")  # the folder whose files are changed, and the one that is copied for it
 PARTS = {
-    "desks": ("desks", "desks", of_desks),
-    "page": ("page/parts", "page/parts", of_the_page),
-    "real_file": ("crates/zh_file", "", of_the_operating_system),
+    "desks": Part("desks", "desks", of_desks),
+    "page": Part("page/parts", "page/parts", of_the_page),
+    "real_file": Part("crates/zh_file", "", of_the_operating_system),
 }
 
 
@@ -84,10 +136,11 @@ def plant_in(path):
 
 
 def copied(part, room):
-    """A copy of what the plants of a part are about: its top, and the folder in it whose files they change."""
+    """A copy of what the plants of a part are about, and the folder in it whose files they change."""
     folder, whole, _ = PARTS[part]
-    shutil.copytree(TOP / whole, room / "copy" / whole, symlinks=True, ignore=shutil.ignore_patterns("out", ".git", "__pycache__"))
-    return room / "copy", room / "copy" / folder
+    source = os.environ["DESKS"] if part == "desks" else TOP / whole
+    shutil.copytree(source, room / "copy" / whole, symlinks=True, ignore=shutil.ignore_patterns("out", ".git"))
+    return room / "copy" / folder
 
 
 def put(plant, folder):
@@ -97,28 +150,15 @@ def put(plant, folder):
     path.write_text(text.replace(plant["old"], plant["new"]))
 
 
-def ran(part, tests, top, environment):
-    """What pytest says of these tests."""
-    words = [sys.executable, "-m", "pytest", "-n0", "-x", "-rf", "--tb=no", "-p", "no:cacheprovider", *(f"tests/{part}/{it}" for it in tests)]
-    environment = {name: str(it) for name, it in environment.items()} | {"CI": "has lines of any length"}
-    return subprocess.run(words, cwd=top, env=environment, stdout=subprocess.PIPE, stderr=subprocess.STDOUT, text=True)
-
-
 @pytest.mark.plants
 @pytest.mark.parametrize("part, path", plants())
 def test_mistake(part, path, tmp_path, request):
-    if part != "real_file":  # which compiles its own
-        request.getfixturevalue("program")
-    plant = plant_in(path)
-    copy, folder = copied(part, tmp_path)
+    plant, folder = plant_in(path), copied(part, tmp_path)
     put(plant, folder)
     if "changes nothing" in plant:
         pytest.skip(plant["changes nothing"].replace("\n", " "))
-    environment = PARTS[part][2](plant["seen by"], folder, tmp_path)
-    done = ran(part, [plant["seen by"]], copy if part == "real_file" else TOP, environment)
-    seen = SEEN.search(done.stdout)
-    if done.returncode != 1 or not seen or plant.get("says", "") not in seen[1]:
-        pytest.fail(f"{plant['seen by']} does not see it: {done.stdout[-2000:]}", pytrace=False)
+    says = PARTS[part].fault(plant["seen by"], folder, tmp_path, request)
+    assert plant.get("says", "") in says, plant["seen by"]
 
 
 @pytest.mark.plants
@@ -126,7 +166,7 @@ def test_mistake(part, path, tmp_path, request):
 @pytest.mark.xdist_group("rt try")
 def test_without_a_mistake(tmp_path):
     """What sees a mistake in the folder of the operating system passes where none is planted."""
-    copy, folder = copied("real_file", tmp_path)
+    folder = copied("real_file", tmp_path)
     checks = sorted({plant_in(it.values[1])["seen by"] for it in plants() if it.values[0] == "real_file"})
-    done = ran("real_file", checks, copy, of_the_operating_system("", folder, tmp_path))
+    done = ran("real_file", checks, folder.parents[1], {**os.environ, "ZHCOUNT": compiled(folder, tmp_path)})
     assert done.returncode == 0, done.stdout[-2000:]

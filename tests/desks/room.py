@@ -118,6 +118,11 @@ class Process:
             it.join(SECONDS)
         return status
 
+    def ends_with(self, status, who):
+        """It ends of itself, with this status; where it does not, what it said is said."""
+        found = self.wait()
+        same(f"the end of {who}: {self.said()}", status, found)
+
 
 class Desk(Process):
     """A desk that sends a line once the one before is answered."""
@@ -182,7 +187,7 @@ class Room:
         return self.ran(task, *words, **more).stdout
 
     def script(self, name, *words):
-        return [sys.executable, self.scripts / name, *words]
+        return [sys.executable, "-S", self.scripts / name, *words]  # no packages are looked for
 
     def traced(self, name, *words):
         """As `script`, of a script that notes its calls, which `calls` gives."""
@@ -258,7 +263,7 @@ class Room:
 
     def ends(self, status, *texts):
         """The office ends of itself, with this status, and has said this."""
-        same(f"the end of the office: {self.office.said()}", status, self.office.wait())
+        self.office.ends_with(status, "the office")
         self.office.says(*texts)
 
     def desk(self, number):

@@ -11,7 +11,7 @@ import pytest
 from now import NEVER, RETURNS, QuickRoom, compare, link_of, names_of_now
 from places import PROGRAM
 from room import Room, running, same, stays, that, until
-from watch import Stop, WatchedRoom, prepare
+from watch import Stop, WatchedRoom, made_library
 from witnessed import Witnessed
 
 # A run that spoils the first byte of the disk for as long as a line is in the air.
@@ -190,12 +190,16 @@ def test_killed_office():
 class StopInNow(Stop):
     """A stop of the office before its call of this number in `now`, while it shows two commands, one after the other."""
 
+    def __init__(self, preloaded, scripts, number):
+        super().__init__(preloaded, number)
+        self.scripts = scripts
+
     def counts(self, call):
         is_of_now = re.search(r"/office/now[^/]*(/.*)?$", call.path) and call.name != "look"
         return is_of_now and call.pid in self.room.pids  # and not of the child
 
     def run(self):
-        with WatchedRoom(self.place, self.before) as room:
+        with WatchedRoom(self.library, self.before, self.scripts) as room:
             self.room = room
             room.start(is_awaited=False)
             for number, line in enumerate(RETURNS[:2], 1):
@@ -221,11 +225,11 @@ class StopInNow(Stop):
 
 def test_stopped_office(new_room, tmp_path):
     """kill -9 of the office at each of its calls that make, change or remove something of `now`"""
-    place = prepare(tmp_path, new_room.scripts)
-    calls = StopInNow(place, 0).run().calls
+    watched = made_library(tmp_path), new_room.scripts
+    calls = StopInNow(*watched, 0).run().calls
     that(f"calls: {calls}", calls > 20)
     with concurrent.futures.ThreadPoolExecutor(5) as pool:
-        list(pool.map(lambda number: StopInNow(place, number).run(), range(1, calls + 1)))
+        list(pool.map(lambda number: StopInNow(*watched, number).run(), range(1, calls + 1)))
 
 
 def test_failed_disk():

@@ -13,7 +13,7 @@ import pytest
 
 from room import that
 from two_desks import Night
-from watch import CompiledRoom, Device, Stop, WatchedRoom, prepare, restore
+from watch import ApartRoom, Device, Stop, WatchedRoom, made_library, restore
 
 # Each has more processes than there are processors, so they come one after the other.
 pytestmark = [pytest.mark.long, pytest.mark.xdist_group("stops")]
@@ -49,8 +49,8 @@ def has_its_end(night, title):
 class StopOf(Stop):
     """A night with a stop of the office, or of a desk."""
 
-    def __init__(self, place, who, number):
-        super().__init__(place, number)
+    def __init__(self, preloaded, who, number):
+        super().__init__(preloaded, number)
         self.who = who
 
     def before(self, call):
@@ -61,7 +61,7 @@ class StopOf(Stop):
         return call.who == self.who and is_counted(self.night.room, call)
 
     def run(self):
-        with WatchedRoom(self.place, self.before) as room:
+        with WatchedRoom(self.library, self.before) as room:
             self.night = Night(room)
             has_its_end(self.night, lambda: f"{self.who} stopped before call {self.number}, {self.call}")
         return self
@@ -77,18 +77,18 @@ def each(jobs):
 @pytest.mark.parametrize("who", ["office", "desk 1"])
 def test_stopped(who, tmp_path):
     """kill -9 of the office, or of a desk, at each of its calls"""
-    place = prepare(tmp_path)
-    calls = StopOf(place, who, 0).run().calls
+    preloaded = made_library(tmp_path)
+    calls = StopOf(preloaded, who, 0).run().calls
     that(f"calls of {who}", calls > 20)
-    each([StopOf(place, who, number).run for number in range(1, calls + 1)])
+    each([StopOf(preloaded, who, number).run for number in range(1, calls + 1)])
 
 
 class Recorder:
     """A night in which nothing is stopped, with each power cut that there may be: what it leaves, how far the night is, its
     title, and what the desks were shown."""
 
-    def __init__(self, place):
-        self.place, self.cuts = place, {}
+    def __init__(self, preloaded):
+        self.library, self.cuts = preloaded, {}
 
     def before(self, call):
         night = self.night
@@ -101,19 +101,19 @@ class Recorder:
             self.device.sync(call.path)
 
     def run(self):
-        with WatchedRoom(self.place, self.before) as room:
+        with WatchedRoom(self.library, self.before) as room:
             self.path, self.device, self.night = room.path, Device(room.path), Night(room)
             has_its_end(self.night, lambda: "without a cut")
 
     def go_on_after(self, image, done, title, shown):
-        with CompiledRoom(self.place) as room:
+        with ApartRoom() as room:
             restore(image, room, self.path)
             has_its_end(Night(room, done, shown), lambda: title)
 
 
 def test_power_is_cut(tmp_path):
     """a power cut before each call of the office and of the desks"""
-    recorder = Recorder(prepare(tmp_path))
+    recorder = Recorder(made_library(tmp_path))
     recorder.run()
     that("cuts", len(recorder.cuts) > 50)
     each([functools.partial(recorder.go_on_after, *key[:2], *cut) for key, cut in recorder.cuts.items()])

@@ -1,6 +1,5 @@
 """A room whose processes ask before each call that changes something in it (watched.c), so that a test can stop them there, or see
 what a power cut at that moment would leave."""
-import compileall
 import contextlib
 import dataclasses
 import os
@@ -10,35 +9,29 @@ import signal
 import socket
 import stat
 import subprocess
-import sys
 import tempfile
 import threading
 
 from room import SCRIPTS, Desk, Room
 
 HERE = pathlib.Path(__file__).resolve().parent
-LIBRARY, COMPILED = "watched.so", "scripts"
 
 
-def prepare(place, scripts=SCRIPTS):
-    """Puts what is preloaded, and scripts, compiled, into a folder."""
-    subprocess.run(["cc", "-shared", "-fPIC", "-O1", "-o", place / LIBRARY, HERE / "watched.c", "-ldl"], check=True)
-    shutil.copytree(scripts, place / COMPILED)
-    compileall.compile_dir(place / COMPILED, quiet=1)
-    return place
+def made_library(place):
+    """Makes, in a folder, what is preloaded."""
+    path = place / "watched.so"
+    subprocess.run(["cc", "-shared", "-fPIC", "-O1", "-o", path, HERE / "watched.c", "-ldl"], check=True)
+    return path
 
 
-class CompiledRoom(Room):
-    """A room whose scripts start soon, as they are compiled and no packages are looked for. The disk has a folder of its own."""
+class ApartRoom(Room):
+    """A room whose disk has a folder of its own."""
 
-    def __init__(self, place):
+    def __init__(self):
         super().__init__()
-        self.scripts, made, self.disk = place / COMPILED, self.disk, self.path / "disks/night.disk"
+        made, self.disk = self.disk, self.path / "disks/night.disk"
         self.disk.parent.mkdir()
         made.rename(self.disk)
-
-    def script(self, name, *words):
-        return [sys.executable, "-S", self.scripts / name, *words]
 
 
 @dataclasses.dataclass(frozen=True)
@@ -54,12 +47,12 @@ class Call:
         return os.path.basename(self.path)
 
 
-class WatchedRoom(CompiledRoom):
+class WatchedRoom(ApartRoom):
     """A room whose office and desks are watched: `before` hears of each call, while the process waits, unless that kills it."""
 
-    def __init__(self, place, before):
-        super().__init__(place)
-        self.before, self.library, self.pids, self.starting = before, place / LIBRARY, set(), threading.Lock()
+    def __init__(self, library, before, scripts=SCRIPTS):
+        super().__init__()
+        self.scripts, self.before, self.library, self.pids, self.starting = scripts, before, library, set(), threading.Lock()
         self.beside = tempfile.TemporaryDirectory(prefix="watch-")
         self.socket = socket.socket(socket.AF_UNIX)
         self.socket.bind(f"{self.beside.name}/socket")
@@ -94,8 +87,8 @@ class WatchedRoom(CompiledRoom):
 class Stop:
     """A stop (kill -9) before the call of this number, of those that count; where it is 0, none."""
 
-    def __init__(self, place, number):
-        self.place, self.number, self.calls, self.call = place, number, 0, None
+    def __init__(self, library, number):
+        self.library, self.number, self.calls, self.call = library, number, 0, None
 
     def before(self, call):
         if self.counts(call):

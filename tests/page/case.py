@@ -1,5 +1,4 @@
-"""What the tests of the page share. PAGE in the environment names another page to test."""
-import os
+"""What the tests of the page share."""
 import unittest
 
 import pytest
@@ -8,7 +7,6 @@ import browser
 import model
 import sheets
 
-PATH = os.environ.get("PAGE", browser.PAGE)
 EXAMPLE = """\
 1 sheet provisional 9
 house 10
@@ -55,6 +53,8 @@ WRONG_KEY = changed(sheets.ZURICH.sheet, "seats key 38000/38", "seats key 38000/
 class Case(unittest.TestCase):
     """Tests with one browser for a whole class, which is one process's therefore."""
     language = "en-GB"
+    path = browser.PAGE  # of the page that is tested
+    started = None  # a browser that is there already
 
     def __init_subclass__(cls):
         super().__init_subclass__()
@@ -62,8 +62,8 @@ class Case(unittest.TestCase):
 
     @classmethod
     def setUpClass(cls):
-        cls.driver = browser.started(cls.language)
-        cls.page = browser.Page(cls.driver, PATH)
+        cls.driver = cls.started or browser.started(cls.language)
+        cls.page = browser.Page(cls.driver, cls.path)
 
     @classmethod
     def tearDownClass(cls):

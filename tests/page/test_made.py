@@ -6,10 +6,22 @@ import pytest
 from places import TOP
 
 
-@pytest.mark.parametrize("command", [
-    pytest.param("page/seal --check", marks=pytest.mark.sources), pytest.param("page/seal --check-sources", marks=pytest.mark.sources),
-    "page/seal --check-module", "scripts/card",
-])
-def test_made(command):
+def passes(command):
     ran = subprocess.run(command.split(), cwd=TOP, stdin=subprocess.DEVNULL, stdout=subprocess.PIPE, stderr=subprocess.STDOUT, text=True)
     assert ran.returncode == 0, ran.stdout
+
+
+@pytest.mark.sources
+@pytest.mark.parametrize("what", ["--check", "--check-sources"])
+def test_page(what):
+    passes(f"page/seal {what}")
+
+
+@pytest.mark.long
+def test_module(program):
+    """It is made anew, over the libraries that stand below the program."""
+    passes("page/seal --check-module")
+
+
+def test_card():
+    passes("scripts/card")

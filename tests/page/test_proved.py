@@ -4,15 +4,19 @@ import base64
 import random
 import re
 
+import pytest
+
 import browser
 import firefox
 import model
 import program
 import sheets
-from case import EXAMPLE, EXAMPLE_SETUP, LARGEST, OTHERS, PATH, ROWS, WRONG, Case
+from case import EXAMPLE, EXAMPLE_SETUP, LARGEST, OTHERS, ROWS, WRONG, Case
 from cases import turns
 from places import CASES
 from program import utf8
+
+pytestmark = [pytest.mark.long, pytest.mark.usefixtures("program")]
 
 CHECKED = ("checked_lines.case", "checked_numbers.case", "program_checks.case")
 # Of so many cases one is asked in a worker of its own too, as the page asks.
@@ -157,9 +161,23 @@ class Chromium(Proved, Compared, Case):
                   (["1 sheet " + "9" * 270_000], *OTHERS))
         self.same_answers([(EXAMPLE_SETUP.encode(), EXAMPLE.encode().replace(b"Mitte", b"Mitt\xe9"), None)])
 
+    def test_the_verdict_is_saved(self):
+        sheet = EXAMPLE.encode().replace(b"Mitte", b"Mitt\xe9")
+        page = self.page.sheet(sheet, EXAMPLE_SETUP)
+        page.run("""
+            const first = URL.createObjectURL;
+            URL.createObjectURL = (blob) => {
+              blob.arrayBuffer().then((it) => { window.saved = Array.from(new Uint8Array(it)); });
+              return first(blob);
+            };
+        """)
+        page.click("#save")
+        page.wait("return window.saved !== undefined")
+        self.assertEqual(bytes(page.run("return window.saved")), program.answer(EXAMPLE_SETUP.encode(), sheet)[1])
+
 
 class Firefox(Proved, Case):
     @classmethod
     def setUpClass(cls):
         cls.driver = firefox.started()
-        cls.page = browser.Page(cls.driver, PATH)
+        cls.page = browser.Page(cls.driver, cls.path)

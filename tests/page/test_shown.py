@@ -4,12 +4,9 @@ import re
 import subprocess
 
 import browser
-import program
 import seals
-from case import EXAMPLE, EXAMPLE_SETUP, OTHERS, PATH, ROWS, WRONG, Case, changed
+from case import EXAMPLE, EXAMPLE_SETUP, OTHERS, ROWS, WRONG, Case, changed
 from places import TOP
-
-TEXT = pathlib.Path(PATH).read_text()
 
 
 class Shown(Case):
@@ -72,20 +69,6 @@ class Shown(Case):
             self.page.sheet(sheet, *OTHERS, before=f"asked = async () => ({{ status: {status}, text: new Uint8Array(3) }})")
             self.bar_is("wrong", "✗ The two checks differ")
 
-    def test_the_verdict_is_saved(self):
-        sheet = EXAMPLE.encode().replace(b"Mitte", b"Mitt\xe9")
-        page = self.page.sheet(sheet, EXAMPLE_SETUP)
-        page.run("""
-            const first = URL.createObjectURL;
-            URL.createObjectURL = (blob) => {
-              blob.arrayBuffer().then((it) => { window.saved = Array.from(new Uint8Array(it)); });
-              return first(blob);
-            };
-        """)
-        page.click("#save")
-        page.wait("return window.saved !== undefined")
-        self.assertEqual(bytes(page.run("return window.saved")), program.answer(EXAMPLE_SETUP.encode(), sheet)[1])
-
     def test_which_page_this_is(self):
         """Its foot says of which version it is, and how that is found out: by a command, with the sum in README. It shows no sum itself."""
         foot = self.page.open().text("#which")
@@ -134,19 +117,19 @@ class Failing(Case):
         return browser.Page(self.driver, path)
 
     def test_the_module_is_taken_out(self):
-        self.fails_with("its module is missing from this page", self.another(seals.with_module(TEXT, b"")))
+        self.fails_with("its module is missing from this page", self.another(seals.with_module(self.path.read_text(), b"")))
 
     def test_the_module_is_cut_or_another(self):
-        module = seals.SEAL.module_in(pathlib.Path(PATH))
+        module = seals.SEAL.module_in(self.path)
         for other in (module[:-1], module[:1000], b"\0asm\1\0\0\0", b"no module"):
             with self.subTest(len(other)):
-                self.fails_with(".", self.another(seals.with_module(TEXT, other)))
+                self.fails_with(".", self.another(seals.with_module(self.path.read_text(), other)))
 
     def test_the_browser_has_no_webassembly(self):
         self.fails_with("this browser has no WebAssembly", before="delete window.WebAssembly")
 
     def test_the_policy_forbids_it(self):
-        self.fails_with(".", self.another(changed(TEXT, " 'wasm-unsafe-eval'", "")))
+        self.fails_with(".", self.another(changed(self.path.read_text(), " 'wasm-unsafe-eval'", "")))
 
     def test_memory(self):
         for asked in ("({ status: 4, text: new Uint8Array(0) })", "{ throw new RangeError('memory'); }"):
@@ -165,7 +148,7 @@ class Failing(Case):
         self.assertIn("the returns are too long", page.text("#proved"))
 
     def test_without_a_worker_it_runs_in_the_page(self):
-        self.another(changed(TEXT, "worker-src blob:", "worker-src 'none'")).sheet(EXAMPLE, *OTHERS)
+        self.another(changed(self.path.read_text(), "worker-src blob:", "worker-src 'none'")).sheet(EXAMPLE, *OTHERS)
         self.bar_is("right", "✓ Right")
         page = self.page.sheet(WRONG, EXAMPLE_SETUP, before="Worker = class { constructor() { throw new Error('none'); } }")
         self.assertEqual(page.state(), "wrong")

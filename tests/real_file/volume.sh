@@ -93,22 +93,6 @@ small_volume() {
     umount volume
 }
 
-# Check: each call of a file failing under format: the file is empty, or has its space
-failed_fills() {
-    local number=0 length emptied=0
-    while number=$((number + 1)); do
-        rm -f d d-wal
-        failing FAIL $number "$program" format --setup "$setup" --disk d
-        [ -s reached ] || break
-        length=$(stat -c %s d 2> /dev/null || echo none)
-        if [ "$length" = 0 ]; then emptied=$((emptied + 1)); elif [ "$length" != none ]; then has_its_space d; fi
-        format d > replies 2> faults || same "what a format says after call $number" $'zhcount: disk inuse\nd' "$(cat faults)"
-        has_its_space d
-    done
-    that "empty files were left" "emptied > 100"
-    note="$((number - 1)) calls, $emptied of them left an empty file"
-}
-
 # What a format left that did not end is taken by the next one.
 new_disk_over() {
     ends 0 "" "" format "$1"

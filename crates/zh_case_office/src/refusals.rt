@@ -1,4 +1,4 @@
-//! Turns while memory may be refused. tests/test_refused.py refuses it, one allocation in each run.
+//! Turns while memory may be refused. tests/test_refused.py refuses it, one allocation of a turn in each run.
 
 use crate::fixture::Fixture;
 use crate::turn::{act, see};

@@ -1,0 +1,191 @@
+"""Tasks of the program on real files, where each allocation is refused, each call of a file fails, or output and standard error are closed at
+each byte, in turn (tests/refuse.c)."""
+import itertools
+import os
+import re
+import subprocess
+
+import pytest
+
+from places import PROGRAM, REHEARSAL
+from refusing import Preloaded
+
+VOTES = {(1, 1): 525, (1, 2): 300, (1, 3): 175, (2, 1): 240, (2, 2): 330, (2, 3): 30, (3, 1): 90, (3, 2): 60, (3, 3): 50}
+HEAD = "municipality,list,number,votes\n"
+LENGTH = 1118720  # of a disk (docs/FORMATS.md)
+FORMAT, DISK = "format --disk kinds/d", "--disk kinds/d"
+OPENED = ["setup file", "disk device"]  # the faults of the files that are opened first
+NO_MEMORY = "zhcount: memory\n"
+REMARK = "zhcount: rehearsal, nothing is kept\n"
+
+
+class Folder(Preloaded):
+    """A folder with a disk, `kinds/d`, and the sheet and the rows of its returns. `before` are the disk's bytes; None: it is not there."""
+
+    def __init__(self, library, room):
+        super().__init__(library, room)
+        self.disk, self.before = room / "kinds/d", None
+        self.clear()
+        self.task(FORMAT)
+        returns = "".join(f"1 return {municipality} {group} 1 {votes}\n" for (municipality, group), votes in VOTES.items())
+        lines = self.task(f"run {DISK}", returns + "1 sheet\n").splitlines(keepends=True)[len(VOTES):]
+        assert len(lines) == 20
+        self.write("sheet", *lines)
+        self.write("held.csv", self.task(f"export {DISK}"))
+        self.before = self.disk.read_bytes()
+
+    def write(self, name, *texts):
+        (self.room / name).write_text("".join(texts))
+
+    def task(self, task, given=""):
+        """What a task says, which ends well."""
+        ran = self.ran(task, given)
+        assert (ran.returncode, ran.stderr) == (0, ""), f"{task}: {ran}"
+        return ran.stdout
+
+    def ran(self, task, given=""):
+        return subprocess.run([PROGRAM, *task.split(), "--setup", REHEARSAL], cwd=self.room, input=given, capture_output=True, text=True)
+
+    def failing(self, task, given=os.devnull, **fails):
+        return self.run(PROGRAM, *task.split(), "--setup", REHEARSAL, given=given, **fails)
+
+    def clear(self):
+        """Leaves nothing but the disk."""
+        self.disk.parent.mkdir(exist_ok=True)
+        for it in self.disk.parent.iterdir():
+            it.unlink()
+        if self.before:
+            self.disk.write_bytes(self.before)
+
+    def each_failing(self, what, task):
+        """The runs of a task in which a call (FAIL) or an allocation (REFUSE) fails, but those that do without it: they say what one does in
+        which none fails."""
+        self.clear()
+        whole = self.failing(task, "lines")
+        assert whole.status == 0
+        for number in itertools.count(1):
+            self.clear()
+            it = self.failing(task, "lines", **{what: number})
+            if not it.is_reached:
+                break
+            if it.status == 0:
+                assert it[:3] == whole[:3], f"without {what} {number}"
+            else:
+                yield number, it
+        assert number > 1
+
+    def is_as_before(self):
+        return self.disk.read_bytes() == self.before
+
+    def has_its_space(self):
+        """Whether the file has the length of a disk, and blocks for all of it."""
+        found = self.disk.stat()
+        return found.st_size == LENGTH <= found.st_blocks * 512
+
+    def takes_a_new_disk(self):
+        """What a format left that did not end is taken by the next one."""
+        self.task(FORMAT)
+        return self.task(f"run {DISK}", "1 show 1 1\n1 return 1 1 1 7\n") == "1 none\n1 stored 1\n"
+
+
+@pytest.fixture
+def folder(library, program, tmp_path):
+    return Folder(library, tmp_path)
+
+
+@pytest.mark.parametrize("task", [
+    FORMAT, f"run {DISK}", f"export {DISK}", f"load {DISK} --csv returns.csv", f"load {DISK} --csv returns.csv --dry-run",
+    f"status {DISK} --missing", f"status {DISK} --implausible", f"seats {DISK} --table", "seats --sheet sheet",
+    "check --sheet sheet --held held.csv", "list --of constituencies", "list --of returns --municipality 2",
+])
+def test_allocation_is_refused(task, folder):
+    """The fault is memory, and the disk is untouched."""
+    folder.write("lines", "1 show 1 1\n")
+    folder.write("returns.csv", HEAD, "1,1,2,14\n2,2,2,15\n")
+    # there is no room for the rows of a file, nor for a search
+    faults = [NO_MEMORY, {"load": "refused memory\n", "seats": "zhcount: refused memory\n"}.get(task.split()[0])]
+    if task == FORMAT:
+        folder.before = None
+    for number, it in folder.each_failing("REFUSE", task):
+        assert it.status == 1 and it.out + it.said in faults, f"without allocation {number}: {it}"
+        assert folder.is_as_before() if folder.before else folder.takes_a_new_disk(), f"the disk without allocation {number}"
+
+
+def test_allocation_is_refused_to_a_rehearsal(folder):
+    """Its disk is in memory, so that a refused allocation may be a fault of the disk."""
+    folder.write("lines", "1 return 1 1 1 525\n1 show 1 1\n")
+    ends = {(1, "", NO_MEMORY), (1, "", REMARK + NO_MEMORY), (1, "", f"{REMARK}zhcount: disk device\n"),
+            (1, "1 refused device\n1 refused reopen-disk\n", f"{REMARK}zhcount: disk device\n")}
+    whole = (0, "1 stored 1\n1 shows 1 525\n", REMARK)
+    refused = 0
+    for number in itertools.count(1):
+        it = folder.run(PROGRAM, given="lines", REFUSE=number)
+        assert it[:3] == whole or it.is_reached and it[:3] in ends, f"without allocation {number}: {it}"
+        refused += it.status
+        if not it.is_reached:
+            break
+    assert refused
+
+
+@pytest.mark.parametrize("task, faults, replies", [
+    (f"run {DISK}", OPENED, ["1 refused device\n"]),
+    (f"load {DISK} --csv returns.csv", [*OPENED, "csv file", "disk device"], ["refused csv\n", "refused device\n"]),
+    (f"export {DISK}", OPENED, []), (f"status {DISK}", OPENED, []), (f"seats {DISK}", OPENED, []),
+    (f"load {DISK} --csv returns.csv --dry-run", [*OPENED, "csv file"], []),
+    ("seats --sheet sheet", ["setup file", "sheet file"], []), ("check --sheet sheet", ["setup file", "sheet file"], []),
+    ("check --sheet sheet --held held.csv", ["setup file", "sheet file", "held file"], []), ("list --of returns", ["setup file"], []),
+])
+def test_call_fails(task, faults, replies, folder):
+    """The task says nothing, or one of these replies, and these faults come, in this order. Then the disk is as it was, or, of a task that
+    stores, holds the return."""
+    folder.write("lines", "1 return 1 1 2 530\n")
+    folder.write("returns.csv", HEAD, "1,1,2,530\n")
+    found = []
+    for number, it in folder.each_failing("FAIL", task):
+        said = it.said.splitlines()
+        found += said[:1]
+        assert it.status == 1 and it.out in ("", *replies), f"without call {number}: {it}"
+        # (a reply may say it instead)
+        assert len(said) == 2 or it.out and not said, f"without call {number}: {it}"
+        assert not re.search(": (there is|is a)", it.said), f"a call that failed is no missing file, nor a folder: {it}"
+        if replies:
+            assert folder.task(f"run {DISK}", "1 show 1 1\n") in ("1 shows 1 525\n", "1 shows 2 530\n"), f"after {number} calls"
+        else:
+            assert folder.is_as_before(), f"the disk without call {number}"
+    assert [it.removeprefix("zhcount: ") for it, _ in itertools.groupby(found)] == faults
+
+
+def test_call_of_a_format_fails(folder):
+    """The file is empty, or has its space."""
+    folder.before, emptied = None, 0
+    for number in itertools.count(1):
+        folder.clear()
+        if not folder.failing(FORMAT, FAIL=number).is_reached:
+            break
+        if folder.disk.exists():
+            is_empty = folder.disk.stat().st_size == 0
+            emptied += is_empty
+            assert is_empty or folder.has_its_space(), f"after call {number}"
+        again = folder.ran(FORMAT)
+        assert (again.returncode, again.stderr) in ((0, ""), (1, "zhcount: disk inuse\nkinds/d\n")), f"a format after call {number}"
+        assert folder.has_its_space(), f"after call {number}, and a format"
+    assert emptied > 100
+
+
+@pytest.mark.parametrize("task, status", [
+    (f"export {DISK}", 0), (f"status {DISK} --constituencies", 0), (f"seats {DISK} --table", 0), ("seats --sheet sheet", 0),
+    (f"seats {DISK} --final", 1), ("seats --sheet wrong", 1), ("check --sheet sheet --held held.csv", 0), ("check --sheet wrong", 1),
+    (f"load {DISK} --csv refused.csv --dry-run", 1), (f"load {DISK} --csv refused.csv", 1), (f"load {DISK} --csv held.csv", 0),
+    ("list --of returns --municipality 2", 0),
+])
+def test_stream_is_closed(task, status, folder):
+    """Of the output a front comes, and the fault is write. Standard error changes neither output nor status."""
+    folder.write("refused.csv", HEAD, "1,1,1,14\n")
+    folder.write("wrong", (folder.room / "sheet").read_text().replace("\nhouse 10\n", "\nhouse 11\n"))
+    whole = folder.failing(task)
+    assert whole.status == status and whole.out + whole.said
+    for length in range(len(whole.out)):
+        assert folder.failing(task, OUTPUT=length)[:3] == (1, whole.out[:length], "zhcount: write\n")
+    for length in range(len(whole.said)):
+        assert folder.failing(task, ERRORS=length)[:3] == (status, whole.out, whole.said[:length])
+    assert folder.is_as_before()
