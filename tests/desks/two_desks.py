@@ -134,7 +134,7 @@ class Night:
             answer = process.answer(line, self.look_after_office)
         if answer == HAS_ENDED:
             del self.desks[desk]
-            same(f"the end of desk {desk}: {process.said()}", -signal.SIGKILL, process.wait())
+            process.ends_with(-signal.SIGKILL, f"desk {desk}")
             return None
         return answer
 
