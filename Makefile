@@ -1,22 +1,26 @@
 # Short names for the repository's commands. `make` lists them.
-.PHONY: help run build example night test test-needs proofs page test-page card install uninstall dist check quick cases refused wrong-bodies folder-bodies desks desk-bodies documents shape \
+.PHONY: help run build example night test test-needs proofs page test-page card install uninstall dist check quick cases refused wrong-bodies folder-bodies desks desk-bodies documents shape lint \
 	bench fmt
 
 PREFIX = /usr/local
+# The Python that has pytest: that of Debian, unless another is named.
+PYTHON ?= /usr/bin/python3
+export PYTHON
+.NOTPARALLEL:
 # pytest, with what the part desks or page needs, or no part (all).
-pytest = scripts/test-needs --check $(1) && /usr/bin/python3 -m pytest -v
+pytest = scripts/test-needs --check $(1) && "$(PYTHON)" -m pytest -v
 
 help:
 	@cat scripts/help
 
 run:
-	@program=$$(scripts/program) && exec $$program
+	@program=$$(scripts/program) && exec "$$program"
 
 build:
 	@scripts/build
 
 example:
-	@program=$$(scripts/program) && examples/zurich2006/run $$program
+	@program=$$(scripts/program) && examples/zurich2006/run "$$program"
 
 night:
 	@examples/canton/run $(SEED)
@@ -28,7 +32,8 @@ test-needs:
 	@scripts/test-needs
 
 proofs:
-	@scripts/test --ignore tests/page --deselect "tests/test_plants.py::test_mistake[page-"
+	@scripts/test --ignore tests/page --deselect "tests/test_plants.py::test_mistake[page-" \
+	--deselect "tests/test_plants.py::test_without_a_mistake[page-"
 
 page:
 	@page/seal
@@ -56,8 +61,8 @@ quick:
 
 cases:
 	@cd crates/zh_cases && rt run > /dev/null
-	@folder=$$(mktemp -d) && cp crates/zh_cases/data/* $$folder && cd $$folder && \
-	$(CURDIR)/crates/zh_cases/out/zh_cases $(CASES); status=$$?; rm -r $$folder; exit $$status
+	@folder=$$(mktemp -d) && cp crates/zh_cases/data/* "$$folder" && cd "$$folder" && \
+	"$(CURDIR)/crates/zh_cases/out/zh_cases" $(CASES); status=$$?; rm -r "$$folder"; exit $$status
 
 refused:
 	@$(call pytest,all) tests/test_refused.py
@@ -75,13 +80,16 @@ folder-bodies:
 	@$(call pytest,all) tests -m plants -k "without_a_mistake or real_file- $(if $(BODIES),and ($(BODIES)))"
 
 documents:
-	@python3 tests/pages run
+	@"$(PYTHON)" tests/pages run
 
 shape:
-	@python3 tests/pages check
+	@"$(PYTHON)" tests/pages check
+
+lint:
+	@scripts/lint
 
 bench:
 	@bench/run
 
 fmt:
-	for crate in crates/*; do (cd $$crate && rt fmt); done
+	for crate in crates/*/; do (cd $$crate && rt fmt); done

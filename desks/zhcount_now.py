@@ -1,160 +1,232 @@
-"""What zhcount-office puts into its folder for the chancellery while it runs: the newest sheets; and `now`, a link to what follows from
-the newest copy of the disk. That is copied between two answers, where no call is in the air, and a child writes the rest
-(zhcount_views.py)."""
+"""What zhcount-office puts into its folder for the chancellery while it runs: the newest sheets; and copies of the disk, each made between
+two answers, where no call is in the air, with the lines that were answered by then. A child of its own (`main`) writes into the folder of a
+copy what follows from it and from these lines, and lets the link `now` lead there. In `publish` is what may be published as it is, final or
+not: the votes, the seats as tables and as a sheet, and what checks them; nothing of it names a desk or a person."""
 import contextlib
+import csv
+import glob
+import io
 import os
 import re
-import select
 import shutil
 import signal
 import subprocess
 import sys
 import time
+from typing import Any, Callable, Dict, Iterable, Iterator
 
-from zhcount_desks import DESKS, SHEET
-from zhcount_folder import READERS
-from zhcount_office import say
+sys.dont_write_bytecode = True
+from zhcount_log import SHEET, Event, Log, Stopped
+from zhcount_names import Names
+from zhcount_program import Disk, Program, content, plain, put, room_in_memory
+from zhcount_state import State, rows_of
+from zhcount_stream import say
+from zhcount_tables import differing
 
 EVERY = 10  # seconds from one copy to the next, at least
 LONGEST = 60  # seconds that a child may take
-NAMES = r"now(-\d+|\.new|\.link)?"
-VIEWS = os.path.join(os.path.dirname(os.path.realpath(__file__)), "zhcount_views.py")
+PRIORITY = 19  # of a child: desks come first
+TABLES = ("held.csv", "votes.csv", "vote-groups.csv", "seats.csv", "seat-groups.csv", "seat-constituencies.csv", "no-seats")
+HERE = os.path.dirname(os.path.realpath(__file__))
+# The page that checks a sheet, where it is installed or among the sources; nothing where it is not there.
+PAGE = next(filter(os.path.exists, (os.path.join(HERE, it, "index.html") for it in (".", "../page"))), "")
 
 
 class Now:
     """The copies of the disk, one at a time."""
 
-    def __init__(self, folder, disk):
-        self.folder, self.disk = folder, disk
-        self.is_due, self.not_before = False, 0.0
-        self.child, self.commands, self.deadline, self.said = None, 0, 0.0, b""
-        self.fault = ""  # of the last copy, which is said once
+    def __init__(self, log: Log, disk: Disk, program: Program, totals: str):
+        self.log, self.disk, self.program, self.totals = log, disk, program, totals
+        self.lines, self.state = io.StringIO(), State()  # lines.csv, and what follows from the events up to its last one
+        self.writer = csv.writer(self.lines, lineterminator="\n")
+        self.lines.write("number,at,start,desk,turn,line,answer,answered_at\n")
+        self.child: Any = None
+        self.at, self.priority = float("-inf"), PRIORITY  # when the last copy was made; of its child
+        self.shown = ""  # the copy that `now` leads to
 
-    def begin(self):
-        """Removes what another start has left; the first copy is due."""
-        self.remove_all_but(NAMES)
-        self.is_due = True
+    def begin(self) -> None:
+        """Removes the copies that another start has left, and says what no copy can have."""
+        self.clear()
+        if not PAGE:
+            say("the page that checks a sheet is not installed: `now/publish` goes without it")
 
-    def take(self, record):
-        """Takes notice of an answer that was shown: a sheet is kept; a command, or what says the same and so may confirm one, is to be
-        seen."""
-        if re.match("stored|same", record.answer):
-            self.is_due = True
-        elif SHEET.match(record.answer):
+    def clear(self) -> None:
+        """Removes each copy that is not shown."""
+        for path in glob.glob(f"{glob.escape(self.log.path)}/now-[0-9]*"):
+            if path != self.shown:
+                shutil.rmtree(path, ignore_errors=True)
+
+    def take(self, line: Event, answer: str) -> None:
+        """Keeps a sheet that was shown, in place of the last one of its kind."""
+        if SHEET.match(answer):
+            kind = "sheet-final-" if answer.startswith("sheet final") else "sheet-"
+            new = os.path.join(self.log.path, f"{kind}{self.log.state.commands}")
             try:
-                self.keep_sheet(record)
+                put(new, f"{line.desk} {answer}\n".encode())
+                for path in set(glob.glob(f"{glob.escape(self.log.path)}/{kind}[0-9]*")) - {new}:
+                    os.unlink(path)
             except OSError as it:
                 say(f"a sheet is not put into the folder: {it}")
 
-    def descriptors(self):
-        return [self.child.stderr.fileno()] if self.child else []
+    def last(self) -> str:
+        """The path of a copy that is made now."""
+        return os.path.join(self.log.path, f"now-{self.log.state.commands}-{self.log.state.number}")
 
-    def is_copy_due(self):
-        return self.is_due and not self.child and time.monotonic() >= self.not_before
+    def seconds(self) -> float:
+        """How long the office may wait for something else."""
+        return 1 if self.child else float("inf") if self.shown == self.last() else self.at + EVERY - time.monotonic()
 
-    def seconds(self, waiting=()):
-        """How long the office may wait for something else; None where nothing is due, or a copy has to wait for the witness."""
-        if not self.child and (waiting or not self.is_due):
-            return None
-        return max(0, (self.deadline if self.child else self.not_before) - time.monotonic())
-
-    def look(self, commands, waiting=()):
-        """Looks after the child, and copies the disk where that is due. The office calls it between two answers alone; what was not
-        shown, since it waits for the witness, is not copied."""
+    def look(self) -> None:
+        """Looks after the child, or copies the disk where that is due. The office calls it between two answers alone."""
         try:
-            if self.child:
-                self.look_after_child()
-            if self.is_copy_due() and not waiting:
-                self.is_due, self.not_before = False, time.monotonic() + EVERY
-                self.disk.check()
-                self.copy(commands)
-        except OSError as it:
-            self.fail(str(it))
-
-    def end(self):
-        """Gives up what is not done; what `now` shows stays."""
-        if self.child:
-            self.end_child()
-            self.remove("now.new")
-
-    def keep_sheet(self, record):
-        """Puts a sheet into the folder, in place of the last one of its kind."""
-        _, kind, commands = record.answer.split("\n")[0].split(" ")
-        kind = "sheet-final-" if kind == "final" else "sheet-"
-        self.folder.put(kind + commands, f"{record.desk} {record.answer}\n".encode("utf-8", "surrogateescape"))
-        self.remove_all_but(rf"{kind}\d+(\.new)?", kind + commands)
-
-    # A copy
-
-    def copy(self, commands):
-        """Copies the disk, and starts the child. Of the protocols it takes no more than what they have by now."""
-        self.remove("now.new")
-        self.make("now.new")
-        shutil.copyfile(self.disk.path, self.folder("now.new/disk"))
-        os.chmod(self.folder("now.new/disk"), READERS)
-        sizes = [str(self.folder.of_desk[desk].size) for desk in DESKS]
-        self.commands, self.said, self.deadline = commands, b"", time.monotonic() + LONGEST
-        self.child = subprocess.Popen([sys.executable, VIEWS, self.folder.path, str(commands), *sizes], stdin=subprocess.PIPE,
-                                      stdout=subprocess.DEVNULL, stderr=subprocess.PIPE, bufsize=0, start_new_session=True)
-
-    def make(self, name):
-        os.mkdir(self.folder(name))
-        os.chmod(self.folder(name), 0o2750)
-
-    def look_after_child(self):
-        if not select.select(self.descriptors(), [], [], 0)[0]:
-            if time.monotonic() >= self.deadline:
+            if self.child and (self.child.poll() is not None or time.monotonic() >= self.at + LONGEST):
                 self.end_child()
-                self.fail(f"not done after {LONGEST} seconds")
-        elif more := os.read(self.child.stderr.fileno(), 65536):
-            self.said = (self.said + more)[-1000:]
-        elif status := self.end_child():
-            self.fail(self.said.decode(errors="replace").strip().split("\n")[-1] or f"status {status}")
-        else:
-            self.show()
+            elif not self.child and self.shown != self.last() and time.monotonic() >= self.at + EVERY:
+                self.copy()
+        except OSError as it:
+            say(f"`now` could not be renewed: {it}")
+            self.clear()
 
-    def end_child(self):
-        """Ends the child, and what it has started. Its status."""
-        with contextlib.suppress(ProcessLookupError):
+    def finish(self, wait: Callable[..., Any]) -> None:
+        """Makes the last copy, and waits for its child, so that `now` shows the end; where the office is told twice, for nobody."""
+        if self.child:
+            with contextlib.suppress(ChildProcessError):
+                self.end_child()
+        self.at, self.priority = float("-inf"), 0
+        self.look()
+        while self.child:
+            wait([], seconds=0.1)
+            self.look()
+
+    def copy(self) -> None:
+        """Copies the disk and the lines, and starts the child."""
+        self.at = time.monotonic()
+        self.disk.check()
+        for event in self.log.events(self.state.number):
+            self.state.take(event)
+            if event.kind == "answer":
+                line = self.state.lines[event.desk]
+                self.writer.writerow([line.number, line.at, self.state.start, line.desk, line.turn, line.text, event.text, event.at])
+        path, numbers = self.last(), (self.state.commands, os.getpid(), self.priority)
+        os.mkdir(path)
+        os.chmod(path, 0o2750)
+        shutil.copyfile(self.disk.path, os.path.join(path, "disk"))
+        with open(os.path.join(path, "lines.csv"), "w", encoding="utf-8") as file:
+            file.write(self.lines.getvalue())
+        words = [sys.executable, __file__, self.program.setup, path, *map(str, numbers), self.totals]
+        self.child = subprocess.Popen(words, stdin=subprocess.DEVNULL, stdout=subprocess.DEVNULL, start_new_session=True)
+
+    def end_child(self) -> None:
+        """Ends the child, if it is late, with what it has started. All is removed that is not shown then."""
+        if self.child.poll() is None:
             os.killpg(self.child.pid, signal.SIGKILL)
-        status = self.child.wait()
-        self.child.stdin.close()
-        self.child.stderr.close()
-        self.child = None
-        return status
+        status, self.child = self.child.wait(), None
+        self.shown = os.path.realpath(os.path.join(self.log.path, "now"))
+        self.clear()
+        if status < 0:
+            raise ChildProcessError(f"its process was killed after {time.monotonic() - self.at:.0f} seconds")
 
-    def show(self):
-        """Lets `now` lead to what the child has written. Where it leads there already, with as many commands, each file is replaced."""
-        name = f"now-{self.commands}"
-        if os.path.isdir(self.folder(name)):
-            for it in os.listdir(self.folder("now.new")):
-                os.rename(self.folder(f"now.new/{it}"), self.folder(f"{name}/{it}"))
-        else:
-            os.rename(self.folder("now.new"), self.folder(name))
-            os.symlink(name, self.folder("now.link"))
-            os.rename(self.folder("now.link"), self.folder("now"))
-        self.remove_all_but(NAMES, "now", name)
-        self.fault = ""
 
-    def fail(self, reason):
-        """Says once why there is no newer `now`; it is tried again."""
-        if reason != self.fault:
-            say(f"`now` is not made anew: {reason}")
-        self.fault, self.is_due = reason, True
-        self.remove("now.new")
+def lines_in(folder: str) -> Iterator[Dict[str, str]]:
+    with open(os.path.join(folder, "lines.csv"), encoding="utf-8", newline="") as file:
+        yield from csv.DictReader(file)
 
-    # What is there
 
-    def remove_all_but(self, pattern, *names):
-        """Removes what has a name of this form, and none of these."""
-        for it in os.listdir(self.folder.path):
-            if re.fullmatch(pattern, it) and it not in names:
-                self.remove(it)
+def unconfirmed(program: Program, held: bytes, lines: Iterable[Dict[str, str]]) -> bytes:
+    """The rows held that one desk alone has entered, or nobody at a desk, as a table: it follows from the lines and their answers."""
+    state, names, table = State(), Names(program), io.StringIO()
+    for it in lines:
+        line = Event(int(it["number"]), it["at"], "line", int(it["desk"]), int(it["turn"]), it["line"])
+        state.take(line)
+        state.take(line._replace(kind="answer", text=it["answer"]))
+    writer = csv.writer(table, lineterminator="\n")
+    table.write("municipality,list,number,votes,desk,municipality_name,list_name\n")
+    for place, row in rows_of(held.decode()).items():
+        desks = state.entered_by((place, row))
+        if len(desks) == 1:
+            writer.writerow([*place, *row, desks, names.municipalities[place[0]], names.groups[place[1]]])
+    return table.getvalue().encode()
 
-    def remove(self, name):
-        path = self.folder(name)
-        if os.path.isdir(path) and not os.path.islink(path):
-            shutil.rmtree(path, ignore_errors=True)
-        else:
-            with contextlib.suppress(FileNotFoundError):
-                os.unlink(path)
+
+def seats_of(program: Program, line: str) -> Dict[str, bytes]:
+    """The seats, to be read and as tables; or why there are none."""
+    flags = ["--final"] if line == "final" else []
+    ran = program.started(subprocess.run, "seats", "--table", *flags, capture_output=True)
+    if ran.stderr.startswith(b"zhcount: refused "):
+        return {"seats": ran.stderr, "no-seats": ran.stderr}
+    if ran.returncode:
+        raise Stopped(f"zhcount seats: {plain(ran.stderr)}")
+    tables = {f"seat-{it}.csv": program.done("seats", "--of", it, *flags)[0] for it in ("groups", "constituencies")}
+    return {"seats": ran.stdout, "seats.csv": program.done("seats", *flags)[0], **tables}
+
+
+def sheet_of(program: Program, line: str, commands: int) -> bytes:
+    """The sheet, as run gives it: with a disk of its own, as it may write there. Its desk is always 1."""
+    with room_in_memory() as room:
+        copy = Program(program.setup, shutil.copyfile(program.disk, os.path.join(room, "disk")), is_apart=False)
+        said = copy.started(subprocess.run, "run", input=f"1 {line}\n".encode(), stdout=subprocess.PIPE).stdout
+    if not re.match(rb"1 sheet \w+ %d\n" % commands, said):
+        raise Stopped(f"no sheet of the copy: {plain(said[:80])}")
+    return said
+
+
+def published(program: Program, files: Dict[str, bytes], line: str, commands: int) -> Dict[str, bytes]:
+    """The files of `publish`, by these of the copy: the tables, with a sheet if there are seats, the set-up and the page."""
+    found = {it: files[it] for it in TABLES if it in files}
+    found["setup.toml"] = content(program.setup)
+    if "no-seats" not in files:
+        found["sheet.txt"] = sheet_of(program, line, commands)
+    if PAGE:
+        found["index.html"] = content(PAGE)
+    return {f"publish/{name}": data for name, data in found.items()}
+
+
+def made(setup: str, folder: str, commands: int, totals: str) -> Dict[str, bytes]:
+    """What follows from a copy of the disk, by the names of the files."""
+    program = Program(setup, os.path.join(folder, "disk"), is_apart=False)  # it ends with this process
+    status, held = program.done("status")[0], program.done("export")[0]
+    implausible, sums = program.done("status", "--implausible")
+    if b", %d commands;" % commands not in sums:
+        raise Stopped(f"the copy has not the {commands} commands of the log: {plain(sums)}")
+    is_final = any(it["answer"].startswith(f"sheet final {commands} ") for it in lines_in(folder))  # a desk has had this sheet
+    line = "final" if is_final else "sheet"
+    files = {"status": status, "sums": sums, "missing": program.done("status", "--missing")[0], "implausible": implausible,
+             "held.csv": held, "unconfirmed": unconfirmed(program, held, lines_in(folder)),
+             "votes.csv": program.done("votes")[0], "vote-groups.csv": program.done("votes", "--of", "groups")[0],
+             **seats_of(program, line)}
+    if totals:
+        files["differs"], remarks = differing(totals, status.decode())
+        if remarks:
+            say(f"--totals: {'; '.join(remarks)}")
+    return {**files, **published(program, files, line, commands)}
+
+
+def show(folder: str, files: Dict[str, bytes]) -> None:
+    """Puts files beside the copy, those that are published for everybody, and lets `now` lead to them."""
+    os.chdir(folder)
+    os.mkdir("publish")
+    for name, data in files.items():
+        with open(name, "wb") as file:
+            file.write(data)
+    for name in ("disk", "lines.csv", *files):
+        os.chmod(name, 0o644 if name.startswith("publish/") else 0o640)
+    os.chmod("publish", 0o755)
+    if os.path.exists("../witness"):
+        os.symlink("../witness", "witness")
+    os.symlink(os.path.basename(folder), "now")
+    os.rename("now", "../now")
+
+
+def main(setup: str, folder: str, commands: str, office: str, priority: str, totals: str) -> None:
+    """The child, for a copy that has to have these commands. Without the process of its office it shows nothing. `totals` may be empty."""
+    os.nice(int(priority))
+    try:
+        files = made(setup, folder, int(commands), totals)
+        if os.getppid() == int(office):
+            show(folder, files)
+    except (Stopped, OSError, subprocess.SubprocessError) as it:
+        say(f"`now` could not be renewed: {it}")
+
+
+if __name__ == "__main__":
+    main(*sys.argv[1:])

@@ -8,6 +8,7 @@ import signal
 import subprocess
 import sys
 import tempfile
+import threading
 
 import pytest
 
@@ -29,7 +30,7 @@ def pytest_xdist_auto_num_workers():
 def pytest_configure(config):
     """A shell that starts the tests in the background has INT ignored; an office would be started so, and not hear it. The scripts of
     desks/ are tested in a copy, whose modules are compiled: a script starts in half the time."""
-    if hasattr(config, "workerinput"):  # a worker inherits both, and may not be in its main thread
+    if hasattr(config, "workerinput") or threading.current_thread() is not threading.main_thread():  # a worker inherits both
         return
     signal.signal(signal.SIGINT, signal.default_int_handler)
     if "DESKS" not in os.environ:
@@ -46,6 +47,14 @@ def pytest_collection_modifyitems(items):
     for it in items:
         if re.search(r"tests/page/|\[page-", it.nodeid) and "program" not in it.fixturenames and not it.get_closest_marker("sources"):
             it.add_marker(pytest.mark.beside)
+
+
+def pytest_terminal_summary(terminalreporter):
+    """Each test that is skipped is named, with its reason: none goes unsaid."""
+    skipped = terminalreporter.stats.get("skipped", [])
+    terminalreporter.section(f"{len(skipped)} skipped")
+    for it in skipped:
+        terminalreporter.line(f"skipped: {it.nodeid}: {it.longrepr[2] if isinstance(it.longrepr, tuple) else it.longrepr}")
 
 
 @pytest.fixture

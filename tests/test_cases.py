@@ -11,7 +11,8 @@ WRONG_ANSWER = "setup rehearsal\n\ncase a wrong answer\nformat\nopen\n1 show 1 1
 
 
 @pytest.mark.parametrize("text, fault", [
-    *(pytest.param(WRONG_PLACE.format(place=it), "5: there is no such place", id=it) for it in ("slot3", "slot1.journal", "journal", "Slot1", "+1")),
+    *(pytest.param(WRONG_PLACE.format(place=it), "5: there is no such place", id=it)
+      for it in ("slot3", "slot1.journal", "journal", "Slot1", "+1")),
     pytest.param(WRONG_ANSWER, "6: '1 show 1 1': expected '1 shows 1 2', found '1 none'", id="a wrong answer"),
 ])
 def test_refused(text, fault, tmp_path):

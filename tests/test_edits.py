@@ -1,10 +1,11 @@
 """tests/edits on a small tree of its own, tests/edited/small: of a wrong body of each kind it says what it is, and it tries the crates that
-changed. Then the tool itself is given faults, each of which one of these texts shows."""
+changed."""
 import shutil
 import subprocess
 
 import pytest
 
+from edited.entries import entries_of
 from places import TOP
 
 CHANGED = "crates that changed since their wrong bodies were tried"
@@ -44,10 +45,18 @@ class Small:
         self.put(edits)
 
     def put(self, edits):
+        """Writes these wrong bodies into the files of their crates, in place of those of their names."""
         for name, lines in dict(edits).items():
-            path = self.top / "tests/wrong_bodies" / f"{name}.edit"
-            path.parent.mkdir(parents=True, exist_ok=True)
-            path.write_text("\n".join(["file: src/lib.rt", *lines, ""]))
+            crate, name = name.split("/")
+            others = {**self.others(crate), name: "\n".join(["file: src/lib.rt", *lines, ""])}
+            self.file(crate).parent.mkdir(parents=True, exist_ok=True)
+            self.file(crate).write_text("\n".join(f"name: {it}\n{text}" for it, text in others.items()))
+
+    def file(self, crate):
+        return self.top / f"tests/wrong_bodies/{crate}.edits"
+
+    def others(self, crate):
+        return entries_of(self.file(crate)) if self.file(crate).exists() else {}
 
     def run(self, *words):
         ran = subprocess.run([self.tool, "--top", self.top, *words], stdin=subprocess.DEVNULL, stdout=subprocess.PIPE,
@@ -71,7 +80,8 @@ class Small:
     def change_next(self):
         """Other sources, to which the wrong bodies apply still."""
         self.change(self.low, "    n + 1", "    1 + n")
-        self.put({"zh_low/next.adds_two": ("old:     1 + n", "new:     2 + n"), "zh_low/next.adds_nothing": ("old:     1 + n", "new:     0 + n")})
+        self.put({"zh_low/next.adds_two": ("old:     1 + n", "new:     2 + n"),
+                  "zh_low/next.adds_nothing": ("old:     1 + n", "new:     0 + n")})
 
     def git(self, *words):
         subprocess.run(["git", "-c", "user.name=test", "-c", "user.email=test@test", *words], cwd=self.top, check=True, capture_output=True)
@@ -121,10 +131,28 @@ def test_libraries(tree):
 
 
 def test_nothing_changed(tree):
-    """The one in turn is tried; in which folder an edit stands makes no difference."""
-    (tree.top / "crates/zh_low/must-fail").mkdir()
-    shutil.move(tree.top / "tests/wrong_bodies/zh_low/step_of_three.edit", tree.top / "crates/zh_low/must-fail")
+    """The one in turn is tried; in which place an edit stands makes no difference."""
+    gravest = tree.top / "crates/zh_low/must-fail/step_of_three.edit"
+    gravest.parent.mkdir()
+    gravest.write_text(tree.others("zh_low")["step_of_three"])
+    tree.says(1, "has an entry of the name of", words=["--differ"])
+    tree.change("tests/wrong_bodies/zh_low.edits", f"\nname: step_of_three\n{gravest.read_text()}", "")
     tree.differs("none; in turn: zh_high (1 of 1)")
+
+
+def test_gravest(tree):
+    """They are tried in crates that did not change, without a first check; one of must-fail is left to rt ci."""
+    gravest = tree.top / "tests/wrong_bodies/gravest"
+    gravest.write_text("A list.\n\nzh_low/next.adds_two  it is not the next\nzh_low/step_of_three  it steps too far\n")
+    tree.says(0, "none; in turn: zh_high (1 of 1); of the others the 2 gravest",
+              "zh_low: 2 of 2 refused at a goal of their own, in 2 checks", words=[])
+    edit = tree.top / "crates/zh_low/must-fail/step_of_three.edit"
+    edit.parent.mkdir()
+    edit.write_text(tree.others("zh_low")["step_of_three"])
+    tree.change("tests/wrong_bodies/zh_low.edits", f"\nname: step_of_three\n{edit.read_text()}", "")
+    tree.differs("none; in turn: zh_high (1 of 1); of the others the 1 gravest")
+    gravest.write_text("zh_low/next.adds_three  it is not the next\n")
+    tree.says(1, "names zh_low/next.adds_three, which is no wrong body", words=["--differ"])
 
 
 @pytest.mark.parametrize("path, old, new, which", [
@@ -173,7 +201,7 @@ def test_part_of_a_crate(tree, tmp_path):
 def test_others(tmp_path):
     """Wrong bodies that are not refused, each with what is said of it."""
     tree = Small(tmp_path / "tree", {name: lines for of in OTHERS.values() for name, lines in of.items()})
-    tree.says(1, "0 passed, 6 failed", *(f"{next(iter(of))}.edit: {said}" for said, of in OTHERS.items()), words=["--all", "zh_low"])
+    tree.says(1, "0 passed, 6 failed", *(f"{next(iter(of))}: {said}" for said, of in OTHERS.items()), words=["--all", "zh_low"])
 
 
 def test_rest(tree):
@@ -181,39 +209,9 @@ def test_rest(tree):
     tree.put(PROVED)
     tree.says(1, "5 passed, 1 failed")
     tree.put({"zh_low/at_most.always_zero": ("old: let most = n;", "new: let most = n + 1;")})
-    tree.says(0, "zh_low: 5 of 5 refused at a goal of their own, in 2 checks", words=["--rest"])
+    tree.says(0, "zh_low: 5 of 5 refused at a goal of their own, in 1 checks", words=["--rest"])
     tree.says(0, "0 passed, 0 failed", words=["--rest"])
     (tree.top / "tests/edits.passed").unlink()
     tree.says(0, "zh_low: 5 of 5 refused at a goal of their own, in 0 checks", words=["--rest", "zh_low"])
     tree.change_next()
     tree.says(0, "zh_low: 5 of 5 refused at a goal of their own, in 4 checks", words=["--rest", "zh_low"])
-
-
-# Faults of the tool itself: with each it says something else than it does above.
-
-
-@pytest.mark.parametrize("old, new, edits", [
-    ("return PROVED,", "return REFUSED,", PROVED),
-    ("return ELSEWHERE,", "return REFUSED,", OF_A_CALLER),
-    ("outcomes[edit.path] = GONE,", "outcomes[edit.path] = REFUSED,", GONE),
-], ids=["an edit that changes nothing passes", "a refusal of a caller counts", "a skipped edit is counted as refused"])
-def test_fault_in_what_is_said(old, new, edits, tmp_path):
-    tree = Small(tmp_path / "tree", edits)
-    tree.spoil(tmp_path / "tool", "trial.py", old, new)
-    tree.says(0, "1 passed, 0 failed", words=["--all", "zh_low"])
-
-
-def test_fault_in_sums(tree, tmp_path):
-    """The sum forgets the specs below."""
-    tree.spoil(tmp_path / "tool", "tree.py", 'return [*self.without_comments(crate, "specs"), *lemmas', "return [*lemmas")
-    tree.says(0)
-    tree.change("crates/zh_low/specs/Next.antt", "{ℕ, ", "{ℤ, ℕ, ")
-    tree.differs("zh_low; in turn")
-
-
-def test_fault_in_what_is_kept(tree, tmp_path):
-    """What was refused is kept over other sources."""
-    tree.spoil(tmp_path / "tool", "tree.py", "(self.rest + edit.text)", "edit.text")
-    tree.says(0, words=["--all", "zh_low"])
-    tree.change_next()
-    tree.says(0, "zh_low: 4 of 4 refused at a goal of their own, in 3 checks", words=["--rest", "zh_low"])

@@ -13,7 +13,8 @@ from places import PROGRAM, TOP
 
 VERSION = (TOP / "VERSION").read_text().strip()
 NAMES = ("zhcount", "zhcount-desk", "zhcount-office", "zhcount-read", "zhcount-witness")
-PAGES = "BRIEF CHANGELOG CHECKING DECISIONS DEFINITIONS FAQ FORMATS MANUAL NIGHT OPERATING PROVED README STATUTE de/BRIEF de/CHECKING de/NIGHT"
+PAGES = ("BRIEF CHANGELOG CHECKING DECISIONS DEFINITIONS FAQ FOLDER FORMATS MANUAL NIGHT OPERATING PROVED README STATUTE "
+         "de/BRIEF de/CHECKING de/NIGHT")
 FILES = {
     "bin": NAMES,
     "share/man/man1": [f"{it}.1" for it in NAMES],
@@ -21,11 +22,11 @@ FILES = {
     "share/examples/zhcount": "canton.toml rehearsal.toml zhcount-office.service zurich2006.toml".split(),
     "share/examples/zhcount/zurich2006": "forged held.csv setup.toml sheet".split(),
     "share/zhcount": ["card.html", "index.html", *(f"zhcount_{it}.py" for it in (
-        "desks", "folder", "held", "now", "office", "rebuild", "replay", "views", "witness"))],
+        "connections", "log", "names", "now", "program", "replay", "state", "stream", "tables", "witness"))],
 }
 
 
-def ran(*words, seconds=60, **options):
+def ran(*words, seconds=600, **options):
     """A command in the top folder that has ended, with all that it said as its stdout."""
     how = {"cwd": TOP, "stdin": subprocess.DEVNULL, "stdout": subprocess.PIPE, "stderr": subprocess.STDOUT, **options}
     return subprocess.run([str(it) for it in words], text=True, timeout=seconds, **how)
@@ -110,13 +111,14 @@ def test_without_a_program_make_install_says_what_comes_first(tmp_path):
 @pytest.mark.parametrize("words, text", [
     ("zhcount --help", "The count office of a cantonal parliament"),
     ("zhcount-desk 9", r"zhcount-desk N \[FOLDER\]"),
-    ("zhcount-desk 3 /none", "no office runs in .*none yet"),
+    ("zhcount-desk 3 /none", "no office is running in .*none yet"),
     ("zhcount-office", "zhcount-office .*SETUP DISK FOLDER"),
     ("zhcount-read", "zhcount-read DISK"),
     ("zhcount-witness", "zhcount-witness FOLDER"),
 ])
 def test_each_program_says_how_it_is_called_or_what_it_waits_for(there, words, text):
-    assert re.search(text, ran("timeout", "20", *f"{there}/bin/{words}".split()).stdout)
+    until_then = 'timeout 300 "$@" 2>&1 | grep -E -m 1 -- "$0"'
+    assert ran("sh", "-c", until_then, text, *f"{there}/bin/{words}".split()).stdout
 
 
 def test_unit_and_pages_name_what_was_installed(there):
@@ -133,7 +135,7 @@ def test_a_link_that_leads_nowhere_is_seen(tmp_path, link):
 
 @pytest.mark.parametrize("page, name, text", [
     ("zhcount", "D return M L N V", "a return: list L has V votes"),
-    ("zhcount", "stored K", "a command was accepted, the K-th"),
+    ("zhcount", "stored K", "a command was accepted; it is the K-th"),
     ("zhcount", "gap", "The number is higher than the next one"),
     ("zhcount", "--setup <FILE>", "The set-up, in TOML"),
     ("zhcount", "2", "the arguments ask for no task"),
@@ -141,8 +143,10 @@ def test_a_link_that_leads_nowhere_is_seen(tmp_path, link):
     ("zhcount", "sheet file, held file", "can't be opened or read"),
     ("zhcount", "THERE/share/doc/zhcount", "Manuals: MANUAL.md first"),
     ("zhcount-desk", "1", "Something was not sent"),
-    ("zhcount-office", "zhcount-office --rebuild FOLDER DISK [--before START FILE]..", "makes a lost disk anew"),
-    ("zhcount-office", "zhcount-office --replay FOLDER", "runs the lines of a folder's protocols"),
+    ("zhcount-office", "zhcount-office --rebuild FOLDER DISK", "makes a lost disk again"),
+    ("zhcount-office", "zhcount-office --replay FOLDER", "runs the lines of a folder's log"),
+    ("zhcount-office", "zhcount-office --take SETUP DISK FOLDER", "begins the log of a new FOLDER"),
+    ("zhcount-office", "FOLDER/night.db, FOLDER/night.db-wal", "each line and each answer"),
 ])
 def test_a_man_page_says_what_each_thing_means(there, page, name, text):
     entry = re.escape(name.replace("THERE", str(there)))
@@ -191,21 +195,32 @@ def test_what_the_archive_has_needs_nothing_else(unpacked, tmp_path):
         setup={unpacked}/share/examples/zhcount/canton.toml
         zhcount format --setup $setup --disk disk
         zhcount-office $setup disk office & office=$!
-        echo "return 180 1 1 525" | timeout 30 zhcount-desk 3 office
+        echo "return 180 1 1 525" | timeout 300 zhcount-desk 3 office
         kill $office; wait $office
         zhcount-read disk""", cwd=tmp_path, env={"PATH": f"{unpacked}/bin:/usr/bin:/bin"})
     assert tried.returncode == 0, tried.stdout
     assert {"stored 1", "180,1,1,525"} <= set(tried.stdout.splitlines())
 
 
+def test_keys_of_desks_let_in_the_desks_user_alone():
+    """On the second machine too: whoever types as a desk is never the user who owns disk and log."""
+    page = (TOP / "docs/OPERATING.md").read_text()
+    found = re.findall(r"`(/\S+)/\.ssh/authorized_keys`(?:(?!authorized_keys`)[\s\S])*?command=\"(zhcount-\w+)", page)
+    assert found == [("/home/desk", "zhcount-desk"), ("/var/lib/zhcount", "zhcount-witness")]
+    # (and a second key of the desks, for tables)
+    assert re.findall('command="(zhcount-\\w+)', page) == ["zhcount-desk", "zhcount-desk", "zhcount-witness"]
+    assert "make the same [users](#users)" in page.split("\n## A second machine\n")[1].split("\n## ")[0]
+
+
 @pytest.mark.skipif(os.getuid() != 0, reason="only root may make users and mount")
 def test_what_operating_says_works_as_it_stands(archive):
-    typed = ran(TOP / "tests/installed/operate", archive, seconds=600)
+    typed = ran(TOP / "tests/installed/operate", archive, seconds=3600)
     assert typed.returncode == 0, typed.stdout
 
 
 def test_all_say_one_version():
-    pages = [TOP / "README.md", *(it for part in ("docs", "crates/zh_program/src", "crates/zh_program/specs") for it in (TOP / part).rglob("*.*"))]
+    parts = ("docs", "crates/zh_program/src", "crates/zh_program/specs")
+    pages = [TOP / "README.md", *(it for part in parts for it in (TOP / part).rglob("*.*"))]
     said = [it for page in pages for it in re.findall(rb"(?:zhcount[- ]|Version )(\d+\.\d+\.\d+)", page.read_bytes())]
     assert set(said) == {VERSION.encode()}
     assert f"'{VERSION}'" in (TOP / "page/index.html").read_text()

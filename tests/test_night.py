@@ -1,5 +1,6 @@
 """Nights of examples/canton: each answer and status of the program is that of the manual (examples/canton/office.py), each
 sheet that of a calculation in exact fractions (tests/page/model.py), and what zhcount-read prints that of `export`."""
+import csv
 import os
 import re
 import subprocess
@@ -52,11 +53,12 @@ def totals(word, sheet):
     return [(int(seats), None if divisor == "-" else int(divisor.replace(".", ""))) for seats, divisor in rows]
 
 
-def compare(office, room, part, copied=None):
-    """Each answer of a part is that of the manual. How many commands half of them had, and the status after those of a copy."""
+def compare(office, room, part, copied=()):
+    """Each answer of a part is that of the manual. How many commands half of them had; and by the commands of each copy the status, and
+    the votes of each group."""
     lines, given = (room / part).read_text().splitlines(), answers_of((room / f"{part}.answers").read_text())
     assert len(lines) == len(given)
-    at_half, at_copy = 0, ""
+    at_half, at_copy = 0, {}
     for count, (line, answer) in enumerate(zip(lines, given), 1):
         wanted = office.answer(line)
         assert answer.split("\n")[0] == wanted, line
@@ -64,22 +66,27 @@ def compare(office, room, part, copied=None):
             check_sheet(office, answer)
         if count == len(lines) - len(lines) // 2:
             at_half = office.commands
-        if office.commands == copied and not at_copy:
-            at_copy = office.status()
+        if office.commands in copied and office.commands not in at_copy:
+            at_copy[office.commands] = office.status(), [sum(it or 0 for it in votes) for votes in zip(*votes_in(office))]
     return at_half, at_copy
 
 
 @pytest.mark.parametrize("seed", SEEDS)
 def test_night(seed, tmp_path, program):
-    ran = subprocess.run([TOP / "examples" / "canton" / "run", str(seed)], env={**os.environ, "KEEP": str(tmp_path), "ZHCOUNT": str(program)},
-                         stdin=subprocess.DEVNULL, stdout=subprocess.PIPE, stderr=subprocess.STDOUT, text=True)
+    environment = {**os.environ, "KEEP": str(tmp_path), "ZHCOUNT": str(program)}
+    ran = subprocess.run([TOP / "examples/canton/run", str(seed)], env=environment, stdin=subprocess.DEVNULL, stdout=subprocess.PIPE,
+                         stderr=subprocess.STDOUT, text=True)
     assert ran.returncode == 0, ran.stdout
     office = offices.Office(cantons.Canton(cantons.Chance(seed)))
     status = {it: (tmp_path / f"{it}.status").read_text() for it in ("evening", "stop", "night")}
     commands = int(re.search(r"(\d+) commands;", status["evening"])[1])
-    at_half, at_copy = compare(office, tmp_path, "evening", commands)
+    with open(tmp_path / "early.votes", newline="") as file:
+        early = [(int(it["commands"]), int(it["votes"])) for it in csv.DictReader(file)]
+    at_half, at_copy = compare(office, tmp_path, "evening", (early[0][0], commands))
+    assert early == [(early[0][0], votes) for votes in at_copy[early[0][0]][1]]
+    assert 0 < sum(votes for _, votes in early) < sum(office.canton.votes.values()) / 10
     assert at_half <= commands
-    assert status["evening"] == at_copy
+    assert status["evening"] == at_copy[commands][0]
     assert status["stop"] == office.status()
     office.stop()
     compare(office, tmp_path, "night")

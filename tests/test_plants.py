@@ -1,15 +1,16 @@
-"""Mistakes, planted one by one in a copy of what is tested: each has to make the test fail that it names. They stand in
-tests/PART/plants, each in a file that is named after the mistake:
+"""Plants: mistakes, put one by one into a copy of what is tested. Each makes the test fail that it names. They are entries of the files
+tests/PART/plants/*.edits, one file for each script or part, with a blank line between entries:
 
+  name: torn_line_is_sent
   file: zhcount-desk
-  seen by: test_kills.py::test_torn_line
-  old: the right text, which stands in the file once; of several lines each has an 'old:' of its own
+  seen by: test_desks.py::test_torn_line
+  old: the right text, which occurs once in the file; for several lines give each its own 'old:'
   new: the wrong text, likewise
-  says: what the test has to say of it; this line may be left out
+  says: what the test then reports; not in tests/real_file. A test that only waits in vain reports 'not after: ' and what it waits for
 
-Where a mistake can't change what anybody sees, 'changes nothing:' and the reason stand in place of 'seen by:', and no test is run."""
-import collections
-import contextlib
+The file is a path in desks, page/parts or crates/zh_file. If a mistake can't change anything that a person sees, it has 'changes
+nothing:' and the reason instead of 'seen by:' and 'says:', and no test is run for it. As a control, each test that a plant names must
+pass on a copy without a mistake."""
 import glob
 import importlib
 import os
@@ -18,155 +19,231 @@ import shutil
 import subprocess
 import sys
 import time
-import unittest
+from contextlib import suppress
+from dataclasses import dataclass
+from pathlib import Path
+from typing import Callable, Dict, Iterator, List, Optional, Set
 
 import pytest
 
 import seals
+from edited.entries import entries_of
 from places import TOP
 
 FIELDS = {"file", "seen by", "says", "changes nothing", "old", "new"}
 # How a test fails that sees a mistake: by what it compares, or by a file or an end that does not come. Other faults are its own.
-SEEN = re.compile(r"^FAILED .*? - (?:AssertionError|Failed|FileNotFoundError|PermissionError|BrokenPipeError|subprocess\.\w+): (.*)", re.MULTILINE)
+SEEN = re.compile(r"^FAILED .*? - (?:AssertionError|Failed|FileNotFoundError|PermissionError|BrokenPipeError|subprocess\.\w+): (.*)", re.M)
+LATE = re.compile(r"not after [\d.]+ seconds|.* timed out after [\d.]+ seconds")
+ATTEMPTS = 3
+Plant = Dict[str, str]
 
 
-def ran(part, tests, top, environment):
-    """What pytest says of these tests of a part."""
-    words = [sys.executable, "-m", "pytest", "-n0", "-x", "-rf", "--tb=no", "-p", "no:cacheprovider", *(f"tests/{part}/{it}" for it in tests)]
-    environment = {name: str(it) for name, it in environment.items()} | {"CI": "has lines of any length"}
-    return subprocess.run(words, cwd=top, env=environment, stdout=subprocess.PIPE, stderr=subprocess.STDOUT, text=True)
+@dataclass(frozen=True)
+class Part:
+    """What the plants of a folder of tests are about: the folder whose files are changed, the one that is copied for it, what a test
+    reports that fails on the copy, or None if it passes, whether each plant says that, and the marks of its plants."""
+    name: str
+    folder: str
+    whole: str
+    fault: Callable[[str, Path, Path, pytest.FixtureRequest], Optional[str]]
+    says: bool = True
+    marks: tuple = ()
+
+    def plants(self) -> Dict[str, Plant]:
+        folder = TOP / "tests" / self.name / "plants"
+        found: Dict[str, Plant] = {}
+        for file in sorted(folder.glob("*.edits")):
+            entries = {name: plant_in(text, self.says) for name, text in entries_of(file).items()}
+            assert not entries.keys() & found.keys(), f"{file} has a name that another file has"
+            found.update(entries)
+        return found
+
+    def copied(self, room: Path) -> Path:
+        """A copy of what the plants are about, and the folder in it whose files they change."""
+        source = Path(os.environ["DESKS"]) if self.name == "desks" else TOP / self.whole
+        shutil.copytree(source, room / "copy" / self.whole, symlinks=True, ignore=shutil.ignore_patterns("out", ".git"))
+        return room / "copy" / self.folder
 
 
-# What a test of each part says that does not pass on the copy of a folder.
+def plant_in(text: str, says: bool) -> Plant:
+    """The fields of a plant, each with its text."""
+    found: Plant = {}
+    for line in text.splitlines():
+        name, colon, rest = line.partition(":")
+        assert name in FIELDS and colon, f"this line is none of a plant: {line[:80]}"
+        found[name] = f"{found[name]}\n{rest[1:]}" if name in found else rest[1:]
+    assert {"file", "old", "new"} <= found.keys(), "it needs a file, an old and a new text"
+    assert ("seen by" in found) != ("changes nothing" in found), "it needs a test that sees it, or the reason why it changes nothing"
+    assert "says" in found or "changes nothing" in found or not says, f"it needs what the test reports: {text}"
+    return found
 
 
-def fault(done):
+def put(plant: Plant, folder: Path) -> None:
+    path = folder / plant["file"]
+    text = path.read_text()
+    assert text.count(plant["old"]) == 1, f"the right text is in {plant['file']} {text.count(plant['old'])} times, not once"
+    path.write_text(text.replace(plant["old"], plant["new"]))
+
+
+# What a test of each part reports on the copy of a folder.
+
+
+def fault_of_pytest(part: str, test: str, top: Path, environment: Dict[str, str]) -> Optional[str]:
+    words = [sys.executable, "-m", "pytest", "-n0", "-x", "-rf", "--tb=no", "-p", "no:cacheprovider", f"tests/{part}/{test}"]
+    done = subprocess.run(words, cwd=top, env={**environment, "CI": "has lines of any length"}, stdout=subprocess.PIPE,
+                          stderr=subprocess.STDOUT, text=True)
+    if done.returncode == 0:
+        return None
     found = SEEN.search(done.stdout)
-    return found[1] if done.returncode == 1 and found else pytest.fail(f"it does not see it: {done.stdout[-2000:]}", pytrace=False)
+    assert done.returncode == 1 and found, f"the test has a fault of its own: {done.stdout[-2000:]}"
+    return found[1]
 
 
-def of_desks(test, folder, room, request):
+def of_desks(test: str, folder: Path, room: Path, request: pytest.FixtureRequest) -> Optional[str]:
+    """A mistake may have the test wait in vain: where it does not say for what, the test waits for nothing long."""
     request.getfixturevalue("program")
-    seconds = "60" if test.startswith("test_stops.py") else "15"  # a whole night, or what has to happen at once
-    return fault(ran("desks", [test], TOP, {"PATIENCE": seconds, **os.environ, "DESKS": folder}))
+    says = request.node.callspec.params.get("plant", {}).get("says", "")
+    waits = {"IN_VAIN": says.partition("not after: ")[2]}
+    if not waits["IN_VAIN"]:  # many nights, what has to happen at once, or what soon follows
+        waits["PATIENCE"] = "90" if test.startswith("test_stops.py") else "30" if says == "not after" else "60"
+    return fault_of_pytest("desks", test, TOP, {**waits, **os.environ, "DESKS": str(folder)})
 
 
-def of_the_operating_system(test, folder, room, _):
-    return fault(ran("real_file", [test], folder.parents[1], {**os.environ, "ZHCOUNT": compiled(folder, room)}))
+def of_the_operating_system(test: str, folder: Path, room: Path, request: pytest.FixtureRequest) -> Optional[str]:
+    return fault_of_pytest("real_file", test, folder.parents[1], {**os.environ, "ZHCOUNT": str(compiled(folder, room))})
 
 
-def compiled(folder, room):
-    """The program of the crates that `folder` stands among, compiled unproved. It goes with its first run, but for another name."""
+def compiled(folder: Path, room: Path) -> Path:
+    """The program of the crates that `folder` is among, compiled unproved. It goes with its first run, but for another name."""
     said, program = room / "said", room / "zhcount"
-    (room / "try").mkdir()
-    with open(said, "w") as output, subprocess.Popen(["rt", "try", "--", "--version"], cwd=folder.parent / "zhcount", stdin=subprocess.DEVNULL,
-                                                     env={**os.environ, "TMPDIR": str(room / "try")}, stdout=output, stderr=output) as compiler:
+    (room / "try").mkdir(exist_ok=True)
+    words, environment = ["rt", "try", "--", "--version"], {**os.environ, "TMPDIR": str(room / "try")}
+    with open(said, "w") as output, subprocess.Popen(words, cwd=folder.parent / "zhcount", env=environment, stdin=subprocess.DEVNULL,
+                                                     stdout=output, stderr=output) as compiler:
         while compiler.poll() is None:
             for it in glob.glob(f"{room}/try/*/*/program"):
-                with contextlib.suppress(FileExistsError, FileNotFoundError):
+                with suppress(FileExistsError, FileNotFoundError):
                     os.link(it, program)
             time.sleep(0.01)
     assert program.exists(), f"it does not compile: {said.read_text()[-2000:]}"
     return program
 
 
-class Result(unittest.TestResult):
-    """What a test says first that fails, at which it ends."""
+class Reports:
+    """A plugin of pytest that keeps what the first test reports that fails, and how many pass."""
 
-    def __init__(self):
-        super().__init__()
-        self.failfast, self.said = True, None
+    def __init__(self) -> None:
+        self.said: Optional[str] = None
+        self.passed = 0
 
-    def addFailure(self, test, fault):
-        super().addFailure(test, fault)
-        self.said = self.said or str(fault[1])
-
-    def addSubTest(self, test, subtest, fault):
-        super().addSubTest(test, subtest, fault)
-        self.said = self.said or fault and str(fault[1])
+    def pytest_runtest_logreport(self, report: pytest.TestReport) -> None:
+        self.passed += report.when == "call" and report.passed
+        if report.failed and self.said is None:
+            message = getattr(getattr(report.longrepr, "reprcrash", None), "message", str(report.longrepr))
+            kind, _, rest = message.partition(": ")
+            assert report.when == "call" and kind == "AssertionError", f"the test has a fault of its own: {message}"
+            self.said = rest.splitlines()[0][:1000]  # a page may be among it
 
 
 @pytest.fixture(scope="session")
-def browsers():
+def browsers() -> Iterator[Callable]:
     """A browser for each language, which stays for all mistakes that a process tries, since it takes long to start."""
-    browser, started = importlib.import_module("browser"), {}
-    yield lambda language: started.get(language) or started.setdefault(language, browser.started(language))
-    for it in started.values():
+    started = importlib.import_module("browser").started
+    drivers: Dict = {}
+    yield lambda language: drivers.get(language) or drivers.setdefault(language, started(language))
+    for it in drivers.values():
         it.quit()
 
 
-def of_the_page(test, folder, room, request):
-    page, browsers = room / "index.html", request.getfixturevalue("browsers")
+def of_the_page(test: str, folder: Path, room: Path, request: pytest.FixtureRequest) -> Optional[str]:
+    """The test runs in this process, so that it takes the browser that is there."""
+    page, reports, case = room / "index.html", Reports(), importlib.import_module("case").Case
     page.write_text(seals.SEAL.sealed(folder))
-    file, name, method = test.split("::")
-    tested = getattr(importlib.import_module(file.removesuffix(".py")), name)
-    kind = type(name, (tested,), {"path": page, "started": browsers(tested.language), "tearDownClass": classmethod(lambda _: None)})
-    result = Result()
-    unittest.TestSuite([kind(method)]).run(result)
-    if result.errors or result.skipped or not result.said:
-        pytest.fail(f"it does not see it: {result.errors}", pytrace=False)
-    return result.said
+    words = ["-x", "-o", "addopts=", "-n0", "-p", "no:terminal", "-p", "no:cacheprovider", "-p", "no:faulthandler", "-s"]
+    with pytest.MonkeyPatch.context() as patch:
+        patch.setattr(case, "path", page)
+        patch.setattr(case, "starts", request.getfixturevalue("browsers"))
+        patch.setattr(case, "ends", lambda driver: None)
+        pytest.main([*words, f"{TOP}/tests/page/{test}"], plugins=[reports])
+    assert reports.said or reports.passed, "no test was run"
+    return reports.said
 
 
-Part = collections.namedtuple("Part", "folder whole fault")  # the folder whose files are changed, and the one that is copied for it
-PARTS = {
-    "desks": Part("desks", "desks", of_desks),
-    "page": Part("page/parts", "page/parts", of_the_page),
-    "real_file": Part("crates/zh_file", "", of_the_operating_system),
-}
+PARTS = [
+    Part("desks", "desks", "desks", of_desks),
+    Part("page", "page/parts", "page/parts", of_the_page),
+    Part("real_file", "crates/zh_file", "", of_the_operating_system, False, (pytest.mark.slow, pytest.mark.xdist_group("rt try"))),
+]
 
 
-def plants():
+def mistakes() -> List:
+    found = [(part, name, plant) for part in PARTS for name, plant in part.plants().items()]
+    return [pytest.param(part, plant, id=f"{part.name}-{name}", marks=part.marks) for part, name, plant in found]
+
+
+def controls() -> List:
+    """Each test that a plant names, once. `make test` takes one of each file: there the others run on the same text anyway."""
+    found: List = []
     for part in PARTS:
-        for path in sorted((TOP / "tests" / part / "plants").glob("*.edit")):
-            marks = [pytest.mark.slow, pytest.mark.xdist_group("rt try")] if part == "real_file" else []
-            yield pytest.param(part, path, id=f"{part}-{path.stem}", marks=marks)
-
-
-def plant_in(path):
-    """The fields of a plant, each with its text."""
-    found = {}
-    for line in path.read_text().splitlines():
-        name, colon, text = line.partition(":")
-        assert name in FIELDS and colon, f"this line is none of a plant: {line[:80]}"
-        found[name] = f"{found[name]}\n{text[1:]}" if name in found else text[1:]
-    assert {"file", "old", "new"} <= found.keys(), "it needs a file, an old and a new text"
-    assert ("seen by" in found) != ("changes nothing" in found), "it needs a test that sees it, or the reason why it changes nothing"
+        files: Set[str] = set()
+        for test in sorted({it["seen by"] for it in part.plants().values() if "seen by" in it}):
+            file = test.partition("::")[0]
+            marks = (*part.marks, pytest.mark.slow) if file in files else part.marks
+            files.add(file)
+            found.append(pytest.param(part, test, id=f"{part.name}-{test}", marks=marks))
     return found
 
 
-def copied(part, room):
-    """A copy of what the plants of a part are about, and the folder in it whose files they change."""
-    folder, whole, _ = PARTS[part]
-    source = os.environ["DESKS"] if part == "desks" else TOP / whole
-    shutil.copytree(source, room / "copy" / whole, symlinks=True, ignore=shutil.ignore_patterns("out", ".git"))
-    return room / "copy" / folder
+def waited_in_vain(said: Optional[str], says: str) -> bool:
+    """Whether the test only waited for something that did not come, although the plant does not say so."""
+    return said is not None and bool(LATE.search(said)) and not says.startswith("not after")
 
 
-def put(plant, folder):
-    path = folder / plant["file"]
-    text = path.read_text()
-    assert text.count(plant["old"]) == 1, f"the right text stands in {plant['file']} {text.count(plant['old'])} times, not once"
-    path.write_text(text.replace(plant["old"], plant["new"]))
+def judge(said: Optional[str], says: str) -> None:
+    """A fault counts if it is what the plant says. That nothing came for a while counts if the plant says so."""
+    assert said is not None, "the test does not see it"
+    assert not waited_in_vain(said, says), f"the test waited in vain, which counts for nothing here: {said}"
+    told = LATE.sub("not after", said, 1)
+    assert says in told, f"the test reports something else: {told}"
 
 
 @pytest.mark.plants
-@pytest.mark.parametrize("part, path", plants())
-def test_mistake(part, path, tmp_path, request):
-    plant, folder = plant_in(path), copied(part, tmp_path)
+@pytest.mark.parametrize("part, plant", mistakes())
+def test_mistake(part: Part, plant: Plant, tmp_path: Path, request: pytest.FixtureRequest) -> None:
+    folder = part.copied(tmp_path)
     put(plant, folder)
-    if "changes nothing" in plant:
-        pytest.skip(plant["changes nothing"].replace("\n", " "))
-    says = PARTS[part].fault(plant["seen by"], folder, tmp_path, request)
-    assert plant.get("says", "") in says, plant["seen by"]
+    if "seen by" not in plant:
+        return
+    says = plant.get("says", "")
+    for _ in range(ATTEMPTS):  # on a busy machine a test can wait in vain; then it has shown nothing yet
+        said = part.fault(plant["seen by"], folder, tmp_path, request)
+        if not waited_in_vain(said, says):
+            break
+    judge(said, says)
 
 
 @pytest.mark.plants
-@pytest.mark.slow
-@pytest.mark.xdist_group("rt try")
-def test_without_a_mistake(tmp_path):
-    """What sees a mistake in the folder of the operating system passes where none is planted."""
-    folder = copied("real_file", tmp_path)
-    checks = sorted({plant_in(it.values[1])["seen by"] for it in plants() if it.values[0] == "real_file"})
-    done = ran("real_file", checks, folder.parents[1], {**os.environ, "ZHCOUNT": compiled(folder, tmp_path)})
-    assert done.returncode == 0, done.stdout[-2000:]
+@pytest.mark.parametrize("part, test", controls())
+def test_without_a_mistake(part: Part, test: str, tmp_path: Path, request: pytest.FixtureRequest) -> None:
+    assert part.fault(test, part.copied(tmp_path), tmp_path, request) is None
+
+
+@pytest.mark.parametrize("said, says, fault", [
+    (None, "", "does not see it"),
+    ("'1 stored 2' is not '1 stored 1'", "another", "reports something else"),
+    ("not after 15 seconds: a copy", "", "waited in vain"),
+    ("not after 15 seconds: a copy", "a copy", "waited in vain"),
+    ("Command '['zhcount-desk']' timed out after 60 seconds", "", "waited in vain"),
+    ("not after 15 seconds: a copy", "not after: an answer", "reports something else"),
+])
+def test_what_does_not_count(said: Optional[str], says: str, fault: str) -> None:
+    with pytest.raises(AssertionError, match=fault):
+        judge(said, says)
+
+
+@pytest.mark.parametrize("said, says", [
+    ("'1 stored 2' is not '1 stored 1'", "is not '1 stored 1'"),
+    ("not after 15 seconds: a copy", "not after: a copy"),
+])
+def test_what_counts(said: str, says: str) -> None:
+    judge(said, says)

@@ -1,5 +1,6 @@
-"""make run and make build: which program is run, and called proved, and which crate is refused. A small copy of the repository with a
-stand-in for the toolchain is enough, so nothing is proved, and each test takes seconds."""
+"""make run, make build and make test: which program is run, and called proved, and which crate is refused. A small copy of the
+repository with a stand-in for the toolchain is enough, so nothing is proved, and each test takes seconds. The copy is in a folder with a
+blank in its name."""
 import os
 import re
 import shutil
@@ -13,14 +14,17 @@ from places import TOP
 RT = r"""#!/usr/bin/env bash
 case "$1" in
     version) echo "${VERSION:-kit of the test}" ;;
-    lib) [ ! -e "$ROOM/refused" ] && sleep "${PAUSE:-0}" ;;
+    lib)
+        [ ! -e "$ROOM/refused" ] || exit 1
+        [ -z "${HELD:-}" ] || until [ -e "$ROOM/go" ]; do sleep 0.1; done
+        ;;
     run)
         mkdir -p out
         printf '#!/bin/sh\nsed "s/^/proved %s: /"\n' "$(cat ../zh_low/src/lib.rt)" > out/zhcount
         chmod +x out/zhcount
         ;;
     try)
-        sleep 1
+        sleep "${COMPILES:-1}"
         [ ! -e "$ROOM/uncompiled" ] || { echo 'error: no such function'; exit 2; }
         [ ! -e "$ROOM/changed" ] || cp "$ROOM/changed" "$ROOM/$LOW"
         mkdir "$TMPDIR/native"
@@ -39,24 +43,36 @@ CHANGE_BACK = "echo text of zh_low > $LOW"
 AT_WORK = "until grep -q ' of ' log 2> /dev/null; do sleep 0.1; done"
 
 
+def put_script(path, *lines):
+    path.parent.mkdir(exist_ok=True)
+    path.write_text("\n".join(["#!/bin/sh", *lines, ""]))
+    path.chmod(0o755)
+
+
 @pytest.fixture
-def sh(tmp_path):
+def top(tmp_path):
+    """The small copy's folder."""
+    return tmp_path / "a checkout"
+
+
+@pytest.fixture
+def sh(top):
     """Runs commands in the small copy: what they say, what they complain of, and their status."""
     for crate in ("zh_low", "zh_test", "zhcount"):
-        (tmp_path / "crates" / crate / "src").mkdir(parents=True)
-        (tmp_path / "crates" / crate / "src/lib.rt").write_text(f"text of {crate}\n")
-    (tmp_path / "crates.txt").write_text("zh_low: thiserror\nzhcount: zh_low\nzh_test: zhcount\n")
-    shutil.copytree(TOP / "scripts", tmp_path / "scripts")
-    shutil.copy(TOP / "Makefile", tmp_path)
-    (tmp_path / "bin").mkdir()
-    (tmp_path / "bin/rt").write_text(RT)
-    (tmp_path / "bin/rt").chmod(0o755)
-    environment = {**os.environ, "ROOM": str(tmp_path), "LOW": "crates/zh_low/src/lib.rt", "PATH": f"{tmp_path}/bin:{os.environ['PATH']}"}
+        (top / "crates" / crate / "src").mkdir(parents=True)
+        (top / "crates" / crate / "src/lib.rt").write_text(f"text of {crate}\n")
+    (top / "crates.txt").write_text("zh_low: thiserror\nzhcount: zh_low\nzh_test: zhcount\n")
+    shutil.copytree(TOP / "scripts", top / "scripts")
+    shutil.copy(TOP / "Makefile", top)
+    (top / "bin").mkdir()
+    (top / "bin/rt").write_text(RT)
+    (top / "bin/rt").chmod(0o755)
+    environment = {**os.environ, "ROOM": str(top), "LOW": "crates/zh_low/src/lib.rt", "PATH": f"{top}/bin:{os.environ['PATH']}"}
     environment.pop("ZHCOUNT", None)
 
     def ran(command):
-        it = subprocess.run(["bash", "-c", command], cwd=tmp_path, stdin=subprocess.DEVNULL, stdout=subprocess.PIPE, stderr=subprocess.PIPE,
-                            text=True, timeout=60, env=environment)
+        it = subprocess.run(["bash", "-c", command], cwd=top, stdin=subprocess.DEVNULL, stdout=subprocess.PIPE, stderr=subprocess.PIPE,
+                            text=True, timeout=600, env=environment)
         return it.stdout, it.stderr, it.returncode
 
     return ran
@@ -77,7 +93,7 @@ def test_where_nothing_is_built_it_is_said_what_comes_first(sh, target):
 
 def test_what_is_not_proved_runs_unproved_and_is_compiled_once(sh):
     for is_at_work in (True, False):
-        said, errors, _ = sh(RUN)
+        said, errors, _ = sh(f"export COMPILES=5; {RUN}")  # seconds, of which some are shown as dots
         assert said == UNPROVED and "make build" in errors and "proved=no" not in errors
         assert bool(re.search(r"^\.+$", errors, re.M)) == is_at_work
     for change, times in ((":", 1), (CHANGE, 2), ("echo exit 1 >> crates/zhcount/out/unproved/zhcount", 3)):
@@ -88,7 +104,8 @@ def test_what_is_not_proved_runs_unproved_and_is_compiled_once(sh):
 @pytest.mark.parametrize("command, answers", [
     ("(echo 1 open; sleep 3; echo 1 drop) | make -s run", "unproved: 1 open\nunproved: 1 drop\n"),
     # At a terminal, where it ends with Ctrl-D.
-    (r"(sleep 1; printf '1 open\n\004'; sleep 4) | script -qc 'make -s run' /dev/null | tr -d '\r' | grep unproved:", "unproved: 1 open\n"),
+    (r"(sleep 1; printf '1 open\n\004'; until [ -e ended ]; do sleep 0.1; done) | (script -qc 'make -s run' /dev/null; touch ended) |"
+     r" tr -d '\r' | grep unproved:", "unproved: 1 open\n"),
 ])
 def test_a_slow_input_is_whole(sh, command, answers):
     assert sh(command)[0] == answers
@@ -115,7 +132,7 @@ def test_what_was_built_runs_and_nothing_is_said_of_it(built):
     ("echo '# a remark' >> crates.txt", UNPROVED),
     ("sed -i 's/kit of/other &/' bin/rt", UNPROVED),  # another toolchain
     (f"{CHANGE}; (cd crates/zhcount && rt run); {CHANGE_BACK}", UNPROVED),  # another program
-    (f"{CHANGE}; PAUSE=5 make -s build > log & {AT_WORK}; kill $!; wait", UNPROVED),
+    (f"{CHANGE}; HELD=yes make -s build > log & {AT_WORK}; kill $!; wait; touch go", UNPROVED),
 ])
 def test_only_the_program_of_these_sources_is_called_proved(built, change, answer):
     built(change)
@@ -129,7 +146,7 @@ def test_a_build_that_is_refused_names_its_crate(built):
 
 
 def test_sources_that_change_under_a_build_are_not_proved(built):
-    _, errors, status = built(f"{CHANGE}; PAUSE=5 make -s build > log & {AT_WORK}; echo new text > $LOW; wait $!")
+    _, errors, status = built(f"{CHANGE}; HELD=yes make -s build > log & {AT_WORK}; echo new text > $LOW; touch go; wait $!")
     assert status and "the sources changed meanwhile" in errors
     assert built(RUN)[0] == UNPROVED
     assert built(f"make -s build > log; {RUN}") == ("proved new text: 1 open\n", "", 0)
@@ -144,3 +161,25 @@ def test_a_crate_that_is_not_there_is_refused(sh, command):
 
 def test_the_crates_below_one(sh):
     assert sh("scripts/sources below zhcount")[0] == "zh_low\nzhcount\n"
+
+
+def test_a_program_that_was_there_is_not_noted_as_proved(built, top):
+    """It is of other sources, and rt ci leaves it in place."""
+    for name in ("tests/edits", "scripts/test-needs", "scripts/lint", "bin/python"):
+        put_script(top / name)
+    said = built(f"{CHANGE}; (cd crates/zhcount && rt run); {CHANGE_BACK}; PYTHON=$ROOM/bin/python make -s test")
+    assert said[2] == 0, said
+    assert built(RUN) == (PROVED, "", 0)
+
+
+@pytest.mark.parametrize("target, words", [("shape", "tests/pages check"), ("refused", "-m pytest -v tests/test_refused.py")])
+def test_another_python_is_taken(target, words, sh, top):
+    put_script(top / "bin/python", 'echo "$@" >> "$ROOM/words"')
+    put_script(top / "scripts/test-needs")
+    assert sh(f'make -s {target} PYTHON="$ROOM/bin/python"; cat words')[0] == f"{words}\n"
+
+
+def test_what_the_tests_need_is_there_before_they_begin(sh, top):
+    put_script(top / "scripts/test-needs", "sleep 1; echo needs")
+    put_script(top / "scripts/test", "echo test")
+    assert sh("make -s -j 8 test-needs test")[0] == "needs\ntest\n"

@@ -8,6 +8,6 @@ from places import TOP
 
 @pytest.mark.long
 def test_what_changed():
-    ran = subprocess.run(["nice", "-n", "10", TOP / "tests/edits"], stdin=subprocess.DEVNULL, stdout=subprocess.PIPE, stderr=subprocess.STDOUT,
-                         text=True)
+    ran = subprocess.run(["nice", "-n", "10", TOP / "tests/edits"], stdin=subprocess.DEVNULL, stdout=subprocess.PIPE,
+                         stderr=subprocess.STDOUT, text=True)
     assert ran.returncode == 0, ran.stdout

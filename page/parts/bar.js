@@ -81,12 +81,15 @@ function differing(own, { setup, rows }) {
 // - rows: { is: 'none', 'compared', 'unread' at a `line`, or 'given', not compared, for that needs a set-up that is read }
 // - returns: where rows are compared, { rows } held of { possible } ones, and the names of those that are { missing }
 // Gives the colour ('none', 'right', 'wrong', 'mismatch' of two files, 'damaged', 'unsure', or 'answer' of the office), and keys of WORDS
-// with their values: of the heading, of what limits it or takes it back, of each sentence, and of each tick.
+// with their values: of the heading, if there is one, of what limits it or takes it back, of each sentence, and of each tick.
 function barOf(found) {
   const { own, proved } = found;
-  if (own.verdict === 'none') return { colour: 'none', heading: words('noSheet'), sentence: [], ticks: [] };
+  if (own.verdict === 'none') {
+    return { colour: 'none', heading: found.returns && words('returnsIn', found.returns), sentence: [], ticks: [] };
+  }
   if (own.verdict === 'refused') {
-    const sentence = [words(own.refusal.reason, own.refusal.values), words('barRefusedSays')];
+    const sentence = [words(own.refusal.reason, own.refusal.values), words('barRefusedSays'),
+      ...(found.returns ? [] : [words('barRefusedMore')])];
     return { colour: 'answer', heading: words('barRefused'), sentence, ticks: [] };
   }
   const ticks = own.kind?.isUnread ? [] : ticksOf(found);

@@ -43,8 +43,10 @@ const cell = (value) => make('td', {}, typeof value === 'bigint' ? grouped(value
 
 function changes({ sheet, before, beforeParts }) {
   if (!sheet || !before) return null;
-  const fault = before.fault ?? beforeParts.flatMap(({ faults }) => faults)[0];
-  const warning = fault ? make('p', { class: 'said wrong' }, say('beforeWrong', { line: fault.line })) : null;
+  const faults = before.fault ? [before.fault] : beforeParts.flatMap((part) => part.faults);
+  const own = faults.find((fault) => !isOfOther(fault));
+  const warning = own ? make('p', { class: 'said wrong' }, say('beforeWrong', { line: own.line }))
+    : faults.length > 0 ? make('p', { class: 'hint' }, say('beforeOther', { line: faults[0].line })) : null;
   const heading = [make('h2', { id: 'changes-title' }, say('changes')), warning];
   if (!before.found) return make('section', { id: 'changes' }, heading);
   const found = changesOf(before.found, sheet);

@@ -3,7 +3,10 @@
 // One part of the check: how many checks it made, which of them fail, and what it could not check.
 class Part {
   constructor(name) {
-    Object.assign(this, { name, count: 0, faults: [], left: [] });
+    this.name = name;
+    this.count = 0;
+    this.faults = [];
+    this.left = [];
   }
 
   // A check of the thing on a line; where it fails the reason is given.
@@ -32,7 +35,9 @@ const MILLION = 1000000n;
 // The limits of divisors, in millionths.
 const MOST_OF_CONSTITUENCY = 10n ** 18n;
 const MOST_OF_GROUP = 10n ** 12n;
+/** @type {(sheet: any, list: any) => any} */
 const unitOf = (sheet, list) => constituencyFor(sheet, list).divisor * groupFor(sheet, list).divisor;
+/** @type {(list: any) => any} */
 const twiceVotes = (list) => 2n * list.votes * MILLION * MILLION;
 
 function formPart(sheet, setup) {

@@ -1,6 +1,8 @@
 // ---- Making the page's elements. A text becomes a text, and never markup.
 
 const find = (id) => document.getElementById(id);
+/** @type {(part: Element, css: string) => HTMLElement | null} */
+const within = (part, css) => part.querySelector(css);
 
 function fill(element, attributes, children) {
   for (const [name, value] of Object.entries(attributes)) {
@@ -81,6 +83,7 @@ const changesShown = (changes) => someShown(changes, ({ names, is, should }) => 
   pieces(names.length > 1 ? 'oneChange' : 'oneTotal', { name: namesShown(names), is, should })));
 
 // A reason in words. Its names are isolated, its numbers have their thousands set apart.
+/** @param {{ reason?: any, key?: any, values?: any }} fault */
 function reasonOf({ reason, key = reason, values = {} }) {
   const isShown = (value) => {
     if (value?.number !== undefined) return [value.number, ' (', isolated(value.name), ')'];

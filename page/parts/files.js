@@ -6,9 +6,12 @@ const files = { sheet: null, before: null, setup: null, held: null };
 const LONGEST = { sheet: 280064, before: 280064, setup: 1048576, held: 467103 + 16385 };
 const MOST_READ = LONGEST.setup + 1;
 
+// The other files of a published folder: tables, which are made of those that are read here, and the page.
+const OF_THE_FOLDER = /^\ufeff?(?:(?:constituency|group),[a-z0-9_,]+\r?\n|<!DOCTYPE html>)/u;
+
 // What kind of file this is, by its text and then its name.
 function kindOf(name, text) {
-  if (/^\ufeff?(?:(?:[0-9]+ )?sheet |(?:[0-9]|zhcount:) refused )/u.test(text)) return 'sheet';
+  if (/^\ufeff?(?:(?:[0-9]+ )?sheet |(?:(?:[0-9]|zhcount:) )?refused )/u.test(text)) return 'sheet';
   if (/^\ufeff?municipality,list/u.test(text) || /\.csv$/iu.test(name)) return 'held';
   if (/^[\t ]*(?:\[\[|version[\t ]*=|house[\t ]*=)/mu.test(text) || /\.toml$/iu.test(name)) return 'setup';
   return 'sheet';
@@ -19,6 +22,7 @@ function opened(name, bytes) {
   const file = { name, bytes, text: '', lines: 0, hash: bytes.length < MOST_READ ? sha256(bytes) : null };
   const begin = new TextDecoder('utf-8', { ignoreBOM: true }).decode(bytes.subarray(0, MOST_READ));
   file.kind = kindOf(name, begin);
+  file.isLeft = OF_THE_FOLDER.test(begin);
   if (bytes.length > LONGEST[file.kind]) return { ...file, fault: new Fault(0, '', 'tooLong', { most: LONGEST[file.kind] }) };
   bytes.forEach((byte) => { file.lines += Number(byte === 10); });
   try {
@@ -28,33 +32,56 @@ function opened(name, bytes) {
   }
 }
 
+// A file of which the browser gives no bytes, for example a folder.
+function notRead(name) {
+  const file = { name, bytes: new Uint8Array(0), text: '', lines: 0, hash: null, kind: kindOf(name, '') };
+  return { ...file, fault: new Fault(0, '', 'unreadable') };
+}
+
 // A text that was pasted or dropped. Its last line is ended.
 function pasted(text) {
   const cut = text.slice(0, MOST_READ);
   return opened(say('pasted'), new TextEncoder().encode(cut.endsWith('\n') ? cut : `${cut}\n`).subarray(0, MOST_READ));
 }
 
-// Takes files. A sheet takes the place of the one before it, which is kept to be compared.
-function takeFiles(taken) {
+// How often files were given. Reading them takes a while, and what was given last wins, not what was read last.
+let times = 0;
+function nextTime() {
+  times += 1;
+  return times;
+}
+const isOlder = (time, file) => file !== null && time < file.time;
+
+// Takes files. A sheet takes the place of the one before it, which is kept to be compared. Of a whole folder some files are left.
+function takeFiles(read, time = nextTime()) {
+  const wanted = read.some(({ isLeft }) => !isLeft) ? read.filter(({ isLeft }) => !isLeft) : read;
+  const taken = wanted.map((file) => ({ ...file, time }));
   const commands = ({ text }) => BigInt(/^(?:[1-8] )?sheet [a-z]{1,20} ([0-9]{1,20})\n/u.exec(text)?.[1] ?? 0);
   const sheets = taken.filter(({ kind }) => kind === 'sheet');
   sheets.sort((a, b) => (commands(a) < commands(b) ? -1 : Number(commands(a) > commands(b))));
   for (const file of sheets) {
-    if (files.sheet) files.before = files.sheet;
-    files.sheet = file;
+    if (isOlder(time, files.sheet)) {
+      files.before = file;
+    } else {
+      if (files.sheet) files.before = files.sheet;
+      files.sheet = file;
+    }
   }
   for (const file of taken) {
-    if (file.kind !== 'sheet') files[file.kind] = file;
+    if (file.kind !== 'sheet' && !isOlder(time, files[file.kind])) files[file.kind] = file;
   }
   show();
 }
 
 async function readFiles(list) {
-  const read = async (file) => opened(file.name, new Uint8Array(await file.slice(0, MOST_READ).arrayBuffer()));
-  takeFiles(await Promise.all([...list].map(read)));
+  const time = nextTime();
+  const read = (file) => file.slice(0, MOST_READ).arrayBuffer().then(
+    (bytes) => opened(file.name, new Uint8Array(bytes)), () => notRead(file.name));
+  takeFiles(await Promise.all([...list].map(read)), time);
 }
 
 // What a file says, or its fault; null where there is no file.
+/** @type {(file: any, read: (text: string) => any) => any} */
 function readFile(file, read) {
   if (!file) return null;
   if (file.fault) return { fault: file.fault };
@@ -104,7 +131,8 @@ function showFiles() {
     make('h2', {}, say('files')),
     make('div', { class: 'drop' }, make('p', {}, say('threeFiles')), make('dl', {}, threeFiles()),
       make('p', { id: 'choose' }, say('drop')), picked,
-      make('label', { for: 'pick' }, say('choose')), make('p', { class: 'hint' }, say('chooseMore'))),
+      make('label', { for: 'pick' }, say('choose')),
+      make('p', { class: 'hint' }, ['chooseCount', 'chooseMore', 'chooseOlder'].map((key) => say(key)).join(' '))),
     make('details', {}, make('summary', {}, say('paste')), area,
       make('p', { class: 'hint', id: 'paste-hint' }, say('pasteHint')),
       make('button', { type: 'button', id: 'take', onclick: takeText }, say('take'))),
@@ -112,10 +140,11 @@ function showFiles() {
 }
 
 // On paper: which files these were.
-function showPapers() {
+function showPapers({ sheet }) {
   const had = Object.entries(files).filter(([kind, file]) => file && kind !== 'before');
-  const heads = make('tr', {}, [say('filesChecked'), say('fileName'), 'SHA-256'].map((text) => make('th', { scope: 'col' }, text)));
-  find('papers').replaceChildren(...(had.length === 0 ? [] : [make('table', {}, make('thead', {}, heads), make('tbody', {},
+  const heads = [say(sheet ? 'filesChecked' : 'filesOpened'), say('fileName'), 'SHA-256'].map((text) => (
+    make('th', { scope: 'col' }, text)));
+  find('papers').replaceChildren(...(had.length === 0 ? [] : [make('table', {}, make('thead', {}, make('tr', {}, heads)), make('tbody', {},
     had.map(([kind, file]) => make('tr', {}, make('th', { scope: 'row' }, say(kind)), make('td', {}, isolated(file.name)),
       make('td', {}, hashOf(file))))))]));
 }

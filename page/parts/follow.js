@@ -79,17 +79,24 @@ function basisOf(sheet, setup, held) {
   return isKnown ? { house, quorum, persons: from.constituencies.map(({ persons }) => persons), votes } : null;
 }
 
+// For each group, whether it takes part: by its list in a constituency, or by the canton-wide quorum.
+function takingPart({ votes, quorum }) {
+  const totals = votes.map(sum);
+  return votes[0].map((_, g) => {
+    const own = votes.map((row) => row[g]);
+    return own.some((vote, d) => reachesQuorum(vote, totals[d]))
+      || (quorum !== null && reachesCanton(sum(own), sum(totals), quorum));
+  });
+}
+
 // The seats that follow: of each constituency, of each group, and of each list (`d g`). Null where this finds none.
 function seatsThatFollow(sheet, setup, held) {
   const basis = basisOf(sheet, setup, held);
   const rows = basis && apportioned(basis.persons, basis.house);
   if (!rows || rows.includes(0n)) return null;
-  const { votes, quorum, house } = basis;
-  const totals = votes.map(sum);
+  const { votes, house } = basis;
   const columnOf = (g) => votes.map((row) => row[g]);
-  const takes = votes[0].map((_, g) => columnOf(g).some((vote, d) => reachesQuorum(vote, totals[d]))
-    || (quorum !== null && reachesCanton(sum(columnOf(g)), sum(totals), quorum)));
-  const voters = takes.map((is, g) => (is ? sum(columnOf(g).map((vote, d) => voterNumber(vote, rows[d]))) : 0n));
+  const voters = takingPart(basis).map((is, g) => (is ? sum(columnOf(g).map((vote, d) => voterNumber(vote, rows[d]))) : 0n));
   const columns = apportioned(voters, house);
   const seated = columns ? columns.flatMap((seats, g) => (seats > 0n ? [g] : [])) : [];
   const found = columns && apportionedTwice(votes.map((row) => seated.map((g) => row[g])), rows, seated.map((g) => columns[g]));

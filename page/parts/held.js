@@ -5,7 +5,8 @@ const isNumeral = (text) => /^(?:0|[1-9][0-9]{0,9})$/u.test(text) && Number(text
 const isRow = (fields) => fields.length === 4 && fields.slice(0, 3).every(isNumeral) && fields[2] !== '0'
   && (isNumeral(fields[3]) || fields[3] === 'withdrawn');
 
-// The rows held: the votes of each list (`d g`), how many rows there are and may be, and by municipality the lists that are missing.
+// The rows held: the votes of each list (`d g`), how many rows there are and may be, also within each constituency, and by municipality
+// the lists that are missing.
 function readHeld(text, setup) {
   const votes = new Map();
   const seen = new Set();
@@ -27,12 +28,16 @@ function readHeld(text, setup) {
     votes.set(place, (votes.get(place) ?? 0n) + entry);
   }
   const all = setup.municipalities.map((d, m) => ({
-    name: setup.municipalityNames[m],
+    name: setup.municipalityNames[m], constituency: d,
     due: setup.groups.flatMap(({ name, stands }, g) => (stands.has(d) ? [{ name, row: `${m + 1} ${g + 1}` }] : [])),
   }));
   const missing = all.map(({ name, due }) => {
     const lists = due.filter(({ row }) => !seen.has(row)).map((list) => list.name);
     return { name, lists, isAll: lists.length === due.length };
   }).filter(({ lists }) => lists.length > 0);
-  return { votes, rows: seen.size, possible: all.reduce((count, { due }) => count + due.length, 0), missing };
+  const within = setup.constituencies.map((_, d) => {
+    const due = all.filter(({ constituency }) => constituency === d + 1).flatMap((one) => one.due);
+    return { held: due.filter(({ row }) => seen.has(row)).length, due: due.length };
+  });
+  return { votes, rows: seen.size, possible: all.reduce((count, { due }) => count + due.length, 0), missing, within };
 }

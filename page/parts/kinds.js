@@ -2,6 +2,7 @@
 Object.assign(WORDS, {
   isCut: ['This file is cut off: get it again', 'Diese Datei ist abgeschnitten: nochmals holen'],
   isAltered: ['This file is damaged: get it again', 'Diese Datei ist beschädigt: nochmals holen'],
+  isNotRead: ['This file can’t be read: open it again', 'Diese Datei ist nicht lesbar: nochmals öffnen'],
   isCopied: ['Copied from a desk: the desk’s number is missing', 'Von einem Pult kopiert: Die Nummer des Pults fehlt'],
   isDamagedSays: ['The seats are not checked, and nothing is said against the sheet that was published.',
     'Die Sitze sind nicht geprüft, und gegen das veröffentlichte Resultatblatt ist damit nichts gesagt.'],
@@ -69,6 +70,7 @@ Object.assign(WORDS, {
 // What a sheet that can't be read has become on its way, by the fault in it.
 const ON_ITS_WAY = {
   cut: 'isCut', cutWithin: 'isCut', early: 'isCut', mark: 'isAltered', carriageReturn: 'isAltered', noDesk: 'isCopied',
+  unreadable: 'isNotRead',
 };
 const OF_SETUP = ['setupHouse', 'setupSays', 'setupPersons', 'setupQuorum', 'setupNoQuorum', 'noQuorum', 'notInSetup', 'nextMissing',
   'standsNot', 'listMissing'];
@@ -143,7 +145,7 @@ function seatsMoved(changes) {
 // Where one seat of a constituency alone is another group's: in which, and whose.
 function oneMoved(changes) {
   const lists = changes.filter(({ names }) => names.length > 1);
-  const [from, to] = [1n, -1n].map((step) => lists.find(({ is, should }) => is - should === step)?.names);
+  const [from, to] = [1n, -1n].map((step) => lists.find(({ is, should }) => is === should + step)?.names);
   const isOne = lists.length === 2 && from && to && from[0] === to[0];
   return isOne ? [words('oneMoved', { place: named(from[0]), from: named(from[1]), to: named(to[1]) })] : [];
 }
@@ -193,6 +195,7 @@ function kindOfOwn(sheet, parts, faults, { changes, isHeld }) {
 
 // The kind of a sheet that this page's own check calls wrong: its colour, a heading, what takes the heading back if anything does, and
 // sentences, of which one may be a fault. `follow` are the seats that follow, or null.
+/** @type {(sheet: any, parts: any, faults: any, others: any) => any} */
 function kindOfWrong(sheet, parts, faults, { follow, isHeld }) {
   if (!sheet) return kindUnread(faults[0]);
   const changes = follow && otherSeats(sheet, follow);

@@ -14,6 +14,7 @@ function ownOf(sheet, parts, faults, [setup, held]) {
 }
 
 // The whole answer on the files: what was read, the parts of the check, and all faults.
+/** @type {() => any} */
 function judge() {
   const setup = readFile(files.setup, readSetup);
   const held = setup?.found ? readFile(files.held, (text) => readHeld(text, setup.found)) : null;
@@ -25,10 +26,12 @@ function judge() {
   const own = ownOf(sheet, parts, all, [setup?.found, held?.found]);
   const faults = own.verdict === 'refused' ? [] : all;
   const isRead = (file, found) => (found ? 'read' : file?.fault ? 'unread' : 'none');
+  const isCounted = held?.found && (own.verdict === 'none' || own.verdict === 'refused');
   const rows = held ? { is: held.found ? 'compared' : 'unread', line: held.fault?.line } : { is: files.held ? 'given' : 'none' };
   return {
     own, setup: { is: isRead(setup, setup?.found), line: setup?.fault?.line }, rows,
     returns: held?.found && { rows: held.found.rows, possible: held.found.possible, missing: held.found.missing },
+    count: isCounted ? countSoFar(setup.found, held.found) : null,
     sheet: sheet?.found, parts, faults, faultsAt: byLine(faults), others, before, held: held?.found,
     beforeParts: before?.found ? checkSheet(before.found, setup?.found, null) : [],
   };
@@ -43,14 +46,14 @@ function kindShown({ sheet, own }) {
   return make('strong', { class: 'kind' }, say(key));
 }
 
-// What the first line of a sheet says, and no check looks at.
-const neverChecked = ({ kind, commands, desk }) => make('p', { class: 'hint' }, say('neverChecked', { kind: say(kind), commands, desk }));
+// What the first line of a sheet says, and no check looks at. Its digit is left out: in a published sheet it stands for no desk.
+const neverChecked = ({ kind, commands }) => make('p', { class: 'hint' }, say('neverChecked', { kind: say(kind), commands }));
 
 function showLanguages() {
   const choose = (one) => {
     language = one;
     show();
-    find('languages').querySelector('[aria-pressed=true]').focus();
+    within(find('languages'), '[aria-pressed=true]').focus();
   };
   const choices = LANGUAGES.map((one) => make('button', {
     type: 'button', lang: one, 'aria-pressed': one === language, onclick: () => choose(one),
@@ -67,13 +70,15 @@ function showBar(answer, proved = { state: 'absent' }) {
   Object.assign(document.body.dataset, { state: isEmpty && other ? 'unsure' : colour, own: answer.own.verdict });
   find('kind').replaceChildren(kindShown(answer));
   const unread = other && words('otherFile', { file: say(other.name), line: other.fault.line });
-  const said = isEmpty ? unread : heading;
-  find('verdict').replaceChildren(...(said ? [signFor(isEmpty ? 'unsure' : colour), ' ', ...reasonOf(said).flat(Infinity)] : []));
+  const said = isEmpty && other ? unread : heading;
+  const sign = isEmpty ? (other ? 'unsure' : 'answer') : colour;
+  find('verdict').replaceChildren(...(said ? [signFor(sign), ' ', ...reasonOf(said).flat(Infinity)] : []));
   find('why').replaceChildren(...(caveat ? [make('p', { class: 'caveat' }, reasonOf(caveat))] : []),
     ...sentence.map((one) => make('p', {}, one.fault ? faultShown(answer.sheet, one.fault) : reasonOf(one))),
     ...(answer.sheet ? [neverChecked(answer.sheet)] : []));
   nameParliament(answer, colour);
-  showTicks(answer.sheet, ticks);
+  showElection(answer);
+  showTicks(ticks);
   const blank = (key) => make('p', {}, make('span', { class: 'rule' }), make('span', {}, say(key)));
   find('signatures').replaceChildren(...(colour === 'right' ? ['place', 'date', 'signature', 'signature'].map(blank) : []));
 }
@@ -84,24 +89,29 @@ function faultShown(sheet, fault) {
   return [place, whose(sheet, fault.line), reasonOf(fault)];
 }
 
-// Which election this is, and what was checked of it.
-function showTicks(sheet, ticks) {
+// Which election this is: of the sheet, or where there is none of the set-up, with the votes so far.
+function showElection({ sheet, count }) {
+  const found = sheet ? { ...sheet, seats: sheet.house.seats, votes: allVotes(sheet) } : count && { ...count, seats: count.house };
+  find('title').replaceChildren(found
+    ? say('election', { seats: found.seats, constituencies: found.constituencies.length }) : say('title'));
+  find('election').replaceChildren(...(found ? [pieces('electionNames', {
+    constituencies: namesShown(found.constituencies.map(({ name }) => name)), groups: namesShown(found.groups.map(({ name }) => name)),
+    votes: found.votes })].flat(Infinity) : []));
+  find('add').replaceChildren(...(files.sheet || count ? [
+    make('button', { type: 'button', onclick: () => find('pick').click() }, say('add'))] : []));
+}
+
+// What was checked of it.
+function showTicks(ticks) {
   const one = ({ state, heading, sentence }) => make('li', { class: state }, make('p', {}, signFor(state), ' ', reasonOf(heading)),
     sentence.map((it) => make('p', { class: 'hint' }, reasonOf(it))));
   find('ticks').setAttribute('aria-label', say('ticks'));
   find('ticks').replaceChildren(...ticks.map(one));
-  const names = (rows) => rows.flatMap(({ name }, i) => [i > 0 ? ', ' : '', isolated(name)]);
-  const { house, constituencies, groups } = sheet ?? {};
-  find('title').replaceChildren(sheet ? say('election', { seats: house.seats, constituencies: constituencies.length }) : say('title'));
-  find('election').replaceChildren(...(sheet ? [pieces('electionNames', {
-    constituencies: names(constituencies), groups: names(groups), votes: allVotes(sheet) })].flat(Infinity) : []));
-  find('add').replaceChildren(...(files.sheet ? [
-    make('button', { type: 'button', onclick: () => find('pick').click() }, say('add'))] : []));
 }
 
-// What stands first: where there is no sheet, what this page is, and the choice of files; else what was found.
-function arrange() {
-  const order = files.sheet ? ['shown', 'files', 'opinion'] : ['opinion', 'files', 'shown'];
+// What stands first: where there is nothing to show, what this page is, and the choice of files; else what was found.
+function arrange({ count }) {
+  const order = files.sheet || count ? ['shown', 'files', 'opinion'] : ['opinion', 'files', 'shown'];
   find('overview').after(...order.map(find));
 }
 
@@ -127,9 +137,29 @@ function unlessItFails(work) {
   }
 }
 
-const show = () => unlessItFails(showAll);
+// What can have the focus. All that is shown is made anew, so it is found again by its part and its place in that.
+const FOCUSED = 'a, button, input, textarea, summary, [tabindex]';
+function placeOfFocus() {
+  const part = document.activeElement.closest('[id]');
+  return part && { id: part.id, place: [part, ...part.querySelectorAll(FOCUSED)].indexOf(document.activeElement) };
+}
 
-// Shows everything anew.
+function focusAt({ id, place }) {
+  const part = find(id);
+  /** @type {HTMLElement | null | undefined} */
+  const found = part && [part, .../** @type {NodeListOf<HTMLElement>} */ (part.querySelectorAll(FOCUSED))][place];
+  found?.focus();
+  const closed = found?.closest('details');
+  if (closed && found !== document.activeElement) within(closed, 'summary').focus();
+}
+
+// Shows everything anew. What has the focus keeps it.
+function show() {
+  const place = placeOfFocus();
+  unlessItFails(showAll);
+  if (place && document.activeElement === document.body) focusAt(place);
+}
+
 function showAll() {
   const begun = performance.now();
   document.documentElement.lang = language;
@@ -142,20 +172,22 @@ function showAll() {
     showBar(answer, proved);
     showProved(answer);
   }));
-  arrange();
+  arrange(answer);
   showBar(answer, proved);
   showLanguages();
   showFiles();
-  showPapers();
-  const { sheet } = answer;
-  const sections = [sheet ? parliament(answer) : null, problems(answer), sheet ? seatsTable(answer) : null, summary(answer),
+  showPapers(answer);
+  const { sheet, count } = answer;
+  const sections = [sheet ? parliament(answer) : null, soFar(answer), sheet || count ? colourTable((sheet ?? count).groups) : null,
+    problems(answer), sheet ? seatsTable(answer) : null, summary(answer),
     make('div', { id: 'proved-place' }), changes(answer)];
   find('shown').replaceChildren(...sections.filter(Boolean));
   nameParliament(answer, document.body.dataset.state);
   showProved(answer);
   showWhichPage();
+  showColours();
   hintAtScrolling();
-  document.body.dataset.size = sheet ? paperSize(sheet) : 'small';
+  document.body.dataset.size = sheet || count ? paperSize(sheet ?? count) : 'small';
   document.body.dataset.shown = `${Math.ceil(performance.now() - begun)}`;
 }
 
@@ -169,7 +201,9 @@ document.addEventListener('drop', (event) => {
   else if (text !== '') takeFiles([pasted(text)]);
 });
 document.addEventListener('keydown', (event) => {
-  if (event.key === 'Escape' && !find('detail').hidden) find('detail').querySelector('.close').click();
+  if (event.key === 'Escape' && !find('detail').hidden) within(find('detail'), '.close').click();
 });
 window.addEventListener('resize', hintAtScrolling);
+window.addEventListener('hashchange', () => { readColours(); showColours(); });
+readColours();
 show();

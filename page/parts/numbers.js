@@ -1,7 +1,9 @@
 // ---- The arithmetic of the statute (STATUTE and CHECKING), in whole numbers of any size
 
 // What lies below `unit` and above it, in halves, where it rounds to these seats: see `rounds`.
+/** @type {(unit: bigint, seats: bigint) => bigint} */
 const lowEnd = (unit, seats) => (2n * seats - 1n) * unit;
+/** @type {(unit: bigint, seats: bigint) => bigint} */
 const highEnd = (unit, seats) => (2n * seats + 1n) * unit;
 
 // Half of `twice` over `unit` rounds to these seats, and lies on no half.
@@ -36,6 +38,7 @@ const reachesCanton = (votes, all, perMille) => votes > 0n && 1000n * votes >= p
 // ---- Numbers as text
 
 // A number over another, cut off after three digits; `..` says that it goes on.
+/** @type {(number: bigint, over: bigint) => string} */
 function cutOff(number, over) {
   const whole = number / over;
   let rest = number % over;

@@ -5,7 +5,7 @@ const COLOURS = 8;
 // A seat has a thin edge, so that light colours stand out; every second shape is a ring, with an edge on either side.
 function seatShape(number, x, y, radius) {
   const index = number - 1;
-  const look = `colour${index % COLOURS} look${Math.floor(index / COLOURS)}`;
+  const look = lookOf(number);
   const shape = (r, name) => {
     const all = { class: `${name} ${look}`, 'stroke-width': radius * 0.1 };
     const side = r * 1.84;

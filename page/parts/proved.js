@@ -1,5 +1,6 @@
 // ---- The proved check: that of the program, compiled for WebAssembly, beside the page's own
 
+/** @type {string} */
 const MODULE = '@MODULE@';
 const VERSION = '@VERSION@';
 // It takes milliseconds. After so many of them it is given up.
@@ -13,6 +14,7 @@ Object.assign(WORDS, {
   provedMemory: ['there was too little memory', 'der Speicher reichte nicht'],
   provedTime: ['it took longer than {seconds} seconds', 'sie dauerte länger als {seconds} Sekunden'],
   provedCut: ['the returns are too long', 'die Meldungen sind zu lang'],
+  provedUnreadable: ['the browser can’t read a file', 'der Browser kann eine Datei nicht lesen'],
   provedRuns: ['It is at work.', 'Sie läuft.'],
   provedAlone: ['It did not run: it needs the set-up.', 'Sie ist nicht gelaufen: Sie braucht die Grunddaten.'],
   provedNot: ['It did not run: {why}.', 'Sie ist nicht gelaufen: {why}.'],
@@ -51,11 +53,11 @@ function moduleBytes() {
 }
 
 // Ends the worker that is at work, if there is one.
-let stop = () => {};
+let endWorker = () => {};
 
 // The answer of a worker, which is ended with it, as is the one before. A browser that refuses the worker runs the check in the page.
 function asked(texts) {
-  stop();
+  endWorker();
   return new Promise((answered, failed) => {
     const bytes = moduleBytes();
     const inPage = () => WebAssembly.compile(bytes).then((module) => provedCheck(module, texts)).then(answered, failed);
@@ -72,14 +74,14 @@ function asked(texts) {
       URL.revokeObjectURL(address);
     };
     const late = setTimeout(() => { end(); failed(new Error('time')); }, PATIENCE);
-    stop = () => { clearTimeout(late); end(); };
+    endWorker = () => { clearTimeout(late); end(); };
     worker.onmessage = ({ data }) => {
-      stop();
+      endWorker();
       if (data.answer) answered(data.answer);
       else failed(new Error(data.fault));
     };
     worker.onerror = () => {
-      stop();
+      endWorker();
       inPage();
     };
     worker.postMessage({ bytes, texts });
@@ -101,11 +103,13 @@ function whyFailed(fault) {
 }
 
 // What is known of it before it is asked; null where it is to be asked.
+/** @param {any[]} given */
 function withoutAsking([setup, sheet, held]) {
   if (!sheet) return { state: 'none' };
   if (!setup) return { state: 'alone' };
   // Of a sheet and a set-up the program reads no more either.
   if (held?.bytes.length >= MOST_READ) return { state: 'failed', why: say('provedCut') };
+  if ([setup, sheet, held].some((file) => file?.fault?.reason === 'unreadable')) return { state: 'failed', why: say('provedUnreadable') };
   if (typeof WebAssembly === 'undefined') return { state: 'failed', why: say('provedNone') };
   if (MODULE === '') return { state: 'failed', why: say('provedModule') };
   return null;

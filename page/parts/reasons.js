@@ -1,6 +1,8 @@
 // ---- Why a line is wrong, and why there are no seats
 Object.assign(WORDS, {
   tooLong: ['it is longer than any: more than {most} bytes', 'sie ist länger als erlaubt: mehr als {most} Bytes'],
+  unreadable: ['the browser can’t read it; it may be a folder, or no longer there',
+    'der Browser kann sie nicht lesen; vielleicht ist sie ein Ordner oder nicht mehr da'],
   notText: ['it is not UTF-8', 'sie ist nicht UTF-8'],
   mark: ['it begins with a byte order mark (BOM), which a program put there',
     'sie beginnt mit einer Bytereihenfolge-Marke (BOM), die ein Programm hinzugefügt hat'],

@@ -50,6 +50,10 @@ function partRow(part, held) {
     make('td', {}, result + rows, part.left.map((key) => make('span', { class: 'left' }, ` ${say(key)}`))));
 }
 
+// All returns that are missing, where there are some.
+const allMissing = (missing) => (missing.length === 0 ? null : make('details', { class: 'screen' },
+  make('summary', {}, say('missingAll')), make('ul', {}, missing.map((one) => make('li', {}, missingShown(one))))));
+
 // The parts of the check.
 function summary({ sheet, parts, held }) {
   if (!sheet) return null;
@@ -57,6 +61,5 @@ function summary({ sheet, parts, held }) {
     make('thead', {}, make('tr', {}, make('th', { scope: 'col' }, say('part')), make('th', { scope: 'col' }, say('result')))),
     make('tbody', {}, parts.map((part) => partRow(part, held))));
   return make('section', { id: 'checks' }, make('h2', { id: 'checks-title' }, say('checks')), table,
-    held?.missing.length > 0 ? make('details', { class: 'screen' }, make('summary', {}, say('missingAll')),
-      make('ul', {}, held.missing.map((one) => make('li', {}, missingShown(one))))) : null);
+    held ? allMissing(held.missing) : null);
 }

@@ -13,7 +13,10 @@ const NUMBER = /0|[1-9][0-9]{0,11}/uy;
 
 // Goes along a line once, from left to right, and never back by more than a word.
 class Along {
-  constructor(line) { Object.assign(this, { line, at: 0 }); }
+  constructor(line) {
+    this.line = line;
+    this.at = 0;
+  }
 
   // Only spaces and tabs are blanks.
   blanks() { while (this.line[this.at] === ' ' || this.line[this.at] === '\t') this.at += 1; }

@@ -54,14 +54,16 @@ const SHOWN_FORMS = {
   list: 'list d g votes V voters W seats S', end: 'end',
 };
 
-// A second line says why a search was exhausted.
-const REFUSAL = /^(?:[1-8]|zhcount:) refused ([a-z]+(?:[ -][a-z]+)?)((?: [1-9][0-9]{0,9}){0,2})(?:\r?\n.{0,200})?(?:\r?\n)?$/u;
+// More lines say why a search was exhausted, or what the lot decides. They are no sheet.
+const REFUSAL = new RegExp('^(?:(?:[1-8]|zhcount:) )?refused ([a-z]+(?:[ -][a-z]+)?)((?: [1-9][0-9]{0,9}){0,2})'
+  + '(?:\\r?\\n(?!(?:[1-8] )?sheet ).{0,200})*$', 'u');
+const LONGEST_REFUSAL = 20000;
 
 // The office's answer in place of a sheet (FORMATS, "Replies"), where the text is one that is about seats: its name and numbers.
 function refusalIn(text) {
-  const match = REFUSAL.exec(text.slice(0, 400));
+  const match = text.length > LONGEST_REFUSAL ? null : REFUSAL.exec(text);
   const reason = match && `refused ${match[1]}`;
-  if (!match || text.length > 400 || !Object.hasOwn(WORDS, reason)) return null;
+  if (!match || !Object.hasOwn(WORDS, reason)) return null;
   const [first, second] = match[2].trim().split(' ');
   return { reason, values: { first, second } };
 }
@@ -180,7 +182,7 @@ function readSheet(text) {
   lines.take(lists.length === 0 ? 'list' : 'end');
   if (lines.at < lines.lines.length || lines.rest !== '') throw lines.fault('after');
   return {
-    desk: head.words[0], kind: head.words[1], commands: BigInt(head.words[2]), head,
+    kind: head.words[1], commands: BigInt(head.words[2]), head,
     house: { seats: BigInt(house.words[0]), line: house.line, text: house.text },
     quorum: quorum && { perMille: BigInt(quorum.words[0]), line: quorum.line, text: quorum.text },
     seatsKey, upperKey, constituencies, groups, lists, lines: lines.lines,

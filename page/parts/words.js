@@ -25,6 +25,10 @@ const WORDS = {
     'Wählen Sie das Resultatblatt. Fügen Sie, wenn vorhanden, die Grunddaten und die Meldungen hinzu.'],
   chooseMore: ['You can also drop the files here. With a second sheet the page shows what changed.',
     'Sie können die Dateien auch hierher ziehen. Mit einem zweiten Resultatblatt zeigt die Seite, was sich geändert hat.'],
+  chooseOlder: ['To compare with an older election, open its sheet first, and then the new one with its files.',
+    'Zum Vergleich mit einer früheren Wahl öffnen Sie zuerst deren Resultatblatt und dann das neue mit seinen Dateien.'],
+  chooseCount: ['Before there are seats, the set-up file and the file of returns show how far the count is.',
+    'Bevor es Sitze gibt, zeigen die Grunddaten und die Meldungen, wie weit die Auszählung ist.'],
   paste: ['Or paste a text', 'Oder einen Text einfügen'],
   pasteHint: ['One file at a time. Line ends are not judged in a pasted text.',
     'Immer nur eine Datei. Zeilenenden werden in eingefügtem Text nicht geprüft.'],
@@ -35,7 +39,7 @@ const WORDS = {
   setup: ['Set-up', 'Grunddaten'],
   held: ['Returns', 'Meldungen'],
   lines: ['{count} {count:line|lines}', '{count} {count:Zeile|Zeilen}'],
-  notHashed: ['too long, not read to its end', 'zu lang, nicht bis zum Ende gelesen'],
+  notHashed: ['not read to its end', 'nicht bis zum Ende gelesen'],
   remove: ['Remove', 'Entfernen'],
   removeWhat: ['Remove: {what}', 'Entfernen: {what}'],
   swap: ['Exchange the two sheets', 'Die zwei Resultatblätter tauschen'],
@@ -46,10 +50,8 @@ const WORDS = {
   isUnreadable: ['Not readable as a sheet', 'Kein lesbares Resultatblatt'],
   isRefused: ['No seats', 'Keine Sitze'],
   calls: ['The sheet calls itself “{kind}”', 'Das Resultatblatt nennt sich «{kind}»'],
-  neverChecked: ['Never checked: that it is {kind}, how many entries of the desks it counts ({commands}, it says), and which desk asked '
-    + 'for it (desk {desk}, it says).',
-  'Nie geprüft: dass es {kind} ist, wie viele Einträge der Pulte es zählt (nach eigener Angabe {commands}) und welches Pult es verlangt '
-    + 'hat (nach eigener Angabe Pult {desk}).'],
+  neverChecked: ['Never checked: that it is {kind}, and how many entries of the desks it counts ({commands}, it says).',
+    'Nie geprüft: dass es {kind} ist und wie viele Einträge der Pulte es zählt (nach eigener Angabe {commands}).'],
   barRight: ['Right', 'Richtig'],
   barRightSays: ['Both checks say so: no other seats follow from these votes, persons and number of seats, and these are the votes of '
     + '{possible:the only return|all {possible} returns}.',
@@ -92,6 +94,8 @@ const WORDS = {
   barRefusedSays: ['This is the office’s answer in place of a sheet: there is no sheet to check, and the page does not check the answer.',
     'Das ist die Antwort der Auszählungsstelle anstelle eines Resultatblatts: Es gibt keines zu prüfen, und die Seite prüft diese '
     + 'Antwort nicht.'],
+  barRefusedMore: ['If you open the set-up and the returns too, this page shows how far the count is.',
+    'Öffnen Sie auch die Grunddaten und die Meldungen, so zeigt diese Seite, wie weit die Auszählung ist.'],
   // The three ticks
   ticks: ['What was checked', 'Was geprüft ist'],
   tickSetup: ['Set-up opened', 'Grunddaten geöffnet'],
@@ -230,6 +234,8 @@ const WORDS = {
   nothingChanged: ['Nothing: the two sheets have the same lines.', 'Nichts: Die zwei Resultatblätter haben dieselben Zeilen.'],
   onlyLines: ['No votes and no seats; other words of these lines: {lines}',
     'Keine Stimmen und keine Sitze; andere Angaben in diesen Zeilen: {lines}'],
+  beforeOther: ['The sheet before does not match the set-up (line {line}), as that of another election does not.',
+    'Das frühere Resultatblatt passt nicht zu den Grunddaten (Zeile {line}), so wie das einer anderen Wahl.'],
   beforeWrong: ['The sheet before is wrong at line {line}.', 'Das frühere Resultatblatt ist falsch in Zeile {line}.'],
   kindWord: ['Kind', 'Art'], commandsWord: ['Entries', 'Einträge'], houseWord: ['House', 'Sitze im Parlament'],
   allVotesWord: ['All votes', 'Alle Stimmen'], quorumCanton: ['Quorum in the canton, per mille', 'Quorum im Kanton, Promille'],
@@ -239,7 +245,8 @@ const WORDS = {
   takesPartIn: ['{name}: takes part', '{name}: nimmt teil'],
   yes: ['yes', 'ja'], no: ['no', 'nein'],
   // Paper
-  filesChecked: ['The files that were checked', 'Die geprüften Dateien'], fileName: ['Name', 'Name'],
+  filesChecked: ['The files that were checked', 'Die geprüften Dateien'],
+  filesOpened: ['The files that were opened', 'Die geöffneten Dateien'], fileName: ['Name', 'Name'],
   place: ['Place', 'Ort'], date: ['Date', 'Datum'], signature: ['Signature', 'Unterschrift'],
 };
 

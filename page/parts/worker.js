@@ -3,7 +3,7 @@
 // Checks a sheet by a fresh instance of the compiled module. The texts are bytes, and `held` is null where there are no rows. The status
 // is 0 (right) or 1 (wrong), with the verdict; 2 (no set-up) or 3 (no rows of this set-up), with a report of the fault; or 4 (memory).
 async function provedCheck(module, { setup, sheet, held }) {
-  const { memory, room, check_sheet: check } = (await WebAssembly.instantiate(module)).exports;
+  const { memory, room, check_sheet: check } = /** @type {any} */ (await WebAssembly.instantiate(module)).exports;
   const taken = (size) => {
     const at = room(BigInt(size));
     if (at === 0n) throw new RangeError('memory');

@@ -2,7 +2,7 @@
 import pytest
 
 from nights import Night
-from room import Room
+from quiet import QuietRoom
 
 
 @pytest.fixture(autouse=True)
@@ -13,7 +13,7 @@ def needs(program):
 @pytest.fixture
 def new_room(request):
     """A room in which no office has run yet, of the kind that the module names as its ROOM."""
-    with getattr(request.module, "ROOM", Room)() as room:
+    with getattr(request.module, "ROOM", QuietRoom)() as room:
         yield room
 
 

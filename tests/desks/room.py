@@ -1,6 +1,7 @@
-"""A room for an office and its desks: a folder with a set-up and a disk, the processes in it, and what its protocols have to say.
-DESKS names another folder of the scripts, and PATIENCE how many seconds a test waits for what has to happen."""
+"""A room for an office and its desks: a folder with a set-up and a disk, the processes in it, and what its log has to say. DESKS names
+another folder of the scripts."""
 import contextlib
+import functools
 import os
 import pathlib
 import re
@@ -10,146 +11,17 @@ import stat
 import subprocess
 import sys
 import tempfile
-import threading
-import time
 
+from counting import Count, counted
+from logs import events
 from places import PROGRAM, REHEARSAL, TOP
+from processes import HAS_ENDED, SECONDS, Desk, Process, same, stand_still, stays, that, unread_by, until
 
+__all__ = ["HAS_ENDED", "MODES", "SCRIPTS", "SECONDS", "Count", "Desk", "Process", "Room", "let_in", "running", "same", "stand_still",
+           "stays", "that", "until"]
 SCRIPTS = pathlib.Path(os.environ.get("DESKS", TOP / "desks"))
-SECONDS = int(os.environ.get("PATIENCE", "90"))  # a busy machine may take long
-MODES = {"lines": "prw--w----", "bell": "prw-r-----", "sent": "-rw-rw----", "protocol": "-rw-r-----", "status": "-rw-r-----",
-         "held": "-rw-r-----", "setup": "-rw-r-----", "office": "-rw-r-----"}
-HAS_ENDED = "(it has ended)"  # what a desk gives as its answer that has none
-# Runs a script, and notes each of these calls, its file, and what it says on standard output, or else the size of the file.
-TRACED = '''
-import os, runpy, sys
-real = {it: getattr(os, it) for it in ("fsync", "write", "rename")}
-def traced(name):
-    def call(at, *more):
-        found = real[name](at, *more)
-        path, is_said = more[0] if name == "rename" else f"/proc/self/fd/{at}", (name, at) == ("write", 1)
-        note = f"{os.path.basename(os.path.realpath(path))} {more[0][:30] if is_said else os.stat(path).st_size}"
-        real["write"](trace, f"{'said' if is_said else name} {note}\\n".encode())
-        return found
-    return call
-trace = os.open(os.environ["TRACE"], os.O_WRONLY | os.O_CREAT | os.O_APPEND)
-for it in real:
-    setattr(os, it, traced(it))
-sys.argv = sys.argv[1:]
-runpy.run_path(sys.argv[0], run_name="__main__")
-'''
-
-sys.path.insert(0, str(SCRIPTS))
-from zhcount_desks import records_in
-
-
-def same(what, wanted, found):
-    if wanted != found:
-        raise AssertionError(f"{what}: {str(found)[-400:]!r}, wanted {str(wanted)[-400:]!r}")
-
-
-def that(what, holds):
-    same(what, True, bool(holds))
-
-
-def until(what, holds, seconds=SECONDS):
-    """Waits until something holds, and gives it. Where it does not, `what` says that, or what it says by then as a function."""
-    end = time.monotonic() + seconds
-    while not (found := holds()):
-        if time.monotonic() > end:
-            raise AssertionError(f"not after {seconds} seconds: {what() if callable(what) else what}")
-        time.sleep(0.01)
-    return found
-
-
-def stays(what, holds, seconds=0.5):
-    """Looks for so long whether something goes on holding."""
-    end = time.monotonic() + seconds
-    while time.monotonic() < end:
-        that(what, holds())
-        time.sleep(0.01)
-
-
-class Process:
-    """A process with pipes, whose output is read as it comes."""
-
-    def __init__(self, words, environment):
-        streams = dict.fromkeys(("stdin", "stdout", "stderr"), subprocess.PIPE)
-        self.process = subprocess.Popen([str(it) for it in words], env={**os.environ, **environment}, bufsize=0, **streams)
-        self.out, self.error = [], []
-        self.readers = [threading.Thread(target=self.read, args=it, daemon=True)
-                        for it in ((self.process.stdout, self.out), (self.process.stderr, self.error))]
-        for it in self.readers:
-            it.start()
-
-    @staticmethod
-    def read(stream, into):
-        with contextlib.suppress(ValueError):  # it was closed
-            for line in stream:
-                into.append(line.decode("utf-8", "replace").rstrip("\n"))
-
-    def write(self, text):
-        with contextlib.suppress(BrokenPipeError):
-            self.process.stdin.write(text.encode())
-
-    def said(self):
-        return "\n".join(self.error)
-
-    def says(self, *texts):
-        """Waits until it has said all of this."""
-        for text in texts:
-            until(lambda: f"'{text}' is said: {self.said()}", lambda: text in self.said())
-
-    def kill(self, number=signal.SIGKILL):
-        self.process.send_signal(number)
-
-    def has_ended(self):
-        return self.process.poll() is not None
-
-    def end(self, text=""):
-        """Closes its input, after this text, and waits for its end. Its status."""
-        self.write(text)
-        self.process.stdin.close()
-        return self.wait()
-
-    def wait(self):
-        status = self.process.wait(SECONDS)
-        for it in self.readers:
-            it.join(SECONDS)
-        return status
-
-    def ends_with(self, status, who):
-        """It ends of itself, with this status; where it does not, what it said is said."""
-        found = self.wait()
-        same(f"the end of {who}: {self.said()}", status, found)
-
-
-class Desk(Process):
-    """A desk that sends a line once the one before is answered."""
-
-    taken = 0  # lines of output
-
-    def talk(self, *exchanges):
-        """Sends lines, each with the answer that it has to have: 'LINE -> ANSWER'. The desk."""
-        for line, wanted in (it.split(" -> ") for it in exchanges):
-            same(f"the answer to {line}", wanted, self.send(line))
-        return self
-
-    def send(self, line):
-        self.write(line + "\n")
-        return self.answer(line)
-
-    def answer(self, line="", meanwhile=lambda: None):
-        """The next answer; of a sheet all its lines."""
-        def whole():
-            meanwhile()
-            found = self.out[self.taken:]
-            if found and re.match(r"\d sheet (provisional|final) \d+$", found[0]):
-                return found[:found.index("end") + 1] if "end" in found else None
-            return found[:1] or ([HAS_ENDED] if self.has_ended() else None)
-        answer = until(f"an answer to {line}", whole)
-        self.taken += len(answer)
-        return "\n".join(answer)
+FORMATTED = []  # folders that go with the tests
+MODES = {"night.db": "-rw-------", "night.db-wal": "-rw-------", "desk": "srw-rw----"}
 
 
 class Room:
@@ -160,7 +32,8 @@ class Room:
         self.scripts, self.environment = SCRIPTS, {"ZHCOUNT": str(PROGRAM)}
         self.setup, self.disk, self.folder = self.path / "setup.toml", self.path / "night.disk", self.path / "office"
         self.setup.write_text(setup)
-        self.zhcount("format")
+        shutil.copyfile(formatted(setup), self.disk)
+        self.disk.chmod(0o600)
         self.processes, self.office, self.options = [], None, []
 
     @staticmethod
@@ -178,6 +51,8 @@ class Room:
             it.process.wait()
         shutil.rmtree(self.path, ignore_errors=True)
 
+    # The program and the scripts
+
     def ran(self, task, *words, disk=None, given=""):
         """A run of the program on the room's disk, or on another one."""
         return subprocess.run([PROGRAM, task, "--setup", self.setup, "--disk", disk or self.disk, *words], input=given, capture_output=True,
@@ -189,20 +64,10 @@ class Room:
     def script(self, name, *words):
         return [sys.executable, "-S", self.scripts / name, *words]  # no packages are looked for
 
-    def traced(self, name, *words):
-        """As `script`, of a script that notes its calls, which `calls` gives."""
-        self.trace, wrapper = self.path / "trace", self.path / "traced.py"
-        self.environment["TRACE"] = str(self.trace)
-        wrapper.write_text(TRACED)
-        return [sys.executable, wrapper, self.scripts / name, *words]
-
-    def calls(self):
-        return [it.split(" ", 2) for it in self.trace.read_text().splitlines()]
-
     def edit_script(self, name, pattern, text):
         """Changes the one place of a script where this regular expression matches, from now on in a copy of the scripts."""
-        if self.scripts == SCRIPTS:
-            self.scripts = shutil.copytree(SCRIPTS, self.path / "scripts")
+        if self.scripts != self.path / "scripts":
+            self.scripts = shutil.copytree(self.scripts, self.path / "scripts")
         edited, times = re.subn(pattern, text, (self.scripts / name).read_text(), flags=re.MULTILINE)
         same(f"places with {pattern} in {name}", 1, times)
         (self.scripts / name).write_text(edited)
@@ -226,13 +91,28 @@ class Room:
             same(task, 0, self.ran(task, disk=path, given=given).returncode)
         return path
 
+    def load(self, *rows):
+        """Loads a table by hand."""
+        path = self.path / "loaded.csv"
+        path.write_text("".join(f"{it}\n" for it in ["municipality,list,number,votes", *rows]))
+        found = self.ran("load", "--csv", path)
+        same(f"the loading of {rows}, which says {found.stderr}", 0, found.returncode)
+        return found.stdout
+
+    def by_hand(self, *lines):
+        """Types lines into `run` by hand."""
+        return self.zhcount("run", given="".join(f"1 {it}\n" for it in lines))
+
+    # The office
+
     def process(self, kind, words):
         process = kind(words, self.environment)
         self.processes.append(process)
         return process
 
-    def start(self, is_awaited=True):
-        self.office = self.process(Process, self.script("zhcount-office", *self.options, self.setup, self.disk, self.folder))
+    def start(self, *options, is_awaited=True):
+        words = self.script("zhcount-office", *self.options, *options, self.setup, self.disk, self.folder)
+        self.office = self.process(Process, words)
         if is_awaited:
             self.await_start()
             that(f"the office starts: {self.office.said()}", self.serves())
@@ -266,8 +146,46 @@ class Room:
         self.office.ends_with(status, "the office")
         self.office.says(*texts)
 
-    def desk(self, number):
-        return self.process(Desk, self.script("zhcount-desk", str(number), self.folder))
+    @staticmethod
+    def children_of(process):
+        pid = process.process.pid
+        with contextlib.suppress(OSError):
+            return list(map(int, pathlib.Path(f"/proc/{pid}/task/{pid}/children").read_text().split()))
+        return []
+
+    def child(self, word):
+        """The process below the office that has this word in its command; 0 where there is none."""
+        for it in self.children_of(self.office):
+            with contextlib.suppress(OSError):
+                if word in pathlib.Path(f"/proc/{it}/cmdline").read_bytes().decode().split("\0"):
+                    return it
+        return 0
+
+    def run_of_office(self):
+        """The process of zhcount run below the office."""
+        return until("a run", lambda: self.child("run"))
+
+    def zhcount_office(self, *words, status=0):
+        """What zhcount-office says with these arguments, and ends with this status."""
+        ran = subprocess.run(self.script("zhcount-office", *words), env={**os.environ, **self.environment}, capture_output=True,
+                             text=True, timeout=SECONDS)
+        same(f"the status of {words[0]}, which says {ran.stdout}{ran.stderr}", status, ran.returncode)
+        return ran.stdout + ran.stderr
+
+    def replay(self, status=0):
+        return self.zhcount_office("--replay", self.folder, status=status)
+
+    def rebuilt(self):
+        """The export of the disk that is made anew from the folder."""
+        new = self.path / "new.disk"
+        new.unlink(missing_ok=True)
+        self.zhcount_office("--rebuild", self.folder, new)
+        return self.zhcount("export", disk=new)
+
+    # Desks
+
+    def desk(self, number, *options):
+        return self.process(Desk, self.script("zhcount-desk", *options, str(number), self.folder))
 
     def ask(self, number, *lines, end="\n"):
         """What a desk shows that sends these lines, and what it says beside."""
@@ -275,21 +193,17 @@ class Room:
         desk.status = desk.end("\n".join(lines) + end)
         return desk
 
-    def run_of_office(self):
-        """The process of zhcount run below the office."""
-        children = pathlib.Path(f"/proc/{self.office.process.pid}/task/{self.office.process.pid}/children")
-        return int(children.read_text().split()[0])
-
     def note(self, desk, line):
         """Types a line at a desk, which the office notes. Its answer is not awaited."""
         desk.write(f"{line}\n")
-        until(f"{line} is noted", lambda: self.records("protocol")[-1].text == line)
+        until(f"{line} is noted", lambda: self.noted()[-1:] == [line])
 
     def unanswered(self, desk, line):
-        """Types a line that is noted, and that the run does not get to answer. The process of the run."""
+        """Types a line that is noted and given, and that the run does not get to answer. The process of the run."""
         run_process = self.run_of_office()
-        os.kill(run_process, signal.SIGSTOP)
+        stand_still(run_process)
         self.note(desk, line)
+        until("it is given", lambda: unread_by(run_process))
         return run_process
 
     def lost(self, desk, line):
@@ -306,56 +220,62 @@ class Room:
         desk.kill()
         self.stop(signal.SIGKILL)
         os.kill(run_process, signal.SIGCONT)
+        until("the run has ended", lambda: not os.path.exists(f"/proc/{run_process}"))
 
-    def zhcount_office(self, *words, status=0):
-        """What zhcount-office says with these arguments, and ends with this status."""
-        ran = subprocess.run(self.script("zhcount-office", *words), env={**os.environ, **self.environment}, capture_output=True,
-                             text=True, timeout=SECONDS)
-        same(f"the status of {words[0]}, which says {ran.stdout}{ran.stderr}", status, ran.returncode)
-        return ran.stdout + ran.stderr
+    # What there is
 
-    def replay(self, status=0):
-        return self.zhcount_office("--replay", self.folder, status=status)
+    def events(self):
+        return events(self.folder)
 
-    def edit(self, name, old, new=None):
-        """Changes a file of the folder, in which the old text stands once; without a new one its line is taken out."""
-        text = (self.folder / name).read_text()
-        same(f"{old} in {name}", 1, text.count(old))
-        without = "".join(f"{it}\n" for it in text.split("\n")[:-1] if old not in it)
-        (self.folder / name).write_text(without if new is None else text.replace(old, new))
-
-    @contextlib.contextmanager
-    def edited(self, *changes):
-        """The folder with these changes, each as of `edit`; and then as it was."""
-        kept = shutil.copytree(self.folder, self.path / "kept")
-        for it in changes:
-            self.edit(*it)
-        yield
-        shutil.rmtree(self.folder)
-        kept.rename(self.folder)
-
-    def modes(self):
-        """Who may use the files of the folder, by the first word of their names."""
-        return {it.name.split(".")[0]: stat.filemode(it.stat().st_mode) for it in self.folder.iterdir() if not it.name.startswith("now")}
-
-    def records(self, name):
-        return records_in((self.folder / name).read_bytes(), name)[0]
+    def noted(self):
+        """The lines in the log, in their order."""
+        return [it.text for it in self.events() if it.kind == "line"]
 
     def of_desk(self, number):
-        return [it for it in self.records(f"protocol.{number}") if it.is_line()]
+        """The lines of a desk in the log, each with its answer; None of one that has none."""
+        found = {}
+        for it in self.events():
+            if it.desk == number and it.kind in ("line", "answer"):
+                found[it.turn] = (it.text, None) if it.kind == "line" else (found[it.turn][0], it.text)
+        return list(found.values())
+
+    def modes(self):
+        """Who may use the files of the folder; `now` and the sheets have tests of their own."""
+        return {it.name: stat.filemode(it.lstat().st_mode) for it in self.folder.iterdir() if not it.name.startswith(("now", "sheet"))}
 
     def check(self, sent=()):
-        """Ends the office, if it runs: each line has one final answer, the export is that of the stored commands, and a replay says the
-        same."""
+        """Ends the office, if it runs: each line has one answer, which is that of the manual, the disk has what follows from the lines, and
+        a replay says the same."""
         if not self.office.has_ended():
-            self.stop()
-        records = {number: self.of_desk(number) for number in range(1, 9)}
-        for number, of_desk in records.items():
-            finals = final_answers(of_desk)
-            if number in sent:
-                same(f"the lines of desk {number}", sent[number], [text for text, _ in finals])
-        same("the export", export_of(it for of_desk in records.values() for it in of_desk if it.line), self.zhcount("export"))
+            same(f"the end of the office: {self.office.said()}", 0, self.stop())
+        count = self.compare(sent)
+        same("the export", count.export(), self.zhcount("export"))
+        same("the commands", count.commands, self.events()[-1].facts()["commands"])
         return self.replay()
+
+    def compare(self, sent):
+        """Looks whether each line in the log has one answer, which is that of the manual; and of these desks what they sent. The count."""
+        count = counted(self.events())
+        for number in sent:
+            same(f"the lines of desk {number}", sent[number], [text for text, _ in self.of_desk(number)])
+        return count
+
+
+@functools.lru_cache(maxsize=None)
+def formatted(setup):
+    """A new disk of this set-up, which rooms copy: its making is tested elsewhere."""
+    FORMATTED.append(tempfile.TemporaryDirectory(prefix="formatted-"))
+    place = pathlib.Path(FORMATTED[-1].name)
+    (place / "setup.toml").write_text(setup)
+    subprocess.run([PROGRAM, "format", "--setup", place / "setup.toml", "--disk", place / "disk"], check=True)
+    return place / "disk"
+
+
+def let_in(room, number):
+    """A desk that the office has let in."""
+    desk = room.desk(number)
+    until(lambda: f"desk {number} is let in: {desk.said()}", lambda: desk.is_let_in() or desk.has_ended())
+    return desk
 
 
 @contextlib.contextmanager
@@ -364,58 +284,3 @@ def running(room):
     with room:
         room.start()
         yield room
-
-
-def final_answers(records):
-    """The lines of a desk in their order, each with its one final answer."""
-    found, open_lines, repeated = [], {}, []
-    for record in records:
-        if record.mark == "new":
-            found.append([record.text, record.answer])
-        elif found[-1][0] == record.text and found[-1][1] == "unanswered":
-            found[-1][1] = record.answer
-    for text, answer in found:
-        that(f"{text} has a final answer, and not '{answer}'", answer != "unanswered" or text.split()[0] in ("close", "reopen"))
-    return [tuple(it) for it in found]
-
-
-class Count:
-    """What is held, by the commands that were stored: a return or a row replaces what stood in its place."""
-
-    def __init__(self):
-        self.held, self.commands, self.batches = {}, 0, {}
-
-    def begin(self):
-        self.batches = {}
-
-    def take(self, desk, text, answer):
-        word, *numbers = text.split(" ")
-        rows = self.batches.setdefault(desk, [])
-        if word == "row" and answer.startswith("held"):
-            rows.append(numbers)
-        elif word in ("open", "drop") and answer.startswith(("held 0", "dropped")):
-            rows.clear()
-        elif answer.startswith("stored "):
-            self.commands += 1
-            self.replace({"return": [numbers], "withdraw": [numbers], "commit": rows}.get(word, []))
-        if word == "commit" and answer.startswith(("stored", "same")):
-            rows.clear()
-
-    def replace(self, rows):
-        for municipality, group, number, *votes in rows:
-            self.held[int(municipality), int(group)] = number, votes[0] if votes else "withdrawn"
-
-    def export(self):
-        rows = [f"{m},{g},{n},{v}" for (m, g), (n, v) in sorted(self.held.items())]
-        return "".join(f"{it}\n" for it in ["municipality,list,number,votes", *rows])
-
-
-def export_of(records):
-    """The export of the commands answered `stored`, or `same` to a line marked again, each once and in their order."""
-    count, start = Count(), 0
-    for record in sorted(records, key=lambda it: (it.start, it.line)):
-        if record.start != start:
-            start = record.start
-            count.begin()
-        count.take(record.desk, record.text, "stored 0" if (record.mark, record.answer) == ("again", "same") else record.answer)
-    return count.export()

@@ -1,6 +1,7 @@
 """Tests of when an office copies its disk, and of the child that writes what follows from a copy: killed, slow, failing, or left by its
 office."""
 import concurrent.futures
+import errno
 import os
 import re
 import resource
@@ -8,15 +9,16 @@ import signal
 
 import pytest
 
-from now import NEVER, RETURNS, QuickRoom, compare, link_of, names_of_now
+from now import NEVER, RETURNS, QuickRoom, command_of, compare, link_of, names_of_now
 from places import PROGRAM
-from room import Room, running, same, stays, that, until
+from processes import same, stays, that, until
+from room import Room, running
 from watch import Stop, WatchedRoom, made_library
 from witnessed import Witnessed
 
 # A run that spoils the first byte of the disk for as long as a line is in the air.
 RUN_THAT_SPOILS = r"""put() {{ printf "$1" | dd of='{disk}' bs=1 conv=notrunc status=none; }}
-if [ $1 = run ]; then
+if [ $1 = run ] && [ "$5" = '{disk}' ]; then
     coproc real {{ exec '{program}' "$@"; }}
     while IFS= read -r line; do
         [ "$line" ] && {{ put '\x00'; sleep 0.3; put '\xa5'; }}
@@ -35,31 +37,31 @@ ROOM = QuickRoom
 @pytest.mark.xdist_group("times")
 def test_every_ten_seconds():
     """a command that comes soon after a copy is seen ten seconds after that copy, though no other line comes"""
-    with running(Room()) as room:
-        until("the first", lambda: link_of(room) == "now-0")
-        first = (room.folder / "now-0/disk").stat().st_mtime
-        same("the answers", ["stored 1", "stored 2"], room.ask(1, *RETURNS[:2]).out)
-        until("the next", lambda: link_of(room) == "now-2", 25)
-        after = (room.folder / "now-2/disk").stat().st_ctime - first
-        that(f"after {after:.1f} seconds", 9.5 < after < 20)
-        until("the first is gone", lambda: names_of_now(room) == ["now", "now-2"])
+    with Room() as room:
+        times, child = room.path / "times", '["ln", "-sfn", os.path.basename(path), os.path.join(self.log.path, "now")]'
+        room.edit_script("zhcount_now.py", r"^( *)self\.at = (?=time\.m).*", rf"\g<0>\n\1print(self.at, file=open({str(times)!r}, 'a'))")
+        room.edit_script("zhcount_now.py", r"^( *)words = .*", rf"\1words = {child}")  # a child that takes no time
+        desk = room.desk(1)
+        desk.write("".join(f"{it}\n" for it in RETURNS[:2]))
+        room.start()
+        until("the next", lambda: names_of_now(room) == ["now", "now-2"])
+        same("the answers", ["stored 1", "stored 2"], [desk.answer(), desk.answer()])
+        first, second, *_ = map(float, times.read_text().split())
+        that(f"after {second - first:.1f} seconds", 10 <= second - first < 60)
         stays("nothing is copied where nothing has changed", lambda: names_of_now(room) == ["now", "now-2"])
         room.stop()
 
 
 def test_lines_meanwhile():
-    """what comes while the child works is in none of its files"""
-    with running(QuickRoom(every=NEVER)) as room:
-        room.shows(0)
-        same("the answers", ["stored 1", "stored 2"], room.ask(1, *RETURNS[:2]).out)
-        room.stop()
+    """what comes while the child works is in none of its files; it leaves the processor to others"""
+    with QuickRoom(every=NEVER, priority=19) as room:
         room.start_held()
-        same("its priority", 19, os.getpriority(os.PRIO_PROCESS, room.child()))
-        same("the answers meanwhile", ["same", "stored 3"], room.ask(2, RETURNS[0], RETURNS[2]).out)
-        same("`now` is not there before all is", ["now.new"], names_of_now(room))
+        same("its priority", 19, os.getpriority(os.PRIO_PROCESS, room.working()))
+        os.setpriority(os.PRIO_PROCESS, room.working(), 0)
+        same("the answers meanwhile", ["stored 1", "stored 2"], room.ask(1, *RETURNS[:2]).out)
+        same("`now` is not there before all is", ["now-0"], names_of_now(room))
         room.goes_on()
-        compare(room, RETURNS[:2])
-        room.stop()
+        compare(room, [], shown=0)
 
 
 def test_copies_between_lines():
@@ -69,36 +71,37 @@ def test_copies_between_lines():
         room.start()
         room.desk(1).talk(*(f"{line} -> stored {number}" for number, line in enumerate(RETURNS, 1)))
         compare(room, RETURNS)
-        same("nothing failed", "", "".join(it for it in room.office.error if "not made anew" in it))
+        same("nothing failed", "", "".join(it for it in room.office.error if "could not be renewed" in it))
         room.stop()
 
 
 class QuickWitnessed(QuickRoom, Witnessed):
     """A room whose office copies the disk more often, and has a witness."""
+    is_quiet = False
 
 
 def test_copies_and_a_witness():
     """what no desk was shown yet, since it waits for the witness, is in no copy"""
     with QuickWitnessed() as room:
         room.options.append("--witness-required")
-        room.start_held()
+        room.start()
         desk = room.desk(1).talk(f"{RETURNS[0]} -> stored 1")
+        room.shows(1)
+        room.has_all()
+        until("its child has ended", lambda: not room.child())
         room.signal(signal.SIGSTOP)
         room.note(desk, RETURNS[1])
-        room.goes_on()
-        until("the first is shown", lambda: link_of(room) == "now-0" and not room.child())
-        stays("nothing that waits is copied", lambda: not room.child() and names_of_now(room) == ["now", "now-0"], 5)
+        stays("nothing that waits is copied", lambda: not room.child() and names_of_now(room) == ["now", "now-1"], 3)
         room.signal(signal.SIGCONT)
         same("the answer", "stored 2", desk.answer())
-        until("then it is", lambda: link_of(room) == "now-2")
+        room.shows(2)
         room.stop()
 
 
 def test_copy_of_other_commands(new_room):
-    """a copy that has other commands than the protocol is not shown"""
-    one_more = f"printf '1 return 1 1 1 5\\n' | '{PROGRAM}' run --setup '{new_room.setup}' --disk '{new_room.folder}/now.new/disk'"
-    new_room.on_copies(f"{one_more} > '{new_room.path}/said'")
-    new_room.start().says("not made anew: the copy has 1 commands, and the protocol 0")
+    """a copy that has other commands than the log is not shown"""
+    new_room.on_copies(f"printf '1 return 1 1 1 5\\n' | '{PROGRAM}' run --setup \"$3\" --disk \"$5\" > '{new_room.path}/said'")
+    new_room.start().says("could not be renewed: the copy has not the 0 commands of the log: ")
     same("nothing is shown", None, link_of(new_room))
     new_room.stop()
 
@@ -109,33 +112,31 @@ def test_copy_of_another_disk(new_room):
     same("the answer", ["stored 1"], new_room.ask(1, RETURNS[0]).out)
     os.replace(new_room.other_disk(RETURNS[1]), new_room.disk)
     new_room.goes_on()
-    new_room.ends(3, "is not the file any more")
+    new_room.ends(3, "is no longer the file")
 
 
 # The child
 
 
 def test_failing_child(new_room):
-    """of a child that fails the log says once why, and the office goes on"""
+    """of a child that fails the log says why, and the office goes on, and tries again"""
     tries = new_room.path / "tries"
     new_room.on_copies(f"[ -e '{new_room.held}' ] && {{ echo >> '{tries}'; echo 'zhcount: disk damaged' >&2; exit 1; }}")
     new_room.held.write_text("")
     new_room.start()
     until("it is tried again", lambda: tries.exists() and len(tries.read_text()) >= 3)
     same("the answer", ["stored 1"], new_room.ask(1, RETURNS[0]).out)
-    same("it is said once", ["zhcount-office: `now` is not made anew: zhcount status: zhcount: disk damaged"],
-         [it for it in new_room.office.error if "not made anew" in it])
+    new_room.office.says("zhcount-office: `now` could not be renewed: zhcount status: zhcount: disk damaged")
     new_room.held.unlink()
     compare(new_room, RETURNS[:1])
     new_room.stop()
 
 
 def test_killed_child(new_room):
-    """a child that is killed leaves nothing behind, and another one does its work"""
-    asked = new_room.start_held()
-    os.kill(new_room.child(), signal.SIGKILL)
-    new_room.office.says("not made anew: status -9")
-    until("it is left to nobody", lambda: not {*asked} & {*new_room.left_over()}, 5)
+    """of a child that is killed the log says so, and another one does its work"""
+    new_room.start_held()
+    os.kill(new_room.working(), signal.SIGKILL)
+    new_room.office.says("could not be renewed: its process was killed after ")
     new_room.goes_on()
     compare(new_room, [])
     new_room.stop()
@@ -143,10 +144,12 @@ def test_killed_child(new_room):
 
 def test_slow_child():
     """a child that takes too long is killed, with what it has started, and desks are answered meanwhile"""
-    with QuickRoom(longest=1) as room:
+    with QuickRoom() as room:
+        late = room.is_patient()
         room.start_held()
         same("the answer meanwhile", ["stored 1"], room.ask(1, RETURNS[0]).out)
-        room.office.says("not made anew: not done after 1 seconds")
+        late.touch()
+        room.office.says("could not be renewed: its process was killed after ")
         room.stop()
         until("nothing is left", lambda: not room.left_over())
         same("and no folder", [], names_of_now(room))
@@ -158,37 +161,57 @@ def test_no_room(new_room):
     new_room.shows(0)
     resource.prlimit(office.process.pid, resource.RLIMIT_FSIZE, (500_000, resource.RLIM_INFINITY))
     same("the answers", [f"stored {it}" for it in range(1, 10)], new_room.ask(1, *RETURNS).out)
-    office.says("not made anew: [Errno 27] File too large")
+    office.says("could not be renewed: [Errno 27] File too large")
     (new_room.folder / "sheet-9.new").mkdir()
     same("the sheet", "2 sheet provisional 9", new_room.ask(2, "sheet").out[0])
     office.says("a sheet is not put into the folder: ")
-    same("an older one stays", ["now", "now-0"], names_of_now(new_room))
+    new_room.shows(0)
     resource.prlimit(office.process.pid, resource.RLIMIT_FSIZE, (resource.RLIM_INFINITY, resource.RLIM_INFINITY))
     new_room.shows(9)
     same("the end", 0, new_room.stop())
 
 
 def test_killed_office():
-    """a child ends with its office, and the next start removes what it left"""
+    """a child whose office is killed shows nothing, and the next start removes what it left"""
     with running(QuickRoom(every=NEVER)) as room:
         same("the answer", ["stored 1"], room.ask(1, RETURNS[0]).out)
         room.stop()
         room.start_held()
-        room.stop(signal.SIGKILL)
-        until("nothing is left", lambda: not room.left_over(), 5)
-        same("what is there", ["now.new"], names_of_now(room))
-        (room.folder / "now-7").mkdir()
-        (room.folder / "now").symlink_to("now-7")
+        ends_without_child(room, signal.SIGKILL)
+        same("what is there", ["now-1"], names_of_now(room))
+        (room.folder / "now-7-7").mkdir()
+        (room.folder / "now").symlink_to("now-7-7")
         room.start_held()
-        same("an older `now` is gone", ["now.new"], names_of_now(room))
+        same("an older `now` is gone", ["now-1"], names_of_now(room))
         room.goes_on()
         compare(room, RETURNS[:1])
         same("nothing else", ["now", "now-1"], names_of_now(room))
         room.check()
 
 
+def ends_without_child(room, number):
+    """A signal ends the office at once, and then its child ends, which was at work."""
+    child = room.working()
+    room.office.kill(number)
+    until("the office has ended", room.office.has_ended)
+    room.goes_on()
+    until("its child has ended", lambda: not command_of(child))
+
+
+def test_told_twice():
+    """an office that is told to end waits for its child; told twice it does not, and the child shows nothing"""
+    with QuickRoom() as room:
+        room.start_held()
+        first = room.working()
+        room.office.kill(signal.SIGTERM)
+        until("the last copy has a child", lambda: room.child() not in (0, first))
+        stays("it waits", lambda: not room.office.has_ended())
+        ends_without_child(room, signal.SIGTERM)
+        same("the end", (0, ["now-0"]), (room.office.wait(), names_of_now(room)))
+
+
 class StopInNow(Stop):
-    """A stop of the office before its call of this number in `now`, while it shows two commands, one after the other."""
+    """A stop of the office, or its child, before the call of this number in `now`, once that is there, while it shows another command."""
 
     def __init__(self, preloaded, scripts, number):
         super().__init__(preloaded, number)
@@ -196,27 +219,26 @@ class StopInNow(Stop):
 
     def counts(self, call):
         is_of_now = re.search(r"/office/now[^/]*(/.*)?$", call.path) and call.name != "look"
-        return is_of_now and call.pid in self.room.pids  # and not of the child
+        is_ours = call.pid in self.room.pids or b"zhcount_now" in command_of(call.pid)
+        return is_of_now and is_ours and link_of(self.room) is not None
 
     def run(self):
         with WatchedRoom(self.library, self.before, self.scripts) as room:
             self.room = room
             room.start(is_awaited=False)
-            for number, line in enumerate(RETURNS[:2], 1):
-                desk = room.desk(1)
-                desk.write(f"{line}\n")
-                self.until(f"now-{number}", lambda: link_of(room) == f"now-{number}")
-                self.until("the answer", lambda: desk.out)
-                desk.process.stdin.close()
-                self.until("the end of the desk", desk.has_ended)
-            self.until("nothing else", lambda: names_of_now(room) == ["now", "now-2"])
-            same("the rows", "municipality,list,number,votes\n1,1,1,525\n1,2,1,300\n", (room.folder / "now/held.csv").read_text())
+            self.until("now-0", lambda: link_of(room) == "now-0")
+            desk = room.desk(1)
+            desk.write(f"{RETURNS[0]}\n")
+            self.until("now-1", lambda: link_of(room) == "now-1")
+            self.until("the answer", lambda: desk.out)
+            self.until("nothing else", lambda: names_of_now(room) == ["now", "now-1"])
+            same("the rows", "municipality,list,number,votes\n1,1,1,525\n", (room.folder / "now/held.csv").read_text())
             room.stop()
         return self
 
     def until(self, what, holds):
         """Waits until something holds, and starts the office again where it was stopped."""
-        until(f"stop {self.number}: {what}", lambda: self.starts_again() or holds(), 120)
+        until(f"stop {self.number}: {what}", lambda: self.starts_again() or holds())
 
     def starts_again(self):
         if self.room.office.process.poll() == -signal.SIGKILL:
@@ -224,12 +246,42 @@ class StopInNow(Stop):
 
 
 def test_stopped_office(new_room, tmp_path):
-    """kill -9 of the office at each of its calls that make, change or remove something of `now`"""
+    """kill -9 of the office and of its child at each of their calls that make, change or remove something of `now`"""
     watched = made_library(tmp_path), new_room.scripts
     calls = StopInNow(*watched, 0).run().calls
-    that(f"calls: {calls}", calls > 20)
+    that(f"calls: {calls}", calls > 15)
     with concurrent.futures.ThreadPoolExecutor(5) as pool:
         list(pool.map(lambda number: StopInNow(*watched, number).run(), range(1, calls + 1)))
+
+
+@pytest.mark.parametrize("call", [("open", "sums"), ("link", "now"), ("rename", "now")])
+def test_fault_while_it_is_shown(new_room, tmp_path, call):
+    """a fault among the calls that show new files leaves `now` as it was, or leads it to them: never to a folder that is gone"""
+    faults = []
+
+    def before(found):
+        if (found.name, found.file) == call and link_of(room) == "now-0" and len(faults) < 2:
+            faults.append(found)
+            return errno.ENOSPC
+        return 0
+
+    with WatchedRoom(made_library(tmp_path), before, new_room.scripts) as room:
+        room.start()
+        until("the first", lambda: link_of(room) == "now-0")
+        desk = room.desk(1).talk(f"{RETURNS[0]} -> stored 1")
+        seen = []
+
+        def is_shown():
+            seen.append((room.folder / "now").exists())
+            return link_of(room) == "now-1"
+        until(lambda: f"the next: {room.office.said()}", is_shown)
+        same("faults", 2, len(faults))
+        that(f"it leads to something each time: {seen.count(False)}", all(seen))
+        room.office.says("could not be renewed: [Errno 28] No space left on device")
+        desk.talk(f"{RETURNS[1]} -> stored 2")
+        until("nothing else stays", lambda: names_of_now(room) == ["now", "now-2"])
+        same("the rows", "municipality,list,number,votes\n1,1,1,525\n1,2,1,300\n", (room.folder / "now/held.csv").read_text())
+        room.stop()
 
 
 def test_failed_disk():

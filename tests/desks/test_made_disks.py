@@ -1,92 +1,156 @@
-"""Tests of the disk that zhcount-office --rebuild makes: whole or not at all, over no other file, and used by an office again; and of what
-is said where there is nothing to run, or an office runs."""
+"""Tests of the disk that zhcount-office --rebuild makes: whole or not at all, over no other file, from a log that nobody else has, with the
+set-up of the log; and of what a rebuild leaves that is killed."""
 import os
-import re
-import signal
+import pathlib
+import shutil
 import stat
 
-from room import Process, same, that
+import pytest
+
+from now import command_of
+from processes import Process, same, that, until
+from watch import WatchedRoom, made_library
 
 
-def test_nothing_is_overwritten(night):
-    """a disk that is there is left as it is, whatever it is; so is one that comes meanwhile"""
+@pytest.fixture
+def written(night):
+    """A night with one return, whose log is there."""
     night.begin(["1 return 1 1 1 525"])
+    return night.put()
+
+
+def test_nothing_is_overwritten(written):
+    """a disk that is there is left as it is, whatever it is; so is one that comes meanwhile"""
     for name, make in [("file", lambda path: path.write_text("mine")), ("folder", lambda path: path.mkdir()),
                        ("link", lambda path: path.symlink_to("nowhere"))]:
-        path = night.path / name
+        path = written.path / name
         make(path)
         before = os.lstat(path)
-        that(f"a {name}", f"{path} is there already" in night.zhcount_office("--rebuild", night.folder, path, status=1))
+        that(f"a {name}", f"{path} is there already" in written.zhcount_office("--rebuild", written.folder, path, status=1))
         after = os.lstat(path)
         same("it is left", (before.st_ino, before.st_size, before.st_mtime_ns), (after.st_ino, after.st_size, after.st_mtime_ns))
-    (night.path / "new.disk.folder").write_text("/another\n")
-    that("the disk of another folder", "is the disk of /another, and not of" in night.refused())
-    (night.path / "new.disk.folder").unlink()
-    night.stands_in(f"[ $1 = export ] && echo mine > '{night.new}'")
-    night.rebuild(status=1)
-    same("one that came", b"mine\n", night.new.read_bytes())
+    written.stands_in(f"[ $1 = export ] && echo mine > '{written.new}'")
+    that("it is said", "not made: [Errno 17] File exists: " in written.rebuild(status=1))
+    same("one that came", b"mine\n", written.new.read_bytes())
+    same("nothing else is left", [], [it for it in os.listdir(written.path) if it.startswith("new.disk.")])
 
 
-def test_whole_or_not_at_all(night):
-    """the disk stands at its path when all of it is on the device, for its owner alone, and never before"""
-    night.begin(["1 return 1 1 1 525"])
-    same("the status", 0, night.process(Process, night.traced("zhcount-office", "--rebuild", night.folder, night.new)).wait())
-    calls = "".join(f"{' '.join(it)}\n" for it in night.calls() if it[0] != "write")
-    wanted = rf"fsync new\.disk\.\S+ 1118720\nrename new\.disk 1118720\nfsync {night.path.name} \d+\n"
-    that(f"the order: {calls}", re.fullmatch(wanted, calls))
-    seen = night.path / "seen"
-    seen.write_text("")
-    night.stands_in(f"[ ! -e '{night.new}' ] || echo $1 >> '{seen}'")
-    night.rebuild()
-    same("nobody saw it before", "", seen.read_text())
-    same("who may use it", "-rw-------", stat.filemode(night.new.stat().st_mode))
-    same("its bytes", 1118720, night.new.stat().st_size)
-    night.stands_in("[ $1 != export ] || exit 1")
-    that("a program that fails", "not made: zhcount export" in night.refused())
-    night.environment["ZHCOUNT"] = "/none"
-    that("one that is not there", "not made: /none can't be started" in night.refused())
+def test_whole_or_not_at_all(written, tmp_path):
+    """the disk stands at its path once all of it is on the device, for its owner alone, and never before; its name is on the device at the
+    end"""
+    calls, sizes = [], []
+
+    def before(call):
+        calls.append((call.name, call.path))
+        if call.name == "link":
+            sizes.append((size_of(call), room.new.exists()))
+
+    with WatchedRoom(made_library(tmp_path), before) as room:
+        room.new = room.path / "made/new.disk"
+        room.new.parent.mkdir()
+        shutil.copytree(written.folder, room.folder)
+        room.folder.chmod(0o2750)
+        said = room.process(Process, room.script("zhcount-office", "--rebuild", room.folder, room.new))
+        said.ends_with(0, "the rebuild")
+        same("the whole of it gets its name", [(1118720, False)], sizes)
+        linked = next(place for place, (name, _) in enumerate(calls) if name == "link")
+        made, names = calls[linked][1], [name for name, path in calls[:linked] if path == calls[linked][1]]
+        that(f"it is on the device before: {names}", names[-1] == "sync" and "write" in names)
+        that(f"nothing changes it then: {calls[linked:]}", not any(path in (made, str(room.new)) for name, path in calls[linked + 1:]
+                                                                   if name in ("write", "truncate", "open")))
+        that(f"its name too: {calls[linked:]}", ("sync", str(room.new.parent)) in calls[linked:])
+        same("what is there", ["new.disk"], os.listdir(room.new.parent))
+        same("who may use it", "-rw-------", stat.filemode(room.new.stat().st_mode))
+        same("its bytes", 1118720, room.new.stat().st_size)
 
 
-def test_nothing_to_run(night):
-    """an empty protocol, or one without a state, is said to be so"""
-    for again in range(2):
-        said = night.replay(status=1)
-        that(f"a replay: {said}", said.startswith("can't be run: ") and "protocol is empty" in said)
-        that("a rebuild", "protocol is empty, or its first start has not noted what it found" in night.refused())
-        night.start = 1
-        night.write("protocol", "start")
-    (night.folder / "setup.toml").unlink()
-    that("without a set-up", "No such file or directory" in night.refused())
-    night.folder.rename(night.path / "moved")
-    that("without a folder", "No such file or directory" in night.refused())
+def size_of(call):
+    """How long the file is that a process has open at this path, which may be none yet."""
+    return next(it.stat().st_size for it in pathlib.Path(f"/proc/{call.pid}/fd").iterdir() if os.readlink(it) == call.path)
 
 
-def test_while_the_office_runs(room):
-    """while an office runs, replay and rebuild say so; after its end they work, and it can start again"""
-    same("the answer", ["stored 1"], room.ask(1, "return 1 1 1 525").out)
-    for words in (["--replay", room.folder], ["--rebuild", room.folder, room.path / "new.disk"]):
-        that(words[0], f"an office or a witness runs in {room.folder}: end it first" in room.zhcount_office(*words, status=1))
-    room.stop()
-    room.replay()
-    room.start()
-    room.stop()
+def test_programs_that_fail(written):
+    """where the program fails no disk is made, and it is said"""
+    for task in ("format", "export", "status"):
+        written.stands_in(f"[ $1 != {task} ] || {{ echo ill >&2; exit 1; }}")
+        that(f"{task} fails", f"not made: zhcount {task}: ill" in written.refused())
+    written.environment["ZHCOUNT"] = "/none"
+    that("one that is not there", "not made: /none can't be started" in written.refused())
 
 
-def test_used_again(room):
-    """an office goes on with the folder and the disk that was made from it: the desk's unanswered line is repeated, a closing is not"""
-    desks = {1: room.desk(1).talk("return 1 1 1 525 -> stored 1"), 2: room.desk(2).talk("return 2 1 1 240 -> stored 2")}
-    run_process = room.unanswered(desks[1], "return 1 1 2 530")
-    room.office.kill()
-    os.kill(run_process, signal.SIGKILL)
-    room.office.wait()
-    room.disk.unlink()
-    rebuild = "--rebuild", room.folder, room.disk
-    that("it is said", "desk 1: return 1 1 2 530 was not answered, and is left out" in room.zhcount_office(*rebuild))
-    room.start()
-    same("the answer of the next start", "stored 3", desks[1].answer())
-    desks[2].talk("close 2 -> stored 4")
-    room.check({1: ["return 1 1 1 525", "return 1 1 2 530"], 2: ["return 2 1 1 240", "close 2"]})
-    export = room.zhcount("export")
-    room.disk.unlink()
-    that("it is made again", "4 commands" in room.zhcount_office(*rebuild))
-    same("what is held", export, room.zhcount("export"))
+def test_volume_without_room(written):
+    """a volume that takes no more leaves no disk, and no part of one"""
+    words = written.script("zhcount-office", "--rebuild", written.folder, written.new)
+    full = written.process(Process, ["prlimit", "--fsize=1000000", *words])
+    full.wait()
+    that(f"it fails: {full.said()} {full.out}", full.process.returncode == 1)
+    same("nothing is left", [], [it for it in os.listdir(written.path) if it.startswith("new.disk")])
+
+
+def test_beside_an_office(new_room):
+    """while an office runs, replay and rebuild say who has the folder; after its end they work, and it can start again"""
+    new_room.start()
+    same("the answer", ["stored 1"], new_room.ask(1, "return 1 1 1 525").out)
+    for words in (["--replay", new_room.folder], ["--rebuild", new_room.folder, new_room.path / "new.disk"]):
+        said = new_room.zhcount_office(*words, status=1)
+        who = f"another office, witness or replay has {new_room.folder}: zhcount-office, process {new_room.office.process.pid} of"
+        that(f"{words[0]}: {said}", who in said)
+    new_room.ask(1, "return 1 2 1 300")
+    new_room.check()
+    new_room.start()
+    new_room.stop()
+
+
+def test_set_up_of_the_log(written):
+    """the set-up is that of the log: it is put into the folder, in place of another one there"""
+    setup = written.folder / "setup.toml"
+    for before in ("", written.setup.read_text().replace('"Nord"', '"Nort"')):
+        if before:
+            setup.write_text(before)
+        written.rebuild()
+        same("the set-up", written.setup.read_bytes(), setup.read_bytes())
+        same("who may use it", "-rw-r-----", stat.filemode(setup.stat().st_mode))
+
+
+def held_rebuild(night):
+    """A rebuild that waits, for as long as the file `held` is there, its run, and its folder in memory."""
+    (night.path / "held").touch()
+    night.stands_in(f"while [ $1 = run -a -e '{night.path}/held' ]; do sleep 0.02; done")
+    held = night.process(Process, night.script("zhcount-office", "--rebuild", night.folder, night.new))
+
+    def run():
+        for child in night.children_of(held):
+            words = command_of(child).split(b"\0")
+            if b"run" in words:
+                return child, pathlib.Path(os.fsdecode(words[words.index(b"--disk") + 1]))
+        return None
+    pid, disk = until("it waits", run)
+    return held, pid, disk.parent
+
+
+def test_killed_rebuild(written):
+    """the folder in memory of a rebuild that was killed is removed by the next one; that of one that is at work stays"""
+    memory = written.path / "memory"  # of this test alone: any office beside it would remove what is left
+    memory.mkdir()
+    written.edit_script("zhcount_program.py", r'"/dev/shm" if .* else tempfile\.gettempdir\(\)', repr(str(memory)))
+    held, run, left = held_rebuild(written)
+    same("where it is", memory, left.parent)
+    that(f"it is there: {left}", left.is_dir())
+    os.utime(left, (0, 0))
+    other_program = written.path / "other"
+    other_program.write_text((written.path / "stand-in").read_text().replace("/held'", "/none'"))
+    other_program.chmod(0o755)
+    written.environment["ZHCOUNT"] = str(other_program)
+    other = shutil.copytree(written.folder, written.path / "another")
+    other.chmod(0o2750)
+    written.zhcount_office("--replay", other)
+    that("that of one at work stays", left.is_dir())
+    held.kill()
+    held.wait()
+    (written.path / "held").unlink()
+    until("its run has ended", lambda: not command_of(run))
+    that("a killed one leaves it", left.is_dir())
+    os.utime(left, (0, 0))
+    written.rebuild()
+    that("the next one removes it", not left.exists())
+    that("the log is as before", "the same: " in written.replay())

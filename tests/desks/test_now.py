@@ -1,11 +1,15 @@
 """Tests of what an office puts into its folder while it runs: the sheets, and `now`, with what follows from a copy of the disk."""
 import stat
 import subprocess
-import time
 
-from now import CLOSINGS, NEVER, RETURNS, UNCONFIRMED, QuickRoom, compare, model, names_of_now, table_of
+import pytest
+
+from logs import noted
+from nights import Night
+from now import CLOSINGS, HEAD, NEVER, RETURNS, UNCONFIRMED, QuickRoom, compare, link_of, model, names_of_now, table_of, table_of_lines
 from places import PROGRAM
-from room import running, same, that, until
+from processes import same, that, until
+from room import running
 
 ROOM = QuickRoom
 
@@ -34,8 +38,9 @@ def test_sheets():
         until("only the newest stays", lambda: kept_sheets(room) == {"sheet-12", "sheet-final-12"})
         that("its desk", (room.folder / "sheet-12").read_text().startswith("3 sheet provisional 12\n"))
         that("a new connection says it", "before: sheet: 3 sheet provisional 12" in room.ask(3, "show 1 1").said())
+        whole = "\n".join(room.ask(3, "sheet").out)
         room.stop()
-        same("the protocol has it without its desk", "sheet provisional 12", room.of_desk(3)[0].answer.split("\n")[0])
+        same("the log has its first line, its length and its sum, without its desk", noted(whole[2:]), room.of_desk(3)[-1][1])
         room.check()
 
 
@@ -53,15 +58,78 @@ def test_files_of_a_copy(room):
     same("the answers", [f"stored {it}" for it in range(1, 6)], room.ask(1, *lines).out)
     now = compare(room, lines, "1,1,1,525,1,N,A\n1,2,1,withdrawn,1,N,B\n2,1,1,240,1,M,A\n3,1,1,20001,1,W,A\n")
     that("some are implausible", "3,1,20001," in (now / "implausible").read_text())
-    same("only the newest stays", ["now", "now-5"], names_of_now(room))
-    same("the modes", {"drwxr-s---", "-rw-r-----"}, {stat.filemode(it.stat().st_mode) for it in (now, *now.iterdir())})
+    files = [it for it in now.iterdir() if it.is_file()]
+    same("the modes", {"drwxr-s---", "-rw-r-----"}, {stat.filemode(it.stat().st_mode) for it in (now, *files)})
     (room.folder / "witness").write_text("no witness since ..\n")
     room.ask(1, "return 1 1 2 526")
     same("what is said of the witness", "no witness since ..\n", (room.shows(6) / "witness").read_text())
     room.stop()
-    same("the status of the end stays as it is", room.zhcount("status"), (room.folder / "status").read_text())
     same("`now` stays", ["now", "now-6"], names_of_now(room))
     room.check()
+
+
+def test_the_end():
+    """at a clean end `now` shows all that was answered, and stays; the next start makes it anew"""
+    with QuickRoom(every=NEVER) as room:
+        room.on_copies(f"[ -e '{room.held}' ] && rm '{room.held}' && sleep 2")
+        room.start()
+        until("the first", lambda: link_of(room) == "now-0")
+        room.ask(1, *RETURNS, "show 1 1", "sheet", "x,\"y\"")
+        room.held.touch()  # the last child takes longer than an office that does not wait for it
+        same("the end", 0, room.stop())
+        compare(room, RETURNS)
+        same("nothing else", ["now", "now-9"], names_of_now(room))
+        last = (room.folder / "now/lines.csv").read_text().splitlines()[-1]
+        that(f"the last line is there: {last}", ',"x,""y""",refused syntax,' in last)
+        room.start()
+        compare(room, RETURNS)
+        room.stop()
+
+
+def test_lines(room):
+    """lines.csv has each line that was shown, whatever it says, with its answer; of a sheet what the log has"""
+    lines = ["show 1 1", "x, \"y\" z", "\xff\t\\", "sheet", *RETURNS, "sheet", "return 1 1 2 526"]
+    room.ask(3, *lines)
+    wanted = table_of_lines(room.folder)
+    same("its head", HEAD, wanted.split("\n")[0])
+    until("all lines are there", lambda: lines_of(room) == wanted)
+    room.restart()
+    room.ask(2, "show 1 1")
+    wanted = table_of_lines(room.folder)
+    until("those of two starts are there", lambda: lines_of(room) == wanted)
+    that("the start of the last one", wanted.splitlines()[-1].split(",")[2:4] == ["2", "2"])
+    room.stop()
+
+
+def lines_of(room):
+    path = room.folder / "now/lines.csv"
+    return path.read_text() if path.exists() else ""
+
+
+class LongNight(Night, QuickRoom):
+    """A night with a hundred thousand lines."""
+
+    def __init__(self):
+        super().__init__()
+        self.begin()
+        for number in range(100_000):
+            desk, turn = number % 8 + 1, number // 8 + 1
+            self.log.add("line", f"x {number}", desk, turn)
+            self.log.add("answer", "refused syntax", desk, turn)
+        self.turns = dict.fromkeys(range(1, 9), 100_000 // 8)
+        self.put()
+
+
+@pytest.mark.long
+def test_a_hundred_thousand_lines():
+    """a hundred thousand lines are all in lines.csv, and meanwhile desks are answered"""
+    with LongNight() as night:
+        night.start()
+        same("the answer", ["stored 1"], night.ask(1, RETURNS[0]).out)
+        now = night.shows(1)
+        same("the lines", 100_002, (now / "lines.csv").read_text().count("\n"))
+        night.desk(2).talk("show 1 1 -> shows 1 525")
+        night.stop()
 
 
 def test_names_with_commas(new_room):
@@ -83,6 +151,7 @@ def test_unconfirmed_returns(new_room):
     loaded = new_room.path / "loaded.csv"
     loaded.write_text("municipality,list,number,votes\n3,1,1,90\n3,2,1,60\n")
     same("what is loaded", "stored 1\n", new_room.zhcount("load", "--csv", loaded))
+    new_room.zhcount_office("--take", new_room.setup, new_room.disk, new_room.folder)
     new_room.start()
     desks = {it: new_room.desk(it) for it in range(1, 8)}
     for desk, *exchanges in [
@@ -112,19 +181,24 @@ def shows_unconfirmed(room, commands, rows):
 
 
 def test_unconfirmed_after_a_stop(new_room):
-    """what a desk repeats after a stop, which had kept it, it has not confirmed itself"""
+    """what a desk sent before a stop, which had kept it, it has not confirmed itself"""
     new_room.edits_answers("/stored [13]/d")
     new_room.start()
     desk = new_room.desk(1)
-    desk.write(f"{RETURNS[0]}\n")
-    until("it is stored", lambda: new_room.records("protocol")[-1].is_line())
-    time.sleep(0.3)
+    new_room.note(desk, RETURNS[0])
+    until("it is stored", lambda: RETURNS[0].replace("return ", "").replace(" ", ",") in new_room.zhcount("export", disk=copied(new_room)))
     new_room.restart()
-    same("the answer", "same", desk.answer())
+    same("the answer", "stored 1", desk.answer())
     desk.talk("open -> held 0", "row 1 2 1 300 -> held 1", "commit -> stored 2", "open -> held 0", "row 1 3 1 175 -> held 1")
     new_room.note(desk, "commit")
-    time.sleep(0.3)
+    until("it is stored", lambda: "1,3,1,175" in new_room.zhcount("export", disk=copied(new_room)))
     new_room.restart()
-    same("the answer", "same", desk.answer())
+    same("the answer", "stored 3", desk.answer())
     shows_unconfirmed(new_room, 3, table_of(RETURNS[:3]))
     new_room.stop()
+
+
+def copied(room):
+    path = room.path / "copied.disk"
+    path.write_bytes(room.disk.read_bytes())
+    return path

@@ -1,5 +1,5 @@
-"""A room whose processes ask before each call that changes something in it (watched.c), so that a test can stop them there, or see
-what a power cut at that moment would leave."""
+"""A room whose processes ask before each call that changes something in it, or that sends something (watched.c), so that a test can stop
+them there, let the call fail, or see what a power cut at that moment would leave."""
 import contextlib
 import dataclasses
 import os
@@ -12,9 +12,11 @@ import subprocess
 import tempfile
 import threading
 
-from room import SCRIPTS, Desk, Room
+from processes import Desk
+from quiet import QuietRoom, patient_scripts
 
 HERE = pathlib.Path(__file__).resolve().parent
+SECTOR = 512  # bytes that a device writes whole or not at all
 
 
 def made_library(place):
@@ -24,7 +26,7 @@ def made_library(place):
     return path
 
 
-class ApartRoom(Room):
+class ApartRoom(QuietRoom):
     """A room whose disk has a folder of its own."""
 
     def __init__(self):
@@ -38,9 +40,9 @@ class ApartRoom(Room):
 class Call:
     """A call that a process is about to make."""
     pid: int
-    who: str  # office, or desk and its number; what an office has started is called as it is
-    name: str
-    path: str
+    who: str  # office, witness, or desk and its number; what an office has started else is called as it is
+    name: str  # open, write, truncate, sync, chmod, make, unlink, rename, link; look, that changes nothing; send, to a pipe or a socket
+    path: str  # of a file; or what it is sent to: pipe, socket or shown, which is standard output
 
     @property
     def file(self):
@@ -48,16 +50,26 @@ class Call:
 
 
 class WatchedRoom(ApartRoom):
-    """A room whose office and desks are watched: `before` hears of each call, while the process waits, unless that kills it."""
+    """A room whose office, desks and witness are watched: `before` hears of each call, while the process waits, unless that kills it. It
+    gives the number of the fault with which the call fails, or nothing."""
 
-    def __init__(self, library, before, scripts=SCRIPTS):
+    def __init__(self, library, before, scripts=None):
         super().__init__()
-        self.scripts, self.before, self.library, self.pids, self.starting = scripts, before, library, set(), threading.Lock()
+        self.scripts = scripts or self.scripts
+        self.before, self.library, self.pids, self.starting = before, library, set(), threading.Lock()
+        self.copy = self.path / "witness/office"
+        self.copy.parent.mkdir()
         self.beside = tempfile.TemporaryDirectory(prefix="watch-")
         self.socket = socket.socket(socket.AF_UNIX)
         self.socket.bind(f"{self.beside.name}/socket")
         self.socket.listen(64)
         threading.Thread(target=self.watch, daemon=True).start()
+
+    def with_witness(self):
+        self.scripts = patient_scripts(self.scripts)
+        words = " ".join(f"'{it}'" for it in ["env", "WATCHED_AS=witness", *self.script("zhcount-witness", self.copy)])
+        self.options += ["--witness", words]
+        return self
 
     def watch(self):
         with contextlib.suppress(OSError):  # it was closed
@@ -65,8 +77,9 @@ class WatchedRoom(ApartRoom):
                 with self.socket.accept()[0] as asking, contextlib.suppress(OSError):
                     pid, *fields = asking.recv(65536).decode().split("\n")[:-1] or "0"
                     with self.starting:  # until it is known whose process it is
-                        if fields:  # a process that is killed as it asks says nothing
-                            self.before(Call(int(pid), *fields))
+                        fault = self.before(Call(int(pid), *fields)) if fields else 0  # a process that is killed as it asks says nothing
+                    if fault:
+                        asking.send(bytes([fault]))
 
     def __exit__(self, *fault):
         super().__exit__(*fault)
@@ -83,6 +96,10 @@ class WatchedRoom(ApartRoom):
             self.pids.add(process.process.pid)
         return process
 
+    def is_of(self, who, call):
+        """Whether a call is one of the office, a desk or the witness itself."""
+        return call.who == who and (call.pid in self.pids or who == "witness")
+
 
 class Stop:
     """A stop (kill -9) before the call of this number, of those that count; where it is 0, none."""
@@ -95,7 +112,11 @@ class Stop:
             self.calls += 1
             if self.calls == self.number:
                 self.call = call
-                os.kill(call.pid, signal.SIGKILL)
+                return self.now(call)
+        return 0
+
+    def now(self, call):
+        os.kill(call.pid, signal.SIGKILL)
 
 
 class Device:
@@ -118,19 +139,17 @@ class Device:
             elif stat.S_ISREG(found.st_mode):
                 self.files[found.st_ino] = pathlib.Path(path).read_bytes()
 
-    def images(self):
+    def images(self, chance):
         """What a power cut may leave, each as paths with their modes and bytes: only what was synced; or the names as they are, and of
-        the files what was synced, or that and half of what was written since."""
+        the files what was synced, or that and some of the sectors that were written since."""
         return (frozenset(self.image("", os.lstat(self.top).st_ino, lambda ino, path: self.folders.get(ino, {}), self.bytes_of)),
                 frozenset(self.image("", 0, lambda ino, path: named(path), self.bytes_of)),
-                frozenset(self.image("", 0, lambda ino, path: named(path), self.torn)))
+                frozenset(self.image("", 0, lambda ino, path: named(path), lambda ino, path: self.torn(ino, path, chance))))
 
     def image(self, below, ino, names_of, bytes_of):
         path = os.path.join(self.top, below)
         for name, (inode, mode) in names_of(ino, path).items():
             there = os.path.join(below, name)
-            if name.startswith("now"):  # a start removes what follows from a copy
-                continue
             yield there, mode, bytes_of(inode, os.path.join(path, name)) if stat.S_ISREG(mode) else b""
             if stat.S_ISDIR(mode):
                 yield from self.image(there, inode, names_of, bytes_of)
@@ -138,13 +157,25 @@ class Device:
     def bytes_of(self, ino, _=None):
         return self.files.get(ino, b"")
 
-    def torn(self, ino, path):
-        """What was synced, but for the first half of what is different since."""
+    def torn(self, ino, path, chance):
+        """What was synced, but for some of the sectors that are different since, and perhaps the length."""
         known, now = self.bytes_of(ino), pathlib.Path(path).read_bytes()
-        if now == known:
-            return known
-        half = (len(os.path.commonprefix([known, now])) + len(now) + 1) // 2
-        return now[:half] + known[half:]
+        found = bytearray(known)
+        for at in range(0, len(now), SECTOR):
+            new = now[at:at + SECTOR]
+            if new != known[at:at + SECTOR] and chance.random() < 0.5:
+                found.extend(bytes(max(0, at + len(new) - len(found))))
+                found[at:at + len(new)] = new
+        return bytes(found[:len(now)] if chance.random() < 0.5 else found)
+
+    def synced(self, path):
+        """What of a file is on the device; nothing where its name is not."""
+        with contextlib.suppress(FileNotFoundError):
+            found = os.lstat(path)
+            name, folder = os.path.basename(path), os.lstat(os.path.dirname(path)).st_ino
+            if self.folders.get(folder, {}).get(name, (0,))[0] == found.st_ino:
+                return self.bytes_of(found.st_ino)
+        return b""
 
 
 def named(folder):
@@ -161,8 +192,10 @@ def restore(image, room, from_path):
         there = room.path / path
         if stat.S_ISDIR(mode):
             there.mkdir()
-        elif stat.S_ISFIFO(mode):
-            os.mkfifo(there)
+        elif stat.S_ISSOCK(mode):
+            with socket.socket(socket.AF_UNIX) as at:
+                at.bind(str(there))
         else:
-            there.write_bytes(data.replace(os.fsencode(from_path), os.fsencode(room.path)))
+            is_text = len(data) < 4096 and b"\0" not in data
+            there.write_bytes(data.replace(os.fsencode(from_path), os.fsencode(room.path)) if is_text else data)
         there.chmod(stat.S_IMODE(mode))

@@ -1,12 +1,15 @@
 /* Preloaded under a process, it asks before each call that opens, makes, changes, syncs or renames something below the folder in
- * WATCHED: it sends the process's number, what WATCHED_AS calls it, the call and the path to the socket in WATCHER, a field on each
- * line, and goes on when that closes the connection. */
+ * WATCHED, or that writes to a pipe or a socket: it sends the process's number, what WATCHED_AS calls it, the call and the path to the
+ * socket in WATCHER, a field on each line. Where that closes the connection the call is made; where it answers by a byte the call fails
+ * with the fault of that number. */
 #define _GNU_SOURCE
 #include <dlfcn.h>
 #include <errno.h>
 #include <fcntl.h>
 #include <limits.h>
+#include <signal.h>
 #include <stdarg.h>
+#include <stddef.h>
 #include <stdio.h>
 #include <stdlib.h>
 #include <string.h>
@@ -15,50 +18,88 @@
 #include <sys/un.h>
 #include <unistd.h>
 
-/* Sends a text to the socket, and waits for an answer. Where nobody listens any more, the process goes on. */
-static void send_and_wait(const char *socket_path, const char *text) {
-    struct sockaddr_un place = {.sun_family = AF_UNIX};
-    char answer;
-    int fd = socket(AF_UNIX, SOCK_STREAM | SOCK_CLOEXEC, 0);
-    if (fd < 0) return;
-    strncpy(place.sun_path, socket_path, sizeof place.sun_path - 1);
-    if (connect(fd, (struct sockaddr *)&place, sizeof place) == 0 && send(fd, text, strlen(text), MSG_NOSIGNAL) > 0)
-        while (recv(fd, &answer, 1, 0) < 0 && errno == EINTR);
-    close(fd);
-}
-
-/* Asks before a call at a path, which is that of `folder` where it is not absolute. The path of a descriptor alone is "". */
-static void ask(const char *call, int folder, const char *path) {
-    const char *below = getenv("WATCHED"), *watcher = getenv("WATCHER"), *as = getenv("WATCHED_AS");
-    char link[40], found[PATH_MAX] = "", whole[2 * PATH_MAX], text[3 * PATH_MAX];
-    int before = errno;
-    if (!below || !watcher || !as || !path) return;
-    if (path[0] != '/') {
-        snprintf(link, sizeof link, folder == AT_FDCWD ? "/proc/self/cwd" : "/proc/self/fd/%d", folder);
-        if (readlink(link, found, sizeof found - 1) < 0) found[0] = 0;
-    }
-    snprintf(whole, sizeof whole, "%s%s%s", found, found[0] && path[0] ? "/" : "", path);
-    if (strncmp(whole, below, strlen(below)) == 0 && strchr("/", whole[strlen(below)])) {
-        snprintf(text, sizeof text, "%d\n%s\n%s\n%s\n", getpid(), as, call, whole);
-        send_and_wait(watcher, text);
-    }
-    errno = before;
-}
-
 /* The function that this one stands before, as `next`. */
 #define NEXT(name) \
     static __typeof__(&name) next; \
     if (!next) next = (__typeof__(&name))dlsym(RTLD_NEXT, #name)
 
-#define ASKING(name, call, result, folder, path, parameters, arguments) \
+static ssize_t send_on(int fd, const void *bytes, size_t length) {
+    NEXT(send);
+    return next(fd, bytes, length, MSG_NOSIGNAL);
+}
+
+/* Sends a text to the socket, and waits for an answer: the number of a fault, or 0. Where nobody listens any more, the process goes on. A
+ * signal comes before or after: its handler may write, and so ask, too. */
+static int send_and_wait(const char *socket_path, const char *text) {
+    struct sockaddr_un place = {.sun_family = AF_UNIX};
+    unsigned char answer = 0;
+    ssize_t got = 0;
+    sigset_t all, before;
+    int fd = socket(AF_UNIX, SOCK_STREAM | SOCK_CLOEXEC, 0);
+    if (fd < 0) return 0;
+    sigfillset(&all);
+    sigprocmask(SIG_BLOCK, &all, &before);
+    strncpy(place.sun_path, socket_path, sizeof place.sun_path - 1);
+    if (connect(fd, (struct sockaddr *)&place, sizeof place) == 0 && send_on(fd, text, strlen(text)) > 0)
+        while ((got = recv(fd, &answer, 1, 0)) < 0 && errno == EINTR);
+    close(fd);
+    sigprocmask(SIG_SETMASK, &before, NULL);
+    return got == 1 ? answer : 0;
+}
+
+/* Asks before a call at a path; whether the call fails. */
+static int asked(const char *call, const char *path) {
+    const char *watcher = getenv("WATCHER"), *as = getenv("WATCHED_AS");
+    char text[3 * PATH_MAX];
+    int before = errno, fault;
+    if (!watcher || !as) return 0;
+    snprintf(text, sizeof text, "%d\n%s\n%s\n%s\n", getpid(), as, call, path);
+    fault = send_and_wait(watcher, text);
+    errno = fault ? fault : before;
+    return fault;
+}
+
+static void path_of(int fd, char *found) {
+    char link[40];
+    ssize_t size;
+    snprintf(link, sizeof link, fd == AT_FDCWD ? "/proc/self/cwd" : "/proc/self/fd/%d", fd);
+    size = readlink(link, found, PATH_MAX - 1);
+    found[size < 0 ? 0 : size] = 0;
+}
+
+/* Asks before a call at a path, which is that of `folder` where it is not absolute; a path below a descriptor's is that file's. The path of
+ * a descriptor alone is "". */
+static int ask(const char *call, int folder, const char *path) {
+    const char *below = getenv("WATCHED");
+    char found[PATH_MAX] = "", whole[2 * PATH_MAX];
+    int before = errno, fd, used = 0;
+    if (!below || !path) return 0;
+    if (sscanf(path, "/proc/self/fd/%d%n", &fd, &used) == 1) {
+        path_of(fd, found);
+        path += used + (path[used] == '/');
+    } else if (path[0] != '/') path_of(folder, found);
+    errno = before;
+    snprintf(whole, sizeof whole, "%s%s%s", found, found[0] && path[0] ? "/" : "", path);
+    return strncmp(whole, below, strlen(below)) == 0 && strchr("/", whole[strlen(below)]) ? asked(call, whole) : 0;
+}
+
+/* As ask, of a write: to a file below the folder, or to a pipe or a socket, but for standard error. */
+static int ask_of(const char *call, int fd) {
+    struct stat found;
+    int before = errno, is_file = fstat(fd, &found) < 0 || !(S_ISFIFO(found.st_mode) || S_ISSOCK(found.st_mode));
+    errno = before;
+    if (is_file) return ask(call, fd, "");
+    return fd == 2 ? 0 : asked("send", fd == 1 ? "shown" : S_ISFIFO(found.st_mode) ? "pipe" : "socket");
+}
+
+#define ASKING(name, question, result, parameters, arguments) \
     result name parameters { \
         NEXT(name); \
-        ask(call, folder, path); \
-        return next arguments; \
+        return question ? -1 : next arguments; \
     }
 
-#define AT_DESCRIPTOR(name, call, result, parameters, arguments) ASKING(name, call, result, file, "", parameters, arguments)
-#define AT_PATH(name, call, folder, parameters, arguments) ASKING(name, call, int, folder, path, parameters, arguments)
+#define AT_DESCRIPTOR(name, call, result, parameters, arguments) ASKING(name, ask_of(call, file), result, parameters, arguments)
+#define AT_PATH(name, call, folder, parameters, arguments) ASKING(name, ask(call, folder, path), int, parameters, arguments)
 
 #define OPENING(name, folder, parameters, arguments) \
     int name parameters { \
@@ -67,8 +108,7 @@ static void ask(const char *call, int folder, const char *path) {
         int mode = va_arg(more, int); \
         va_end(more); \
         NEXT(name); \
-        ask((flags & (O_ACCMODE | O_CREAT | O_TRUNC)) ? "open" : "look", folder, path); \
-        return next arguments; \
+        return ask((flags & (O_ACCMODE | O_CREAT | O_TRUNC)) ? "open" : "look", folder, path) ? -1 : next arguments; \
     }
 
 OPENING(open, AT_FDCWD, (const char *path, int flags, ...), (path, flags, mode))
@@ -76,6 +116,7 @@ OPENING(open64, AT_FDCWD, (const char *path, int flags, ...), (path, flags, mode
 OPENING(openat, folder, (int folder, const char *path, int flags, ...), (folder, path, flags, mode))
 OPENING(openat64, folder, (int folder, const char *path, int flags, ...), (folder, path, flags, mode))
 AT_DESCRIPTOR(write, "write", ssize_t, (int file, const void *bytes, size_t length), (file, bytes, length))
+AT_DESCRIPTOR(send, "write", ssize_t, (int file, const void *bytes, size_t length, int flags), (file, bytes, length, flags))
 AT_DESCRIPTOR(pwrite, "write", ssize_t, (int file, const void *bytes, size_t length, off_t place), (file, bytes, length, place))
 AT_DESCRIPTOR(pwrite64, "write", ssize_t, (int file, const void *bytes, size_t length, off64_t place), (file, bytes, length, place))
 AT_DESCRIPTOR(ftruncate, "truncate", int, (int file, off_t length), (file, length))
@@ -89,8 +130,6 @@ AT_PATH(chmod, "chmod", AT_FDCWD, (const char *path, mode_t mode), (path, mode))
 AT_PATH(fchmodat, "chmod", folder, (int folder, const char *path, mode_t mode, int flags), (folder, path, mode, flags))
 AT_PATH(mkdir, "make", AT_FDCWD, (const char *path, mode_t mode), (path, mode))
 AT_PATH(mkdirat, "make", folder, (int folder, const char *path, mode_t mode), (folder, path, mode))
-AT_PATH(mkfifo, "make", AT_FDCWD, (const char *path, mode_t mode), (path, mode))
-AT_PATH(mkfifoat, "make", folder, (int folder, const char *path, mode_t mode), (folder, path, mode))
 AT_PATH(unlink, "unlink", AT_FDCWD, (const char *path), (path))
 AT_PATH(unlinkat, "unlink", folder, (int folder, const char *path, int flags), (folder, path, flags))
 AT_PATH(rmdir, "unlink", AT_FDCWD, (const char *path), (path))
@@ -100,3 +139,11 @@ AT_PATH(link, "link", AT_FDCWD, (const char *path, const char *to), (path, to))
 AT_PATH(linkat, "link", folder, (int folder, const char *path, int into, const char *to, int flags),
         (folder, path, into, to, flags))
 AT_PATH(symlink, "link", AT_FDCWD, (const char *of, const char *path), (of, path))
+
+int bind(int file, const struct sockaddr *place, socklen_t length) {
+    char path[sizeof(struct sockaddr_un) + 1] = "";
+    NEXT(bind);
+    if (place->sa_family == AF_UNIX && length > offsetof(struct sockaddr_un, sun_path))
+        memcpy(path, ((const struct sockaddr_un *)place)->sun_path, length - offsetof(struct sockaddr_un, sun_path));
+    return path[0] && ask("make", AT_FDCWD, path) ? -1 : next(file, place, length);
+}

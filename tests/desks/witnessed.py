@@ -12,25 +12,66 @@ import threading
 import time
 
 from canton import Canton, Chance
+from logs import events
 from office import Office
-from room import HAS_ENDED, Room, same, that, until
+from processes import HAS_ENDED, same, that, until
+from quiet import patient_scripts, quiet_scripts
+from room import SCRIPTS, Room
 
-MIRRORED = ("setup.toml", "protocol", *(f"protocol.{desk}" for desk in range(1, 9)))
 # A witness that isn't there while a file says so, and that says which process it is.
 COMMAND = '#!/bin/sh\n[ -e {away} ] && exit 1\necho $$ > {pid}\nexec {python} {script} {copy}\n'
+# The same, where each message takes as many seconds as a file says, on its way there and on its way back. Another file says how many came
+# back.
+SLOW = """#!{python}
+import os, subprocess, sys, threading, time
+
+def pass_on(source, into, count=None):
+    for line in iter(source.readline, b""):
+        time.sleep(float(open({delay!r}).read()))
+        into.write(line)
+        if count:
+            count.write(b".")
+    into.close()
+
+if os.path.exists({away!r}):
+    sys.exit(1)
+witness = subprocess.Popen([{python!r}, {script!r}, {copy!r}], stdin=subprocess.PIPE, stdout=subprocess.PIPE, bufsize=0)
+open({pid!r}, "w").write(str(witness.pid))
+threading.Thread(target=pass_on, args=(open(0, "rb", 0), witness.stdin), daemon=True).start()
+pass_on(witness.stdout, open(1, "wb", 0), open({back!r}, "ab", 0))
+"""
 
 
 class Witnessed(Room):
     """A room whose office has a witness, in a folder of its own; where that is wanted, on another device, whose syncs cost something."""
+    is_quiet = True  # whether the office makes no copies for `now`
 
     def __init__(self, *options, device=None, **more):
         super().__init__(**more)
+        self.measures()
         self.other = pathlib.Path(tempfile.mkdtemp(prefix="witness-", dir=device or self.shared()))
-        self.copy, self.away, self.pid, self.command = (self.other / it for it in ("copy", "away", "pid", "command"))
-        self.command.write_text(COMMAND.format(away=self.away, pid=self.pid, python=sys.executable, copy=self.copy,
-                                               script=self.scripts / "zhcount-witness"))
-        self.command.chmod(0o755)
+        self.copy, self.away, self.pid, self.command, self.delay, self.back = (
+            self.other / it for it in ("copy", "away", "pid", "command", "delay", "back"))
+        self.put_command(COMMAND)
         self.options = ["--witness", str(self.command), *options]
+
+    def measures(self, *times, seconds=60):
+        """Has these times of an office with a witness as they are, and the others as long as a busy machine may need."""
+        self.scripts = patient_scripts(quiet_scripts() if self.is_quiet else SCRIPTS, *times, seconds=seconds)
+        return self
+
+    def put_command(self, text):
+        paths = {it: str(getattr(self, it)) for it in ("away", "pid", "copy", "delay", "back")}
+        self.command.write_text(text.format(python=sys.executable, script=str(self.scripts / "zhcount-witness"), **paths))
+        self.command.chmod(0o755)
+
+    def is_slow(self, seconds):
+        """Has each message take so long; from the next connection on, unless it was slow before."""
+        new = self.other / "delay.new"
+        new.write_text(str(seconds))
+        new.rename(self.delay)  # a message finds a whole number
+        if not self.command.read_text().startswith("#!" + sys.executable):
+            self.put_command(SLOW)
 
     def __exit__(self, *fault):
         self.signal(signal.SIGCONT)
@@ -63,12 +104,13 @@ class Witnessed(Room):
         shutil.rmtree(self.folder)
         self.disk.unlink()
 
-    def differing(self):
-        """The files that the witness has otherwise than the office."""
-        return [it for it in MIRRORED if not (self.copy / it).exists() or (self.folder / it).read_bytes() != (self.copy / it).read_bytes()]
-
     def has_all(self):
-        until("the witness has all", lambda: not self.differing())
+        """Waits until the witness has each event of the office."""
+        until("the witness has all", lambda: self.copy.exists() and events(self.folder) == events(self.copy))
+
+    def said_of_it(self):
+        """What the folder says of the witness."""
+        return (self.folder / "witness").read_text()
 
     def rebuilt_from_witness(self):
         """A disk that is made anew from the witness, once that has ended."""
@@ -79,9 +121,12 @@ class Witnessed(Room):
         return disk
 
     def check(self, sent=()):
-        """As of each room; and the witness has all that the office has."""
+        """As of each room; and the witness has all that the office has, unless that says that it was away."""
         said = super().check(sent)
-        same("what differs", [], self.differing())
+        own, there = events(self.folder), events(self.copy)
+        same("what the witness has", own[:len(there)], there)
+        is_away = not self.said_of_it().startswith("the witness has been connected")
+        that(f"it has all: {self.said_of_it()}", len(own) == len(there) or is_away)
         return said
 
 
@@ -142,6 +187,7 @@ class Entering(threading.Thread):
                 self.sent.append(line)
                 if self.desk.send(line) == HAS_ENDED:
                     return
+                time.sleep(0.02)  # a slow witness catches up with desks that take a moment for each line
 
     def shown(self):
         return self.sent[:len(self.desk.out)]
@@ -181,7 +227,7 @@ def wait_for_answers(room, entering, count):
     """Waits until desks were shown so many answers."""
     def shown():
         return sum(len(it.desk.out) for it in entering)
-    until(lambda: f"{count} answers, but {shown()}: {room.office.said()}", lambda: shown() >= count, 120)
+    until(lambda: f"{count} answers, but {shown()}: {room.office.said()}", lambda: shown() >= count)
 
 
 def leave(entering):
@@ -214,7 +260,7 @@ def night_that_is_lost(seed, words=None, device=None):
             room.options[1] = shlex.join(words(room))
         room.start()
         entering = enter(room, canton, seed)
-        wait_for_answers(room, entering, chance.between(1, 200))
+        wait_for_answers(room, entering, chance.between(1, 100))
         time.sleep(chance.below(20) / 1000)
         room.lose_office()
         count = leave(entering)

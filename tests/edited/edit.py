@@ -1,10 +1,13 @@
-"""A wrong body: a file with a line `file: src/x.rt` and pairs of lines `old: TEXT` and `new: TEXT`, as the toolchain reads it, and
-perhaps a line `# refused at: FUNCTION`, which names a caller in the same crate whose contract refuses it."""
+"""A wrong body: a text with a line `file: src/x.rt` and pairs of lines `old: TEXT` and `new: TEXT`, as the toolchain reads it, and
+perhaps a line `# refused at: FUNCTION`, which names a caller in the same crate whose contract refuses it. It is a file of
+crates/CRATE/must-fail, or an entry of tests/wrong_bodies/CRATE.edits."""
 import re
 from dataclasses import dataclass
 from functools import cached_property
 from pathlib import Path
+from typing import List
 
+from edited.entries import entries_of
 from edited.functions import functions_of
 
 
@@ -14,12 +17,9 @@ class NoLongerApplies(Exception):
 
 @dataclass
 class Edit:
-    path: Path
+    name: str
     crate: Path
-
-    @cached_property
-    def text(self):
-        return self.path.read_text(encoding="utf-8")
+    text: str
 
     def callers(self):
         """The functions that the edit's lines '# refused at' name, as `row_sums` or `Office::store`."""
@@ -89,7 +89,12 @@ class Edit:
         return bool(self.callers()) or not all(is_in_body for _, is_in_body in self.places)
 
 
-def edits_of(top, crate):
+def edits_of(top: Path, crate: str) -> List[Edit]:
     """The wrong bodies of a crate, in both places."""
-    places = top / "crates" / crate / "must-fail", top / "tests/wrong_bodies" / crate
-    return [Edit(path, top / "crates" / crate) for place in places for path in sorted(place.glob("*.edit"))]
+    folder, others = top / "crates" / crate, top / "tests/wrong_bodies" / f"{crate}.edits"
+    gravest = {it.stem: it.read_text(encoding="utf-8") for it in sorted((folder / "must-fail").glob("*.edit"))}
+    found = {**gravest, **(entries_of(others) if others.is_file() else {})}
+    twice = [name for name, text in gravest.items() if found[name] is not text]
+    if twice:
+        raise ValueError(f"{others} has an entry of the name of {folder}/must-fail/{twice[0]}.edit")
+    return [Edit(name, folder, text) for name, text in found.items()]

@@ -19,6 +19,17 @@ class Function:
     body: int
     end: int
 
+    @property
+    def module(self):
+        """The path of its module in the crate, which is empty at the crate's root."""
+        path = self.file.removeprefix("src/").removesuffix(".rt").replace("/", "::")
+        return "" if path in ("lib", "main") else path
+
+    @property
+    def path(self):
+        """How the prover takes its name: with its module, or for a method with its type and trait."""
+        return "::".join(filter(None, (self.of + self.trait or self.module, self.name)))
+
 
 def end_of(lines, start, indent):
     """The first line of the body and the last one, or None for a function without a body."""

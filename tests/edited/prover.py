@@ -38,8 +38,9 @@ class Prover:
         words += ["--antt-project", f"{self.kit}/rattle/logic/antt-project.json", "--logic-built", f"{self.kit}/logic_built"]
         return [*words, "--links", f"{crate}="]
 
-    def check(self, crate, texts, kept, jobs=1):
-        """The report on the crate with these texts in place of its own, over the work in the folder `kept`, which the check adds to."""
+    def check(self, crate, texts, kept, jobs=1, only=()):
+        """The report on the crate with these texts in place of its own, over the work in the folder `kept`, which the check adds to. It
+        may be on these functions alone."""
         room = kept.parent / f"{kept.name}.crate"
         for part in PARTS:
             if (self.tree.folder(crate) / part).is_dir():
@@ -47,7 +48,9 @@ class Prover:
         for file, text in texts.items():
             (room / file).write_text(text, encoding="utf-8")
         try:
-            words = [self.kit / "bin/rattle", "check", *self.words(crate), "--incremental", kept]
+            words = [self.kit / "bin/rattle", "check", *self.words(crate), *(["--incremental", kept] if kept.is_dir() else [])]
+            for it in only:
+                words += ["--only", it.path]
             with self.turns:
                 said, status = self.call([*words, "--jobs", str(jobs)], room)
                 if status == KILLED and not self.is_stopped:
@@ -86,9 +89,12 @@ class Prover:
         report = self.check(crate, {}, seed, jobs)
         return (seed, report) if report.status == 0 else (None, report)
 
-    def check_over(self, seed, crate, texts, number):
-        """The report on the crate with these texts, over a copy of the seed."""
+    def check_over(self, seed, crate, texts, number, only):
+        """The report on the crate with these texts, over a copy of the seed; or without one on these functions alone, if it finds them."""
         kept = seed.parent / str(number)
+        if not seed.is_dir():
+            report = self.check(crate, texts, kept, only=only)
+            return report if report.status != 2 else self.check(crate, texts, kept)
         shutil.copytree(seed, kept)
         try:
             return self.check(crate, texts, kept)

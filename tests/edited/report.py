@@ -47,7 +47,8 @@ class Report:
     def has_verdicts(self):
         """Whether the prover was asked: a text that does not compile, or that can't be read, has none."""
         cannot_be_read = any(file.startswith(("src/", "specs/")) for file, _ in self.errors)
-        return bool(self.verdicts) and not cannot_be_read and (self.status in (0, 3) or "\nlogic=not-proved" in self.text)
+        is_whole = re.search(r"\n(logic=not-proved|only=\d+ proved=)", self.text)
+        return bool(self.verdicts) and not cannot_be_read and (self.status in (0, 3) or is_whole is not None)
 
     @property
     def first_error(self):
@@ -56,9 +57,7 @@ class Report:
 
     def named(self, crate, function):
         """The names under which the check tells of a function of the crate, and of the closures in it."""
-        module = "::".join(function.file.removeprefix("src/").removesuffix(".rt").split("/"))
-        module = "" if module in ("lib", "main") else module
-        path = "::".join(filter(None, (crate, module, function.name)))
+        path = "::".join(filter(None, (crate, function.module, function.name)))
         ends = [it.split("::") for it in self.verdicts]
         if not function.of:
             found = [it for it in self.verdicts if it == path]

@@ -44,6 +44,15 @@ class Tree:
     def edits(self, crate):
         return edits_of(self.top, crate)
 
+    def gravest(self, crate):
+        """Its wrong bodies that tests/wrong_bodies/gravest names, each with a reason, but for those that rt ci tries."""
+        path = self.top / "tests/wrong_bodies/gravest"
+        lines = re.findall(r"(?m)^(\w+)/(\S+) +\S.*", path.read_text(encoding="utf-8")) if path.is_file() else []
+        named, edits = {name for of, name in lines if of == crate}, {it.name: it for it in self.edits(crate)}
+        if named - set(edits):
+            raise ValueError(f"{path} names {crate}/{min(named - set(edits))}, which is no wrong body")
+        return [edits[it] for it in sorted(named) if not (self.folder(crate) / f"must-fail/{it}.edit").exists()]
+
     @cached_property
     def with_edits(self):
         return [it for it in self.named if self.edits(it)]
@@ -73,7 +82,7 @@ class Tree:
         nothing."""
         stated, found = {it: self.stated(it) for it in self.below(*crates)}, {}
         for crate in crates:
-            edits = sorted((it.path.name, it.text) for it in self.edits(crate))
+            edits = sorted((f"{it.name}.edit", it.text) for it in self.edits(crate))
             below = [(it, stated[it]) for it in self.below(crate)]
             whole = (self.logic, self.named[crate], self.without_comments(crate, *PARTS), edits, below)
             found[crate] = hashlib.sha256(repr(whole).encode()).hexdigest()[:32]
@@ -111,8 +120,8 @@ class Tree:
     def commits(self):
         """How many there are, none where there is no history."""
         try:
-            return int(subprocess.run(["git", "rev-list", "--count", "HEAD"], cwd=self.top, stdout=subprocess.PIPE, stderr=subprocess.DEVNULL,
-                                      check=True).stdout)
+            words = ["git", "rev-list", "--count", "HEAD"]
+            return int(subprocess.run(words, cwd=self.top, stdout=subprocess.PIPE, stderr=subprocess.DEVNULL, check=True).stdout)
         except (OSError, subprocess.CalledProcessError):
             return 0
 

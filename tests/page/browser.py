@@ -100,6 +100,13 @@ class Page:
         holds = condition if callable(condition) else lambda: self.run(condition)
         WebDriverWait(self.driver, PATIENCE, poll_frequency=0.02).until(lambda driver: holds())
 
+    def has_drawn(self):
+        """Waits until what is in sight now is laid out and drawn."""
+        self.driver.execute_async_script("""
+            const draw = (times) => (times > 0 ? requestAnimationFrame(() => draw(times - 1)) : arguments[0]());
+            draw(3);
+        """)
+
     def one(self, css):
         return self.driver.find_element(By.CSS_SELECTOR, css)
 

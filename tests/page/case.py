@@ -54,7 +54,7 @@ class Case(unittest.TestCase):
     """Tests with one browser for a whole class, which is one process's therefore."""
     language = "en-GB"
     path = browser.PAGE  # of the page that is tested
-    started = None  # a browser that is there already
+    starts, ends = staticmethod(browser.started), staticmethod(lambda driver: driver.quit())
 
     def __init_subclass__(cls):
         super().__init_subclass__()
@@ -62,12 +62,12 @@ class Case(unittest.TestCase):
 
     @classmethod
     def setUpClass(cls):
-        cls.driver = cls.started or browser.started(cls.language)
+        cls.driver = cls.starts(cls.language)
         cls.page = browser.Page(cls.driver, cls.path)
 
     @classmethod
     def tearDownClass(cls):
-        cls.driver.quit()
+        cls.ends(cls.driver)
 
     def has_screen(self, width, height, scale, is_mobile):
         """Gives the browser another screen, until the end of the test."""

@@ -20,6 +20,7 @@ PREFS = {
 }
 # Commands of selenium that Marionette calls otherwise.
 COMMANDS = {"quit": "Marionette:Quit", "get": "WebDriver:Navigate", "sendKeysToElement": "WebDriver:ElementSendKeys",
+            "clickElement": "WebDriver:ElementClick", "isElementDisplayed": "WebDriver:IsElementDisplayed",
             "w3cExecuteScript": "WebDriver:ExecuteScript", "w3cExecuteScriptAsync": "WebDriver:ExecuteAsyncScript"}
 
 

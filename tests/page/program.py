@@ -19,7 +19,7 @@ def without_path(report):
     return b"".join(it + b"\n" for it in (name, place) if it)
 
 
-@functools.cache
+@functools.lru_cache(None)
 def answer(setup, sheet, held=None):
     """What it answers on these bytes, as the module of the page would: a status and bytes. It is run once on each."""
     with tempfile.TemporaryDirectory() as room:

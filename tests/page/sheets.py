@@ -5,6 +5,7 @@ from collections import namedtuple
 
 import places
 from cases import repeated, turns
+from office import Office
 from places import CASES, REHEARSAL
 
 Files = namedtuple("Files", "sheet setup held")
@@ -17,41 +18,43 @@ def setup(name):
     return "\n".join(repeated(path.read_text().split("\n")))
 
 
-def stored(words, expected, files):
-    """The rows that a turn of a case stores, as far as it is a single line or a CSV file; None of one that may store others."""
+def takes(office, words, expected, files):
+    """Has the office take what a turn of a case stores, as far as it is a single line or a CSV file. Whether it may store no more."""
     words = words[words[0] == "refuse":]
     if expected.startswith("closed"):
-        return {}
+        return True
     if words[0].isdigit() and words[1:2] in (["return"], ["withdraw"]) and " stored " in expected:
-        return {(int(words[2]), int(words[3])): (words[4], "withdrawn" if words[1] == "withdraw" else words[5])}
-    if words[0] == "csv" and expected.startswith("stored"):
-        rows = re.findall(r"^(\d+),(\d+),(\d+),(\w+)\r?$", files.get(words[1], b"").decode(errors="replace"), re.M)
-        return {(int(municipality), int(group)): entry for municipality, group, *entry in rows}
-    return None if words[1:2] == ["commit"] or words[0] in ("poke", "load", "stop", "sweep", "serve", "hex") else {}
+        office.answer(" ".join(words))
+    elif words[0] == "csv" and expected.startswith("stored"):
+        rows = re.findall(r"^(\d+),(\d+),(\d+),(?:(\d+)|withdrawn)\r?$", files.get(words[1], b"").decode(errors="replace"), re.M)
+        for *place, votes in rows:
+            office.put(*map(int, place), int(votes) if votes else None)
+    else:
+        return not (words[1:2] == ["commit"] or words[0] in ("poke", "load", "stop", "sweep", "serve", "hex"))
+    return True
 
 
 def of_cases(path):
     """(title, sheet, set-up, rows held or None) of each sheet that is expected in a file of cases."""
-    first = current = None
-    title, held = "", {}
+    first = current = office = None
+    title = ""
     for text, files in turns(path):
         turn, _, expected = (part.strip() for part in text.partition("->"))
         words = turn.split()
         if words[0] == "case":
-            title, held, current = text[5:], {}, first
+            title, office, current = text[5:], Office(None), first
         elif words[0] == "setup":
             current = words[1]
             first = first or current
         elif re.match(r"[1-8] sheet (provisional|final) ", expected) and expected.endswith("; end"):
             sheet = expected.replace("; ", "\n") + "\n"
-            yield f"{path.name}: {title}", sheet, setup(current), None if held is None else rows_of(held)
-        elif held is not None:
-            more = stored(words, expected, files)
-            held = None if more is None else held | more
+            yield f"{path.name}: {title}", sheet, setup(current), office and rows_of(office)
+        elif office and not takes(office, words, expected, files):
+            office = None
 
 
-def rows_of(held):
-    rows = [",".join(map(str, (*key, *entry))) for key, entry in sorted(held.items())]
+def rows_of(office):
+    rows = [f"{m},{g},{number},{'withdrawn' if votes is None else votes}" for (m, g), (number, votes) in sorted(office.held.items())]
     return "\n".join(["municipality,list,number,votes", *rows, ""])
 
 

@@ -138,11 +138,9 @@ class Bar(Case):
         final = changed(EXAMPLE, "1 sheet provisional 9", "1 sheet final 9")
         wrong = changed(final, "seats key 10000/10", "seats key 10000/9")
         said = {"en": ("The sheet calls itself “final”", "The parliament, by a sheet that calls itself “final”",
-                       "Never checked: that it is final, how many entries of the desks it counts (9, it says), and which desk asked for it "
-                       "(desk 1, it says)."),
+                       "Never checked: that it is final, and how many entries of the desks it counts (9, it says)."),
                 "de": ("Das Resultatblatt nennt sich «endgültig»", "Das Parlament nach einem Resultatblatt, das sich «endgültig» nennt",
-                       "Nie geprüft: dass es endgültig ist, wie viele Einträge der Pulte es zählt (nach eigener Angabe 9) und welches "
-                       "Pult es verlangt hat (nach eigener Angabe Pult 1).")}
+                       "Nie geprüft: dass es endgültig ist und wie viele Einträge der Pulte es zählt (nach eigener Angabe 9).")}
         for colour, *files in (("right", final, *OTHERS), ("unsure", final), ("wrong", wrong, *OTHERS),
                                ("mismatch", final, EXAMPLE_SETUP, changed(ROWS, "1,1,1,525", "1,1,1,526"))):
             page = self.page.sheet(*files)

@@ -1,9 +1,13 @@
 """The page is made of its parts, its module is that of the sources, and the card has two pages."""
+import re
 import subprocess
 
 import pytest
 
 from places import TOP
+from seals import SEAL
+
+NOTE = {"sources": "a", "64-bit": "b", "module": "c", "binaryen": "108"}
 
 
 def passes(command):
@@ -21,6 +25,17 @@ def test_page(what):
 def test_module(program):
     """It is made anew, over the libraries that stand below the program."""
     passes("page/seal --check-module")
+
+
+@pytest.mark.parametrize("other, says", [
+    ({}, None),
+    ({"module": "d"}, "differs from page/module.sum: module. "),
+    ({"binaryen": "120"}, "is of binaryen 108, and this is 120, .*before binaryen it is the same"),
+    ({"binaryen": "120", "64-bit": "d"}, "is of binaryen 108, and this is 120, .*before binaryen it differs too"),
+])
+def test_another_module_is_said(other, says):
+    fault = SEAL.fault_of_module({**NOTE, **other}, NOTE)
+    assert fault is None if says is None else re.search(says, fault)
 
 
 def test_card():

@@ -123,6 +123,7 @@ class Sight(Case):
         page = self.page.sheet(ZURICH.sheet).choose(("two", ZURICH.sheet.replace("81", "82", 1)))
         # What is far out of sight is not laid out, and has no name yet.
         page.run("document.getElementById('changes').scrollIntoView()")
+        page.has_drawn()
         for css, name in (("#parts", "Checks"), ("#changes table", "What changed"), ("#seats", "Seats by constituency and group")):
             self.assertEqual(page.one(css).accessible_name, name)
 

@@ -3,7 +3,7 @@ import re
 
 from selenium.webdriver.common.keys import Keys
 
-from case import EXAMPLE, EXAMPLE_SETUP, HOSTILE, LARGEST, OTHER_WORDS, WRONG_KEY, Case, changed
+from case import EXAMPLE, EXAMPLE_SETUP, HOSTILE, LARGEST, OTHER_WORDS, OTHERS, WRONG, WRONG_KEY, Case, changed
 from sheets import ZURICH
 
 
@@ -85,6 +85,62 @@ class Use(Case):
         """, EXAMPLE)
         page.wait("return document.body.dataset.own === 'right'")
         self.assertIn("a sheet", page.text(".had"))
+
+    def drop_a_folder(self, name):
+        """Drops a file of which the browser gives no bytes, as of a folder."""
+        self.page.run("""
+            const fails = () => ({ arrayBuffer: () => Promise.reject(new DOMException('a folder', 'NotReadableError')) });
+            Object.defineProperty(File.prototype, 'slice', { value: fails });
+            document.body.dataset.shown = '';
+            const data = new DataTransfer();
+            data.items.add(new File([''], arguments[0]));
+            document.body.dispatchEvent(new DragEvent('drop', { dataTransfer: data, bubbles: true, cancelable: true }));
+        """, name)
+        self.page.wait("return document.body.dataset.shown !== '' && document.body.dataset.proved !== 'runs'")
+
+    def test_a_file_that_can_not_be_read(self):
+        """No sheet stays green beside it; once it is removed the one before is back."""
+        page = self.page.sheet(EXAMPLE, *OTHERS)
+        self.bar_is("right", "✓ Right")
+        self.drop_a_folder("night")
+        self.bar_is("damaged", "! This file can’t be read: open it again")
+        self.assertEqual((page.text(".had .sheet .file"), page.text(".had .before .file")), ("night", "sheet.txt"))
+        self.assertIn("It did not run: the browser can’t read a file.", page.text("#proved"))
+        page.click(".had .sheet button")
+        page.wait("return document.body.dataset.state === 'right'")
+
+    def test_a_set_up_or_returns_that_can_not_be_read(self):
+        for name, kind in (("other.toml", "Set-up"), ("other.csv", "Returns")):
+            self.page.sheet(EXAMPLE, *OTHERS)
+            self.drop_a_folder(name)
+            self.assertEqual((self.page.state(), self.page.own()), ("unsure", "right"))
+            self.assertIn(f"! {kind} not understood", self.page.text("#ticks"))
+
+    def test_what_was_given_last_wins(self):
+        """A reading that began earlier and ends later takes no place of what was given after it."""
+        page = self.page.open()
+        page.run("""
+            const first = Blob.prototype.arrayBuffer;
+            Blob.prototype.arrayBuffer = function slow() {
+              Blob.prototype.arrayBuffer = first;
+              return new Promise((is) => { window.go = () => is(first.call(this)); });
+            };
+        """)
+        page.give(("wrong.txt", WRONG))
+        page.choose(("sheet.txt", EXAMPLE))
+        page.run("document.body.dataset.shown = ''; window.go()")
+        page.wait("return document.body.dataset.shown !== ''")
+        self.assertEqual(page.own(), "right")
+        self.assertEqual([page.text(f".had .{kind} .file") for kind in ("sheet", "before")], ["sheet.txt", "wrong.txt"])
+
+    def test_the_focus_stays(self):
+        """All is made anew, and what had the focus has it."""
+        page = self.page.open().choose(("other.txt", WRONG)).choose(("sheet.txt", EXAMPLE))
+        for css in ("#pick", "#languages button[lang=en]", "#files > p button", "#seats tbody td button"):
+            page.run("document.querySelector(arguments[0]).focus(); show()", css)
+            self.assertTrue(page.run("return document.activeElement.matches(arguments[0])", css), css)
+        page.run("find('files').querySelector('details').open = true; find('take').focus(); show()")
+        self.assertEqual(page.driver.switch_to.active_element.text, "Or paste a text")
 
     def test_the_table_has_its_meaning(self):
         page = self.holds(EXAMPLE)

@@ -11,6 +11,7 @@
 """
 import sys
 from pathlib import Path
+from typing import Callable, Dict
 
 sys.dont_write_bytecode = True
 sys.path.insert(0, str(Path(__file__).resolve().parents[1]))
@@ -52,7 +53,7 @@ def reach(tree, *names):
     print(f"{len(clauses)} clauses, {len(reached)} of {len(tree.definitions)} definitions, {lines} lines")
 
 
-COMMANDS = {
+COMMANDS: Dict[str, Callable] = {
     "rules": lambda tree: print(*(f"{it.name}: {it.asks}" for it in RULES), sep="\n"),
     "check": check,
     "run": lambda tree, *pages: told(examples(tree, pages)),

@@ -139,6 +139,16 @@ def layers(tree):
             yield f"{ARCHITECTURE}: it has {' '.join(found[1])} in '{found[0]}', crates.txt {' '.join(wanted[1])} in '{wanted[0]}'"
 
 
+def trusted(tree):
+    """Where README trusts other libraries of the kit than those that crates.txt names: some call the system, with no clause."""
+    named = {crate: set(below.split()) for crate, below in re.findall(r"^(\w+)[^:\n#]*:(.*)", tree.read("crates.txt"), re.M)}
+    used = set().union(*named.values()) - set(named)
+    said = re.search(r"do what their contracts say:([^.]*)", tree.read("README.md"))
+    listed = set(re.findall(r"`(\w+)`", said[1])) if said else set()
+    for it in sorted(used ^ listed):
+        yield f"README.md: it trusts {it}, which no crate uses" if it in listed else f"README.md: it does not say that {it} is trusted"
+
+
 def head_of(tree, crate):
     """What the root file of a crate says of it, in one line."""
     texts = [text for name in ("lib", "main") for *_, text in tree.files(f"src/{name}.rt", [crate])]

@@ -8,7 +8,7 @@ from pages.markdown import CODE, LIST_ITEM, blocks_of, links_of, part_of, prose_
 # Pages for people, who meet a word of the glossary only after a link to it.
 FOR_PEOPLE = ("README.md", "docs/BRIEF.md", "docs/NIGHT.md", "docs/OPERATING.md", "docs/CHECKING.md", "docs/FAQ.md",
               "docs/MANUAL.md", "docs/STATUTE.md", "docs/CONTRIBUTING.md", "docs/de/")
-DEFINITIONS, GERMAN = "docs/DEFINITIONS.md", "docs/de/"
+DEFINITIONS, PROVED, GERMAN = "docs/DEFINITIONS.md", "docs/PROVED.md", "docs/de/"
 MOST_WORDS, MOST_SEMICOLONS, MOST_CHARACTERS = 40, 1, 80
 END = re.compile(r"(?<=[.?!]) +(?=[A-ZÄÖÜ\[*`(§])|(?<=[.?!]\)) +|(?<=[.?!]\*\*) +")
 # Words of the glossary that pages use as everybody does, too.
@@ -45,6 +45,15 @@ def long_lines(page):
     for number, line in enumerate(prose_of(page).split("\n"), 1):
         if len(line) > MOST_CHARACTERS and not line.startswith("|") and "](" not in line:
             yield number, f"{len(line)} characters: {line}"
+
+
+def long_cells(tree):
+    """Cells of PROVED with too many words: a row says one thing, and names the clauses that carry it."""
+    for section in sections_of(tree.read(PROVED)):
+        for number, row in rows_of(section):
+            for cell in row.values():
+                if (words := len(cell.split())) > MOST_WORDS:
+                    yield f"{PROVED}:{number}: {words} words in a cell: {cell}"
 
 
 def on_each(find, tree):

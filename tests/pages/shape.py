@@ -15,6 +15,10 @@ from itertools import takewhile
 from pages.sources import HEAD
 
 TYPE = re.compile(r"^\s*pub (?:struct|enum|trait|type) (\w+)", re.M)
+UNREAD = re.compile(r"\bmacro_rules\b|\bunsafe\b(?!\(no_mangle\)\])")
+NO_CODE = re.compile(r"""(?s)"(?:\\.|[^"\\])*"|b?'(?:\\.|[^'\\\n])'|//[^\n]*|/\*.*?\*/|#\[derive\([^)]*\)\]""")
+VARIANT = re.compile(r"\benum \w+\s*\{[^{}]*\}|\bBatchStep::Drop\b|\bsteps\.Drop\b")
+NO_BOUND = re.compile(r"(?:::|[^\s:+])\s*\bDrop\b")
 NESTED = re.compile(r"([({\[][^][(){}]*)[({\[][^][(){}]*[])}]")
 
 
@@ -51,6 +55,28 @@ def characters(tree, most):
         for number, line in enumerate(text.splitlines(), 1):
             if len(line) > most:
                 yield str(path), f"{path}:{number} has {len(line)} characters, and not at most {most}"
+
+
+def blanked(pattern, text):
+    """The text without what a pattern finds in it, each line in its place."""
+    return pattern.sub(lambda it: re.sub(r"[^\n]", " ", it[0]), text)
+
+
+def destructors(tree):
+    """Destructors of our own, which run where no clause looks. So `Drop` stands as a bound or in a derive alone. (A macro can't write
+    one: the toolchain refuses that.)"""
+    for _, path, text in tree.files("src/**/*.rt"):
+        code = blanked(VARIANT, blanked(NO_CODE, text))
+        for it in NO_BOUND.finditer(code):
+            yield f"{path}:{code.count(chr(10), 0, it.end()) + 1} has a destructor of its own: `#[derive(Drop)]` has none"
+
+
+def unread(tree):
+    """Code that other rules can't read, as a macro writes it, or that may do what no clause allows: leak what must be handed over."""
+    for _, path, text in tree.files("src/**/*.rt"):
+        code = blanked(NO_CODE, text)
+        for it in UNREAD.finditer(code):
+            yield f"{path}:{code.count(chr(10), 0, it.end()) + 1} has `{it[0]}`: no crate has macros of its own, or unsafe code"
 
 
 def limit(tree, title):

@@ -1,7 +1,8 @@
-"""What is written into pages from the sources: the definitions of the headline, its fields, and the evidence in numbers."""
+"""What is written into pages from the sources: the definitions of the headline, its record, and the evidence in numbers."""
 import re
 from itertools import groupby, zip_longest
 
+from edited.entries import entries_of
 from pages.markdown import wrapped
 
 
@@ -24,48 +25,48 @@ def definitions(tree):
 
 
 def theorem(tree):
-    """The fields of the record `Headline`, those below one comment together, as items of a list; what a semicolon parts is a
-    sentence there."""
-    text = next(text for *_, text in tree.files("specs/Headline.antt")).partition("\npub record Headline ")[2]
-    items = []
-    for comment, fields in re.findall(r"((?:  -- .*\n)+)((?:  (?!--).*\n)+)", text):
-        names = ", ".join(f"`{it}`" for it in re.findall(r"^  pub (\w+) :", fields, re.M))
-        says = re.sub(r"; (\w)", lambda it: f". {it[1].upper()}", " ".join(comment.replace("  -- ", "").split()))
-        items.append(wrapped(f"- {names}: {says}."))
-    return "\n".join(items) + "\n\n"
+    """The record `Headline`, word for word, with the comment above it."""
+    text = next(text for *_, text in tree.files("specs/Headline.antt"))
+    record = re.search(r"(?:^--.*\n)+pub record Headline (?:.*\n)+", text, re.M)[0]
+    return f"```text\n{record.rstrip()}\n```\n\n"
 
 
 def numbers(tree):
-    """What is counted, how much of it there is, and how that is seen."""
+    """What is counted, how much of it there is, and how that is checked."""
     def files(pattern):
         return len(list(tree.top.glob(pattern)))
 
     def found(pattern, text):
         return sum(len(re.findall(text, path.read_text(encoding="utf-8"), re.M)) for path in tree.top.glob(pattern))
 
+    def entries(pattern):
+        return sum(len(entries_of(path)) for path in tree.top.glob(pattern))
+
     def lines(folder):
         number = found(f"crates/*/{folder}", r"^.*\S")
         return f"about {round(number, 2 - len(str(number))):,}"
 
     cases, turns = map(int, re.search(r"^all: (\d+) cases, (\d+) turns", tree.read("crates/zh_cases/stdout"), re.M).groups())
-    gravest, others = files("crates/*/must-fail/*.edit"), files("tests/wrong_bodies/*/*.edit")
+    bodies = files("crates/*/must-fail/*.edit") + entries("tests/wrong_bodies/*.edits")
     rows = [
         ("crates", len(tree.crates), "`crates.txt`"),
         ("lines of code", lines("src/**/*.rt"), "with their contracts; all are proved, tests too"),
-        ("lines of definitions", lines("specs/**/*.antt"), "to be read and believed, as far as a clause reaches them"),
-        ("lines of proofs", lines("proofs/**/*.antt"), "nobody has to believe them: the toolchain checks them"),
+        ("lines of definitions", lines("specs/**/*.antt"), "for people to read and judge, as far as a clause reaches them"),
+        ("lines of proofs", lines("proofs/**/*.antt"), "nobody has to trust them: the toolchain checks them"),
         ("definitions", f"{len(tree.definitions):,}", f"`headline` reaches {len(reached_by_headline(tree))} of them"),
         ("clauses that promise something", f"{sum(bool(it.text) for it in tree.clauses):,}",
          "each `ensures` of a function or a trait"),
-        ("wrong bodies", f"{gravest + others:,}", f"`rt ci` tries the {gravest} gravest when it proves their crates, and `make wrong-bodies` all; "
-         "`tests/edits --differ` says which crates owe a trial"),
+        ("wrong bodies", f"{bodies:,}", f"`make test` tries the {found('tests/wrong_bodies/gravest', '^zh_')} gravest, and "
+         "`make wrong-bodies` all; `tests/edits --differ` says which crates still have to be tried"),
         ("cases", f"{cases:,}, with {turns:,} turns", "run by the proved program `zh_cases`, as LLVM builds it and as Rattle does"),
         ("tests in code", found("crates/*/src/**/*.rt", "^ *#.test."), "proved like any function, and run"),
-        ("wrong lines of the scripts of `desks/`", files("tests/desks/plants/*.edit"), "each is seen by a test: `make desk-bodies`"),
+        ("wrong lines of the scripts of `desks/`", entries("tests/desks/plants/*.edits"),
+         f"a test finds each but {found('tests/desks/plants/*.edits', '^changes nothing:')}, which have no visible effect: "
+         "`make desk-bodies`"),
         ("tests of the page", found("tests/page/test_*.py", "^ *def test_"), "in Chromium, some in Firefox too: `make test-page`"),
-        ("wrong lines of the page", files("tests/page/plants/*.edit"), "each is seen by the test that it names"),
+        ("wrong lines of the page", entries("tests/page/plants/*.edits"), "each is found by the test that it names"),
     ]
-    head = ["| What | How many | How it is seen |", "|---|---|---|"]
+    head = ["| What | How many | How it is checked |", "|---|---|---|"]
     return "\n".join(head + [f"| {' | '.join(map(str, it))} |" for it in rows]) + "\n"
 
 

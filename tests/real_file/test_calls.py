@@ -1,5 +1,5 @@
-"""Tasks of the program on real files, where each allocation is refused, each call of a file fails, or output and standard error are closed at
-each byte, in turn (tests/refuse.c)."""
+"""Tasks of the program on real files, where each allocation is refused, each call of a file fails, or output and standard error are
+closed at each byte, in turn (tests/refuse.c)."""
 import itertools
 import os
 import re
@@ -58,8 +58,8 @@ class Folder(Preloaded):
             self.disk.write_bytes(self.before)
 
     def each_failing(self, what, task):
-        """The runs of a task in which a call (FAIL) or an allocation (REFUSE) fails, but those that do without it: they say what one does in
-        which none fails."""
+        """The runs of a task in which a call (FAIL) or an allocation (REFUSE) fails, but those that do without it: they say what one does
+        in which none fails."""
         self.clear()
         whole = self.failing(task, "lines")
         assert whole.status == 0
@@ -95,8 +95,9 @@ def folder(library, program, tmp_path):
 
 @pytest.mark.parametrize("task", [
     FORMAT, f"run {DISK}", f"export {DISK}", f"load {DISK} --csv returns.csv", f"load {DISK} --csv returns.csv --dry-run",
-    f"status {DISK} --missing", f"status {DISK} --implausible", f"seats {DISK} --table", "seats --sheet sheet",
-    "check --sheet sheet --held held.csv", "list --of constituencies", "list --of returns --municipality 2",
+    f"status {DISK} --missing", f"status {DISK} --implausible", f"votes {DISK}", f"votes {DISK} --of groups",
+    f"votes {DISK} --table", f"seats {DISK} --table", f"seats {DISK} --of groups --table", f"seats {DISK} --of constituencies",
+    "seats --sheet sheet", "check --sheet sheet --held held.csv", "list --of constituencies", "list --of returns --municipality 2",
 ])
 def test_allocation_is_refused(task, folder):
     """The fault is memory, and the disk is untouched."""
@@ -112,9 +113,9 @@ def test_allocation_is_refused(task, folder):
 
 
 def test_allocation_is_refused_to_a_rehearsal(folder):
-    """Its disk is in memory, so that a refused allocation may be a fault of the disk."""
+    """Its disk is in memory: a refused allocation is a fault of the disk while lines are answered, and `memory` before."""
     folder.write("lines", "1 return 1 1 1 525\n1 show 1 1\n")
-    ends = {(1, "", NO_MEMORY), (1, "", REMARK + NO_MEMORY), (1, "", f"{REMARK}zhcount: disk device\n"),
+    ends = {(1, "", NO_MEMORY), (1, "", REMARK + NO_MEMORY),
             (1, "1 refused device\n1 refused reopen-disk\n", f"{REMARK}zhcount: disk device\n")}
     whole = (0, "1 stored 1\n1 shows 1 525\n", REMARK)
     refused = 0
@@ -130,7 +131,7 @@ def test_allocation_is_refused_to_a_rehearsal(folder):
 @pytest.mark.parametrize("task, faults, replies", [
     (f"run {DISK}", OPENED, ["1 refused device\n"]),
     (f"load {DISK} --csv returns.csv", [*OPENED, "csv file", "disk device"], ["refused csv\n", "refused device\n"]),
-    (f"export {DISK}", OPENED, []), (f"status {DISK}", OPENED, []), (f"seats {DISK}", OPENED, []),
+    (f"export {DISK}", OPENED, []), (f"status {DISK}", OPENED, []), (f"votes {DISK}", OPENED, []), (f"seats {DISK}", OPENED, []),
     (f"load {DISK} --csv returns.csv --dry-run", [*OPENED, "csv file"], []),
     ("seats --sheet sheet", ["setup file", "sheet file"], []), ("check --sheet sheet", ["setup file", "sheet file"], []),
     ("check --sheet sheet --held held.csv", ["setup file", "sheet file", "held file"], []), ("list --of returns", ["setup file"], []),
@@ -173,7 +174,8 @@ def test_call_of_a_format_fails(folder):
 
 
 @pytest.mark.parametrize("task, status", [
-    (f"export {DISK}", 0), (f"status {DISK} --constituencies", 0), (f"seats {DISK} --table", 0), ("seats --sheet sheet", 0),
+    (f"export {DISK}", 0), (f"status {DISK} --constituencies", 0), (f"votes {DISK} --of groups --table", 0), (f"seats {DISK} --table", 0),
+    ("seats --sheet sheet", 0), ("seats --sheet sheet --of constituencies --table", 0),
     (f"seats {DISK} --final", 1), ("seats --sheet wrong", 1), ("check --sheet sheet --held held.csv", 0), ("check --sheet wrong", 1),
     (f"load {DISK} --csv refused.csv --dry-run", 1), (f"load {DISK} --csv refused.csv", 1), (f"load {DISK} --csv held.csv", 0),
     ("list --of returns --municipality 2", 0),

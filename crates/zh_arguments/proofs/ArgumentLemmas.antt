@@ -78,8 +78,10 @@ fits names.List rows (tasks.List setup table) is = rw is.1 refl
 fits names.List rows task is = absurd is
 fits names.Status rows (tasks.Show paths (queries.Status view)) is = rw is refl
 fits names.Status rows task is = absurd is
-fits names.Seats rows (tasks.Show paths (queries.Seats is_final layout)) is = rw is.0 refl
-fits names.Seats rows (tasks.SheetSeats setup sheet layout) is = rw is.0 refl
+fits names.Votes rows (tasks.Show paths (queries.Votes of is_table)) is = rw is.0 refl
+fits names.Votes rows task is = absurd is
+fits names.Seats rows (tasks.Show paths (queries.Seats is_final layout)) is = rw (is.0, is.1) refl
+fits names.Seats rows (tasks.SheetSeats setup sheet layout) is = rw (is.0, is.3) refl
 fits names.Seats rows task is = absurd is
 fits name rows task is = refl
 

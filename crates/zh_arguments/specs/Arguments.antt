@@ -33,6 +33,8 @@ abbrev pub kind_by : Misuse → ErrorKind
 kind_by misuses.Table = kinds.InvalidValue
 kind_by misuses.Flags = kinds.ArgumentConflict
 kind_by misuses.Source = kinds.ArgumentConflict
+kind_by misuses.Votes = kinds.InvalidValue
+kind_by misuses.Layout = kinds.InvalidValue
 
 -- what these arguments are refused for, a call for help among it; nothing where they are taken
 unfoldable pub refusals : List Text → Kinds

@@ -17,10 +17,12 @@ use Rattle.zh_arguments.specs.Rules.{argument_rule, bare, command_taking, flag_r
 use Rattle.zh_arguments.specs.Seats.{layout_in, source_in}
 use Rattle.zh_arguments.specs.Table.{path_in, table_in}
 use Rattle.zh_arguments.specs.View.{has_flag, view_in}
+use Rattle.zh_arguments.specs.Votes.{votes_asked}
 
 -- all of them, in the order of the help
 abbrev pub commands : List CommandName
-commands = names.Format ∷ names.Run ∷ names.Load ∷ names.Export ∷ names.List ∷ names.Status ∷ names.Check ∷ names.Seats ∷ []
+commands =
+    names.Format ∷ names.Run ∷ names.Load ∷ names.Export ∷ names.List ∷ names.Status ∷ names.Votes ∷ names.Check ∷ names.Seats ∷ []
 
 -- how each is written
 abbrev pub word_of : CommandName → Text
@@ -30,12 +32,18 @@ word_of names.Load = codes "load"
 word_of names.Export = codes "export"
 word_of names.List = codes "list"
 word_of names.Status = codes "status"
+word_of names.Votes = codes "votes"
 word_of names.Check = codes "check"
 word_of names.Seats = codes "seats"
 
 -- a set-up and a disk
 abbrev pub disk_rules : List Rule
 disk_rules = argument_rule (codes "setup") ∷ argument_rule (codes "disk") ∷ []
+
+-- a set-up and a disk, perhaps with a flag, or a sheet
+abbrev pub source_rules : List Rule
+source_rules =
+    argument_rule (codes "setup") ∷ option_rule (codes "disk") ∷ flag_rule (codes "final") ∷ option_rule (codes "sheet") ∷ []
 
 -- what each takes; which of these go together is said where they are read
 abbrev pub rules_of : CommandName → List Rule
@@ -46,10 +54,9 @@ rules_of names.Export = disk_rules
 rules_of names.List =
     argument_rule (codes "setup") ∷ argument_rule (codes "of") ∷ map option_rule (codes "municipality" ∷ codes "constituency" ∷ [])
 rules_of names.Status = disk_rules ++ map flag_rule (codes "constituencies" ∷ codes "missing" ∷ codes "implausible" ∷ [])
+rules_of names.Votes = disk_rules ++ option_rule (codes "of") ∷ flag_rule (codes "table") ∷ []
 rules_of names.Check = argument_rule (codes "setup") ∷ argument_rule (codes "sheet") ∷ option_rule (codes "held") ∷ []
-rules_of names.Seats =
-    argument_rule (codes "setup") ∷ option_rule (codes "disk") ∷ flag_rule (codes "final") ∷ option_rule (codes "sheet")
-    ∷ flag_rule (codes "table") ∷ []
+rules_of names.Seats = source_rules ++ option_rule (codes "of") ∷ flag_rule (codes "table") ∷ []
 
 -- the files of a task on a disk
 abbrev pub paths_of : Task → Option Paths
@@ -79,23 +86,28 @@ IsTaskOf names.Load rows (tasks.DryRun paths csv) = (has_flag (codes "dry-run") 
 IsTaskOf names.Export rows (tasks.Show paths queries.Export) = Unit {0}
 IsTaskOf names.List rows (tasks.List setup table) = (setup.now ≡ path_in (codes "setup") rows) × (table_in rows ≡ Some table)
 IsTaskOf names.Status rows (tasks.Show paths (queries.Status view)) = view_in rows ≡ Some view
+IsTaskOf names.Votes rows (tasks.Show paths (queries.Votes of is_table)) =
+    (votes_asked rows ≡ Some of) × (has_flag (codes "table") rows ≡ is_table)
 IsTaskOf names.Check rows (tasks.Check paths) = AreCheckPaths rows paths
 IsTaskOf names.Seats rows (tasks.Show paths (queries.Seats is_final layout)) =
-    (source_in rows ≡ Some (Disk is_final)) × (layout ≡ layout_in rows)
+    (source_in rows ≡ Some (Disk is_final)) × (layout_in rows ≡ Some layout)
 IsTaskOf names.Seats rows (tasks.SheetSeats setup sheet layout) =
     (source_in rows ≡ Some Sheet) × (setup.now ≡ path_in (codes "setup") rows)
-    × (sheet.now ≡ path_in (codes "sheet") rows) × (layout ≡ layout_in rows)
+    × (sheet.now ≡ path_in (codes "sheet") rows) × (layout_in rows ≡ Some layout)
 IsTaskOf name rows task = ⊥
 
 -- the task that each asks for, by all that was given
 abbrev pub AsksWith : CommandName → List Row → Task → Type 0
 AsksWith name rows task = IsTaskOf name rows task × IfSome (paths_of task) (ArePaths rows)
 
--- how each is misused, though clap takes it: no name of a table, two flags that exclude each other, or seats not of one source
+-- how each is misused, though clap takes it: no name of a table, two flags that exclude each other, seats not of one source, or no
+-- name of rows
 abbrev pub misuse_of : CommandName → List Row → Option Misuse
 misuse_of names.List rows = if is_none (table_in rows) then Some misuses.Table else None
 misuse_of names.Status rows = if is_none (view_in rows) then Some misuses.Flags else None
-misuse_of names.Seats rows = if is_none (source_in rows) then Some misuses.Source else None
+misuse_of names.Votes rows = if is_none (votes_asked rows) then Some misuses.Votes else None
+misuse_of names.Seats rows =
+    if is_none (source_in rows) then Some misuses.Source else (if is_none (layout_in rows) then Some misuses.Layout else None)
 misuse_of name rows = None
 
 -- the command of this name, if it is one

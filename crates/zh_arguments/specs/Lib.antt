@@ -4,3 +4,4 @@ pub mod Rules
 pub mod Seats
 pub mod Table
 pub mod View
+pub mod Votes

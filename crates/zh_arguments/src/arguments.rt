@@ -124,6 +124,11 @@ fn refusal(alloc: Global, misuse: Misuse) -> Result<Error, AllocError>
             ErrorKind::ArgumentConflict,
             "'seats' takes '--disk', with '--final' or without, or else '--sheet'",
         ),
+        Misuse::Votes => program.error(ErrorKind::InvalidValue, "'--of' takes lists or groups"),
+        Misuse::Layout => program.error(
+            ErrorKind::InvalidValue,
+            "'--of' takes lists, groups or constituencies",
+        ),
     }
 }
 
@@ -149,4 +154,8 @@ pub(crate) enum Misuse {
     Flags,
     /// `seats` names no source, or two, or has the flag of a disk beside a sheet.
     Source,
+    /// `votes` names no rows.
+    Votes,
+    /// `seats` names no records.
+    Layout,
 }

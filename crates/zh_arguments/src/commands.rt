@@ -11,9 +11,11 @@ use crate::load::{load_command, load_in};
 use crate::rules::{bare, with_disk};
 use crate::seats::{Layout, seats_command, seats_in};
 use crate::table::{list_command, table_in};
-use crate::view::{status_command, view_in};
+use crate::view::{has_flag, status_command, view_in};
+use crate::votes::{votes_asked, votes_command};
 use clap::{ArgMatches, Command};
 use std::alloc::{AllocError, Global};
+use zh_count_tables::VotesOf;
 use zh_tables::View;
 
 /// What is asked of what is held on a disk.
@@ -23,6 +25,8 @@ pub enum Query {
     Export,
     /// How far the returns have come in.
     Status(View),
+    /// The votes so far, as CSV or as a table for people.
+    Votes { of: VotesOf, is_table: bool },
     /// Its seats.
     Seats { is_final: bool, layout: Layout },
 }
@@ -36,18 +40,20 @@ pub(crate) enum CommandName {
     Export,
     List,
     Status,
+    Votes,
     Check,
     Seats,
 }
 
 /// All of them, in the order of the help.
-const NAMES: [CommandName; 8] = [
+const NAMES: [CommandName; 9] = [
     CommandName::Format,
     CommandName::Run,
     CommandName::Load,
     CommandName::Export,
     CommandName::List,
     CommandName::Status,
+    CommandName::Votes,
     CommandName::Check,
     CommandName::Seats,
 ];
@@ -76,6 +82,10 @@ impl CommandName {
                 "Write a table of the set-up to the standard output, as CSV",
             ),
             CommandName::Status => ("status", "Write how far the returns have come in"),
+            CommandName::Votes => (
+                "votes",
+                "Write the votes so far to the standard output, as CSV",
+            ),
             CommandName::Check => (
                 "check",
                 "Check whether the seats of a published sheet follow from its votes",
@@ -96,6 +106,7 @@ impl CommandName {
             CommandName::Load => load_command(alloc, name, about),
             CommandName::List => list_command(alloc, name, about),
             CommandName::Status => status_command(alloc, name, about),
+            CommandName::Votes => votes_command(alloc, name, about),
             CommandName::Check => check_command(alloc, name, about),
             CommandName::Seats => seats_command(alloc, name, about),
         }
@@ -119,8 +130,15 @@ impl CommandName {
                 paths_in(given),
                 Query::Status(view_in(given).ok_or(Misuse::Flags)?),
             ),
+            CommandName::Votes => Task::Show(
+                paths_in(given),
+                Query::Votes {
+                    of: votes_asked(given).ok_or(Misuse::Votes)?,
+                    is_table: has_flag(given, "table"),
+                },
+            ),
             CommandName::Check => Task::Check(check_paths_in(given)),
-            CommandName::Seats => seats_in(given).ok_or(Misuse::Source)?,
+            CommandName::Seats => seats_in(given)?,
         };
         Ok(task)
     }

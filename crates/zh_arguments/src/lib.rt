@@ -9,8 +9,9 @@ mod rules;
 mod seats;
 mod table;
 mod view;
+mod votes;
 
 pub use arguments::{Paths, Task, read_arguments};
 pub use check::CheckPaths;
 pub use commands::Query;
-pub use seats::Layout;
+pub use seats::{Layout, SeatsOf};

@@ -4,9 +4,8 @@ use Rattle.sqlite_disk.specs.Disk.{MoreFaults}
 use Rattle.sqlite_disk.specs.declared.Disk.{Ghosts}
 use Rattle.zh_disk.specs.declared.disk.DiskFault.{DiskFault}
 use Rattle.zh_disk.specs.History.{History}
-use Rattle.zh_disk.specs.Disk.{Moment, Trail, disk_length}
+use Rattle.zh_disk.specs.Disk.{Moment, disk_length}
 use Rattle.zh_film.specs.Past.{items}
-use Rattle.zh_film.specs.declared.past.Past.{Past}
 use Rattle.zh_file.specs.declared.stored.Stored.{Stored}
 use Rattle.zh_file.specs.Locked.{IsLeftAt}
 use Rattle.zh_file.specs.declared.stored.HeldFile.{HeldFile}
@@ -14,10 +13,6 @@ use Rattle.zh_file.specs.declared.stored.HeldFile.{HeldFile}
 -- what a read gives, and the ranges that were written since the last sync
 abbrev pub moment : {D : Type 0} → (D → List ℕ) → HeldFile D → Moment
 moment seen h = record { bytes = seen h.file; pending = items h.written }
-
--- now and before
-abbrev pub file_trail : {D : Type 0} → (D → List ℕ) → HeldFile D → Past (HeldFile D) → Trail
-file_trail seen h before = record { now = moment seen h; past = map (moment seen) (items before) }
 
 -- the bytes of a new disk: zeros
 pub record IsZeroed (bytes : List ℕ) : Type 0 where
@@ -50,7 +45,7 @@ module _ {D : Type 0} {g : Ghosts D} where
   stored_history d = record {
     honest = g.is_clean d.held.file;
     failures = stored_failures d;
-    trail = file_trail g.seen d.held d.before;
+    trail = record { now = moment g.seen d.held; past = map (moment g.seen) (items d.before) };
   }
 
   -- a write or a sync has failed

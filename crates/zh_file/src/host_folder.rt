@@ -1,19 +1,16 @@
 //! The folders of the operating system.
-ghost use Rattle.std.specs.Prelude.{◌≡◌, Some, None, false};
-ghost use Rattle.sqlite_disk.specs.Events.{replay};
-ghost use Rattle.sqlite_disk.specs.Modelled.{calls_of, is_log};
+ghost use Rattle.std.specs.Prelude.{◌≡◌, Some, None};
 ghost use Rattle.zh_film.specs.Past.{items, number};
 ghost use Rattle.zh_file.specs.Folder.{Unlocks};
 ghost use Rattle.zh_file.specs.Locked.{IsLeftOf, IsLeftOfOne, noted_all, setbacks_of};
 ghost use Rattle.zh_file.specs.Notes.{failed_among, unlocked_among};
-ghost use Rattle.zh_file.specs.Stored.{stored_file, stored_history};
 
 use crate::FileOf;
 use crate::folder::{Folder, Found};
 use crate::notes::{Note, note_call, note_lock, note_unlocked};
-use crate::stored::{Locked, Stored};
-use sqlite_disk::{Calls, Disk};
-use sqlite_std_file::{Host, OpenError, Start};
+use crate::stored::{KnownFile, Locked};
+use sqlite_disk::Disk;
+use sqlite_std_file::{OpenError, Start};
 use std::fs::{self, File, OpenOptions};
 use std::io::{self, ErrorKind};
 use std::marker::PhantomData;
@@ -87,6 +84,8 @@ fn make_at(rt: &HostRuntime, path: &str) -> io::Result<()> {
     }
 }
 
+impl<S: Start> KnownFile for FileOf<S> {}
+
 impl<S: Start> Folder for HostFolder<'_, S> {
     type Text = File;
 
@@ -154,12 +153,4 @@ impl<S: Start> Folder for HostFolder<'_, S> {
     {
         note_unlocked(&mut self.notes, path, locked);
     }
-}
-
-/// It is honest exactly as long as the calls of its file, with their answers, are those of a file that held what `S` says.
-pub fn honest_as_replayed<S: Start>(disk: &Stored<FileOf<S>>)
-    ensures { is_log (stored_file disk.now) ≡ false → (stored_history disk.now).honest
-        ≡ (replay S.Start.db (⟦<Host as Calls>⟧.history (calls_of (stored_file disk.now)))).is_honest }
-{
-    let _ = disk;
 }

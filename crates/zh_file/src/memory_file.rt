@@ -4,6 +4,7 @@ ghost use Rattle.std.specs.Prelude.{◌≡◌, refl};
 ghost use Rattle.sqlite_disk.specs.Fuse.{IsFresh, calls_left, inner_of};
 ghost use Rattle.zh_file.specs.MemoryFolder.{file_of};
 
+use crate::stored::KnownFile;
 use sqlite_disk::{Disk as File, Fuse, Memory, Tally};
 use std::alloc::Global;
 use std::io;
@@ -59,6 +60,8 @@ impl MemoryFile {
         self.device
     }
 }
+
+impl KnownFile for MemoryFile {}
 
 impl File for MemoryFile {
     ghost seen = { λ f. ⟦<Fuse<Memory> as File>⟧.seen f.file };

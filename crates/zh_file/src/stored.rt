@@ -45,7 +45,11 @@ pub struct Stored<D: File> {
     ghost unrefused: { is_over ≡ false → refusals ≡ 0 },
 }
 
-impl<D: File> Stored<D> {
+/// A file of a kind that is known, which may be taken out of its disk. Code over any folder can't do so, and begin over with it:
+/// of a folder's file it knows no kind.
+pub trait KnownFile: File {}
+
+impl<D: KnownFile> Stored<D> {
     ghost use Rattle.zh_file.specs.Stored.{stored_file};
 
     /// Its file.

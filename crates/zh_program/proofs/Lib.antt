@@ -24,6 +24,7 @@ mod TieLemmas
 mod AnsweredLemmas
 mod ExchangeLemmas
 mod TurnLemmas
+mod UnreadLemmas
 mod RunLemmas
 mod OpensLemmas
 mod OrderLemmas

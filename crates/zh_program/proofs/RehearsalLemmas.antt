@@ -30,9 +30,6 @@ use Rattle.zh_program.proofs.TalkLemmas.{IsSilent, talking, told_none}
 by_case : {X : Type 0} (nothing : Type 0) (old new : Streams) (result : Result (Unit {0}) TaskFault) → HasRehearsed nothing old new result
     → ((fault : TaskFault) → result ≡ Err fault → nothing → X) → (Serves old new IsRehearsal result → X) → X
 by_case nothing old new (Err faults.Memory) by none serves = none faults.Memory refl by
-by_case nothing old new (Err faults.Device) by none serves = none faults.Device refl by
-by_case nothing old new (Err faults.InUse) by none serves = none faults.InUse refl by
-by_case nothing old new (Err (faults.Open fault)) by none serves = none (faults.Open fault) refl by
 by_case nothing old new result by none serves = serves by
 
 module _ (of : Known) where

@@ -1,5 +1,5 @@
 -- The office of a rehearsal.
-use Rattle.std.proofs.Common.{◌≡◌, ◌∙◌, ℕ, List, [], map, Option, Result, Ok, Err, refl, sym, ap, subst, IsTrue}
+use Rattle.std.proofs.Common.{◌≡◌, ◌∙◌, ℕ, List, [], map, Option, Result, Err, refl, sym, ap, subst, IsTrue}
 use Rattle.zh_districts.specs.Canton.{Canton}
 use Rattle.zh_setups.specs.Rehearsal.{rehearsal}
 use Rattle.zh_disk.specs.Disk.{Moment, IsImage}
@@ -12,11 +12,9 @@ use Rattle.zh_ledger.specs.Stands.{HoldsFramed}
 use Rattle.zh_ledger.specs.Submissions.{OnDisk}
 use Rattle.zh_ledger.proofs.CallerLemmas.{one_count}
 use Rattle.zh_office.specs.Office.{Office}
-use Rattle.zh_office.specs.declared.service.ServeFault.TheVariants as serving
-use Rattle.zh_program.specs.Format.{IsOfFormat}
-use Rattle.zh_program.specs.Opened.{IsFrom, WithOffice}
+use Rattle.zh_program.specs.Opened.{IsFrom, IsThis}
 use Rattle.zh_program.specs.Rehearse.{IsRehearsal, Rehearsed}
-use Rattle.zh_program.specs.Run.{Serves, Streams, UsesUpReads, streams}
+use Rattle.zh_program.specs.Run.{Serves, Streams, streams}
 use Rattle.zh_program.specs.declared.fault.TaskFault.{TaskFault}
 use Rattle.zh_program.specs.declared.fault.TaskFault.TheVariants as faults
 use Rattle.zh_program.proofs.TaskRunLemmas.{serves_as}
@@ -39,36 +37,17 @@ rehearses canton first last start end is sure formatted from =
       honest = subst (λ (h : History). IsTrue h.honest) (sym from.ended) sure;
     }
 
--- a fault of formatting its disk
-pub unformatted : (nothing : Type 0) (old new : Streams) (fault : TaskFault) → IsOfFormat fault → nothing → Rehearsed nothing old new (Err fault)
-unformatted nothing old new faults.Memory is same = same
-unformatted nothing old new faults.Device is same = same
-unformatted nothing old new faults.InUse is same = same
-unformatted nothing old new fault is same = absurd is
-
-pub unused_reads : (film : List Frame) (r r' : Option (List ℕ)) (limit : ℕ) (fault : TaskFault) → IsOfFormat fault → UsesUpReads film r r' limit (Err fault)
-unused_reads film r r' limit faults.Memory is = tt
-unused_reads film r r' limit faults.Device is = tt
-unused_reads film r r' limit faults.InUse is = tt
-unused_reads film r r' limit fault is = absurd is
-
--- lines that were served on its disk
-pub rehearsed : (nothing : Type 0) (old new : Streams) (canton : Canton) (first last : History) (result : Result (Unit {0}) TaskFault) → canton ≡ rehearsal
-    → IsTrue last.honest → ((c : List ℕ) → IsImage first.trail.now c → IsNew canton c)
-    → WithOffice canton first last nothing (Serves old new) result → Rehearsed nothing old new result
-rehearsed nothing old new canton first last result is sure formatted by = at result by
+-- lines that were served by an office that was opened on its disk
+pub rehearsed : (nothing : Type 0) (old new : Streams) (canton : Canton) (first last : History) (start : OnDisk Office) (result : Result (Unit {0}) TaskFault)
+    → canton ≡ rehearsal → IsTrue last.honest → ((c : List ℕ) → IsImage first.trail.now c → IsNew canton c)
+    → ((s e : OnDisk Office) → IsThis start last s e → IsFrom canton first last s e)
+    → Serves old new (IsThis start last) result → Rehearsed nothing old new result
+rehearsed nothing old new canton first last start result is sure formatted begins by =
+    only result (serves_as old new (IsThis start last) IsRehearsal (λ s e this. rehearses canton first last s e is sure formatted (begins s e this)) result by)
   where
-    turn : (start end : OnDisk Office) → IsFrom canton first last start end → IsRehearsal start end
-    turn start end from = rehearses canton first last start end is sure formatted from
-
-    at : (result : Result (Unit {0}) TaskFault) → WithOffice canton first last nothing (Serves old new) result → Rehearsed nothing old new result
-    at (Ok done) by = serves_as old new (IsFrom canton first last) IsRehearsal turn (Ok done) by
-    at (Err (faults.Open fault)) by = by.0
-    at (Err faults.Faulted) by = serves_as old new (IsFrom canton first last) IsRehearsal turn (Err faults.Faulted) by
-    at (Err (faults.Serve serving.Read)) by = serves_as old new (IsFrom canton first last) IsRehearsal turn (Err (faults.Serve serving.Read)) by
-    at (Err (faults.Serve serving.Turns)) by = serves_as old new (IsFrom canton first last) IsRehearsal turn (Err (faults.Serve serving.Turns)) by
-    at (Err (faults.Serve serving.Write)) by = serves_as old new (IsFrom canton first last) IsRehearsal turn (Err (faults.Serve serving.Write)) by
-    at (Err fault) by = absurd by
+    only : (result : Result (Unit {0}) TaskFault) → Serves old new IsRehearsal result → Rehearsed nothing old new result
+    only (Err faults.Memory) by = absurd by
+    only result by = by
 
 -- on a film that showed nothing yet
 pub rehearsed_blank : (nothing : Type 0) (left w : Option (List ℕ)) (film : List Frame) (new : Streams) (result : Result (Unit {0}) TaskFault)

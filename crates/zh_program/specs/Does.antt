@@ -1,5 +1,7 @@
 -- What the program does, as one word for whoever hands on its status.
-use Rattle.std.specs.Prelude.{◌≡◌, ◌≢◌, ◌≤◌, ◌⊎◌, ℕ, List, [], Option, Some, None, Ok}
+use Rattle.std.specs.Prelude.{◌≡◌, ◌≢◌, ◌≤◌, ◌⊎◌, ℕ, List, [], ◌∷◌, ◌++◌, codes, Option, Some, None, Ok}
+use Rattle.std.specs.declared.io.ErrorKind.{ErrorKind}
+use Rattle.std.specs.declared.io.ErrorKind.TheVariants as kinds
 use Rattle.zh_arguments.specs.Arguments.{AsksFor, refusals}
 use Rattle.zh_arguments.specs.declared.arguments.Task.{Task}
 use Rattle.zh_disk.specs.declared.memory.MemoryDisk.{MemoryDisk}
@@ -29,3 +31,9 @@ pub record ProgramDoes (of : Known) (arguments : List (List ℕ)) (old new : Wor
       × Touches (disk_path task) (of.files.places old.files) (of.files.places new.files)
       × (used ≡ None → LeavesAsFound task (of.files.disk_at old.files) (of.files.left old.files) (of.files.left new.files)))
   pub refused : status ≡ 2 → (refusals arguments ≢ []) × NothingDone old new used
+
+-- Of arguments that can't be read, by the kind of the error: the status, and what is said. One of them is not UTF-8, and a LF, which
+-- is 10, ends the line; or memory was refused for them.
+abbrev pub unread : ErrorKind → ℕ × List ℕ
+unread kinds.InvalidData = (2, codes "error: an argument is not UTF-8" ++ 10 ∷ [])
+unread kind = (1, report_text None faults.Memory)

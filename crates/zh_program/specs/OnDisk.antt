@@ -27,10 +27,11 @@ FoundAs (of_files.Device cause) e = e ≡ faults.Unopened files.Disk cause
 FoundAs (of_files.Size length) e = e ≡ faults.Size length
 FoundAs of_files.Busy e = e ≡ faults.Busy
 
--- the fault is one of the set-up in this text or its file, or of the disk, as the calls for these files met it: they come before a
--- task has a disk
-abbrev pub IsEarly : Option (List ℕ) → (FileFault → Type 0) → (FileFault → Type 0) → TaskFault → Type 0
-IsEarly text Met OfDisk fault = IsOfSetup text Met fault ⊎ ((why : FileFault) × FoundAs why fault × OfDisk why)
+-- The fault is one of the set-up, in this text or of its file, after one call of the files; or it is one of the disk, after two. That
+-- of a file is what the call for it met. A task has no disk yet then.
+abbrev pub IsEarly : Option (List ℕ) → (FileFault → Type 0) → (FileFault → Type 0) → (ℕ → Type 0) → TaskFault → Type 0
+IsEarly text Met OfDisk Calls fault =
+    (Calls 1 × IsOfSetup text Met fault) ⊎ (Calls 2 × ((why : FileFault) × FoundAs why fault × OfDisk why))
 
 -- what this work on a disk that was opened has done, from a world and the disk to a world and what is handed over
 abbrev pub DoesOn : (of : Known) → Work → Canton → WorldOf of × of.Disk → WorldOf of × FilmedOf of
@@ -44,7 +45,8 @@ DoesOn of (works.Show query) canton before after result = ShowsHeld of query can
 -- no disk was opened, and nothing was read from the input or written
 pub record EndsEarly (of : Known) (work : Work) (paths : Paths) (old new : WorldOf of) (ended : EndOf of) : Type 0 where
   pub early : IsErrAnd ended.result (IsEarly (of.files.text_at old.files paths.setup.now)
-      (IsMetAt of.files paths.setup.now old.files new.files) (IsMetAt of.files paths.disk.now old.files new.files))
+      (IsMetAt of.files paths.setup.now old.files new.files) (IsMetAt of.files paths.disk.now old.files new.files)
+      (λ n. of.files.calls new.files ≡ of.files.calls old.files + n))
   pub none : ended.used ≡ None
   pub rest : new ≡ record old { files = new.files }
   pub counted : of.files.calls new.files ≤ of.files.calls old.files + 2

@@ -1,7 +1,9 @@
 -- What a query shows of what is held.
-use Rattle.std.specs.Prelude.{◌≡◌, Result}
+use Rattle.std.specs.Prelude.{◌≡◌, Result, false, true}
 use Rattle.zh_arguments.specs.declared.commands.Query.{Query}
-use Rattle.zh_arguments.specs.declared.commands.Query.TheVariants.{Export, Status, Seats}
+use Rattle.zh_arguments.specs.declared.commands.Query.TheVariants.{Export, Status, Votes, Seats}
+use Rattle.zh_count_tables.specs.Grids.{IsVotesTable}
+use Rattle.zh_count_tables.specs.Votes.{IsVotesText}
 use Rattle.zh_csv.specs.Export.{export_text}
 use Rattle.zh_districts.specs.Canton.{Canton}
 use Rattle.zh_returns.specs.Tally.{Tally}
@@ -16,10 +18,13 @@ use Rattle.zh_program.specs.declared.fault.TaskFault.{TaskFault}
 use Rattle.zh_program.specs.declared.shown.Shown.{Shown}
 use Rattle.zh_program.specs.declared.shown.Shown.TheVariants.{Text, Advised}
 
--- What may be shown of a count: its export; this view of it, and what is said beside it; or its seats, or why there are none.
+-- What may be shown of a count: its export; this view of it, and what is said beside it; its votes so far; or its seats, or why
+-- there are none.
 abbrev pub MayShow : Query → Tally → Shown → Type 0
 MayShow Export tally (Text text) = text.items ≡ export_text tally
 MayShow (Status view) tally (Advised text advice) = IsStatusText tally view text.items × IsSaidOf tally view advice.items
+MayShow (Votes of false) tally (Text text) = IsVotesText tally of text.items
+MayShow (Votes of true) tally (Text text) = IsVotesTable tally of text.items
 MayShow (Seats is_final layout) tally shown =
     (seats : Result MarkedSheet NoSeats) × AreSeatsOf tally is_final seats × AreShownSeats tally.canton layout seats shown
 MayShow query tally shown = ⊥

@@ -30,12 +30,10 @@ pub record IsRehearsal (start end : OnDisk Office) : Type 0 where
   pub whole : start.holder.ledger.store.broken ≡ false
   pub honest : IsTrue end.history.honest
 
--- a rehearsal served; or its fault is one of making its set-up, its disk or its office, and nothing was served
+-- A rehearsal served; or memory was refused for its set-up, its disk or its office, and nothing was served. Its disk is in memory, and
+-- new: it is not in use, not damaged and not of another set-up, and fails only where memory is refused.
 abbrev pub Rehearsed : Type 0 → Streams → Streams → Result (Unit {0}) TaskFault → Type 0
 Rehearsed nothing old new (Err faults.Memory) = nothing
-Rehearsed nothing old new (Err faults.Device) = nothing
-Rehearsed nothing old new (Err faults.InUse) = nothing
-Rehearsed nothing old new (Err (faults.Open fault)) = nothing
 Rehearsed nothing old new result = Serves old new IsRehearsal result
 
 -- what is known of a disk in memory

@@ -1,13 +1,16 @@
 -- What is shown of the seats.
-use Rattle.std.specs.Prelude.{◌≡◌, ℕ, Bool, List, Result, Ok, Err, IfOk, IfErr}
+use Rattle.std.specs.Prelude.{◌≡◌, ℕ, Bool, if◌then◌else◌, List, Result, Ok, Err, IfOk, IfErr}
 use Rattle.zh_arguments.specs.declared.seats.Layout.{Layout}
-use Rattle.zh_arguments.specs.declared.seats.Layout.TheVariants.{Records, Table}
+use Rattle.zh_arguments.specs.declared.seats.SeatsOf.{SeatsOf}
+use Rattle.zh_arguments.specs.declared.seats.SeatsOf.TheVariants.{Lists, Groups, Constituencies}
+use Rattle.zh_count_tables.specs.Grids.{constituency_table_text, group_table_text}
+use Rattle.zh_count_tables.specs.SheetLines.{constituencies_text, groups_text}
 use Rattle.zh_districts.specs.Canton.{Canton}
 use Rattle.zh_returns.specs.Tally.{Tally}
 use Rattle.zh_totals.specs.Counting.{totals_of}
 use Rattle.zh_sheet_text.specs.Lists.{seats_text}
 use Rattle.zh_sheet_text.specs.declared.mark.Source.TheVariants as sources
-use Rattle.zh_sheet_text.specs.Table.{table_text}
+use Rattle.zh_sheet_text.specs.SeatTable.{table_text}
 use Rattle.zh_office.specs.Sheets.{MayAnswerSheet}
 use Rattle.zh_program.specs.Results.{IsReasonFor, answer_of}
 use Rattle.zh_sheet_text.specs.Reported.{refusal_text}
@@ -16,10 +19,20 @@ use Rattle.zh_sheet_text.specs.declared.mark.NoSeats.{NoSeats}
 use Rattle.zh_program.specs.declared.shown.Shown.{Shown}
 use Rattle.zh_program.specs.declared.shown.Shown.TheVariants.{Text, Nothing}
 
+-- the records of seats, and their table for people
+abbrev pub seat_records : SeatsOf → MarkedSheet → List ℕ
+seat_records Lists seats = seats_text seats.sheet seats.mark
+seat_records Groups seats = groups_text seats.sheet seats.mark
+seat_records Constituencies seats = constituencies_text seats.sheet seats.mark
+
+abbrev pub seat_table : SeatsOf → MarkedSheet → List ℕ
+seat_table Lists seats = table_text seats.sheet seats.mark
+seat_table Groups seats = group_table_text seats.sheet seats.mark
+seat_table Constituencies seats = constituency_table_text seats.sheet seats.mark
+
 -- the text of seats in a form
 abbrev pub laid_out : Layout → MarkedSheet → List ℕ
-laid_out Records seats = seats_text seats.sheet seats.mark
-laid_out Table seats = table_text seats.sheet seats.mark
+laid_out layout seats = if layout.is_table then seat_table layout.of seats else seat_records layout.of seats
 
 -- why there are none
 abbrev pub IsShownReason : Canton → NoSeats → Shown → Type 0

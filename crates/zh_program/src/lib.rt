@@ -19,6 +19,7 @@ mod sheet_front;
 mod sheet_seats;
 mod shown;
 mod texts;
+mod unread;
 
 pub use entry::program;
 pub use laws::{
@@ -26,3 +27,4 @@ pub use laws::{
     whole_file_is_checked,
 };
 pub use on_disk::{Filmed, LoadReader, Used};
+pub use unread::refuse_unread;

@@ -74,7 +74,8 @@ fn begin<F: Files>(
     ensures touches { Touches (Some paths.entry.disk.now) (F.places files.old) (F.places files.new) }
     ensures leaves { LeavesOf (LeftAt work.entry) (F.disk_at files.old paths.entry.disk.now) (F.left files.old) (F.left files.new) }
     ensures early { IfErr result (IsEarly (F.text_at files.old paths.entry.setup.now)
-        (IsMetAt F.Files paths.entry.setup.now files.old files.new) (IsMetAt F.Files paths.entry.disk.now files.old files.new)) }
+        (IsMetAt F.Files paths.entry.setup.now files.old files.new) (IsMetAt F.Files paths.entry.disk.now files.old files.new)
+        (λ n. F.calls files.new ≡ F.calls files.old + n)) }
 {
     let setup = setup_at(alloc, files, paths.setup)?;
     let disk = disk_at(files, right, paths.disk, work)?;

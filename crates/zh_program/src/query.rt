@@ -10,6 +10,7 @@ use crate::shown::{Shown, shown_seats, write_shown};
 use std::alloc::Global;
 use std::io::{Read, Write};
 use zh_arguments::Query;
+use zh_count_tables::{votes_table, write_votes};
 use zh_districts::Setup;
 use zh_file::{Files, World};
 use zh_office::Office;
@@ -26,6 +27,17 @@ fn shown(alloc: Global, office: &Office<'_>, query: Query) -> Result<Shown, Task
             let text = write_status(alloc, count, view, Vec::new(alloc))?;
             let said = said_of(alloc, count, view)?;
             Ok(Shown::Advised(text, said))
+        }
+        Query::Votes {
+            of,
+            is_table: false,
+        } => {
+            let text = write_votes(alloc, count, office.totals(), of, Vec::new(alloc))?;
+            Ok(Shown::Text(text))
+        }
+        Query::Votes { of, is_table: true } => {
+            let text = votes_table(alloc, count, office.totals(), of)?;
+            Ok(Shown::Text(text))
         }
         Query::Seats { is_final, layout } => {
             let seats = seats_by_count(alloc, office, is_final);

@@ -118,8 +118,14 @@ fn serve_rehearsal<I: Read, O: Write>(
 {
     let setup = rehearsal(alloc)?;
     let mut disk = MemoryDisk::blank(alloc)?;
-    format_blank(alloc, &setup, &mut disk)?;
-    serve_on(alloc, &setup, &mut disk, input, out, film)
+    // A new disk in memory can be formatted and opened, unless memory is refused.
+    let Ok(()) = format_blank(alloc, &setup, &mut disk) else {
+        return Err(TaskFault::Memory);
+    };
+    let Ok(mut office) = Office::open(alloc, &setup, &mut disk) else {
+        return Err(TaskFault::Memory);
+    };
+    serve_lines(&mut office, &mut disk, input, out, film)
 }
 
 /// Rehearses, keeps nothing, and hands over the film of it.

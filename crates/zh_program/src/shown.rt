@@ -3,7 +3,7 @@
 ghost use Rattle.std.specs.Prelude.{◌≡◌, IfErr, IfOk};
 ghost use Rattle.zh_program.specs.Shown.{OnlyWrites, WritesShown, GivesShown};
 ghost use Rattle.zh_program.specs.World.{known};
-ghost use Rattle.zh_program.specs.Seats.{AreShownSeats, IsShownReason, laid_out};
+ghost use Rattle.zh_program.specs.Seats.{AreShownSeats, IsShownReason, laid_out, seat_records, seat_table};
 ghost use Rattle.zh_program.specs.declared.fault.TaskFault.TheVariants as faults;
 ghost use Rattle.zh_program.specs.Version.{WritesVersion};
 
@@ -11,7 +11,8 @@ use crate::fault::TaskFault;
 use crate::report::make_remark;
 use std::alloc::Global;
 use std::io::{Read, Write};
-use zh_arguments::Layout;
+use zh_arguments::{Layout, SeatsOf};
+use zh_count_tables::{constituency_table, group_table, write_constituencies, write_groups};
 use zh_districts::Setup;
 use zh_file::{Files, World};
 use zh_sheet_text::{MarkedSheet, NoSeats, refusal_text, seat_table, write_seats};
@@ -51,6 +52,48 @@ pub(crate) fn write_shown<I: Read, O: Write, E: Write, F: Files>(
     Ok(())
 }
 
+/// The records of seats.
+fn records_of(alloc: Global, seats: &MarkedSheet<'_>, of: SeatsOf) -> Result<Vec<u8>, TaskFault>
+    ensures text { IfOk result (λ text. text.items ≡ seat_records of seats.now) }
+    ensures fault { IfErr result (λ fault. fault ≡ faults.Memory) }
+{
+    match of {
+        SeatsOf::Lists => {
+            let text = write_seats(&seats.sheet, seats.mark, Vec::new(alloc))?;
+            Ok(text)
+        }
+        SeatsOf::Groups => {
+            let text = write_groups(&seats.sheet, seats.mark, Vec::new(alloc))?;
+            Ok(text)
+        }
+        SeatsOf::Constituencies => {
+            let text = write_constituencies(&seats.sheet, seats.mark, Vec::new(alloc))?;
+            Ok(text)
+        }
+    }
+}
+
+/// The table of seats for people.
+fn table_of(alloc: Global, seats: &MarkedSheet<'_>, of: SeatsOf) -> Result<Vec<u8>, TaskFault>
+    ensures text { IfOk result (λ text. text.items ≡ seat_table of seats.now) }
+    ensures fault { IfErr result (λ fault. fault ≡ faults.Memory) }
+{
+    match of {
+        SeatsOf::Lists => {
+            let text = seat_table(alloc, &seats.sheet, seats.mark)?;
+            Ok(text)
+        }
+        SeatsOf::Groups => {
+            let text = group_table(alloc, &seats.sheet, seats.mark)?;
+            Ok(text)
+        }
+        SeatsOf::Constituencies => {
+            let text = constituency_table(alloc, &seats.sheet, seats.mark)?;
+            Ok(text)
+        }
+    }
+}
+
 /// The text of seats in a form.
 pub(crate) fn text_of(
     alloc: Global,
@@ -60,15 +103,10 @@ pub(crate) fn text_of(
     ensures text { IfOk result (λ text. text.items ≡ laid_out layout seats.now) }
     ensures fault { IfErr result (λ fault. fault ≡ faults.Memory) }
 {
-    match layout {
-        Layout::Records => {
-            let text = write_seats(&seats.sheet, seats.mark, Vec::new(alloc))?;
-            Ok(text)
-        }
-        Layout::Table => {
-            let text = seat_table(alloc, &seats.sheet, seats.mark)?;
-            Ok(text)
-        }
+    if layout.is_table {
+        table_of(alloc, seats, layout.of)
+    } else {
+        records_of(alloc, seats, layout.of)
     }
 }
 

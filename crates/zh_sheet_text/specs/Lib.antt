@@ -7,3 +7,4 @@ pub mod Quotients
 pub mod Refusals
 pub mod Reported
 pub mod Table
+pub mod SeatTable

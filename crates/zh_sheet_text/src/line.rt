@@ -159,11 +159,12 @@ pub(crate) fn finality(is_final: bool) -> &'static str
     if is_final { "final" } else { "provisional" }
 }
 
-fn yes_or_no(yes: bool) -> &'static str
-    ensures word { result.now ≡ (if yes then codes "yes" else codes "no") }
+/// A yes or no, in a word.
+pub fn yes_or_no(yes: &bool) -> &str
+    ensures word { result.now ≡ (if yes.now then codes "yes" else codes "no") }
     ensures short { length result.now ≤ 3 }
 {
-    if yes { "yes" } else { "no" }
+    if *yes { "yes" } else { "no" }
 }
 
 /// Writes what stands at a part.
@@ -188,7 +189,7 @@ fn push_part(text: &mut WriteBuffer, sheet: &Sheet<'_>, head: Head, part: SheetP
         SheetPart::ConstituencyVotes(d) => push_numeral(text, sheet.totals().constituency(d)),
         SheetPart::ConstituencyDivisor(d) => push_divisor(text, sheet.constituency_divisor(d)),
         SheetPart::ConstituencyName(d) => push(text, sheet.constituency_name(d)),
-        SheetPart::TakesPart(g) => push(text, yes_or_no(sheet.takes_part(g))),
+        SheetPart::TakesPart(g) => push(text, yes_or_no(&sheet.takes_part(g))),
         SheetPart::GroupVoters(g) => push_numeral_or_dash(text, sheet.voters(g)),
         SheetPart::GroupSeats(g) => push_numeral(text, u64::from(sheet.group_seats(g))),
         SheetPart::GroupDivisor(g) => push_divisor_or_dash(text, sheet.group_divisor(g)),

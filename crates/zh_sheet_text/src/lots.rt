@@ -2,10 +2,10 @@
 
 ghost use Rattle.std.specs.Prelude.{◌≡◌, ◌≤◌, ◌++◌, OnOk, false, length, slice_index, slice_index_or};
 ghost use Rattle.zh_text.specs.Each.{each_to};
-ghost use Rattle.zh_sheet_text.specs.Lots.{lines_in, list_lines, lot_text, range_line, range_of};
-ghost use Rattle.zh_sheet_text.specs.Lots.{tied_constituency_line, tied_group_line, tied_list_line};
+ghost use Rattle.zh_sheet_text.specs.Lots.{constituency_behind, group_behind, lines_in, list_behind, list_lines, lot_text};
+ghost use Rattle.zh_sheet_text.specs.Lots.{range_line, range_of, tied_constituency_line, tied_group_line, tied_list_line};
 
-use crate::refusals::{push_line, push_list, push_spaced};
+use crate::refusals::{push_line, push_spaced};
 use std::alloc::AllocError;
 use zh_districts::Setup;
 use zh_sheet::{ListRanges, Lot, SeatRanges};
@@ -43,14 +43,53 @@ fn number_in(numbers: &[u32], place: usize) -> u32
     numbers.get(place).copied().unwrap_or(0)
 }
 
+/// The name of a constituency, if there is one of this number.
+fn constituency_behind(setup: &Setup, constituency: u32) -> &str
+    ensures { result.now ≡ constituency_behind setup.now constituency }
+{
+    if constituency >= 1 && constituency <= setup.constituencies() {
+        setup.constituency_name(constituency)
+    } else {
+        ""
+    }
+}
+
+/// The name of a group, if there is one of this number.
+fn group_behind(setup: &Setup, group: u32) -> &str
+    ensures { result.now ≡ group_behind setup.now group }
+{
+    if group >= 1 && group <= setup.groups() {
+        setup.group_name(group)
+    } else {
+        ""
+    }
+}
+
+/// Puts the names of a list at the end.
+fn push_behind(out: &mut Vec<u8>, setup: &Setup, list: ListRange) -> Result<(), AllocError>
+    ensures { OnOk result (out.new.items ≡ out.old.items ++ list_behind setup.now list) }
+{
+    out.push(b' ')?;
+    out.extend_from_slice(constituency_behind(setup, list.constituency).as_bytes())?;
+    out.extend_from_slice(b", ")?;
+    out.extend_from_slice(group_behind(setup, list.group).as_bytes())
+}
+
 /// Puts the line of a constituency at the end, if it is marked.
-fn push_constituency(out: &mut Vec<u8>, marks: &[bool], constituency: u32) -> Result<(), AllocError>
+fn push_constituency(
+    out: &mut Vec<u8>,
+    setup: &Setup,
+    marks: &[bool],
+    constituency: u32,
+) -> Result<(), AllocError>
     requires { 1 ≤ constituency }
-    ensures { OnOk result (out.new.items ≡ out.old.items ++ tied_constituency_line marks.now constituency) }
+    ensures { OnOk result (out.new.items ≡ out.old.items ++ tied_constituency_line setup.now marks.now constituency) }
 {
     if is_marked(marks, (constituency - 1) as usize) {
         out.push(b'\n')?;
-        push_number(out, constituency)
+        push_number(out, constituency)?;
+        out.push(b' ')?;
+        out.extend_from_slice(constituency_behind(setup, constituency).as_bytes())
     } else {
         Ok(())
     }
@@ -59,20 +98,28 @@ fn push_constituency(out: &mut Vec<u8>, marks: &[bool], constituency: u32) -> Re
 /// Puts the lines of the constituencies that are marked at the end.
 fn push_constituencies(out: &mut Vec<u8>, setup: &Setup, marks: &[bool]) -> Result<(), AllocError>
     ensures { OnOk result (out.new.items ≡ out.old.items
-        ++ each_to (length setup.now.constituencies) (tied_constituency_line marks.now)) }
+        ++ each_to (length setup.now.constituencies) (tied_constituency_line setup.now marks.now)) }
 {
     for place in 0..setup.constituencies() {
-        push_constituency(out, marks, place + 1)?;
+        push_constituency(out, setup, marks, place + 1)?;
     }
     Ok(())
 }
 
 /// Puts the line of a group at the end, if its seats differ.
-fn push_range(out: &mut Vec<u8>, group: u32, least: u32, most: u32) -> Result<(), AllocError>
-    ensures { OnOk result (out.new.items ≡ out.old.items ++ range_line group least most) }
+fn push_range(
+    out: &mut Vec<u8>,
+    setup: &Setup,
+    group: u32,
+    least: u32,
+    most: u32,
+) -> Result<(), AllocError>
+    ensures { OnOk result (out.new.items ≡ out.old.items ++ range_line setup.now group least most) }
 {
     if least < most {
-        push_line(out, group, least, most)
+        push_line(out, group, least, most)?;
+        out.push(b' ')?;
+        out.extend_from_slice(group_behind(setup, group).as_bytes())
     } else {
         Ok(())
     }
@@ -80,27 +127,35 @@ fn push_range(out: &mut Vec<u8>, group: u32, least: u32, most: u32) -> Result<()
 
 /// Puts the lines of the groups whose seats differ at the end.
 fn push_groups(out: &mut Vec<u8>, setup: &Setup, ranges: &SeatRanges) -> Result<(), AllocError>
-    ensures { OnOk result (out.new.items ≡ out.old.items ++ each_to (length setup.now.groups) (tied_group_line ranges.now)) }
+    ensures { OnOk result (out.new.items ≡ out.old.items
+        ++ each_to (length setup.now.groups) (tied_group_line setup.now ranges.now)) }
 {
     for place in 0..setup.groups() {
         let least = number_in(&ranges.least, place as usize);
         let most = number_in(&ranges.most, place as usize);
-        push_range(out, place + 1, least, most)?;
+        push_range(out, setup, place + 1, least, most)?;
     }
     Ok(())
 }
 
 /// Puts the line of a list at the end, if it has one.
-fn push_listed(out: &mut Vec<u8>, listed: Listed, list: ListRange) -> Result<(), AllocError>
-    ensures { OnOk result (out.new.items ≡ out.old.items ++ tied_list_line listed list) }
+fn push_listed(
+    out: &mut Vec<u8>,
+    setup: &Setup,
+    listed: Listed,
+    list: ListRange,
+) -> Result<(), AllocError>
+    ensures { OnOk result (out.new.items ≡ out.old.items ++ tied_list_line setup.now listed list) }
 {
     match listed {
         Listed::Differing if list.least < list.most => {
             push_line(out, list.constituency, list.group, list.least)?;
-            push_spaced(out, list.most)
+            push_spaced(out, list.most)?;
+            push_behind(out, setup, list)
         }
-        Listed::Same if list.least >= list.most => {
-            push_list(out, list.constituency, list.group, list.least)
+        Listed::Same if list.least >= list.most && list.least > 0 => {
+            push_line(out, list.constituency, list.group, list.least)?;
+            push_behind(out, setup, list)
         }
         _ => Ok(()),
     }
@@ -125,27 +180,33 @@ fn range_of(lists: &ListRanges, constituency: u32, place: u32) -> ListRange
 /// Puts the lines of the lists of a constituency at the end.
 fn push_listed_in(
     out: &mut Vec<u8>,
+    setup: &Setup,
     listed: Listed,
     lists: &ListRanges,
     constituency: u32,
 ) -> Result<(), AllocError>
     requires from_one { 1 ≤ constituency }
     requires there { constituency ≤ lists.now.constituencies }
-    ensures { OnOk result (out.new.items ≡ out.old.items ++ lines_in listed lists.now constituency) }
+    ensures { OnOk result (out.new.items ≡ out.old.items ++ lines_in setup.now listed lists.now constituency) }
 {
     for place in 0..lists.groups().len() {
         let list = range_of(lists, constituency, place as u32 + 1);
-        push_listed(out, listed, list)?;
+        push_listed(out, setup, listed, list)?;
     }
     Ok(())
 }
 
 /// Puts the lines of the lists at the end.
-fn push_lists(out: &mut Vec<u8>, listed: Listed, lists: &ListRanges) -> Result<(), AllocError>
-    ensures { OnOk result (out.new.items ≡ out.old.items ++ list_lines listed lists.now) }
+fn push_lists(
+    out: &mut Vec<u8>,
+    setup: &Setup,
+    listed: Listed,
+    lists: &ListRanges,
+) -> Result<(), AllocError>
+    ensures { OnOk result (out.new.items ≡ out.old.items ++ list_lines setup.now listed lists.now) }
 {
     for place in 0..lists.constituencies() {
-        push_listed_in(out, listed, lists, place + 1)?;
+        push_listed_in(out, setup, listed, lists, place + 1)?;
     }
     Ok(())
 }
@@ -171,9 +232,9 @@ pub(crate) fn push_lot(out: &mut Vec<u8>, setup: &Setup, lot: &Lot) -> Result<()
             out.extend_from_slice(
                 b"the lot decides between distributions that differ in these lists",
             )?;
-            push_lists(out, Listed::Differing, lists)?;
+            push_lists(out, setup, Listed::Differing, lists)?;
             out.extend_from_slice(b"\nall other lists have the same seats in each")?;
-            push_lists(out, Listed::Same, lists)
+            push_lists(out, setup, Listed::Same, lists)
         }
     }
 }

@@ -1,7 +1,7 @@
 //! What a sheet is marked as.
 ghost use Rattle.std.specs.Prelude.{◌≡◌};
 ghost use Rattle.zh_sheet_text.specs.Lists.{kind};
-ghost use Rattle.zh_sheet_text.specs.Table.{whose};
+ghost use Rattle.zh_sheet_text.specs.SeatTable.{whose};
 
 use zh_commands::Refusal;
 use zh_sheet::{ExhaustedReason, Lot, Sheet, SheetRefusal};
@@ -37,7 +37,7 @@ pub struct Mark {
 
 impl Mark {
     /// Whether they are final, in a word, with one before it if a sheet states it.
-    pub(crate) fn kind(&self) -> &str
+    pub fn kind(&self) -> &str
         ensures { result.now ≡ kind self.now }
     {
         match (self.source, self.is_final) {

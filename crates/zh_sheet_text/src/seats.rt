@@ -176,7 +176,7 @@ fn list_quotient(sheet: &Sheet<'_>, constituency: u32, group: u32) -> Option<u12
 }
 
 /// A number of millionths that there may be, with six digits after the dot.
-fn millionths_or_nothing(millionths: Option<u128>) -> DecimalText
+pub fn millionths_or_nothing(millionths: Option<u128>) -> DecimalText
     ensures { result.items ≡ option_map_or divisor_text millionths [] }
 {
     match millionths {
@@ -186,7 +186,7 @@ fn millionths_or_nothing(millionths: Option<u128>) -> DecimalText
 }
 
 /// A number that there may be.
-fn number_or_nothing(number: Option<u64>) -> ArrayVec<u8, 20>
+pub fn number_or_nothing(number: Option<u64>) -> ArrayVec<u8, 20>
     ensures { result.items ≡ option_map_or decimal number [] }
 {
     let mut text = ArrayVec::new();

@@ -4,7 +4,7 @@
 mod status;
 mod unknown;
 
-use status::run;
+use status::{run, status_of};
 use std::process::ExitCode;
 use std::{env, io};
 use unknown::UnknownContent;
@@ -12,14 +12,18 @@ use zh_file::{FolderFiles, HostFolder, Remark, World};
 
 /// Hands the arguments, the streams and the files of the operating system on, and returns the status.
 fn main(rt: HostRuntime) -> ExitCode {
-    let mut world = World {
-        input: rt.stdin(),
-        output: rt.stdout(),
-        faults: rt.stderr(),
-        remark: Remark::Whole,
-        files: FolderFiles::new(HostFolder::<UnknownContent>::new(&rt)),
-    };
-    run(rt.alloc(), arguments(&rt), UnknownContent, &mut world).result
+    status_of(run(
+        rt.alloc(),
+        arguments(&rt),
+        UnknownContent,
+        &mut World {
+            input: rt.stdin(),
+            output: rt.stdout(),
+            faults: rt.stderr(),
+            remark: Remark::Whole,
+            files: FolderFiles::new(HostFolder::<UnknownContent>::new(&rt)),
+        },
+    ))
 }
 
 /// The arguments, the program's name first.

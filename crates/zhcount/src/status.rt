@@ -1,17 +1,20 @@
 //! The program on what the operating system gives.
 
-ghost use Rattle.std.specs.Prelude.{◌≡◌, ◌≢◌, drop, map, string_bytes, MatchResult};
+ghost use Rattle.std.specs.IoError.{error_kind};
+ghost use Rattle.std.specs.Prelude.{◌≡◌, drop, map, string_bytes, MatchResult};
 ghost use Rattle.std.specs.Process.{exit_status};
-ghost use Rattle.zh_program.specs.Does.{ProgramDoes};
+ghost use Rattle.zh_program.specs.Does.{ProgramDoes, unread};
 ghost use Rattle.zh_program.specs.Program.{NothingDone};
+ghost use Rattle.zh_program.specs.Remarks.{BecameOf};
 ghost use Rattle.zh_program.specs.World.{known};
 
 use std::alloc::Global;
 use std::io;
-use std::io::{ErrorKind, Read, Write};
+use std::io::{Read, Write};
+use std::mem::forget;
 use std::process::ExitCode;
 use zh_file::{Ended, Files, World};
-use zh_program::{Used, program};
+use zh_program::{Used, program, refuse_unread};
 
 /// The arguments after the program's name.
 fn after_name(all: &[String]) -> &[String]
@@ -21,18 +24,6 @@ fn after_name(all: &[String]) -> &[String]
         Some((_name, others)) => others,
         None => &[],
     }
-}
-
-/// Why the arguments can't be read is said, and gives the status.
-fn refuse<E: Write>(error: &io::Error, faults: &mut E) -> ExitCode
-    ensures { exit_status result ≢ 0 }
-{
-    if error.kind() == ErrorKind::InvalidData {
-        let _ = faults.write_all(b"error: an argument is not UTF-8\n");
-        return ExitCode::from(2);
-    }
-    let _ = faults.write_all(b"zhcount: memory\n");
-    ExitCode::from(1)
 }
 
 /// Does what the program does on the arguments after its name, and makes its status that of the process. Where they
@@ -45,7 +36,8 @@ pub(crate) fn run<I: Read, O: Write, E: Write, F: Files>(
 ) -> Ended<ExitCode, Used<I, O, F::Disk, F::Text>>
     ensures { MatchResult arguments (λ all. ProgramDoes (known I.Read O.Write E.Write F.Files F.Disk.Disk)
         (map string_bytes (drop 1 all.items)) world.old world.new (exit_status result.result) result.used)
-        (λ _. (exit_status result.result ≢ 0) × NothingDone world.old world.new result.used) }
+        (λ error. (exit_status result.result ≡ (unread (error_kind error)).0) × NothingDone world.old world.new result.used
+        × BecameOf world.new.remark (E.contents world.old.faults) (E.contents world.new.faults) (unread (error_kind error)).1) }
 {
     match arguments {
         Ok(all) => {
@@ -56,8 +48,18 @@ pub(crate) fn run<I: Read, O: Write, E: Write, F: Files>(
             }
         }
         Err(error) => Ended {
-            result: refuse(&error, &mut world.faults),
+            result: ExitCode::from(refuse_unread(&error, world)),
             used: None,
         },
     }
+}
+
+/// How a task ended. What it hands over is not let go: the system closes the disk's file once the process has ended, and no
+/// destructor runs on it before.
+pub(crate) fn status_of<T, D: Drop>(ended: Ended<T, D>) -> T
+    ensures { result ≡ ended.result }
+{
+    let Ended { result, used } = ended;
+    forget(used);
+    result
 }

@@ -1,4 +1,4 @@
-use Rattle.std.proofs.Common.{◌≡◌, ◌∙◌, Err, Option, List, ℕ, ap, rules, subst, sym}
+use Rattle.std.proofs.Common.{◌≡◌, ◌∙◌, Err, Option, List, ℕ, rules, subst, sym}
 use Rattle.std.specs.Io.Buffered.{reader_buffer}
 use Rattle.zh_program.specs.Load.{HasBegun, IsUnreadable}
 use Rattle.zh_program.specs.World.{IsMetAt}

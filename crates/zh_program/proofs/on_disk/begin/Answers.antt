@@ -1,6 +1,6 @@
 use Rattle.std.proofs.lemmas.Result.{err_from_is_err_and}
 use Rattle.zh_program.specs.World.{BeginsAt, LeftAt}
-use Rattle.std.proofs.Common.{rules, ◌≡◌, Err, List, ℕ, Option, inl, inr}
+use Rattle.std.proofs.Common.{rules, arith, ◌≡◌, ◌+◌, Err, List, ℕ, Option, inl, inr}
 use Rattle.zh_file.specs.Places.{TouchesOnly}
 use Rattle.zh_file.proofs.CallerLemmas.{after_stay, stays_untouched}
 use Rattle.zh_program.proofs.WorldLemmas.{disk_after, known_before, leaves_after, leaves_none, met_before}
@@ -18,7 +18,7 @@ returns-clause-begins g c =
 pub returns-in_err-setup-clause-early : goal.returns-in_err-setup-clause-early
 returns-in_err-setup-clause-early g c =
     let is : c.from_residual.result ≡ Err c.in_err-setup.field-0.0 = search rules in
-    rw is (inl c.in_err-setup.ensures.fault)
+    rw is (inl (c.setup_at.ensures.call.counted, c.in_err-setup.ensures.fault))
 
 pub returns-in_err-disk-clause-early : goal.returns-in_err-disk-clause-early
 returns-in_err-disk-clause-early g c =
@@ -26,7 +26,8 @@ returns-in_err-disk-clause-early g c =
     let why = c.in_err-disk.field-0.0 in
     let met = met_before g.F.Files c.args.paths.disk.now c.args.files.now c.setup_at.new.files c.disk_at.new.files c.setup_at.ensures.call.stays c.setup_at.ensures.call.goes why
     (c.in_err-disk.ensures.ends.0, c.in_err-disk.ensures.ends.1, c.in_err-disk.ensures.meets.fault) in
-    rw p.1 (inr (why, p.2, met))
+    let calls : g.F.Files.calls c.disk_at.new.files ≡ g.F.Files.calls c.args.files.now + 2 = omega (arith, c.setup_at.ensures.call.counted, c.disk_at.ensures.call.counted) in
+    rw p.1 (inr (calls, (why, p.2, met)))
 
 pub returns-in_err-setup-clause-touches : goal.returns-in_err-setup-clause-touches
 returns-in_err-setup-clause-touches g c = stays_untouched c.args.paths.disk.now (g.F.Files.places c.args.files.now) (g.F.Files.places c.setup_at.new.files) c.setup_at.ensures.call.stays

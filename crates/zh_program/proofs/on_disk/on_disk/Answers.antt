@@ -1,4 +1,4 @@
-use Rattle.std.proofs.Common.{inl, inr, refl, subst, sym}
+use Rattle.std.proofs.Common.{inl, inr, refl, subst}
 use Rattle.zh_program.specs.OnDisk.{DoesOn}
 use Rattle.zh_program.specs.World.{known}
 use Rattle.zh_program.proofs.on_disk.on_disk.Goals as goal

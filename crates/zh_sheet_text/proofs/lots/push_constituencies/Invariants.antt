@@ -4,4 +4,4 @@ use Rattle.zh_sheet_text.specs.Lots.{tied_constituency_line}
 use Rattle.zh_sheet_text.proofs.lots.push_constituencies.Given as goal
 
 abbrev pub invariant-loop-place : goal.invariant-loop-place
-invariant-loop-place l = l.out.items ≡ l.fn.out.items ++ each_to l.place (tied_constituency_line l.fn.marks)
+invariant-loop-place l = l.out.items ≡ l.fn.out.items ++ each_to l.place (tied_constituency_line l.fn.setup l.fn.marks)

@@ -4,4 +4,4 @@ use Rattle.zh_sheet_text.specs.Lots.{tied_group_line}
 use Rattle.zh_sheet_text.proofs.lots.push_groups.Given as goal
 
 abbrev pub invariant-loop-place : goal.invariant-loop-place
-invariant-loop-place l = l.out.items ≡ l.fn.out.items ++ each_to l.place (tied_group_line l.fn.ranges)
+invariant-loop-place l = l.out.items ≡ l.fn.out.items ++ each_to l.place (tied_group_line l.fn.setup l.fn.ranges)

@@ -4,4 +4,4 @@ use Rattle.zh_sheet_text.specs.Lots.{lines_in}
 use Rattle.zh_sheet_text.proofs.lots.push_lists.Given as goal
 
 abbrev pub invariant-loop-place : goal.invariant-loop-place
-invariant-loop-place l = l.out.items ≡ l.fn.out.items ++ each_to l.place (lines_in l.fn.listed l.fn.lists)
+invariant-loop-place l = l.out.items ≡ l.fn.out.items ++ each_to l.place (lines_in l.fn.setup l.fn.listed l.fn.lists)

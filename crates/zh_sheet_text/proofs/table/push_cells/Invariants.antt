@@ -1,7 +1,8 @@
-use Rattle.std.proofs.Common.{◌++◌, ◌≡◌}
+use Rattle.std.proofs.Common.{◌++◌, ◌≡◌, ℕ}
 use Rattle.zh_text.specs.Each.{each_to}
-use Rattle.zh_sheet_text.specs.Table.{cell_in, group_width, on_right}
+use Rattle.zh_sheet_text.specs.Table.{column_width, on_right}
 use Rattle.zh_sheet_text.proofs.table.push_cells.Given as goal
 
 abbrev pub invariant-loop-place : goal.invariant-loop-place
-invariant-loop-place l = l.out.items ≡ l.fn.out.items ++ each_to l.place (λ g. on_right (group_width l.fn.sheet.totals.canton g) (cell_in l.fn.sheet l.fn.line g))
+invariant-loop-place g l = l.out.items
+    ≡ l.fn.out.items ++ each_to l.place (λ (column : ℕ). on_right (column_width (g.T.TableCells.grid l.fn.cells) column) ((g.T.TableCells.grid l.fn.cells).cell l.fn.line column))

@@ -1,7 +1,9 @@
 use Rattle.std.proofs.Common.{[], ◌++◌, ◌∷◌, ◌≡◌}
 use Rattle.zh_text.specs.Each.{each_to}
-use Rattle.zh_sheet_text.specs.Table.{tall_group_line, last_in, label_in, on_left, on_right}
+use Rattle.zh_sheet_text.specs.Table.{field_line, on_left, on_right, tall_width}
 use Rattle.zh_sheet_text.proofs.table.push_tall_lines.Given as goal
 
 abbrev pub invariant-loop-place : goal.invariant-loop-place
-invariant-loop-place l = l.out.items ≡ l.fn.out.items ++ (on_left 42 (label_in l.fn.sheet l.fn.line) ++ on_right 5 (last_in l.fn.sheet l.fn.line) ++ 10 ∷ []) ++ each_to l.place (tall_group_line l.fn.sheet l.fn.line)
+invariant-loop-place g l =
+    let grid = g.T.TableCells.grid l.fn.cells in
+    l.out.items ≡ (l.fn.out.items ++ (on_left 42 (grid.cell l.fn.line 0) ++ on_right (tall_width grid) (grid.cell l.fn.line grid.columns) ++ 10 ∷ [])) ++ each_to l.place (field_line grid l.fn.line)

@@ -1,0 +1,5 @@
+mod CountingLemmas
+mod TotalsLemmas
+mod QuorumLemmas
+mod NameLemmas
+mod VotesLemmas

@@ -1,0 +1,78 @@
+-- Tables for people with a line for each group or constituency and a column for each of some fields, and what holds of all below.
+use Rattle.std.specs.Prelude.{ℕ, ◌-◌, Bool, false, List, [], ◌∷◌, codes, decimal, slice_index, slice_index_or}
+use Rattle.zh_districts.specs.Canton.{persons_of}
+use Rattle.zh_returns.specs.Tally.{Tally}
+use Rattle.zh_totals.specs.Totals.{VoteTotals, all_votes, constituency_votes}
+use Rattle.zh_totals.specs.Counting.{totals_of}
+use Rattle.zh_quorum.specs.Quorum.{group_votes}
+use Rattle.zh_sheet.specs.Distribution.{Distribution}
+use Rattle.zh_sheet.specs.Readings.{takes_part}
+use Rattle.zh_text.specs.Numbers.{millionths_text, or_dash}
+use Rattle.zh_record_text.specs.Names.{name_of_constituency, name_of_group}
+use Rattle.zh_sheet_text.specs.Lists.{constituency_divisor, group_divisor}
+use Rattle.zh_count_tables.specs.Returned.{returned_of}
+use Rattle.zh_count_tables.specs.SheetLines.{group_voters}
+use Rattle.zh_count_tables.specs.Votes.{yes_or_no}
+use Rattle.zh_count_tables.specs.declared.fields.Field.{Field}
+use Rattle.zh_count_tables.specs.declared.fields.Field.TheVariants.{Name, Persons, Held, Due, Quorum, Votes, Voters, Divisor, Seats}
+use Rattle.zh_count_tables.specs.declared.returned.Region.TheVariants as regions
+
+-- what stands above each; nothing above the names
+abbrev pub heading : Field → List ℕ
+heading Name = []
+heading Persons = codes "persons"
+heading Held = codes "held"
+heading Due = codes "due"
+heading Quorum = codes "quorum"
+heading Votes = codes "votes"
+heading Voters = codes "voters"
+heading Divisor = codes "divisor"
+heading Seats = codes "seats"
+
+-- the field in a column; the first one says what a line is of
+abbrev pub field_at : List Field → ℕ → Field
+field_at fields column = slice_index_or fields column Name
+
+-- the fields of each table
+abbrev pub group_fields : List Field
+group_fields = Name ∷ Quorum ∷ Votes ∷ Voters ∷ Divisor ∷ Seats ∷ []
+
+abbrev pub constituency_fields : List Field
+constituency_fields = Name ∷ Persons ∷ Votes ∷ Divisor ∷ Seats ∷ []
+
+abbrev pub vote_fields : List Field
+vote_fields = Name ∷ Held ∷ Due ∷ Quorum ∷ Votes ∷ []
+
+-- what they say of a group and of a constituency of a sheet, with a dash for a voter sum or a divisor that there is not
+abbrev pub field_of_group : Distribution → ℕ → Field → List ℕ
+field_of_group x g Name = name_of_group x.totals.canton g
+field_of_group x g Quorum = yes_or_no (takes_part x g)
+field_of_group x g Votes = decimal (group_votes x.totals g)
+field_of_group x g Voters = or_dash decimal (group_voters x g)
+field_of_group x g Divisor = or_dash millionths_text (group_divisor x g)
+field_of_group x g Seats = decimal (slice_index x.upper.seats (g - 1))
+field_of_group x g field = []
+
+abbrev pub field_of_constituency : Distribution → ℕ → Field → List ℕ
+field_of_constituency x d Name = name_of_constituency x.totals.canton d
+field_of_constituency x d Persons = decimal (persons_of x.totals.canton d)
+field_of_constituency x d Votes = decimal (constituency_votes x.totals d)
+field_of_constituency x d Divisor = millionths_text (constituency_divisor x d)
+field_of_constituency x d Seats = decimal (slice_index x.seats.seats (d - 1))
+field_of_constituency x d field = []
+
+-- and of a group of the votes so far
+abbrev pub field_of_votes : Tally → List Bool → ℕ → Field → List ℕ
+field_of_votes tally taking g Name = name_of_group tally.canton g
+field_of_votes tally taking g Held = decimal (returned_of tally regions.Canton g).held
+field_of_votes tally taking g Due = decimal (returned_of tally regions.Canton g).due
+field_of_votes tally taking g Quorum = yes_or_no (slice_index_or taking (g - 1) false)
+field_of_votes tally taking g Votes = decimal (group_votes (totals_of tally) g)
+field_of_votes tally taking g field = []
+
+-- what they say of all
+abbrev pub field_of_all : VoteTotals → Field → List ℕ
+field_of_all totals Name = codes "total"
+field_of_all totals Votes = decimal (all_votes totals)
+field_of_all totals Seats = decimal totals.canton.house
+field_of_all totals field = []

@@ -1,0 +1,79 @@
+//! What the columns of tables for people say, and their names and sums.
+ghost use Rattle.std.specs.Prelude.{◌≡◌, ◌≤◌, length};
+ghost use Rattle.zh_count_tables.specs.Fields.{field_at, field_of_all, heading};
+ghost use Rattle.zh_record_text.specs.Names.{name_of_constituency, name_of_group};
+
+use crate::quorum_so_far::all_votes;
+use zh_districts::Setup;
+use zh_sheet_text::{CellText, number_cell, text_cell};
+use zh_totals::Totals;
+
+/// What a column says of a group or a constituency.
+#[derive(Clone, Copy)]
+pub(crate) enum Field {
+    Name,
+    Persons,
+    Held,
+    Due,
+    Quorum,
+    Votes,
+    Voters,
+    Divisor,
+    Seats,
+}
+
+/// What stands above a column.
+pub(crate) fn heading_cell(field: Field) -> CellText
+    ensures { result.items ≡ heading field }
+{
+    text_cell(match field {
+        Field::Name => "",
+        Field::Persons => "persons",
+        Field::Held => "held",
+        Field::Due => "due",
+        Field::Quorum => "quorum",
+        Field::Votes => "votes",
+        Field::Voters => "voters",
+        Field::Divisor => "divisor",
+        Field::Seats => "seats",
+    })
+}
+
+/// What a column says of all.
+pub(crate) fn total_cell(totals: &Totals, field: Field) -> CellText
+    ensures { result.items ≡ field_of_all totals.now field }
+{
+    match field {
+        Field::Name => text_cell("total"),
+        Field::Votes => number_cell(all_votes(totals)),
+        Field::Seats => number_cell(u64::from(totals.setup().house())),
+        _ => text_cell(""),
+    }
+}
+
+/// The field of a column, of these.
+pub(crate) fn field_at(fields: &[Field], column: u32) -> Field
+    ensures { result ≡ field_at fields.now column }
+{
+    fields.get(column as usize).copied().unwrap_or(Field::Name)
+}
+
+/// The name of a constituency in a cell.
+pub(crate) fn constituency_cell(setup: &Setup, constituency: u32) -> CellText
+    requires from_one { 1 ≤ constituency }
+    requires there { constituency ≤ length setup.now.constituencies }
+    ensures { result.items ≡ name_of_constituency setup.now constituency }
+{
+    let _limits = setup.constituencies();
+    text_cell(setup.constituency_name(constituency))
+}
+
+/// The name of a group in a cell.
+pub(crate) fn group_cell(setup: &Setup, group: u32) -> CellText
+    requires from_one { 1 ≤ group }
+    requires there { group ≤ length setup.now.groups }
+    ensures { result.items ≡ name_of_group setup.now group }
+{
+    let _limits = setup.groups();
+    text_cell(setup.group_name(group))
+}

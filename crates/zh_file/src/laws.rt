@@ -1,0 +1,57 @@
+//! What is known of the disk that `main` has the program hand over, at just its type, and of the files that gave it.
+ghost use Rattle.std.specs.Prelude.{◌≡◌, ◌↔◌, ◌+◌, ℕ, List, Some, None, option_map};
+ghost use Rattle.sqlite_disk.specs.Events.{replay};
+ghost use Rattle.sqlite_disk.specs.History.{MayLeave};
+ghost use Rattle.sqlite_disk.specs.Modelled.{calls_of, start_of};
+ghost use Rattle.zh_film.specs.Past.{items, number};
+ghost use Rattle.zh_file.specs.Folder.{bytes_known};
+ghost use Rattle.zh_file.specs.Locked.{IsLeftOfOne};
+ghost use Rattle.zh_file.specs.Notes.{failed_among, unlocked_among};
+
+use crate::FileOf;
+use crate::files::{Files, FolderFiles};
+use crate::folder::Folder;
+use crate::host_folder::HostFolder;
+use sqlite_disk::Calls;
+use sqlite_std_file::{Host, Start};
+use zh_disk::Disk;
+
+/// A disk in the folders of the operating system.
+type HostDisk<'a, S> = <FolderFiles<HostFolder<'a, S>> as Files>::Disk;
+
+/// Its file, which is the library's. The disk is honest exactly as long as the calls that this file has recorded, with their
+/// answers, are those of a file that held what `S` says of it; and it has the bytes, and a stop leaves of it what follows from
+/// them. `S` says of the companion, which has the same type, what that held.
+pub fn honest_as_replayed<'a, S: Start>(disk: HostDisk<'a, S>) -> FileOf<S>
+    ensures honest { (⟦<HostDisk<'a, S> as Disk>⟧.history disk).honest
+        ≡ (replay (start_of S.Start result) (⟦<Host as Calls>⟧.history (calls_of result))).is_honest }
+    ensures seen { (⟦<HostDisk<'a, S> as Disk>⟧.history disk).trail.now.bytes
+        ≡ (replay (start_of S.Start result) (⟦<Host as Calls>⟧.history (calls_of result))).seen }
+    ensures left { (c : List ℕ) → ⟦<HostDisk<'a, S> as Disk>⟧.leaves disk c
+        ↔ (let m = replay (start_of S.Start result) (⟦<Host as Calls>⟧.history (calls_of result)) in
+        MayLeave S.Start.is_mixing m.seen m.synced m.steps c) }
+{
+    disk.into_file()
+}
+
+/// What is known of the files in a folder is what is known of the folder, and nothing is left out.
+pub fn files_of_a_folder<F: Folder + Drop>(files: &FolderFiles<F>)
+    ensures same { (⟦<FolderFiles<F> as Files>⟧.text_at files.now ≡ bytes_known (F.known files.now.folder))
+        × (⟦<FolderFiles<F> as Files>⟧.disk_at files.now ≡ F.disk_at files.now.folder)
+        × (⟦<FolderFiles<F> as Files>⟧.places files.now ≡ option_map (λ known. known.places) (F.known files.now.folder))
+        × (⟦<FolderFiles<F> as Files>⟧.calls files.now ≡ number files.now.disks + F.texts files.now.folder)
+        × (⟦<FolderFiles<F> as Files>⟧.failed files.now ≡ F.failed files.now.folder) }
+    ensures left { (c : List ℕ) → ⟦<FolderFiles<F> as Files>⟧.left files.now c ↔ F.left files.now.folder c }
+{}
+
+/// Of those of the operating system it is what they have noted: which calls failed, and what a stop may have left of a file that
+/// was unlocked. A disk begins with what `S` says that its file held; of texts, and of what stands where, nothing is known.
+pub fn host_files_as_noted<'a, S: Start>(files: &FolderFiles<HostFolder<'a, S>>)
+    ensures { (⟦<FolderFiles<HostFolder<'a, S>> as Files>⟧.failed files.now
+        ≡ failed_among ⟦<FileOf<S> as sqlite_disk::Disk>⟧ (items files.now.folder.notes))
+        × ((c : List ℕ) → ⟦<FolderFiles<HostFolder<'a, S>> as Files>⟧.left files.now c
+        ↔ IsLeftOfOne ⟦<FileOf<S> as sqlite_disk::Disk>⟧ (unlocked_among (items files.now.folder.notes)) c)
+        × (⟦<FolderFiles<HostFolder<'a, S>> as Files>⟧.disk_at files.now ≡ (λ path. Some S.Start.db))
+        × (⟦<FolderFiles<HostFolder<'a, S>> as Files>⟧.text_at files.now ≡ (λ path. None))
+        × (⟦<FolderFiles<HostFolder<'a, S>> as Files>⟧.places files.now ≡ None) }
+{}

@@ -1,0 +1,30 @@
+//! Arguments that can't be read.
+
+ghost use Rattle.std.specs.IoError.{error_kind};
+ghost use Rattle.std.specs.Prelude.{◌≡◌};
+ghost use Rattle.zh_program.specs.Does.{unread};
+ghost use Rattle.zh_program.specs.Remarks.{BecameOf};
+
+use crate::fault::TaskFault;
+use crate::report::{make_remark, report};
+use std::io::{Error, ErrorKind, Write};
+use zh_file::World;
+
+/// The status of arguments that can't be read, with this error. The reason is reported.
+pub fn refuse_unread<I, O, E: Write, F>(error: &Error, world: &mut World<I, O, E, F>) -> u8
+    ensures status { result ≡ (unread (error_kind error.now)).0 }
+    ensures rest { world.new ≡ record world.old { faults = world.new.faults; remark = world.new.remark } }
+    ensures said { BecameOf world.new.remark (E.contents world.old.faults) (E.contents world.new.faults)
+        (unread (error_kind error.now)).1 }
+{
+    match error.kind() {
+        ErrorKind::InvalidData => {
+            world.remark = make_remark(b"error: an argument is not UTF-8\n", &mut world.faults);
+            2
+        }
+        _ => {
+            world.remark = report(None, TaskFault::Memory, &mut world.faults);
+            1
+        }
+    }
+}

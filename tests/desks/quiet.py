@@ -1,0 +1,45 @@
+"""Rooms whose office makes no copies of the disk for `now`, which have tests of their own: most of the processes of a room were theirs. And
+scripts that have more patience with a witness."""
+import functools
+import pathlib
+import py_compile
+import re
+import shutil
+import tempfile
+
+from processes import same
+from room import SCRIPTS, Room
+
+MADE = []  # folders that go with the tests
+TIMES = ("SILENCE", "PATIENCE", "QUICK", "MEETING")  # of an office with a witness
+
+
+def edited(scripts, name, *edits):
+    """A copy of the scripts in which each of these expressions, which matches once in this file, is another text."""
+    MADE.append(tempfile.TemporaryDirectory(prefix="scripts-"))
+    path = shutil.copytree(scripts, pathlib.Path(MADE[-1].name, "desks")) / name
+    for pattern, new in edits:
+        text, times = re.subn(pattern, new, path.read_text(), flags=re.MULTILINE)
+        same(f"places with {pattern} in {name}", 1, times)
+        path.write_text(text)
+    py_compile.compile(str(path), doraise=True)
+    return path.parent
+
+
+@functools.lru_cache(maxsize=None)
+def quiet_scripts():
+    """The scripts, but for a copy of the disk that is never made."""
+    none = r"    def copy(\1        self.shown = self.last()\n\n    def is_not_called(\1"
+    return edited(SCRIPTS, "zhcount_now.py", (r"^    def copy\((.*\n)", none))
+
+
+@functools.lru_cache(maxsize=None)
+def patient_scripts(scripts, *times, seconds=60):
+    """Scripts whose office has so much patience with a witness, but for these times, which a test measures: a busy machine may be slow."""
+    return edited(scripts, "zhcount_witness.py", *((rf"^{it} = \S+", f"{it} = {seconds}") for it in TIMES if it not in times))
+
+
+class QuietRoom(Room):
+    def __init__(self, **more):
+        super().__init__(**more)
+        self.scripts = quiet_scripts()

@@ -1,0 +1,137 @@
+"""What a start decides: what became of the line without an answer, and whether the disk is that of the log. Each case is made by stops at
+chosen moments, and by hand."""
+import os
+import signal
+
+import pytest
+
+from room import same, that, until
+
+# What is there before the line without an answer: three commands, and a batch of desk 1.
+BEFORE = ["return 1 1 1 525 -> stored 1", "return 1 2 1 300 -> stored 2", "close 2 -> stored 3", "open -> held 0", "row 3 1 1 90 -> held 1",
+          "row 3 2 1 60 -> held 2"]
+# A line of each kind, and its answer where nothing is stopped.
+KINDS = {"return": ("return 1 1 2 530", "stored 4"), "withdraw": ("withdraw 1 2 2", "stored 4"), "close": ("close 1", "stored 4"),
+         "reopen": ("reopen 2", "stored 4"), "commit": ("commit", "stored 4"), "repeated": ("return 1 1 1 525", "same"),
+         "row": ("row 3 3 1 5", "held 3"), "show": ("show 1 1", "shows 1 525"), "drop": ("drop", "dropped 2"),
+         "refused": ("return 1 1 5 1", "refused gap"), "syntax": ("4 show 1 1", "refused syntax"), "sheet": ("sheet", "refused novotes 2")}
+COMMANDS = ("return", "withdraw", "close", "reopen", "commit")
+
+
+def stopped(room, line, is_stored):
+    """A night that ends by kill -9 of the office while a line has no answer, which the run got to store, or not. The desk stays."""
+    desk = room.desk(1).talk(*BEFORE)
+    run_process = room.unanswered(desk, line)
+    room.stop(signal.SIGKILL)
+    os.kill(run_process, signal.SIGCONT if is_stored else signal.SIGKILL)
+    until("the run has ended", lambda: not os.path.exists(f"/proc/{run_process}"))
+    return desk
+
+
+def end(room, desk):
+    """The end of a night: the batch of desk 1, where it is still there, and what everything says."""
+    desk.send("commit")
+    same("the end of the desk", 0, desk.end())
+    room.check()
+
+
+@pytest.mark.parametrize("kind, is_stored", [*((it, False) for it in KINDS), *((it, True) for it in (*COMMANDS, "repeated", "row"))],
+                         ids=lambda it: it if isinstance(it, str) else "given" if it else "lost")
+def test_line_without_an_answer(room, kind, is_stored):
+    """the line that a stop left without an answer gets the one that it would have had, whether the run got it or not"""
+    line, wanted = KINDS[kind]
+    desk = stopped(room, line, is_stored)
+    room.start()
+    same("the answer", wanted, desk.answer(line))
+    is_found = is_stored and kind in COMMANDS
+    room.office.says(f"desk 1: {line} is on the disk: stored 4" if is_found else f"desk 1: {line} is not on the disk: it is given again")
+    that("it is answered once", [it for it, _ in room.of_desk(1)].count(line) == 1 + (kind == "repeated"))
+    end(room, desk)
+
+
+@pytest.mark.parametrize("kind", ["return", "close", "commit", "row", "show"])
+def test_line_after_a_load_by_hand(room, kind):
+    """commands that came by hand while no office ran are noted with the disk, and then the line is given"""
+    line, wanted = KINDS[kind]
+    desk = stopped(room, line, False)
+    room.load("1,3,1,77", "3,3,1,50") if kind == "show" else room.load("1,3,1,77")
+    room.start()
+    same("the answer", wanted.replace("4", "5"), desk.answer(line))
+    room.office.says("1 command came in by hand before this start", f"desk 1: {line} is not on the disk: it is given again")
+    same("who set it", "last 0", desk.send("last 1 3"))
+    if kind != "commit":
+        desk.send("commit")
+    desk.end()
+    room.stop()
+    same("the export is that of the disk made anew", room.zhcount("export"), room.rebuilt())
+
+
+def test_stored_and_loaded(room):
+    """a line that was stored, after which others came by hand, is not given as though it were lost: the disk is noted, and it is `same`"""
+    desk = stopped(room, "return 1 1 2 530", True)
+    room.load("1,3,1,77")
+    room.start()
+    same("the answer", "same", desk.answer())
+    room.office.says("2 commands came in by hand before this start")
+    desk.end()
+    room.stop()
+    same("the export is that of the disk made anew", room.zhcount("export"), room.rebuilt())
+
+
+@pytest.mark.parametrize("lines", [["withdraw 1 2 2"], ["close 1"], ["reopen 2"], ["close 3", "reopen 3"], ["return 1 1 2 530"],
+                                   ["return 1 1 2 530", "return 1 1 3 525"]])
+def test_by_hand(room, lines):
+    """withdrawals, closings and reopenings by hand are noted, too, and are on the disk that is made anew"""
+    desk = room.desk(1).talk(*BEFORE)
+    room.stop()
+    room.by_hand(*lines)
+    status = room.zhcount("status")
+    room.start().says(f"{len(lines)} command{'s' * (len(lines) > 1)} came in by hand")
+    same("a line then", f"stored {4 + len(lines)}", desk.send("return 3 3 1 50"))
+    desk.talk("drop -> dropped 2").end()
+    room.stop()
+    wanted = room.zhcount("export"), room.zhcount("status")
+    that(f"something has changed: {status}", status != wanted[1])
+    same("the disk that is made anew", wanted[0], room.rebuilt())
+    same("its status", wanted[1], room.zhcount("status", disk=room.path / "new.disk"))
+
+
+def test_same_contents_by_other_commands(room):
+    """one command more, by hand, whose effect is not the line's is not taken for the line's"""
+    desk = stopped(room, "return 1 1 2 530", False)
+    room.by_hand("return 1 1 2 531")
+    room.start()
+    same("the answer", "refused conflict", desk.answer())
+    room.office.says("1 command came in by hand before this start")
+    desk.end()
+
+
+def test_closing_that_another_decided(room):
+    """a closing that has no answer is given before any other desk, and once: what another desk does then stays"""
+    desk = stopped(room, "close 1", False)
+    desk.kill()
+    desk.wait()
+    room.start()
+    same("the other", ["stored 5", "none"], room.ask(2, "reopen 1", "show 3 1").out)
+    room.ask(1, "drop").says("before: close 1: stored 4")
+    room.restart()
+    same("the municipality stays open", ["stored 6"], room.ask(2, "return 1 1 2 530").out)
+    room.check()
+
+
+def test_no_answer_before_the_start(room):
+    """no desk is let in before the line without an answer has one"""
+    run_process = room.unanswered(room.desk(1), "return 1 1 1 525")
+    room.stop(signal.SIGKILL)
+    os.kill(run_process, signal.SIGKILL)
+    flag = room.path / "flag"
+    flag.touch()
+    room.stands_in(f"[ $1 = run ] && while [ -e '{flag}' ]; do sleep 0.02; done")
+    room.start(is_awaited=False)
+    desk = room.desk(2)
+    desk.write("return 1 1 1 526\n")
+    until("run is started", lambda: room.child("run"))
+    that("nobody is let in", not desk.is_let_in())
+    flag.unlink()
+    same("the answer", "refused conflict", desk.answer())
+    room.check()

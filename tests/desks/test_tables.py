@@ -1,0 +1,295 @@
+"""Tests of tables that a desk enters as one batch: what is taken and what is refused, whose batch is open, and stops of the desk and of the
+office at their calls: a table is in whole or not at all, and the same command finishes it."""
+import os
+import pathlib
+import re
+import signal
+import socket
+
+import pytest
+
+from processes import Desk
+from quiet import QuietRoom
+from room import running, same, that, until
+from test_socket import HELLO, line_of
+from watch import Stop, WatchedRoom, made_library
+
+NAMES = "municipality,list,number,votes\n"
+TABLE = NAMES + "1,1,1,525\n1,2,1,300\n3,1,1,90\n"
+ROWS = ["row 1 1 1 525", "row 1 2 1 300", "row 3 1 1 90"]
+LINES = ["open", *ROWS, "commit"]
+EXCEL = '\ufeffGemeinde;Liste;Fassung;Stimmen\r\n1;1;1;525\r\n"1";"2";"1";"300"\r\n3;1;1;90\r\n'
+PLACES = ("show 1 1", "show 1 2", "show 3 1")
+LARGE = "\n".join(["version = 1", "house = 10", "[[constituency]]", 'name = "C"', "persons = 5000",
+                   *(f'[[municipality]]\nname = "M{it}"\nconstituency = 1' for it in range(32)),
+                   *(f'[[group]]\nname = "G{it}"\nstands = [1]' for it in range(32)), ""])
+
+
+def started(room, number, table, source=None):
+    """A desk that enters this table."""
+    path = room.path / "table.csv"
+    path.write_bytes(table if isinstance(table, bytes) else table.encode())
+    return room.process(Desk, room.script("zhcount-desk", str(number), room.folder, "--csv", source or path))
+
+
+def enter(room, number, table):
+    """The same once it has ended, with its status."""
+    desk = started(room, number, table)
+    desk.status = desk.wait()
+    return desk
+
+
+def is_in(room, number, table, answer):
+    desk = enter(room, number, table)
+    same(f"it is in: {desk.said()}", (0, [answer]), (desk.status, desk.out))
+
+
+def is_refused(room, number, table, *texts, out=()):
+    desk = enter(room, number, table)
+    same(f"it is refused: {desk.said()}", (1, [*out]), (desk.status, desk.out))
+    for it in texts:
+        that(f"'{it}' is said: {desk.said()}", f"zhcount-desk: {it}" in desk.error)
+    return desk
+
+
+# What is taken
+
+
+def test_from_a_swiss_excel(room):
+    """semicolons, a byte order mark, CR LF, quoted cells and German titles: open, rows and commit, whose answer is shown"""
+    is_in(room, 3, EXCEL, "stored 1")
+    same("what is sent", LINES, room.noted())
+    is_in(room, 4, TABLE, "same")
+    room.check()
+
+
+def test_other_forms(room):
+    """commas, another order of the columns, a blank line, another end of lines, standard input: it is the same table"""
+    tables = [TABLE, TABLE.replace("\n", "\r\n"), "\ufeff" + TABLE, EXCEL[1:].replace("\r\n", "\r"),
+              "votes;number;list;municipality\n525;1;1;1\n\n300;1;2;1\n90;1;1;3\n"]
+    for number, table in enumerate(tables):
+        is_in(room, 3, table, "same" if number else "stored 1")
+    desk = started(room, 3, "", source="-")
+    same("the end", 0, desk.end(TABLE))
+    same("the answer", ["same"], desk.out)
+    same("what is sent", LINES * 6, room.noted())
+
+
+def test_largest():
+    """a table of 1,000 rows is entered, and a stop before its commit has lost nothing; one with a row more is refused"""
+    table = NAMES + "".join(f"{it // 32 + 1},{it % 32 + 1},1,{it}\n" for it in range(1000))
+    with running(QuietRoom(setup=LARGE)) as room:
+        is_refused(room, 3, table + "32,32,1,5\n", "line 1002: the table has 1001 rows up to here; 1 to 1000 are allowed")
+        room.ask(3, "open", *(f"row {it.replace(',', ' ')}" for it in table.split("\n")[1:-1]))
+        is_in(room, 3, table, "stored 1")
+        same("lines", 1002, len(room.noted()))
+
+
+# What is refused before anything is sent
+
+
+@pytest.mark.parametrize("table, faults", [
+    (NAMES + "1,1,1,1'570\n1,2,1,1.570\n\n3,1,1,\"1,570\"\n3,2,1,1 570 000\n",
+     ["line 2: votes is \"1'570\": write 1570, without a separator", "line 3: votes is '1.570': write 1570, without a separator",
+      "line 5: votes is '1,570': write 1570, without a separator", "line 6: votes is '1 570 000': write 1570000, without a separator"]),
+    ("Gemeinde;Liste;Fassung;Stimmen\r\n1;1;1;1’570\r\n".encode("cp1252"), ["line 2: Stimmen is '1’570': write 1570, without a separator"]),
+    (NAMES + "1,1,1,\n1,2,1, \n3,,1,5\n,,,\n",
+     [f"line {line}: {column} is blank: fill it in, or delete the row"
+      for line, column in ((2, "votes"), (3, "votes"), (4, "list"), (5, "municipality"))]),
+    (NAMES + "1,1,1,12x\n1,2,1,-5\n3,1,1,05\n3,2,1,5 \n3,3,1,withdrawn\n2,1,1,\u0663\n2,2,1,1.5\n2,3,1,12345678901\n",
+     [f"line {line}: votes is '{text}', which is no whole number"
+      for line, text in enumerate(("12x", "-5", "05", "5 ", "withdrawn", "\u0663", "1.5", "12345678901"), 2)]),
+    (NAMES + "1,1,1,5\n1,2,1,6\n1,1,2,7\n", ["line 4: municipality 1, list 1 is in line 2 already"]),
+    (NAMES + "1,1,1\n1,2,1,6,\n", ["line 2: the row has 3 cells instead of 4", "line 3: the row has 5 cells instead of 4"]),
+    ("Gemeinde;Liste;Wähler;Stimmen\n1;1;1;5\n".encode("cp1252"),
+     ["line 1: the column number is missing", "line 1: the column 'Wähler' is unknown, or there twice: delete it"]),
+    ("municipality,list,number,votes,\n1,1,1,5,\n", ["line 1: the column '' is unknown, or there twice: delete it"]),
+    ("municipality,list,number,votes,Stimmen\n1,1,1,5,6\n", ["line 1: the column 'Stimmen' is unknown, or there twice: delete it"]),
+    ("1,1,1,525\n", ["line 1: the column municipality is missing"]),
+    ("", ["line 1: the column municipality is missing"]),
+    (NAMES, ["line 1: the table has 0 rows up to here; 1 to 1000 are allowed"]),
+    (NAMES + "1,1,1,525\n1,2,1,30", ["line 3: the end of this line is missing: if the table is complete, press Enter at its end"]),
+    (NAMES + '1,1,1,525\n"1,2,1,30\n', ["line 3: this is no CSV: unexpected end of data"]),
+    (TABLE + "\n" * (1 << 20), ["line 1048520: the table has 3 rows up to here; 1 to 1000 are allowed"]),
+    (TABLE.encode("utf-16"), ["line 1: the column municipality is missing"]),
+], ids=["separators", "a separator of Excel", "blank", "no number", "twice", "cells", "columns", "no title", "two titles", "no titles",
+        "nothing", "no rows", "no end", "no CSV", "long", "UTF-16"])
+def test_faults(new_room, table, faults):
+    """a table with faults is not sent: each is said with its line, and no office is looked for"""
+    new_room.folder = pathlib.Path(os.devnull)  # a desk that looked for one would say that it can't
+    desk = is_refused(new_room, 3, table, *faults)
+    that(f"nothing else is: {desk.said()}", re.search(r"desk 3: faults in the table: \d+; nothing was sent$", desk.error[-1]))
+    if len(faults) > 1:
+        same(f"the faults: {desk.said()}", len(faults), len(desk.error) - 1)
+
+
+def test_no_file(new_room):
+    """a file that is not there, and one with many faults, of which the first twenty are said"""
+    new_room.folder = pathlib.Path(os.devnull)
+    desk = new_room.process(Desk, new_room.script("zhcount-desk", "3", new_room.folder, "--csv", new_room.path / "none"))
+    same("the end", 1, desk.wait())
+    desk.says("No such file or directory")
+    desk = is_refused(new_room, 3, NAMES + "1,1,1,x\n" * 30, "line 21: votes is 'x', which is no whole number",
+                      "desk 3: faults in the table: 30; nothing was sent")
+    same("what is said", 21, len(desk.error))
+
+
+# What the office refuses
+
+
+@pytest.mark.parametrize("rows", [["row 1 1 1 526"], ROWS[1::-1], [*ROWS, "row 2 1 1 5"]], ids=["votes", "order", "more"])
+def test_batch_of_a_person(room, rows):
+    """a batch that is open and has other rows is a person's: nothing is sent, and it can be committed"""
+    room.ask(3, "open", *rows)
+    is_refused(room, 3, TABLE, "desk 3: batchopen: this desk's batch does not have the same rows as the table: nothing was sent. 'commit' "
+               "or 'drop' it first, or take another desk")
+    same("what is sent", ["open", *rows], room.noted())
+    same("the person's commit", ["stored 1"], room.ask(3, "commit").out)
+
+
+def test_refused_row(room):
+    """a row that the office refuses is said with its line, and the batch is dropped"""
+    is_refused(room, 3, TABLE.replace("1,2,", "1,4,"), "desk 3: line 3: row 1 4 1 300: refused list; nothing was entered")
+    same("what is sent", ["open", ROWS[0], "row 1 4 1 300", "drop"], room.noted())
+    is_in(room, 3, TABLE, "stored 1")
+    room.check()
+
+
+@pytest.mark.parametrize("lines, refusal, line, shown", [
+    (["return 1 1 1 525", "return 1 2 1 301"], "conflict", "3: row 1 2 1 300", "show 1 2: shows 1 301"),
+    (["return 1 1 1 525", "withdraw 1 2 1"], "conflict", "3: row 1 2 1 300", "show 1 2: shows 1 withdrawn"),
+    (["return 3 1 1 90", "return 3 1 2 91"], "stale", "4: row 3 1 1 90", "show 3 1: shows 2 91"),
+    (["close 3", "return 2 1 1 5"], "closed", "4: row 3 1 1 90", "show 3 1: none"),
+], ids=["conflict", "withdrawn", "stale", "closed"])
+def test_refused_commit(room, lines, refusal, line, shown):
+    """the row that a commit was refused for is found by what is held, and said with its line; the batch is dropped"""
+    room.ask(2, *lines)
+    is_refused(room, 3, TABLE, f"desk 3: line {line}: refused {refusal} ({shown}); nothing was entered", out=[f"refused {refusal}"])
+    same("what is sent", [*LINES, "drop"], [it for it, _ in room.of_desk(3)][:6])
+    same("it is dropped", ["refused nobatch"], room.ask(3, "commit").out)
+    room.check()
+
+
+def test_gap(room):
+    """a number that is too high is said with its line, also where nothing is held; the next number of another row is not"""
+    room.ask(2, "return 1 1 1 525")
+    is_refused(room, 3, NAMES + "1,1,2,526\n1,2,2,300\n",
+               "desk 3: line 3: row 1 2 2 300: refused gap (show 1 2: none); nothing was entered", out=["refused gap"])
+
+
+def test_closed_meanwhile(room):
+    """where another desk closes a municipality as the table is entered, the same command says which row that is"""
+    with socket.socket(socket.AF_UNIX) as other:
+        other.connect(str(room.folder / "desk"))
+        other.sendall(HELLO.replace(b"3", b"2"))
+        that("it is let in", b"log" in other.recv(65536))
+        run_process = room.run_of_office()
+        os.kill(run_process, signal.SIGSTOP)
+        desk = started(room, 3, TABLE)
+        until("the office has taken its first line", lambda: room.noted() == ["open"])
+        other.sendall(line_of(1, "close 3"))
+        os.kill(run_process, signal.SIGCONT)
+        same("the end", 1, desk.wait())
+        desk.says("refused closed; nothing was entered, and the count has changed meanwhile: give the same command again")
+    is_refused(room, 3, TABLE, "desk 3: line 4: row 3 1 1 90: refused closed (show 3 1: none); nothing was entered", out=["refused closed"])
+
+
+# Stops
+
+
+def test_interrupted(room):
+    """Ctrl-C leaves a batch open, and says that the same command finishes the table; it does"""
+    run_process = room.run_of_office()
+    os.kill(run_process, signal.SIGSTOP)
+    desk = started(room, 3, TABLE)
+    until("the office has taken its first line", lambda: room.noted() == ["open"])
+    desk.kill(signal.SIGINT)
+    same("the end", 1, desk.wait())
+    desk.says("desk 3: told to end", "without an answer: open; the same command finishes the table")
+    os.kill(run_process, signal.SIGCONT)
+    is_in(room, 3, TABLE, "stored 1")
+    same("what is sent", LINES, room.noted())
+
+
+class StopOf(Stop):
+    """kill -9 of a desk or of the office before its call of this number, from now on."""
+
+    def __init__(self, room, who, number):
+        super().__init__(room.library, number)
+        self.room, self.who, room.before = room, who, self.before
+
+    def counts(self, call):
+        return self.room.is_of(self.who, call) and call.name != "look"
+
+
+def stopped(room, number, table):
+    """The status of desk 1 that enters this table, and is stopped before this call, if it gets there."""
+    StopOf(room, "desk 1", number)
+    status = enter(room, 1, table).status
+    room.before = lambda call: 0
+    return status
+
+
+def versions(number):
+    """A table with this version of each return."""
+    return NAMES + "".join(f"{it},{number},{number + 10}\n" for it in ("1,1", "1,2", "3,1"))
+
+
+@pytest.fixture
+def watched_room(tmp_path):
+    with WatchedRoom(made_library(tmp_path), lambda call: 0) as room:
+        room.start()
+        yield room
+
+
+@pytest.mark.long
+def test_stopped_at_each_call(watched_room):
+    """kill -9 of a desk at each of its calls: the table is in whole or not at all, and the same command goes on to its end"""
+    room, version, status = watched_room, 0, None
+    while status != 0:
+        version += 1
+        before, whole = len(room.noted()), [f"shows {version} {version + 10}"] * 3
+        status = stopped(room, version, versions(version))
+        held = room.ask(2, *PLACES).out
+        none = [f"shows {version - 1} {version + 9}" if version > 1 else "none"] * 3
+        that(f"after call {version} there is {held}", held in ([whole] if status == 0 else [none, whole]))
+        is_in(room, 1, versions(version), "same" if held == whole else f"stored {version}")
+        same("all of it is held", whole, room.ask(2, *PLACES).out)
+        sent = len(room.noted()) - before - 2 * len(PLACES)
+        same(f"lines after a stop at call {version}, where {held}", 2 * len(LINES) if held == whole else len(LINES), sent)
+    that(f"calls: {version - 1}", version > 7)
+    room.check()
+
+
+@pytest.mark.long
+def test_stopped_as_it_is_refused(watched_room):
+    """the same where the commit is refused: the same command says the row, nothing is entered, and no batch is left"""
+    room, number, status = watched_room, 0, -signal.SIGKILL
+    room.ask(2, "return 1 2 1 301")
+    while status == -signal.SIGKILL:
+        number += 1
+        status = stopped(room, number, TABLE)
+        is_refused(room, 1, TABLE, "desk 1: line 3: row 1 2 1 300: refused conflict (show 1 2: shows 1 301); nothing was entered",
+                   out=["refused conflict"])
+        same("there is nothing of it", ["refused nobatch", "none", "shows 1 301", "none"], room.ask(1, "commit", *PLACES).out)
+    same("the end", 1, status)
+    that(f"calls: {number - 1}", number > 9)
+    room.check()
+
+
+@pytest.mark.long
+def test_office_is_stopped(watched_room):
+    """kill -9 of the office as a table is entered: the desk goes on with the next one, and the table is in once"""
+    room, version, stops = watched_room, 0, 0
+    while stops == version:
+        version += 1
+        StopOf(room, "office", 13 * version - 8)
+        desk = started(room, 1, versions(version))
+        until("office or desk has ended", lambda: room.office.has_ended() or desk.has_ended())
+        if room.office.has_ended():
+            stops += 1
+            room.start()
+        room.before = lambda call: 0
+        same(f"the end of the desk: {desk.said()}", (0, [f"stored {version}"]), (desk.wait(), desk.out))
+    that(f"stops: {stops}", stops > 2)
+    room.check({1: room.noted()})

@@ -1,0 +1,132 @@
+"""Tests of what a witness takes, and from whom: the folder, who has it, and messages of any kind."""
+import dataclasses
+import json
+import re
+import shlex
+import shutil
+import signal
+import threading
+
+from logs import Written, events
+from processes import Process, same, that, until
+from witnessed import Witnessed
+
+ROOM = Witnessed
+NO_FORM = "what came is not what an office says"
+
+
+def test_waits_for_the_one_before(new_room):
+    """a folder that another witness has is waited for, and it is said for whom; that one ends when it has heard nothing for 20 seconds"""
+    first, is_left = new_room.process(Process, new_room.script("zhcount-witness", new_room.copy)), threading.Event()
+    first.write('{"number": 0, "sum": ""}\n')
+    until("it is ready", lambda: first.out)
+
+    def speak():
+        while not is_left.wait(1):
+            first.write('{"events": "[]", "more": false}\n')
+    speaking = threading.Thread(target=speak, daemon=True)
+    speaking.start()
+    said = new_room.zhcount_office("--rebuild", new_room.copy, new_room.other / "new", status=1)
+    that(f"a rebuild meanwhile: {said}", f"another office, witness or replay has {new_room.copy}" in said)
+    new_room.start(is_awaited=False)
+    new_room.office.says(f"the witness waits for zhcount-witness, process {first.process.pid} of ")
+    is_left.set()
+    speaking.join()
+    new_room.await_start()
+    first.ends_with(1, "the first")
+    same("what it says", f"zhcount-witness: {new_room.copy}: nothing has come for 20 seconds", first.said())
+    new_room.office.says("the witness has been connected since")
+    same("the answer", ["stored 1"], new_room.ask(1, "return 1 1 1 525").out)
+    new_room.check()
+
+
+def test_office_at_the_witness(room):
+    """an office at the second machine waits for the witness of the first one, which is still alive, and says for whom"""
+    room.ask(1, "return 1 1 1 525")
+    room.has_all()
+    room.stop()
+    room.start()
+    disk, pid = room.other / "saved.disk", until("a witness", room.witness)
+    shutil.copyfile(room.disk, disk)
+    second = room.process(Process, room.script("zhcount-office", room.setup, disk, room.copy))
+    second.says(f"process {pid} of ")
+    that("it waits", not second.has_ended())
+    room.away.touch()
+    room.stop(signal.SIGKILL)
+    second.says("desks can send lines")
+    second.kill(signal.SIGTERM)
+    second.ends_with(0, "the second office")
+
+
+def test_refused_folder(new_room):
+    """a folder that others may use, one that can't be made, and one of an older zhcount are refused by a text"""
+    new_room.copy.mkdir(0o755)
+    new_room.copy.chmod(0o755)
+    older = new_room.other / "older"
+    older.mkdir(0o2750)
+    older.chmod(0o2750)
+    (older / "protocol").touch()
+    for folder, said in [(new_room.copy, f"others may use {new_room.copy}: 'chmod 2750 {new_room.copy}' makes it right"),
+                         (new_room.other / "no/copy", "No such file or directory"),
+                         (older, f"{older} has the transcripts of an older zhcount")]:
+        refused = new_room.process(Process, new_room.script("zhcount-witness", folder))
+        same(f"the status: {refused.said()}", 1, refused.end('{"number": 0, "sum": ""}\n'))
+        that(f"it says so: {refused.said()}", re.match(rf"zhcount-witness: {folder}: .*{re.escape(said)}", refused.said()))
+
+
+def spoken(room, *messages):
+    """A witness to which this was said by somebody, and how it ends."""
+    witness = room.process(Process, room.script("zhcount-witness", room.copy))
+    witness.status = witness.end("".join(f"{it if isinstance(it, str) else json.dumps(it)}\n" for it in messages))
+    return witness
+
+
+def listed(*found):
+    return {"events": json.dumps([dataclasses.astuple(it) for it in found]), "more": False}
+
+
+def in_two(*found):
+    """The same in two messages."""
+    text = listed(*found)["events"]
+    return [{"events": text[:40], "more": True}, {"events": text[40:], "more": False}]
+
+
+def test_what_follows(new_room):
+    """events that follow are taken, all of a message or none; others, and what is no message, are refused by a text"""
+    greeting, log = {"number": 0, "sum": ""}, Written(new_room.copy)
+    first, second, third = (log.add("setup", "x"), log.add_facts("start", commands=0, export="", version="-", program=""),
+                            log.add("line", "show 1 1", 1, 1))
+    taken = spoken(new_room, greeting, listed(first), listed())
+    same(f"the end: {taken.said()}", 0, taken.status)
+    same("what it said", [0, 1, 1], [json.loads(it)["number"] for it in taken.out])
+    changed = dataclasses.replace(second, text="y")
+    for messages, said in [*(([listed(it)], "does not follow") for it in (changed, third, first)),
+                           ([listed(second, changed)], "does not follow"), (in_two(second, changed), "does not follow"),
+                           (["x"], "no message"), (["[]"], "no message"), (["[" * 10000], "no message"), (["{}"], NO_FORM),
+                           *(([{"events": it, "more": False}], NO_FORM) for it in ("x", 5, "[[1, 2]]", "[5]"))]:
+        refused = spoken(new_room, greeting, *messages)
+        same(f"the status after {messages}: {refused.said()}", 1, refused.status)
+        that(f"it says so, {messages}: {refused.said()}", said in refused.said() and refused.said().count("\n") == 0)
+        same("what it has", [first], events(new_room.copy))
+    taken = spoken(new_room, greeting, *in_two(second, third))
+    same(f"the end: {taken.said()}", 0, taken.status)
+    same("what it has", [first, second, third], events(new_room.copy))
+
+
+def test_checkpoints(new_room):
+    """what a witness has taken is not brought into night.db by SQLite itself, which says nothing of errors, however much it is"""
+    witness = new_room.process(Process, new_room.script("zhcount-witness", new_room.copy))
+    much = listed(Written(new_room.copy).add("setup", "x" * 4_150_000))
+    witness.write("".join(f"{json.dumps(it)}\n" for it in ({"number": 0, "sum": ""}, much)))
+    until("it is taken", lambda: len(witness.out) == 2)
+    that("night.db has none of it", (new_room.copy / "night.db").stat().st_size < 1 << 20)
+    same(f"the end: {witness.said()}", 0, witness.end())
+    that("and then all of it", (new_room.copy / "night.db").stat().st_size > 4 << 20 - 1)
+
+
+def test_arguments(new_room):
+    """wrong arguments are status 2, and nothing is made"""
+    for words in ([], [str(new_room.copy), "b"], ["--else", str(new_room.copy)]):
+        witness = new_room.process(Process, new_room.script("zhcount-witness", *words))
+        same(f"the status of {shlex.join(words)}", 2, witness.end())
+        that("nothing is made", not new_room.copy.exists())

@@ -1,0 +1,116 @@
+"""Colours that a reader chooses for groups, which the address keeps."""
+from selenium.webdriver.common.keys import Keys
+
+import browser
+import firefox
+from case import EXAMPLE, EXAMPLE_SETUP, LARGEST, OTHERS, ROWS, Case
+from test_sight import contrast
+
+RED, YELLOW = "rgb(227, 6, 19)", "rgb(255, 237, 0)"
+SO_FAR = (("setup.toml", EXAMPLE_SETUP), ("held.csv", ROWS))
+
+
+class Chosen:
+    """In each browser."""
+
+    def at(self, address, *files):
+        """The page with these files, opened at an address that ends so."""
+        self.driver.get("about:blank")
+        self.driver.get(self.page.path.as_uri() + address)
+        return self.page.choose(*files)
+
+    def choose(self, group, colour):
+        """Chooses a colour, as the browser's own dialog gives it."""
+        self.page.run("""
+            const input = document.querySelectorAll('#colours input')[arguments[0] - 1];
+            input.value = arguments[1];
+            input.dispatchEvent(new Event('change', { bubbles: true }));
+        """, group, colour)
+
+    def fills(self, css):
+        return self.page.run("return [...document.querySelectorAll(arguments[0])].map((one) => getComputedStyle(one).fill)", css)
+
+    def address(self):
+        return self.page.run("return location.hash")
+
+    def test_a_colour_that_is_chosen(self):
+        """It is that of the group's seats, signs and bar, and the address keeps it."""
+        page = self.at("", ("sheet.txt", EXAMPLE))
+        before = self.fills(".arc g:nth-of-type(2) .seat")
+        self.choose(2, "#e30613")
+        self.assertEqual(self.address(), "#2=e30613")
+        for css in (".arc g:nth-of-type(2) .seat", ".legend li:nth-child(2) .seat", "#seats thead th:nth-child(3) .seat"):
+            self.assertEqual(set(self.fills(css)), {RED}, css)
+        self.assertNotIn(RED, self.fills(".arc g:nth-of-type(1) .seat"))
+        self.choose(1, "#ffed00")
+        self.assertEqual(self.address(), "#2=e30613&1=ffed00")
+        page.run("document.getElementById('colours').open = true; [...document.querySelectorAll('#colours button')][0].click()")
+        self.assertEqual((self.address(), self.fills(".arc g:nth-of-type(2) .seat")), ("", before))
+
+    def test_they_are_there_again(self):
+        """A page that is opened at this address has them, before there are seats too, and shows them to be chosen anew."""
+        page = self.at("#2=E30613&1=ffed00", *SO_FAR)
+        self.assertEqual(self.fills("#votes-so-far .part"), [YELLOW, RED, self.fills("#votes-so-far .part")[2]])
+        said = page.run("return [...document.querySelectorAll('#colours input')].map((one) => one.value)")
+        self.assertEqual(said[:2], ["#ffed00", "#e30613"])
+        self.assertEqual(said[2], "#009e73")
+        page.run("location.hash = '#3=e30613'")
+        page.wait("return document.querySelectorAll('#colours input')[2].value === '#e30613'")
+        self.assertEqual(self.fills("#votes-so-far .part")[2], RED)
+
+    def test_another_address_has_no_colours(self):
+        """Only a number of a group and a colour of six digits count."""
+        for address in ("#x", "#0=e30613", "#33=e30613", "#2=red", "#2=e3061", "#2=e30613}body{display:none", "#2", "#__proto__=e30613"):
+            with self.subTest(address):
+                page = self.at(address, *SO_FAR)
+                rules = page.run("return [...document.styleSheets[0].cssRules].map((it) => it.selectorText ?? '')")
+                self.assertEqual([it for it in rules if it.startswith(".group")], [])
+                self.assertIn("9 of 9 returns are in.", page.text("#so-far"))
+
+    def test_the_part_stays_open(self):
+        """All is made anew by another language, and the focus is where it was."""
+        page = self.at("", *SO_FAR)
+        page.run("document.getElementById('colours').open = true; show()")
+        self.assertEqual(page.text("#colours th bdi"), "A")
+        self.assertEqual(page.one("#colours input").get_attribute("aria-label").strip("\u2068\u2069"), "Colour of \u2068A")
+        page.run("document.querySelectorAll('#colours input')[1].focus(); show()")
+        self.assertTrue(page.run("return document.activeElement === document.querySelectorAll('#colours input')[1]"))
+        page.speak("de")
+        self.assertIn("die Adresse dieser Seite behält sie", page.text("#colours"))
+
+
+class Chromium(Chosen, Case):
+    def test_any_colour_can_be_seen(self):
+        """The number on it is black or white, whichever stands out, and its edge stands out from the ground, light and dark."""
+        colours = ("000000", "ffffff", "ffed00", "e30613", "777777", "161719", "0b3861")
+        page = self.at("#" + "&".join(f"{i}={colour}" for i, colour in enumerate(colours, 1)), ("sheet.txt", LARGEST.sheet()))
+        for scheme in ("light", "dark"):
+            self.has_medium(scheme=scheme)
+            ground = page.one("body").value_of_css_property("background-color")
+            for number in range(1, len(colours) + 1):
+                fill, stroke, on = page.run("""
+                    const [seat, number] = ['.seat', '.number'].map((css) => getComputedStyle(
+                      document.querySelector(`.legend li:nth-child(${arguments[0]}) ${css}`)));
+                    return [seat.fill, seat.stroke, number.fill];
+                """, number)
+                self.assertGreaterEqual(contrast(stroke, ground), 3, (number, scheme))
+                self.assertGreaterEqual(contrast(on, fill), 4.5, (number, scheme))
+
+    def test_by_the_keyboard(self):
+        page = self.at("", ("sheet.txt", EXAMPLE), *SO_FAR)
+        page.run("document.querySelector('#colours summary').focus()")
+        page.press(Keys.ENTER, Keys.TAB)
+        self.assertTrue(page.run("return document.activeElement === document.querySelector('#colours input')"))
+        page.press(Keys.TAB, Keys.TAB, Keys.TAB)
+        self.assertEqual(page.driver.switch_to.active_element.text, "Colours by number again")
+
+    def test_they_say_nothing_of_the_verdict(self):
+        self.at("#1=b00020", ("sheet.txt", EXAMPLE), *(("setup.toml", OTHERS[0]), ("held.csv", OTHERS[1])))
+        self.bar_is("right", "✓ Right")
+
+
+class Firefox(Chosen, Case):
+    @classmethod
+    def setUpClass(cls):
+        cls.driver = firefox.started()
+        cls.page = browser.Page(cls.driver, cls.path)
